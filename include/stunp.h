@@ -61,7 +61,7 @@
  *
  *   messages: stunp_parse, stunp_read_header, stunp_class, stunp_method, stunp_id
  *   attributes, to find: stunp_find, stunp_walk, stunp_next
- *   attributes, to read at an offset: stunp_read_text, stunp_read_number, stunp_read_address,
+ *   attributes, to read at a place: stunp_read_text, stunp_read_number, stunp_read_address,
  *    stunp_read_xor_address, stunp_read_types
  *   attributes, to read by type: stunp_find_text, stunp_find_value, stunp_find_number, stunp_find_address,
  *    stunp_find_xor_address, stunp_find_types, stunp_error_code, stunp_xor_mapped_address
@@ -532,9 +532,8 @@ int64_t stunp_id(const uint8_t *STUNP_RESTRICT message, size_t length, uint8_t *
 
 /* ---- Finding attributes
  *
- * These calls return the offset of an attribute: the position of its first byte in the message,
- * which is at least 20. Its value starts at `message + offset + 4`. The calls that read an
- * attribute take the offset as `place`.
+ * These calls return a place: the offset of an attribute's value in the message, which is at least
+ * 24. The value starts at `message + place`. The calls that read a value take the place.
  *
  * They find visible attributes only. After MESSAGE-INTEGRITY only MESSAGE-INTEGRITY-SHA256 and
  * FINGERPRINT are visible, after MESSAGE-INTEGRITY-SHA256 only FINGERPRINT, and after FINGERPRINT
@@ -542,7 +541,7 @@ int64_t stunp_id(const uint8_t *STUNP_RESTRICT message, size_t length, uint8_t *
 
 /* Finds the first visible attribute of a type.
  *
- * Returns its offset, and writes the length of its value to `*value_length`. Errors:
+ * Returns the place of its value, and writes the length of the value to `*value_length`. Errors:
  *   STUNP_BAD_ARGUMENT       `type` is 65536 or more
  *   STUNP_TRUNCATED, STUNP_NOT_STUN, STUNP_TOO_LARGE
  *                            the bytes are not one whole message (stunp_parse)
@@ -558,15 +557,15 @@ int64_t stunp_find(const uint8_t *message, size_t length, uint32_t type, size_t 
  *     size_t value_length;
  *     int64_t place;
  *     while ((place = stunp_walk(message, length, &cursor, &type, &value_length)) > 0)
- *         use(type, message + place + 4, value_length);
+ *         use(type, message + place, value_length);
  *     if (place < 0) ..       // the bytes are not a message
  *
  * Initialize the cursor with zeros, and pass it on from call to call. The whole loop takes time
  * proportional to the number of attributes, because only the first call checks the whole message.
  *
- * Returns the offset of the attribute, writes its type and the length of its value, and moves the
- * cursor past it. Or returns 0 if there are no more; `*type` and `*value_length` are then not
- * written, and a further call with this cursor returns 0 again. Errors, which leave the cursor
+ * Returns the place of the value, writes the attribute's type and the length of the value, and
+ * moves the cursor past it. Or returns 0 if there are no more; `*type` and `*value_length` are then
+ * not written, and a further call with this cursor returns 0 again. Errors, which leave the cursor
  * unchanged too:
  *   STUNP_TRUNCATED, STUNP_NOT_STUN, STUNP_TOO_LARGE
  *                       if `cursor->place` is 0: the bytes are not one whole message (stunp_parse)
@@ -578,33 +577,33 @@ STUNP_USE_RESULT STUNP_READS(1, 2) STUNP_NOT_NULL(3, 4, 5)
 int64_t stunp_walk(const uint8_t *message, size_t length, stunp_cursor *cursor, uint16_t *type,
                    size_t *value_length);
 
-/* Finds the first visible attribute after an offset. Pass 0 to get the first attribute of the
- * message, and then the offset that the call before returned.
+/* Finds the first visible attribute after the one whose value is at a place. Pass 0 to get the
+ * first attribute of the message, and then the place that the call before returned.
  *
  * stunp_walk returns the same attributes in linear time. This call reads the message from its
  * start each time, so a loop takes time proportional to the square of the number of attributes, of
  * which a message can have 16383.
  *
- * Returns the offset of the attribute, and writes its type and the length of its value. Or returns
- * 0 if there are no more, and does not write them. Errors:
+ * Returns the place of its value, and writes its type and the length of the value. Or returns 0 if
+ * there are no more, and does not write them. Errors:
  *   STUNP_TRUNCATED, STUNP_NOT_STUN, STUNP_TOO_LARGE
  *                    the bytes are not one whole message (stunp_parse) */
 STUNP_USE_RESULT STUNP_READS(1, 2) STUNP_NOT_NULL(4, 5)
 int64_t stunp_next(const uint8_t *message, size_t length, size_t place, uint16_t *type,
                    size_t *value_length);
 
-/* ---- Reading the attribute at an offset
+/* ---- Reading the value at a place
  *
  * Pass a `place` that stunp_find, stunp_walk or stunp_next returned for this message. The type of
  * the attribute does not matter. These calls read no byte outside the message, whatever `place` you
- * pass. If no attribute starts there, they read the bytes at that offset as one. */
+ * pass. If no value starts there, they read the 4 bytes before it as the header of one. */
 
-/* Finds the text in an attribute such as USERNAME, REALM, NONCE or SOFTWARE (sections 14.3, 14.9,
- * 14.10 and 14.14). The text is not copied, and no zero byte ends it.
+/* Checks that the value of an attribute such as USERNAME, REALM, NONCE or SOFTWARE is a text
+ * (sections 14.3, 14.9, 14.10 and 14.14). The text is not copied, and no zero byte ends it.
  *
- * Returns the offset of the text in the message, which is `place + 4`, and writes its length in
- * bytes to `*text_length`. Errors:
- *   STUNP_BAD_ARGUMENT  `place` is below 20, or no whole attribute starts there
+ * Returns the place, where the text starts, and writes its length in bytes to `*text_length`.
+ * Errors:
+ *   STUNP_BAD_ARGUMENT  `place` is below 24, or not that of a whole attribute
  *   STUNP_NOT_TEXT      the value is not UTF-8 */
 STUNP_USE_RESULT STUNP_READS(1, 2) STUNP_NOT_NULL(4)
 int64_t stunp_read_text(const uint8_t *message, size_t length, size_t place, size_t *text_length);
@@ -613,7 +612,7 @@ int64_t stunp_read_text(const uint8_t *message, size_t length, size_t place, siz
  * ICE-CONTROLLING has 8.
  *
  * Returns the number of bytes that the value has, and writes the number to `*number`. Errors:
- *   STUNP_BAD_ARGUMENT         `place` is below 20, or no whole attribute starts there
+ *   STUNP_BAD_ARGUMENT         `place` is below 24, or not that of a whole attribute
  *   STUNP_MALFORMED_ATTRIBUTE  the value does not have 1, 2, 4 or 8 bytes */
 STUNP_USE_RESULT STUNP_READS(1, 2) STUNP_NOT_NULL(4)
 int64_t stunp_read_number(const uint8_t *message, size_t length, size_t place, uint64_t *number);
@@ -625,7 +624,7 @@ int64_t stunp_read_number(const uint8_t *message, size_t length, size_t place, u
  * of 16 bytes has room for both. The port goes to `*port`, in the processor's order.
  *
  * Returns 4 or 16. Errors:
- *   STUNP_BAD_ARGUMENT         `place` is below 20, or no whole attribute starts there
+ *   STUNP_BAD_ARGUMENT         `place` is below 24, or not that of a whole attribute
  *   STUNP_MALFORMED_ATTRIBUTE  the value is not an address
  *   STUNP_BUFFER_TOO_SMALL     `out` has no room for the address */
 STUNP_USE_RESULT STUNP_READS(1, 2) STUNP_WRITES(4, 5) STUNP_NOT_NULL(6)
@@ -640,7 +639,7 @@ int64_t stunp_read_address(const uint8_t *STUNP_RESTRICT message, size_t length,
  * of 16 bytes has room for both. The port goes to `*port`, in the processor's order.
  *
  * Returns 4 or 16. Errors:
- *   STUNP_BAD_ARGUMENT         `place` is below 20, or no whole attribute starts there
+ *   STUNP_BAD_ARGUMENT         `place` is below 24, or not that of a whole attribute
  *   STUNP_MALFORMED_ATTRIBUTE  the value is not an address
  *   STUNP_BUFFER_TOO_SMALL     `out` has no room for the address */
 STUNP_USE_RESULT STUNP_READS(1, 2) STUNP_WRITES(4, 5) STUNP_NOT_NULL(6)
@@ -653,7 +652,7 @@ int64_t stunp_read_xor_address(const uint8_t *STUNP_RESTRICT message, size_t len
  * number of elements of that array.
  *
  * Returns the number of types in the attribute, which may be more than were written. Errors:
- *   STUNP_BAD_ARGUMENT         `place` is below 20, or no whole attribute starts there
+ *   STUNP_BAD_ARGUMENT         `place` is below 24, or not that of a whole attribute
  *   STUNP_MALFORMED_ATTRIBUTE  the value has an odd number of bytes */
 STUNP_USE_RESULT STUNP_READS(1, 2) STUNP_WRITES(4, 5)
 int64_t stunp_read_types(const uint8_t *message, size_t length, size_t place, uint16_t *types,
@@ -668,10 +667,10 @@ int64_t stunp_read_types(const uint8_t *message, size_t length, size_t place, ui
  *
  *     size_t text_length;
  *     int64_t place = stunp_find_text(message, length, STUNP_SOFTWARE, &text_length);
- *     if (place > 0) printf("%.*s\n", (int)text_length, (const char *)message + place + 4);
+ *     if (place > 0) printf("%.*s\n", (int)text_length, (const char *)message + place);
  *
- * Returns the offset of the attribute, as stunp_find does, and writes the length of the text to
- * `*text_length`. The text starts 4 bytes after that, where stunp_read_text finds it. Errors:
+ * Returns the place of the text, as stunp_find does, and writes its length in bytes to
+ * `*text_length`. Errors:
  *   STUNP_BAD_ARGUMENT       `type` is 65536 or more
  *   STUNP_TRUNCATED, STUNP_NOT_STUN, STUNP_TOO_LARGE
  *                            the bytes are not one whole message (stunp_parse)

@@ -363,7 +363,7 @@ class message {
     result<view> find(uint32_t type) const {
         size_t length = 0;
         int64_t at = call(stunp_find, bytes_, type, &length);
-        return result<view>(at, view(bytes_.data() + (at < 0 ? 0 : at + 4), length));
+        return result<view>(at, view(bytes_.data() + (at < 0 ? 0 : at), length));
     }
     result<uint64_t> find_number(uint32_t type, int64_t size) const { // of just so many bytes
         uint64_t number = 0;
@@ -393,7 +393,7 @@ class message {
         iterator &operator++() {
             return place = call(stunp_walk, bytes, &cursor, &type, &length), *this;
         }
-        attribute operator*() const { return {type, {bytes.data() + place + 4, length}}; }
+        attribute operator*() const { return {type, {bytes.data() + place, length}}; }
         bool operator!=(std::nullptr_t) const { return place > 0; }
     };
     iterator begin() const { return ++iterator{bytes_}; }

@@ -8,15 +8,13 @@ STUNP_INLINED int64_t stunp_find_text(const uint8_t *message, size_t length, uin
                                       size_t *text_length) {
     size_t value_length;
     int64_t place = stunp_find(message, length, type, &value_length);
-    if (place < 0) return place;
-    int64_t text = stunp_read_text(message, length, (size_t)place, text_length);
-    return text < 0 ? text : place;
+    return place < 0 ? place : stunp_read_text(message, length, (size_t)place, text_length);
 }
 
 STUNP_INLINED const uint8_t *stunp_find_value(const uint8_t *message, size_t length, uint32_t type,
                                               size_t *value_length) {
     int64_t place = stunp_find(message, length, type, value_length);
-    return place < 0 ? NULL : message + place + STUNP_ATTRIBUTE_HEADER_LENGTH;
+    return place < 0 ? NULL : message + place;
 }
 
 STUNP_INLINED int64_t stunp_find_number(const uint8_t *message, size_t length, uint32_t type,

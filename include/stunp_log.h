@@ -219,7 +219,7 @@ static inline const char *stunp_describe(const uint8_t *bytes, size_t length, ch
         first = 0;
         if (name != NULL) stunp_line_add(&line, "%s", name);
         else stunp_line_add(&line, "0x%04x", type);
-        const uint8_t *value = bytes + cursor.place - (value_length + 3) / 4 * 4;
+        const uint8_t *value = bytes + place;
         stunp_line_add_value(&line, bytes, length, (size_t)place, type, value, value_length);
     }
     return out;

@@ -180,10 +180,11 @@ class Stage(Endpoints):
         return self.written_by(message, self.ask(f"{object}-sign", room, message, *to))
 
     def walk(self, message):
-        """Type, place and length of each visible attribute, by stunp_next."""
+        """Type, offset and length of each visible attribute, by stunp_next, which returns the place
+        of its value."""
         answer = self.ask("next", message, 0)
         while answer[0] > 0:
-            yield native(answer[1][0]), answer[0], native(answer[1][1])
+            yield native(answer[1][0]), answer[0] - 4, native(answer[1][1])
             answer = self.ask("next", message, answer[0])
         self.told(answer)
 

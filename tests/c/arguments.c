@@ -68,7 +68,7 @@ static void walks(void) {
     CHECK(stunp_find((const uint8_t *)response, 19, STUNP_SOFTWARE, &length), STUNP_TRUNCATED);
     CHECK(stunp_find(BYTES(response), STUNP_USERNAME, &length), STUNP_MISSING_ATTRIBUTE);
     CHECK(type == 7 && length == 7, 1);
-    CHECK(stunp_find(BYTES(response), STUNP_FINGERPRINT, &length), 84);
+    CHECK(stunp_find(BYTES(response), STUNP_FINGERPRINT, &length), 88);
     CHECK((int64_t)length, 4);
     CHECK(stunp_read_header((const uint8_t *)response, 19, &header), STUNP_TRUNCATED);
     CHECK(header.message_class == STUNP_ERROR && header.method == 7 && header.length == 7
@@ -188,12 +188,12 @@ static void reads_nothing(void) {
     CHECK(stunp_find(NULL, 0, STUNP_SOFTWARE, &length), STUNP_TRUNCATED);
     CHECK(stunp_walk(NULL, 0, &cursor, &type, &length), STUNP_TRUNCATED);
     CHECK(stunp_next(NULL, 0, 0, &type, &length), STUNP_TRUNCATED);
-    CHECK(stunp_read_text(NULL, 0, 20, &length), STUNP_BAD_ARGUMENT);
-    CHECK(stunp_read_number(NULL, 0, 20, &number), STUNP_BAD_ARGUMENT);
-    CHECK(stunp_read_address(NULL, 0, 20, octets, 16, &port), STUNP_BAD_ARGUMENT);
-    CHECK(stunp_read_xor_address(NULL, 0, 20, octets, 16, &port), STUNP_BAD_ARGUMENT);
-    CHECK(stunp_read_xor_address(BYTES(response), 36, NULL, 0, &port), STUNP_BUFFER_TOO_SMALL);
-    CHECK(stunp_read_types(NULL, 0, 20, NULL, 0), STUNP_BAD_ARGUMENT);
+    CHECK(stunp_read_text(NULL, 0, 24, &length), STUNP_BAD_ARGUMENT);
+    CHECK(stunp_read_number(NULL, 0, 24, &number), STUNP_BAD_ARGUMENT);
+    CHECK(stunp_read_address(NULL, 0, 24, octets, 16, &port), STUNP_BAD_ARGUMENT);
+    CHECK(stunp_read_xor_address(NULL, 0, 24, octets, 16, &port), STUNP_BAD_ARGUMENT);
+    CHECK(stunp_read_xor_address(BYTES(response), 40, NULL, 0, &port), STUNP_BUFFER_TOO_SMALL);
+    CHECK(stunp_read_types(NULL, 0, 24, NULL, 0), STUNP_BAD_ARGUMENT);
     CHECK(stunp_error_code(NULL, 0), STUNP_TRUNCATED);
     CHECK(stunp_xor_mapped_address(NULL, 0, octets, 16, &port), STUNP_TRUNCATED);
     CHECK(stunp_xor_mapped_address(BYTES(response), NULL, 0, &port), STUNP_BUFFER_TOO_SMALL);

@@ -31,19 +31,19 @@ static void hides_addresses(void) {
     message[57] = STUNP_XOR_PEER_ADDRESS;
 
     stunp_cursor cursor = {0, 0};
-    CHECK(stunp_walk(message, 68, &cursor, &type, &length), 20);
-    CHECK(stunp_read_xor_address(message, 68, 20, octets, 15, &port), STUNP_BUFFER_TOO_SMALL);
+    CHECK(stunp_walk(message, 68, &cursor, &type, &length), 24);
+    CHECK(stunp_read_xor_address(message, 68, 24, octets, 15, &port), STUNP_BUFFER_TOO_SMALL);
     CHECK(port == 7 && octets[0] == 0, 1);
-    CHECK(stunp_read_xor_address(message, 68, 20, octets, 17, &port), 16);
+    CHECK(stunp_read_xor_address(message, 68, 24, octets, 17, &port), 16);
     CHECK(port == 32853 && memcmp(octets, peer_6, 16) == 0 && octets[16] == 0, 1);
-    CHECK(stunp_walk(message, 68, &cursor, &type, &length), 44);
-    CHECK(stunp_walk(message, 68, &cursor, &type, &length), 56);
+    CHECK(stunp_walk(message, 68, &cursor, &type, &length), 48);
+    CHECK(stunp_walk(message, 68, &cursor, &type, &length), 60);
     CHECK(type, STUNP_XOR_PEER_ADDRESS);
     memset(octets, 7, sizeof octets);
-    CHECK(stunp_read_xor_address(message, 68, 56, octets, 4, &port), 4);
+    CHECK(stunp_read_xor_address(message, 68, 60, octets, 4, &port), 4);
     CHECK(memcmp(octets, peer_4, 4) == 0 && octets[4] == 7, 1);
-    CHECK(stunp_find(message, 68, STUNP_XOR_RELAYED_ADDRESS, &length), 44);
-    CHECK(stunp_read_xor_address(message, 68, 44, octets, 4, &port), 4);
+    CHECK(stunp_find(message, 68, STUNP_XOR_RELAYED_ADDRESS, &length), 48);
+    CHECK(stunp_read_xor_address(message, 68, 48, octets, 4, &port), 4);
 }
 
 static void refuses_addresses(void) {
@@ -65,15 +65,15 @@ static void refuses_addresses(void) {
     CHECK(stunp_add_fingerprint(message, 64, 32), 40);
     CHECK(stunp_add_xor_address(message, 64, 40, STUNP_XOR_RELAYED_ADDRESS, peer_4, 4, 1),
           STUNP_CLOSED);
-    for (size_t place = 0; place < 20; place++)
+    for (size_t place = 0; place < 24; place++)
         CHECK(stunp_read_xor_address(message, 40, place, octets, 16, &port), STUNP_BAD_ARGUMENT);
     for (size_t length = 0; length < 32; length++)
-        CHECK(stunp_read_xor_address(message, length, 20, octets, 16, &port), STUNP_BAD_ARGUMENT);
-    CHECK(stunp_read_xor_address(message, 40, 41, octets, 16, &port), STUNP_BAD_ARGUMENT);
+        CHECK(stunp_read_xor_address(message, length, 24, octets, 16, &port), STUNP_BAD_ARGUMENT);
+    CHECK(stunp_read_xor_address(message, 40, 45, octets, 16, &port), STUNP_BAD_ARGUMENT);
     CHECK(stunp_read_xor_address(message, 40, SIZE_MAX, octets, 16, &port), STUNP_BAD_ARGUMENT);
-    CHECK(stunp_read_xor_address(message, 40, 32, octets, 16, &port), STUNP_MALFORMED_ATTRIBUTE);
+    CHECK(stunp_read_xor_address(message, 40, 36, octets, 16, &port), STUNP_MALFORMED_ATTRIBUTE);
     message[25] = 2; /* the other family */
-    CHECK(stunp_read_xor_address(message, 40, 20, octets, 0, &port), STUNP_MALFORMED_ATTRIBUTE);
+    CHECK(stunp_read_xor_address(message, 40, 24, octets, 0, &port), STUNP_MALFORMED_ATTRIBUTE);
     CHECK(port, 7);
 }
 
@@ -90,12 +90,12 @@ static void shows_addresses(void) {
     CHECK(memcmp(message + 32, "\x80\x23\x00\x14\x00\x02\x80\x55", 8), 0);
     CHECK(memcmp(message + 40, peer_6, 16), 0);
     CHECK(stunp_parse(message, 56), 0);
-    CHECK(stunp_read_address(message, 56, 20, octets, 3, &port), STUNP_BUFFER_TOO_SMALL);
+    CHECK(stunp_read_address(message, 56, 24, octets, 3, &port), STUNP_BUFFER_TOO_SMALL);
     CHECK(port == 7 && octets[0] == 0, 1);
-    CHECK(stunp_read_address(message, 56, 20, octets, 4, &port), 4);
+    CHECK(stunp_read_address(message, 56, 24, octets, 4, &port), 4);
     CHECK(port == 32853 && memcmp(octets, peer_4, 4) == 0 && octets[4] == 0, 1);
     port = 7;
-    CHECK(stunp_read_address(message, 56, 32, octets, 17, &port), 16);
+    CHECK(stunp_read_address(message, 56, 36, octets, 17, &port), 16);
     CHECK(port == 32853 && memcmp(octets, peer_6, 16) == 0 && octets[16] == 0, 1);
 
     CHECK(stunp_add_address(message, 128, 129, 65536, peer_4, 4, 1), STUNP_BAD_ARGUMENT);
@@ -108,12 +108,12 @@ static void shows_addresses(void) {
     CHECK(stunp_add_address(message, 128, 56, STUNP_FINGERPRINT, peer_6, 16, 1), STUNP_NOT_ALLOWED);
     CHECK(stunp_add_address(message, 128, 56, STUNP_MAPPED_ADDRESS, peer_6, 16, 1),
           STUNP_ATTRIBUTE_EXISTS);
-    for (size_t place = 0; place < 20; place++)
+    for (size_t place = 0; place < 24; place++)
         CHECK(stunp_read_address(message, 56, place, octets, 16, &port), STUNP_BAD_ARGUMENT);
-    CHECK(stunp_read_address(message, 56, 57, octets, 16, &port), STUNP_BAD_ARGUMENT);
-    CHECK(stunp_read_address(message, 55, 32, octets, 16, &port), STUNP_BAD_ARGUMENT);
+    CHECK(stunp_read_address(message, 56, 61, octets, 16, &port), STUNP_BAD_ARGUMENT);
+    CHECK(stunp_read_address(message, 55, 36, octets, 16, &port), STUNP_BAD_ARGUMENT);
     message[25] = 2; /* the other family */
-    CHECK(stunp_read_address(message, 56, 20, octets, 0, &port), STUNP_MALFORMED_ATTRIBUTE);
+    CHECK(stunp_read_address(message, 56, 24, octets, 0, &port), STUNP_MALFORMED_ATTRIBUTE);
     CHECK(port, 32853);
 }
 
@@ -133,17 +133,17 @@ static void reads_samples(void) {
     CHECK(stunp_begin(STUNP_REQUEST, STUNP_BINDING, id, 12, out, 40), 20);
     CHECK(stunp_add_number(out, 40, 20, STUNP_PRIORITY, 0x6e0001ff, 4), 28);
     CHECK(stunp_add_number(out, 40, 28, STUNP_ICE_CONTROLLED, 0x932ff9b151263b36, 8), 40);
-    CHECK(memcmp(out + 20, bytes + priority, 8), 0);
-    CHECK(memcmp(out + 28, bytes + controlled, 12), 0);
+    CHECK(memcmp(out + 24, bytes + priority, 4), 0);
+    CHECK(memcmp(out + 32, bytes + controlled, 8), 0);
     CHECK(stunp_parse(out, 40), 0);
     number = 7;
-    for (size_t place = 0; place < 20; place++)
+    for (size_t place = 0; place < 24; place++)
         CHECK(stunp_read_number(out, 40, place, &number), STUNP_BAD_ARGUMENT);
     for (size_t there = 0; there < 28; there++)
-        CHECK(stunp_read_number(out, there, 20, &number), STUNP_BAD_ARGUMENT);
-    CHECK(stunp_read_number(out, 40, 40, &number), STUNP_BAD_ARGUMENT);
+        CHECK(stunp_read_number(out, there, 24, &number), STUNP_BAD_ARGUMENT);
+    CHECK(stunp_read_number(out, 40, 44, &number), STUNP_BAD_ARGUMENT);
     CHECK(stunp_read_number(out, 40, SIZE_MAX, &number), STUNP_BAD_ARGUMENT);
-    CHECK(stunp_read_number(BYTES(request), 20, &number), STUNP_MALFORMED_ATTRIBUTE); /* SOFTWARE */
+    CHECK(stunp_read_number(BYTES(request), 24, &number), STUNP_MALFORMED_ATTRIBUTE); /* SOFTWARE */
     CHECK(number == 7, 1);
 }
 
@@ -164,16 +164,16 @@ static void sizes(void) {
         if (is_size) {
             const int64_t end = size == 8 ? 32 : 28;
             CHECK(stunp_add_number(out, (size_t)end, 20, STUNP_PRIORITY, greatest, size), end);
-            CHECK(stunp_read_number(out, (size_t)end, 20, &number), (int64_t)size);
+            CHECK(stunp_read_number(out, (size_t)end, 24, &number), (int64_t)size);
             CHECK(number == greatest && out[24 + size] == (size < 4 ? 0 : 0xa5), 1);
             CHECK(stunp_begin(STUNP_REQUEST, STUNP_BINDING, id, 12, out, 20), 20);
             CHECK(stunp_add_number(out, 64, 20, STUNP_PRIORITY, 0, size), end);
-            CHECK(stunp_read_number(out, (size_t)end, 20, &number), (int64_t)size);
+            CHECK(stunp_read_number(out, (size_t)end, 24, &number), (int64_t)size);
             CHECK(number == 0, 1);
         } else {
             CHECK(stunp_add(out, 64, 20, STUNP_PRIORITY, large, size),
                   (int64_t)(24 + (size + 3) / 4 * 4));
-            CHECK(stunp_read_number(out, 24 + (size + 3) / 4 * 4, 20, &number),
+            CHECK(stunp_read_number(out, 24 + (size + 3) / 4 * 4, 24, &number),
                   STUNP_MALFORMED_ATTRIBUTE);
             CHECK(number == 7, 1);
         }
@@ -202,30 +202,30 @@ static void reads_texts(void) {
     static const char name[] =
         "\xe3\x83\x9e\xe3\x83\x88\xe3\x83\xaa\xe3\x83\x83\xe3\x82\xaf\xe3\x82\xb9";
     size_t length = 7;
-    CHECK(stunp_find_text(BYTES(request), STUNP_SOFTWARE, &length), 20);
+    CHECK(stunp_find_text(BYTES(request), STUNP_SOFTWARE, &length), 24);
     CHECK(length == 16 && memcmp(request + 24, "STUN test client", 16) == 0, 1);
-    CHECK(stunp_read_text(BYTES(request), 20, &length), 24);
+    CHECK(stunp_read_text(BYTES(request), 24, &length), 24);
     int64_t begin = stunp_find_text(BYTES(long_term), STUNP_USERNAME, &length);
-    CHECK(begin, 20);
+    CHECK(begin, 24);
     CHECK(stunp_find(BYTES(long_term), STUNP_USERNAME, &length), begin);
-    CHECK(length == 18 && memcmp(long_term + begin + 4, name, 18) == 0, 1);
+    CHECK(length == 18 && memcmp(long_term + begin, name, 18) == 0, 1);
     begin = stunp_find_text(BYTES(long_term), STUNP_REALM, &length);
-    CHECK(length == 11 && memcmp(long_term + begin + 4, "example.org", 11) == 0, 1);
+    CHECK(length == 11 && memcmp(long_term + begin, "example.org", 11) == 0, 1);
     length = 7;
     CHECK(stunp_find_text(BYTES(request), 65536, &length), STUNP_BAD_ARGUMENT);
     CHECK(stunp_find_text(BYTES(request), STUNP_REALM, &length), STUNP_MISSING_ATTRIBUTE);
     CHECK(stunp_find_text((const uint8_t *)request, 19, STUNP_REALM, &length), STUNP_TRUNCATED);
-    for (size_t place = 0; place < 20; place++)
+    for (size_t place = 0; place < 24; place++)
         CHECK(stunp_read_text(BYTES(request), place, &length), STUNP_BAD_ARGUMENT);
     for (size_t there = 0; there < 40; there++)
-        CHECK(stunp_read_text((const uint8_t *)request, there, 20, &length), STUNP_BAD_ARGUMENT);
+        CHECK(stunp_read_text((const uint8_t *)request, there, 24, &length), STUNP_BAD_ARGUMENT);
     CHECK(stunp_read_text(BYTES(request), sizeof request - 1, &length), STUNP_BAD_ARGUMENT);
     CHECK(stunp_read_text(BYTES(request), SIZE_MAX, &length), STUNP_BAD_ARGUMENT);
     CHECK(stunp_find_text(BYTES(request), STUNP_ICE_CONTROLLED, &length), STUNP_NOT_TEXT);
     CHECK((int64_t)length, 7);
     CHECK(stunp_begin(STUNP_REQUEST, STUNP_BINDING, id, 12, out, 24), 20);
     CHECK(stunp_add(out, 24, 20, STUNP_NONCE, "", 0), 24);
-    CHECK(stunp_read_text(out, 24, 20, &length), 24);
+    CHECK(stunp_read_text(out, 24, 24, &length), 24);
     CHECK((int64_t)length, 0);
 }
 
@@ -237,28 +237,28 @@ static void reads_types(void) {
     CHECK(types[0] == STUNP_PRIORITY && types[1] == STUNP_USERNAME, 1);
     CHECK(types[2] == STUNP_MESSAGE_INTEGRITY && types[3] == 7, 1);
     types[0] = types[1] = types[2] = 7;
-    CHECK(stunp_read_types(out, length, 48, types, 2), 3);
+    CHECK(stunp_read_types(out, length, 52, types, 2), 3);
     CHECK(types[0] == STUNP_PRIORITY && types[1] == STUNP_USERNAME && types[2] == 7, 1);
-    CHECK(stunp_read_types(out, length, 48, NULL, 0), 3);
+    CHECK(stunp_read_types(out, length, 52, NULL, 0), 3);
     CHECK(stunp_find_types(out, length, STUNP_USERNAME, types, 4), STUNP_MISSING_ATTRIBUTE);
     /* Any type; an odd number of bytes; none; as many as an attribute holds. */
     CHECK(stunp_find_types(BYTES(request), STUNP_PRIORITY, types, 4), 2);
     CHECK(types[0] == 0x6e00 && types[1] == 0x01ff, 1);
     CHECK(stunp_find_types(BYTES(request), STUNP_USERNAME, types, 4), STUNP_MALFORMED_ATTRIBUTE);
-    for (size_t place = 0; place < 20; place++)
+    for (size_t place = 0; place < 24; place++)
         CHECK(stunp_read_types(BYTES(request), place, types, 4), STUNP_BAD_ARGUMENT);
     for (size_t there = 0; there < 40; there++)
-        CHECK(stunp_read_types((const uint8_t *)request, there, 20, types, 4), STUNP_BAD_ARGUMENT);
+        CHECK(stunp_read_types((const uint8_t *)request, there, 24, types, 4), STUNP_BAD_ARGUMENT);
     CHECK(types[0] == 0x6e00 && types[1] == 0x01ff && types[2] == 7, 1);
     CHECK(stunp_begin(STUNP_ERROR, STUNP_BINDING, id, 12, out, 24), 20);
     CHECK(stunp_add(out, 24, 20, STUNP_UNKNOWN_ATTRIBUTES, "", 0), 24);
-    CHECK(stunp_read_types(out, 24, 20, types, 4), 0);
+    CHECK(stunp_read_types(out, 24, 24, types, 4), 0);
     CHECK(types[0], 0x6e00);
     static uint16_t all[32764];
     memset(large, 0x80, 65528);
     CHECK(stunp_begin(STUNP_ERROR, STUNP_BINDING, id, 12, out, 20), 20);
     CHECK(stunp_add(out, 65552, 20, STUNP_UNKNOWN_ATTRIBUTES, large, 65528), 65552);
-    CHECK(stunp_read_types(out, 65552, 20, all, COUNT(all)), 32764);
+    CHECK(stunp_read_types(out, 65552, 24, all, COUNT(all)), 32764);
     for (size_t i = 0; i < COUNT(all); i++) CHECK(all[i], 0x8080);
 }
 

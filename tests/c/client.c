@@ -338,7 +338,7 @@ static void short_term(void) {
         want("FINGERPRINT", stunp_has_right_fingerprint(out, event.length), true);
         size_t length;
         int64_t at = stunp_find_text(out, event.length, STUNP_SOFTWARE, &length);
-        want("SOFTWARE", length == 4 && memcmp(out + at + 4, "test", 4) == 0, true);
+        want("SOFTWARE", length == 4 && memcmp(out + at, "test", 4) == 0, true);
         stunp_writer told = answer(438, bytes);
         uint32_t why = 0;
         want("unsigned", heard(&client, &told, 0, &why), STUNP_DROPPED);

@@ -48,7 +48,7 @@ static size_t mutate_attributes(uint8_t *message) {
     return length;
 }
 
-/* The visible attributes of a message, by this file's own walk. */
+/* The visible attributes of a message, by this file's own walk: where their values are. */
 struct found {
     size_t place, length;
     uint16_t type;
@@ -62,7 +62,7 @@ static size_t find_visible(const uint8_t *message, size_t length, struct found *
         size_t value = (size_t)(message[at + 2] << 8 | message[at + 3]);
         bool shown = !fingerprint && (!stronger || type == STUNP_FINGERPRINT)
             && (!integrity || type == STUNP_MESSAGE_INTEGRITY_SHA256 || type == STUNP_FINGERPRINT);
-        if (shown) found[count++] = (struct found){at, value, type};
+        if (shown) found[count++] = (struct found){at + 4, value, type};
         integrity |= type == STUNP_MESSAGE_INTEGRITY;
         stronger |= type == STUNP_MESSAGE_INTEGRITY_SHA256;
         fingerprint |= type == STUNP_FINGERPRINT;
@@ -109,7 +109,7 @@ static void walk_anywhere(const uint8_t *message, size_t length, long number) {
         return;
     }
     for (; place > 0; place = stunp_walk(message, length, &cursor, &type, &value)) {
-        if (place < 20 || (size_t)place < before.place || (size_t)place + 4 + value > length
+        if (place < 24 || (size_t)place < before.place + 4 || (size_t)place + value > length
             || cursor.place > length)
             fail("a walk outside", number);
         before = cursor;
@@ -138,11 +138,11 @@ static int64_t find_fingerprint(const uint8_t *message, size_t length, const str
                                 size_t count) {
     while (count > 0 && found->type != STUNP_FINGERPRINT) found++, count--;
     if (count == 0) return STUNP_NO_FINGERPRINT;
-    if (found->length != 4 || found->place + 8 != length) return STUNP_MISPLACED_FINGERPRINT;
+    if (found->length != 4 || found->place + 4 != length) return STUNP_MISPLACED_FINGERPRINT;
     uint32_t sum = 0xffffffff, stated = 0;
-    for (size_t bit = 0; bit < 8 * found->place; bit++)
+    for (size_t bit = 0; bit < 8 * (found->place - 4); bit++)
         sum = (sum >> 1) ^ (((sum ^ (uint32_t)(message[bit / 8] >> bit % 8)) & 1) * 0xedb88320);
-    for (int i = 4; i < 8; i++) stated = stated << 8 | message[found->place + (size_t)i];
+    for (int i = 0; i < 4; i++) stated = stated << 8 | message[found->place + (size_t)i];
     return (~sum ^ 0x5354554e) == stated ? STUNP_RIGHT_FINGERPRINT : STUNP_WRONG_FINGERPRINT;
 }
 
@@ -180,7 +180,7 @@ static void find_unknown(const uint8_t *message, size_t length, const struct fou
             fail("another type is refused", number);
 }
 
-/* The attribute at a place as an address that is not hidden, and as a number. */
+/* The value at a place as an address that is not hidden, and as a number. */
 static void read_plainly(const uint8_t *message, size_t length, size_t place, long number) {
     uint8_t octets[16], hidden[16];
     uint16_t port = 0, hidden_port = 0;
@@ -190,15 +190,15 @@ static void read_plainly(const uint8_t *message, size_t length, size_t place, lo
         stunp_read_xor_address(message, length, place, hidden, sizeof hidden, &hidden_port);
     if (answer != again) fail("two answers of an address", number);
     if (answer > 0 && (port != (hidden_port ^ 0x2112)
-                       || memcmp(octets, message + place + 8, (size_t)answer) != 0))
+                       || memcmp(octets, message + place + 4, (size_t)answer) != 0))
         fail("another plain address", number);
     int64_t size = stunp_read_number(message, length, place, &read);
     if ((size == STUNP_BAD_ARGUMENT) != (answer == STUNP_BAD_ARGUMENT))
         fail("a number in no attribute", number);
     if (size < 0 ? size != STUNP_BAD_ARGUMENT && size != STUNP_MALFORMED_ATTRIBUTE
-        : size != (message[place + 2] << 8 | message[place + 3]))
+        : size != (message[place - 2] << 8 | message[place - 1]))
         fail("another size", number);
-    for (int64_t i = 0; i < size; i++) wanted = wanted << 8 | message[place + 4 + (size_t)i];
+    for (int64_t i = 0; i < size; i++) wanted = wanted << 8 | message[place + (size_t)i];
     if (read != (size < 0 ? 7 : wanted)) fail("another number", number);
 }
 
@@ -208,13 +208,13 @@ static void read_address(const uint8_t *message, size_t length, size_t place, bo
     uint8_t octets[16];
     uint16_t port = 0;
     int64_t answer = stunp_read_xor_address(message, length, place, octets, sizeof octets, &port);
-    if (place < 20 && answer != STUNP_BAD_ARGUMENT) fail("an address in a header", number);
+    if (place < 24 && answer != STUNP_BAD_ARGUMENT) fail("an address in a header", number);
     if (answer == STUNP_BAD_ARGUMENT ? is_there
         : answer != STUNP_MALFORMED_ATTRIBUTE && answer != 4 && answer != 16)
         fail("another answer", number);
     read_plainly(message, length, place, number);
     if (answer < 0) return;
-    const uint8_t *value = message + place + 4;
+    const uint8_t *value = message + place;
     if (value[1] != (answer == 4 ? 1 : 2) || port != ((value[2] << 8 | value[3]) ^ 0x2112))
         fail("another port", number);
     for (size_t i = 0; i < (size_t)answer; i++)
@@ -369,9 +369,9 @@ static long walk(const uint8_t *message, size_t length, int64_t parsed) {
     int64_t place = stunp_next(message, length, 0, &type, &value);
     if (parsed < 0) want("stunp_next of what is no message", place, parsed);
     for (; place > 0; place = stunp_next(message, length, (size_t)place, &type, &value)) {
-        if ((size_t)place < end || (size_t)place + 4 + value > length)
+        if ((size_t)place < end + 4 || (size_t)place + value > length)
             fail("an attribute outside", (long)place);
-        end = (size_t)place + 4 + value;
+        end = (size_t)place + value;
         count++;
     }
     return count;

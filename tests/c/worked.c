@@ -55,11 +55,11 @@ static void answers(void) {
     length = (size_t)stunp_add(request, sizeof request, length, 0x7fff, TEXT(""));
     written = answer(request, length, address, sizeof address, 32853, out, sizeof out);
     want("unknown types", stunp_error_code(out, written), 420);
-    want("the code", stunp_next(out, written, 0, &type, &value_length), 20);
-    int64_t place = stunp_next(out, written, 20, &type, &value_length);
+    want("the code", stunp_next(out, written, 0, &type, &value_length), 24);
+    int64_t place = stunp_next(out, written, 24, &type, &value_length);
     want("UNKNOWN-ATTRIBUTES", type, STUNP_UNKNOWN_ATTRIBUTES);
     want("its length", (int64_t)value_length, 4);
-    want("the types", memcmp(out + place + 4, "\x00\x24\x7f\xff", 4), 0);
+    want("the types", memcmp(out + place, "\x00\x24\x7f\xff", 4), 0);
 }
 
 /* ---- stunp_state.h */

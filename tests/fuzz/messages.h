@@ -7,7 +7,8 @@
 
 /* ---- The calls that read. */
 
-/* The visible attributes of a message, by stunp_walk: no more than have room. */
+/* The visible attributes of a message, by stunp_walk, with the places of their values: no more than
+ * have room. */
 static struct {
     size_t place, length;
     uint16_t type;
@@ -21,9 +22,9 @@ static void walk(struct bytes m, int64_t parsed) {
     int64_t place;
     count = 0;
     while ((place = stunp_walk(m.at, m.length, &cursor, &type, &length)) > 0) {
-        require((size_t)place >= end && (size_t)place + 4 + length <= m.length,
+        require((size_t)place >= end + 4 && (size_t)place + length <= m.length,
                 "an attribute outside");
-        end = (size_t)place + 4 + (length + 3) / 4 * 4;
+        end = (size_t)place + (length + 3) / 4 * 4;
         require(cursor.place == end, "another cursor");
         if (count == MOST_ATTRIBUTES) return;
         found[count].place = (size_t)place, found[count].length = length, found[count].type = type;
@@ -121,10 +122,10 @@ static void read_plainly(struct bytes m, size_t place) {
             "two answers of an address");
     require(answer < 0
                 || (ports[0] == (ports[1] ^ 0x2112)
-                    && memcmp(octets[0], m.at + place + 8, (size_t)answer) == 0),
+                    && memcmp(octets[0], m.at + place + 4, (size_t)answer) == 0),
             "another plain address");
     require((size == STUNP_BAD_ARGUMENT) == (answer == STUNP_BAD_ARGUMENT), "a number of nothing");
-    for (int64_t i = 0; i < size; i++) wanted = wanted << 8 | m.at[place + 4 + (size_t)i];
+    for (int64_t i = 0; i < size; i++) wanted = wanted << 8 | m.at[place + (size_t)i];
     require(number == (size < 0 ? 7 : wanted), "another number");
 }
 
@@ -138,10 +139,10 @@ static void read_words(struct bytes m, size_t place) {
     bool is_none = stunp_read_number(m.at, m.length, place, &number) == STUNP_BAD_ARGUMENT;
     require((at == STUNP_BAD_ARGUMENT) == is_none && (size == STUNP_BAD_ARGUMENT) == is_none,
             "a text or types of nothing");
-    require(at < 0 ? length == 77 : at == (int64_t)place + 4 && length <= m.length - place - 4,
+    require(at < 0 ? length == 77 : at == (int64_t)place && length <= m.length - place,
             "a text elsewhere");
     for (int64_t i = 0; i < 4; i++) {
-        const uint8_t *type = m.at + place + 4 + 2 * i;
+        const uint8_t *type = m.at + place + 2 * i;
         require(types[i] == (i < size && i < 3 ? type[0] << 8 | type[1] : 7), "another type");
     }
     if (at > 0 && size >= 0) require(length == 2 * (size_t)size, "another number of types");
@@ -216,7 +217,7 @@ static void read_values(struct bytes m, int64_t parsed, uint8_t setting) {
                     || (ports[0] == ports[1] && memcmp(octets[0], octets[1], (size_t)answer) == 0),
                 "two addresses");
     }
-    for (size_t place = setting; place < m.length + 8; place += 61) {
+    for (size_t place = setting; place < m.length + 12; place += 61) {
         require(named(stunp_read_xor_address(m.at, m.length, place, octets[1], 16, ports)) != 0,
                 "an address of no bytes");
         read_plainly(m, place);
@@ -331,7 +332,7 @@ static void read_all(struct bytes m, uint8_t setting) {
     for (int i = 0; i < MOST_ATTRIBUTES; i++) {
         int64_t place = named(stunp_walk(m.at, m.length, &anywhere, &type, &length));
         if (place <= 0) break;
-        require((size_t)place + 4 + length <= m.length, "a walk from anywhere goes outside");
+        require((size_t)place + length <= m.length, "a walk from anywhere goes outside");
     }
 }
 

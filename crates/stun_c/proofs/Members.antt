@@ -1,6 +1,6 @@
 -- The first attribute of a type as it is read, and where the attributes after a place are.
-use Rattle.std.proofs.Common.{◌≡◌, ◌∙◌, ◌≤◌, ◌+◌, ℕ, Bool, true, false, List}
-use Rattle.std.proofs.Common.{length, take, drop, sym, ap, arith, rules}
+use Rattle.std.proofs.Common.{◌≡◌, ◌∙◌, ◌≤◌, ◌+◌, ◌-◌, ℕ, zero, suc, Bool, true, false, List}
+use Rattle.std.proofs.Common.{length, take, drop, sym, ap, subst, arith, rules}
 use Rattle.std.specs.Prelude.{nat_lt, not, ◌||◌, if◌then◌else◌, IfSome, IfOk}
 use Rattle.std.specs.Prelude.{MatchOption, Option, Some, None, Result, Ok, Err}
 use Rattle.std.proofs.lemmas.List.{drop-drop, length-take, take_min}
@@ -17,7 +17,7 @@ use Rattle.stun_types.proofs.IntegrityLemmas.{IfSome-find, first_of-within, visi
 use Rattle.stun_types.proofs.WalkLemmas.{whole_within}
 use Rattle.stun_numbers.specs.declared.refusal.Refusal.{Refusal}
 use Rattle.stun_numbers.specs.declared.refusal.Refusal.TheVariants.{BadArgument}
-use Rattle.stun_c.specs.Reading.{next_member, read_member, value_at}
+use Rattle.stun_c.specs.Reading.{attribute_place, next_member, read_member, value_at}
 
 -- what reading answers of a member that may be there
 pub read_member-is : {A : Type 0} (kind : ℕ) (reading : TypedValue → Option A)
@@ -28,22 +28,22 @@ pub read_member-is : {A : Type 0} (kind : ℕ) (reading : TypedValue → Option 
 read_member-is kind reading None answer is = is
 read_member-is kind reading (Some m) answer is = is
 
--- a place within is no more than the length
+-- the header of an attribute ends within
 place-within : (bytes : List ℕ) (found : Option Member) → IfSome found (IsInside bytes)
-    → IfSome found (λ m. m.0 ≤ length bytes)
+    → IfSome found (λ m. m.0 + 4 ≤ length bytes)
 place-within bytes None within = within
 place-within bytes (Some m) within = omega (arith, within.whole)
 
 -- the attribute that comes after a place does so within
 pub next-within : (place : ℕ) (bytes : List ℕ)
-    → IfSome (next_member place bytes) (λ m. m.0 ≤ length bytes)
+    → IfSome (next_member place bytes) (λ m. m.0 + 4 ≤ length bytes)
 next-within place bytes =
     place-within bytes (next_member place bytes)
     (IfSome-find (IsInside bytes) (λ m. nat_lt place m.0) (visible bytes) (visible-within bytes))
 
 -- so does the first of a type
 pub first-within : (kind : ℕ) (bytes : List ℕ)
-    → IfSome (first_of kind (visible bytes)) (λ m. m.0 ≤ length bytes)
+    → IfSome (first_of kind (visible bytes)) (λ m. m.0 + 4 ≤ length bytes)
 first-within kind bytes =
     place-within bytes (first_of kind (visible bytes)) (first_of-within kind bytes)
 
@@ -72,3 +72,19 @@ pub value_there : (bytes : List ℕ) (place : ℕ)
 value_there bytes place =
     taken_there (nat_lt place HEADER_LENGTH || not (has_attribute (drop place bytes)))
     (value_length_field (drop place bytes)) place bytes
+
+-- a value is where it begins
+pub value_begins : (bytes : List ℕ) (place : ℕ)
+    → IfOk (value_at bytes (attribute_place place))
+    (λ value. take (length value) (drop place bytes) ≡ value)
+value_begins bytes zero = search rules
+value_begins bytes (suc zero) = search rules
+value_begins bytes (suc (suc zero)) = search rules
+value_begins bytes (suc (suc (suc zero))) = search rules
+value_begins bytes (suc (suc (suc (suc n)))) =
+    let begins : n + 4 ≡ suc (suc (suc (suc n))) = omega arith in
+    let before : suc (suc (suc (suc n))) - 4 ≡ n = omega arith in
+    subst (λ at. IfOk (value_at bytes at)
+    (λ value. take (length value) (drop (suc (suc (suc (suc n)))) bytes) ≡ value)) (sym before)
+    (subst (λ at. IfOk (value_at bytes n) (λ value. take (length value) (drop at bytes) ≡ value))
+    begins (value_there bytes n))

@@ -1,6 +1,6 @@
 -- What the calls that read a message return, and what they leave in the caller's numbers and
 -- buffers.
-use Rattle.std.specs.Prelude.{ℕ, ℤ, pos, ◌+◌, List, length, take, drop, find, nat_lt, not}
+use Rattle.std.specs.Prelude.{ℕ, ℤ, pos, ◌+◌, ◌-◌, List, length, take, drop, find, nat_lt, not}
 use Rattle.std.specs.Prelude.{◌||◌, Option, Some, None, Result, Ok, Err, if◌then◌else◌}
 use Rattle.std.specs.Str.{is_utf8}
 use Rattle.byteorder.specs.Endian.{big_number}
@@ -10,7 +10,8 @@ use Rattle.stun_base.specs.Header.{transaction_id_field, type_field}
 use Rattle.stun_base.specs.MessageType.{class_in, class_number, method_of}
 use Rattle.stun_base.specs.declared.wire.error.StunParseError.{StunParseError}
 use Rattle.stun_base.specs.declared.wire.error.StunParseError.TheVariants.{MissingAttribute}
-use Rattle.stun_types.specs.Attribute.{TypedValue, first_attribute, has_attribute}
+use Rattle.stun_types.specs.Attribute.{ATTRIBUTE_HEADER_LENGTH, TypedValue, first_attribute}
+use Rattle.stun_types.specs.Attribute.{has_attribute}
 use Rattle.stun_types.specs.ErrorCode.{CodeAndReason, error_of}
 use Rattle.stun_types.specs.Integrity.{first_of}
 use Rattle.stun_types.specs.Message.{refusal}
@@ -63,10 +64,14 @@ id_of_message bytes =
 abbrev pub next_member : ℕ → List ℕ → Option Member
 next_member place bytes = find (λ m. nat_lt place m.0) (visible bytes)
 
--- the place of an attribute, or 0
+-- where the value of an attribute begins, or 0
 abbrev pub place_number : Option Member → ℤ
 place_number None = pos 0
-place_number (Some m) = pos m.0
+place_number (Some m) = pos (m.0 + ATTRIBUTE_HEADER_LENGTH)
+
+-- where the attribute begins whose value begins at a place
+abbrev pub attribute_place : ℕ → ℕ
+attribute_place place = place - ATTRIBUTE_HEADER_LENGTH
 
 -- what `stunp_next` returns
 abbrev pub next_answer : List ℕ → ℕ → ℤ
@@ -83,11 +88,11 @@ abbrev pub finding_refusal : ℕ → List ℕ → Option Refusal
 finding_refusal kind bytes =
     if nat_lt kind 65536 then message_refusal (refusal bytes) else Some BadArgument
 
--- what `stunp_find` returns of the attribute that it finds, if there is one
+-- what `stunp_find` returns of the attribute that it finds, if there is one: where its value begins
 abbrev pub find_answer : Option Refusal → Option Member → ℤ
 find_answer (Some refusal) found = refusal_number refusal
 find_answer None None = refusal_number NotFound
-find_answer None (Some m) = pos m.0
+find_answer None (Some m) = pos (m.0 + ATTRIBUTE_HEADER_LENGTH)
 
 -- the first attribute of a type as it is read, where it is there
 abbrev pub read_member : {A : Type 0} → ℕ → (TypedValue → Option A) → Option Member
@@ -200,7 +205,7 @@ text_at bytes place = as_text (value_at bytes place)
 
 -- what `stunp_read_text` returns of a text in the attribute at a place: where its value begins
 abbrev pub text_answer : Result (List ℕ) Refusal → ℕ → ℤ
-text_answer (Ok text) place = pos (place + 4)
+text_answer (Ok text) place = pos (place + ATTRIBUTE_HEADER_LENGTH)
 text_answer (Err refusal) place = refusal_number refusal
 
 -- the caller's length, which the text sets

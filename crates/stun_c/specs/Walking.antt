@@ -40,7 +40,8 @@ cursor_refusal cursor bytes =
     then Some BadArgument
     else None
 
--- what `stunp_walk` returns of the attribute that it comes to, if there is one
+-- what `stunp_walk` returns of the attribute that it comes to, if there is one: where its value
+-- begins
 abbrev pub walk_answer : Option Refusal → Option Member → ℤ
 walk_answer (Some refusal) found = refusal_number refusal
 walk_answer None found = place_number found

@@ -22,7 +22,7 @@ ghost use Rattle.stun_numbers.specs.Refusals.{refusal_of_write};
 ghost use Rattle.stun_c.specs.declared.walk.Cursor.{Cursor};
 ghost use Rattle.stun_c.specs.Codes.{error_text};
 ghost use Rattle.stun_c.specs.Extra.{types_attribute, unknown_answer};
-ghost use Rattle.stun_c.specs.Reading.{value_at};
+ghost use Rattle.stun_c.specs.Reading.{attribute_place, value_at};
 ghost use Rattle.stun_c.specs.Requests.{binding_request, key_length};
 ghost use Rattle.stun_c.specs.Turn.{IsReadAs, channel_item};
 ghost use Rattle.stun_c.specs.Walking.{ahead};
@@ -66,11 +66,10 @@ pub fn refusal_is_spelled()
         (transaction_id_field request) (unknown_attribute_error ∷ types_attribute types ∷ []) }
 {}
 
-/// The value of the attribute at a place of a message is in the message, 4 bytes after the place:
-/// so is the text that `stunp_read_text` tells.
+/// The value of an attribute is in the message at the place that the calls return and take.
 pub fn a_value_is_where_it_begins()
-    ensures { (bytes : List ℕ) (place : ℕ) → IfOk (value_at bytes place)
-        (λ value. take (length value) (drop (place + 4) bytes) ≡ value) }
+    ensures { (bytes : List ℕ) (place : ℕ) → IfOk (value_at bytes (attribute_place place))
+        (λ value. take (length value) (drop place bytes) ≡ value) }
 {}
 
 /// What `stunp_error_text` writes has no more bytes than `STUNP_LONGEST_ERROR_TEXT`.

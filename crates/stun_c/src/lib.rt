@@ -22,8 +22,9 @@ ghost use Rattle.stun_c.specs.Codes.{error_text};
 ghost use Rattle.stun_c.specs.Extra.{fingerprint_answer, fingerprinted_message, known_refusal};
 ghost use Rattle.stun_c.specs.Extra.{told_number, types_after, unknown_made, unknown_of};
 ghost use Rattle.stun_c.specs.Extra.{wanted_number, held_after, held_number, types_at};
-ghost use Rattle.stun_c.specs.Reading.{text_answer, text_at, text_length_after, address_at};
-ghost use Rattle.stun_c.specs.Reading.{octets_at, class_answer, method_answer, id_of_message};
+ghost use Rattle.stun_c.specs.Reading.{attribute_place, text_answer, text_at, text_length_after};
+ghost use Rattle.stun_c.specs.Reading.{address_at, octets_at, class_answer, method_answer};
+ghost use Rattle.stun_c.specs.Reading.{id_of_message};
 ghost use Rattle.stun_c.specs.Reading.{next_member, next_answer, number_after, error_answer};
 ghost use Rattle.stun_c.specs.Reading.{address_in, octets_of_message, plain_octets};
 ghost use Rattle.stun_c.specs.Reading.{plain_port_after, port_after, sized_after, sized_at};
@@ -64,6 +65,7 @@ use stun_base::attribute_type::AttributeType;
 use stun_numbers::algorithm::algorithm_number;
 use stun_numbers::refusal::Refusal;
 use stun_types::message::Message;
+use value::attribute_place;
 use verdict::verdict;
 use walk::Cursor;
 
@@ -314,8 +316,8 @@ pub extern "C" fn stunp_id(message: &[u8], out: &mut [u8]) -> i64
     reading::id(message, out)
 }
 
-/// Finds the first visible attribute after an offset: returns its offset, and writes its type and
-/// the length of its value. Returns 0 if there is none.
+/// Finds the first visible attribute after the one whose value is at an offset: returns the offset
+/// of its value, and writes its type and the length of the value. Returns 0 if there is none.
 #[unsafe(no_mangle)]
 pub extern "C" fn stunp_next(
     message: &[u8],
@@ -323,18 +325,18 @@ pub extern "C" fn stunp_next(
     kind: &mut u16,
     value_length: &mut usize,
 ) -> i64
-    ensures answer { result ≡ next_answer message.now place }
+    ensures answer { result ≡ next_answer message.now (attribute_place place) }
     ensures kind { kind.new ≡ number_after (λ a. a.kind) (refusal message.now)
-        (next_member place message.now) kind.old }
+        (next_member (attribute_place place) message.now) kind.old }
     ensures value_length { value_length.new ≡ number_after (λ a. length a.value)
         (refusal message.now)
-        (next_member place message.now) value_length.old }
+        (next_member (attribute_place place) message.now) value_length.old }
 {
-    reading::next(message, place, kind, value_length)
+    reading::next(message, attribute_place(place), kind, value_length)
 }
 
-/// Goes to the next visible attribute: returns its offset, writes its type and the length of its
-/// value, and moves the cursor past it. Returns 0 if there is none.
+/// Goes to the next visible attribute: returns the offset of its value, writes its type and the
+/// length of the value, and moves the cursor past it. Returns 0 if there is none.
 #[unsafe(no_mangle)]
 pub extern "C" fn stunp_walk(
     message: &[u8],
@@ -359,8 +361,8 @@ pub extern "C" fn stunp_walk(
     walk::walk(message, cursor, kind, value_length)
 }
 
-/// Finds the first visible attribute of a type: returns its offset, and writes the length of its
-/// value.
+/// Finds the first visible attribute of a type: returns the offset of its value, and writes the
+/// length of the value.
 #[unsafe(no_mangle)]
 pub extern "C" fn stunp_find(message: &[u8], kind: u32, value_length: &mut usize) -> i64
     ensures answer { result ≡ find_answer (finding_refusal kind message.now)
@@ -392,7 +394,7 @@ pub extern "C" fn stunp_xor_mapped_address(message: &[u8], out: &mut [u8], port:
     reading::mapped_address(message, out, port)
 }
 
-/// Reads the XORed address and the port in the attribute at an offset of a message, and returns the
+/// Reads the XORed address and the port in the value at an offset of a message, and returns the
 /// length of the address, 4 or 16.
 #[unsafe(no_mangle)]
 pub extern "C" fn stunp_read_xor_address(
@@ -401,16 +403,17 @@ pub extern "C" fn stunp_read_xor_address(
     out: &mut [u8],
     port: &mut u16,
 ) -> i64
-    ensures written { WritesWithin (octets_at message.now place) out.old result out.new }
-    ensures port { port.new ≡ port_after (within_room (octets_at message.now place)
-        (length out.old))
-        (address_at message.now place) port.old }
+    ensures written { WritesWithin (octets_at message.now (attribute_place place)) out.old result
+        out.new }
+    ensures port { port.new ≡ port_after
+        (within_room (octets_at message.now (attribute_place place)) (length out.old))
+        (address_at message.now (attribute_place place)) port.old }
 {
-    reading::address_at(message, place, out, port)
+    reading::address_at(message, attribute_place(place), out, port)
 }
 
-/// Reads the address and the port in the attribute at an offset of a message, which are not XORed,
-/// and returns the length of the address, 4 or 16.
+/// Reads the address and the port in the value at an offset of a message, which are not XORed, and
+/// returns the length of the address, 4 or 16.
 #[unsafe(no_mangle)]
 pub extern "C" fn stunp_read_address(
     message: &[u8],
@@ -418,44 +421,48 @@ pub extern "C" fn stunp_read_address(
     out: &mut [u8],
     port: &mut u16,
 ) -> i64
-    ensures written { WritesWithin (plain_octets (address_at message.now place)) out.old result
-        out.new }
+    ensures written { WritesWithin (plain_octets (address_at message.now (attribute_place place)))
+        out.old result out.new }
     ensures port { port.new ≡ plain_port_after
-        (within_room (plain_octets (address_at message.now place)) (length out.old))
-        (address_at message.now place) port.old }
+        (within_room (plain_octets (address_at message.now (attribute_place place)))
+        (length out.old))
+        (address_at message.now (attribute_place place)) port.old }
 {
-    reading::plain_at(message, place, out, port)
+    reading::plain_at(message, attribute_place(place), out, port)
 }
 
-/// Reads the number in the attribute at an offset of a message, and returns the number of its
-/// bytes, 1, 2, 4 or 8.
+/// Reads the number in the value at an offset of a message, and returns the number of its bytes, 1,
+/// 2, 4 or 8.
 #[unsafe(no_mangle)]
 pub extern "C" fn stunp_read_number(message: &[u8], place: usize, number: &mut u64) -> i64
-    ensures answer { result ≡ written_number (sized_at message.now place) }
-    ensures number { number.new ≡ sized_after (sized_at message.now place) number.old }
+    ensures answer { result ≡ written_number (sized_at message.now (attribute_place place)) }
+    ensures number { number.new ≡ sized_after (sized_at message.now (attribute_place place))
+        number.old }
 {
-    number::number_at(message, place, number)
+    number::number_at(message, attribute_place(place), number)
 }
 
-/// Finds the text in the attribute at an offset of a message: returns its offset, and writes its
-/// length.
+/// Checks that the value at an offset of a message is a text: returns the offset, and writes the
+/// length of the text.
 #[unsafe(no_mangle)]
 pub extern "C" fn stunp_read_text(message: &[u8], place: usize, text_length: &mut usize) -> i64
-    ensures answer { result ≡ text_answer (text_at message.now place) place }
+    ensures answer { result ≡ text_answer (text_at message.now (attribute_place place))
+        (attribute_place place) }
     ensures text_length { text_length.new
-        ≡ text_length_after (text_at message.now place) text_length.old }
+        ≡ text_length_after (text_at message.now (attribute_place place)) text_length.old }
 {
-    value::read_text(message, place, text_length)
+    value::read_text(message, attribute_place(place), text_length)
 }
 
-/// Reads the list of types in the attribute at an offset of a message, as in UNKNOWN-ATTRIBUTES:
+/// Reads the list of types in the value at an offset of a message, as in UNKNOWN-ATTRIBUTES:
 /// returns the number of types, and writes as many as there is room for.
 #[unsafe(no_mangle)]
 pub extern "C" fn stunp_read_types(message: &[u8], place: usize, types: &mut [u16]) -> i64
-    ensures answer { result ≡ held_number (types_at message.now place) }
-    ensures types { types.new ≡ held_after (types_at message.now place) types.old }
+    ensures answer { result ≡ held_number (types_at message.now (attribute_place place)) }
+    ensures types { types.new ≡ held_after (types_at message.now (attribute_place place))
+        types.old }
 {
-    value::read_types(message, place, types)
+    value::read_types(message, attribute_place(place), types)
 }
 
 /// Checks the FINGERPRINT of a message: returns 0 if it has none, 1 if it is right, 2 if it is

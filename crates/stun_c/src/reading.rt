@@ -1,8 +1,8 @@
 //! Reads messages: their fields, their attributes by offset, and the error and the address that
 //! they report.
 
-ghost use Rattle.std.specs.Prelude.{◌≡◌, ◌≤◌, ℕ, length, IfOk, IfErr, IfSome, IfNone, IsOkAnd};
-ghost use Rattle.std.specs.Prelude.{OnOk, Some, None, Ok, Err, slice_index, true};
+ghost use Rattle.std.specs.Prelude.{◌≡◌, ◌≤◌, ◌+◌, ℕ, length, IfOk, IfErr, IfSome, IfNone};
+ghost use Rattle.std.specs.Prelude.{IsOkAnd, OnOk, Some, None, Ok, Err, slice_index, true};
 ghost use Rattle.stun_base.specs.Header.{transaction_id_field};
 ghost use Rattle.stun_types.specs.Integrity.{first_of as first_member_of};
 ghost use Rattle.stun_types.specs.Message.{refusal};
@@ -27,7 +27,7 @@ use stun_base::header::HEADER_LENGTH;
 use stun_base::transaction_id::TransactionId;
 use stun_numbers::id::transaction_id;
 use stun_numbers::refusal::Refusal;
-use stun_types::attribute::{ErrorCode, RawAttribute};
+use stun_types::attribute::{ATTRIBUTE_HEADER_LENGTH, ErrorCode, RawAttribute};
 use stun_types::message::Message;
 use stun_types::prelude::*;
 
@@ -74,13 +74,14 @@ pub fn id(message: &[u8], out: &mut [u8]) -> i64
 /// The first visible attribute that comes after a place, with its own place.
 fn member_after<'a>(message: &Message<'a>, place: usize) -> Option<(usize, RawAttribute<'a>)>
     ensures first { result ≡ next_member place message.now }
-    ensures within { IfSome result (λ m. m.0 ≤ length message.now) }
+    ensures within { IfSome result (λ m. m.0 + 4 ≤ length message.now) }
 {
     message.iter_attributes().find(|found| place < found.0)
 }
 
-/// Finds the first visible attribute after an offset: returns its offset, or 0 if there is none, or
-/// the number of the error, and writes its type and the length of its value.
+/// Finds the first visible attribute after the one at an offset: returns the offset of its value,
+/// or 0 if there is none, or the number of the error, and writes its type and the length of its
+/// value.
 pub fn next(message: &[u8], place: usize, kind: &mut u16, value_length: &mut usize) -> i64
     ensures answer { result ≡ next_answer message.now place }
     ensures kind { kind.new ≡ number_after (λ a. a.kind) (refusal message.now)
@@ -94,7 +95,7 @@ pub fn next(message: &[u8], place: usize, kind: &mut u16, value_length: &mut usi
             Some((place, attribute)) => {
                 *kind = attribute.get_type().value();
                 *value_length = attribute.length();
-                place as i64
+                (place + ATTRIBUTE_HEADER_LENGTH) as i64
             }
             None => 0,
         },
@@ -137,15 +138,15 @@ fn has_octets(family: u8, count: usize) -> bool
 /// The first visible attribute of a type, with its place.
 fn first_of<'a>(message: &Message<'a>, kind: AttributeType) -> Option<(usize, RawAttribute<'a>)>
     ensures first { result ≡ first_member_of kind.0 (visible message.now) }
-    ensures within { IfSome result (λ m. m.0 ≤ length message.now) }
+    ensures within { IfSome result (λ m. m.0 + 4 ≤ length message.now) }
 {
     message
         .iter_attributes()
         .find(|found| found.1.get_type() == kind)
 }
 
-/// Finds the first visible attribute of a type: returns its offset, or the number of the error, and
-/// writes the length of its value.
+/// Finds the first visible attribute of a type: returns the offset of its value, or the number of
+/// the error, and writes the length of the value.
 pub fn find(message: &[u8], kind: u32, value_length: &mut usize) -> i64
     ensures answer { result ≡ find_answer (finding_refusal kind message.now)
         (first_member_of kind (visible message.now)) }
@@ -160,7 +161,7 @@ pub fn find(message: &[u8], kind: u32, value_length: &mut usize) -> i64
         Ok(message) => match first_of(&message, AttributeType::new(kind as u16)) {
             Some((place, attribute)) => {
                 *value_length = attribute.length();
-                place as i64
+                (place + ATTRIBUTE_HEADER_LENGTH) as i64
             }
             None => Refusal::MissingAttribute.code(),
         },

@@ -2,7 +2,8 @@
 
 ghost use Rattle.std.specs.Prelude.{◌≡◌, ◌≤◌, ◌<◌, ◌+◌, length, IfOk, IfErr, OnOk, Ok, Err};
 ghost use Rattle.stun_c.specs.Extra.{held_after, held_number, numbers_after, types_at};
-ghost use Rattle.stun_c.specs.Reading.{text_answer, text_at, text_length_after, value_at};
+ghost use Rattle.stun_c.specs.Reading.{attribute_place, text_answer, text_at, text_length_after};
+ghost use Rattle.stun_c.specs.Reading.{value_at};
 
 use crate::unknown::put;
 use stun_base::header::HEADER_LENGTH;
@@ -11,6 +12,13 @@ use stun_numbers::refusal::Refusal;
 use stun_numbers::text::text;
 use stun_types::attribute::{ATTRIBUTE_HEADER_LENGTH, RawAttribute};
 use stun_types::prelude::*;
+
+/// Returns the offset of the attribute whose value is at an offset.
+pub fn attribute_place(place: usize) -> usize
+    ensures { result ≡ attribute_place place }
+{
+    place.saturating_sub(ATTRIBUTE_HEADER_LENGTH)
+}
 
 /// The value of the attribute at a place of a message, or why there is none.
 fn value_at(message: &[u8], place: usize) -> Result<&[u8], Refusal>

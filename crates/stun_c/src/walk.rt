@@ -1,7 +1,7 @@
 //! A walk over the visible attributes of a message, which reads each of its attributes once.
 
-ghost use Rattle.std.specs.Prelude.{◌≡◌, ◌≤◌, length, drop, slice_get, IfOk, IfErr, OnOk, IfSome};
-ghost use Rattle.std.specs.Prelude.{IfNone, Some, None};
+ghost use Rattle.std.specs.Prelude.{◌≡◌, ◌≤◌, ◌+◌, length, drop, slice_get, IfOk, IfErr, OnOk};
+ghost use Rattle.std.specs.Prelude.{IfNone, IfSome, Some, None};
 ghost use Rattle.stun_types.specs.Visible.{visible_after};
 ghost use Rattle.stun_types.specs.Walk.{walk_from};
 ghost use Rattle.stun_c.specs.Reading.{number_after};
@@ -9,7 +9,7 @@ ghost use Rattle.stun_c.specs.Walking.{ahead, cursor_refusal, visibility_from, w
 
 use stun_base::header::HEADER_LENGTH;
 use stun_numbers::refusal::Refusal;
-use stun_types::attribute::RawAttribute;
+use stun_types::attribute::{ATTRIBUTE_HEADER_LENGTH, RawAttribute};
 use stun_types::message::{Message, Visibility};
 
 /// How far a walk has come. One of zeros is before the first attribute.
@@ -54,7 +54,7 @@ fn advance<'a>(message: &'a [u8], cursor: &mut Cursor) -> Option<(usize, RawAttr
     requires within { cursor.old.place ≤ length message.now }
     ensures first { result ≡ slice_get (visible_after (visibility_from cursor.old.hidden)
         (walk_from cursor.old.place message.now)) 0 }
-    ensures place { IfSome result (λ m. m.0 ≤ length message.now) }
+    ensures place { IfSome result (λ m. m.0 + 4 ≤ length message.now) }
     ensures rest { visible_after (visibility_from cursor.new.hidden)
         (walk_from cursor.new.place message.now)
         ≡ drop 1 (visible_after (visibility_from cursor.old.hidden)
@@ -101,9 +101,9 @@ fn begun(message: &[u8], cursor: Cursor) -> Result<Cursor, Refusal>
     Ok(cursor)
 }
 
-/// Finds the first visible attribute after a cursor: returns its offset, or 0 if there is none, or
-/// the number of the error, writes its type and the length of its value, and moves the cursor past
-/// it.
+/// Finds the first visible attribute after a cursor: returns the offset of its value, or 0 if there
+/// is none, or the number of the error, writes its type and the length of its value, and moves the
+/// cursor past it.
 pub fn walk(message: &[u8], cursor: &mut Cursor, kind: &mut u16, value_length: &mut usize) -> i64
     ensures answer { result ≡ walk_answer (cursor_refusal cursor.old message.now)
         (slice_get (ahead cursor.old message.now) 0) }
@@ -126,7 +126,7 @@ pub fn walk(message: &[u8], cursor: &mut Cursor, kind: &mut u16, value_length: &
                 Some((place, attribute)) => {
                     *kind = attribute.get_type().value();
                     *value_length = attribute.length();
-                    place as i64
+                    (place + ATTRIBUTE_HEADER_LENGTH) as i64
                 }
                 None => 0,
             }

@@ -1,5 +1,5 @@
 -- The search over the visible attributes is the definition's, and each of them is within.
-use Rattle.std.proofs.Common.{rules, sym, subst, ◌∙◌, ◌≤◌, length}
+use Rattle.std.proofs.Common.{rules, sym, subst, ◌∙◌, ◌+◌, ◌≤◌, length}
 use Rattle.std.specs.Prelude.{nat_lt, IfSome}
 use Rattle.std.proofs.lemmas.Iterator.Adapters.{option_map_id}
 use Rattle.std.proofs.lemmas.Iterator.Consumers.{YieldsList-from_first}
@@ -18,5 +18,5 @@ returns-clause-first c =
 
 pub returns-clause-within : goal.returns-clause-within
 returns-clause-within c =
-    subst (λ found. IfSome found (λ m. m.0 ≤ length c.args.message.now))
+    subst (λ found. IfSome found (λ m. m.0 + 4 ≤ length c.args.message.now))
     (sym (returns-clause-first c)) (next-within c.args.place c.args.message.now)

@@ -22,6 +22,8 @@ DECLARED = re.compile(r"(?m)^(pub(?:\([^)]*\))? )?(?:struct|enum|trait|type) (\w
 OF_TRAIT = re.compile(r"^impl(?:<[^{]*?>)?\s+[^{]*?\bfor\b")
 HIDDEN = re.compile(r"(?m)^(?:pub\([^)]*\) )?"
                     r"(?:struct|enum|trait|const|static|type|mod|use|unsafe impl)\b[^;{]*[;{]")
+# Attributes that no proof above reads.
+ATTRIBUTE = re.compile(r"(?m)^[ \t]*#!?\[(?:allow|cold|cycle|doc|inline|must_use|tactic)\b")
 IMPORT = re.compile(r"(?:ghost |pub )*use Rattle\.(\w+)\.specs\.([\w.]+)\.\{([^}]*)\}")
 ANTT_COMMENT = re.compile(r"(?m)(?:^|(?<=\s))--.*$")
 
@@ -73,6 +75,9 @@ def without(text, ranges):
 def public(text, hidden):
     """What a source file shows: its imports of definitions, and the rest."""
     text = without_comments(text)
+    masked = mask(text)
+    text = without(text, [(one.start(), closing(masked, masked.index("[", one.start())))
+                          for one in ATTRIBUTE.finditer(masked)])
     masked = mask(text)
     text = without(text, [(one.start(), closing(masked, one.end() - 1))
                           for one in IMPL.finditer(masked) if one[1].split("::")[-1] in hidden])

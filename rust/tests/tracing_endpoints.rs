@@ -62,7 +62,12 @@ impl Trace {
 
     /// Returns the bytes that a client sends, of which one event tells.
     fn sent(&self, client: &mut Client, again: &str, request: u64) -> Vec<u8> {
-        let (bytes, events) = self.events(|| match client.poll(Instant::ZERO) {
+        self.sent_at(client, Instant::ZERO, again, request)
+    }
+
+    /// The same of what it sends at this time.
+    fn sent_at(&self, client: &mut Client, now: Instant, again: &str, request: u64) -> Vec<u8> {
+        let (bytes, events) = self.events(|| match client.poll(now) {
             Output::Transmit(bytes) => bytes.to_vec(),
             other => panic!("{other:?}"),
         });
@@ -255,41 +260,49 @@ fn forged(request: &[u8]) -> [Vec<u8>; 2] {
 }
 
 /// A client with this password asks a server, while somebody forges responses. Returns when it has
-/// no more to send.
+/// no more to send. The server refuses a wrong password twice: the first refusal is dropped, and the
+/// message goes on by its timer.
 fn client_asks(trace: &Trace, client: &mut Client, request: u64) {
     let (server, users) = server();
-    client.request(BINDING, Body::new(), Instant::ZERO).unwrap();
+    let (mut at, mut again, mut is_signed) = (Instant::ZERO, "", false);
+    client.request(BINDING, Body::new(), at).unwrap();
     while client.outstanding() > 0 {
-        let bytes = trace.sent(client, "", request);
+        let bytes = trace.sent_at(client, at, again, request);
         let [success, challenge] = forged(&bytes);
         _ = trace.judges(
             "verdict=\"dropped\" reason=\"NotVerified\"",
             &success,
             THERE,
-            || client.receive(&success, there(), Instant::ZERO),
+            || client.receive(&success, there(), at),
         );
         _ = trace.judges(
             "verdict=\"dropped\" code=401 reason=\"UnanswerableChallenge\"",
             &challenge,
             THERE,
-            || client.receive(&challenge, there(), Instant::ZERO),
+            || client.receive(&challenge, there(), at),
         );
         _ = trace.judges("verdict=\"not ours\"", &success, HERE, || {
-            client.receive(&success, here(), Instant::ZERO)
+            client.receive(&success, here(), at)
         });
         let Received::Answer(answer) = server.receive(&bytes, here(), now(), &users) else {
             panic!("no answer");
         };
+        let is_first_refusal = is_signed && again.is_empty();
         let wanted = match answer.refusal() {
+            Some(_) if is_first_refusal => "verdict=\"dropped\" code=401 reason=\"Refused\"".into(),
             Some(refusal) => format!("verdict=\"accepted\" code={}", refusal.code()),
-            None => "verdict=\"accepted\"".to_string(),
+            None => "verdict=\"accepted\"".into(),
         };
         _ = trace.judges(&wanted, answer.bytes(), THERE, || {
-            client.receive(answer.bytes(), there(), Instant::ZERO)
+            client.receive(answer.bytes(), there(), at)
         });
         if answer.refusal().is_none() {
             return;
         }
+        if is_first_refusal {
+            (at, again) = (Instant::from_nanos(500_000_000), " again");
+        }
+        is_signed = true;
     }
 }
 

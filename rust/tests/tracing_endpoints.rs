@@ -260,8 +260,8 @@ fn forged(request: &[u8]) -> [Vec<u8>; 2] {
 }
 
 /// A client with this password asks a server, while somebody forges responses. Returns when it has
-/// no more to send. The server refuses a wrong password twice: the first refusal is dropped, and the
-/// message goes on by its timer.
+/// no more to send. The server refuses a wrong password twice: the first refusal is dropped, and
+/// the message goes on by its timer.
 fn client_asks(trace: &Trace, client: &mut Client, request: u64) {
     let (server, users) = server();
     let (mut at, mut again, mut is_signed) = (Instant::ZERO, "", false);

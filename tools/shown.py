@@ -22,8 +22,9 @@ DECLARED = re.compile(r"(?m)^(pub(?:\([^)]*\))? )?(?:struct|enum|trait|type) (\w
 OF_TRAIT = re.compile(r"^impl(?:<[^{]*?>)?\s+[^{]*?\bfor\b")
 HIDDEN = re.compile(r"(?m)^(?:pub\([^)]*\) )?"
                     r"(?:struct|enum|trait|const|static|type|mod|use|unsafe impl)\b[^;{]*[;{]")
-# Attributes that no proof above reads.
-ATTRIBUTE = re.compile(r"(?m)^[ \t]*#!?\[(?:allow|cold|cycle|doc|inline|must_use|tactic)\b")
+# Attributes that no proof reads, and those that no proof above reads.
+NO_PROOF = re.compile(r"(?m)^[ \t]*#!?\[(?:allow|cold|doc|inline|must_use)\b")
+NONE_ABOVE = re.compile(r"(?m)^[ \t]*#!?\[(?:cycle|tactic)\b")
 IMPORT = re.compile(r"(?:ghost |pub )*use Rattle\.(\w+)\.specs\.([\w.]+)\.\{([^}]*)\}")
 ANTT_COMMENT = re.compile(r"(?m)(?:^|(?<=\s))--.*$")
 
@@ -34,10 +35,18 @@ def without_comments(text):
     return "".join(line.rstrip() + "\n" for line in code.split("\n") if line.strip())
 
 
+def without_attributes(text, kind):
+    """Code without the attributes of a kind."""
+    masked = mask(text)
+    text = without(text, [(one.start(), closing(masked, masked.index("[", one.start())))
+                          for one in kind.finditer(masked)])
+    return re.sub(r"(?m)^[ \t]*\n", "", text)
+
+
 def code_of(path):
-    """The code of a source file, or of one of definitions or proofs."""
+    """The code of a source file, or of one of definitions or proofs, as a proof reads it."""
     if path.suffix == ".rt":
-        return without_comments(path.read_text())
+        return without_attributes(without_comments(path.read_text()), NO_PROOF)
     text = ANTT_COMMENT.sub("", path.read_text())
     return "".join(line.rstrip() + "\n" for line in text.split("\n") if line.strip())
 
@@ -74,10 +83,7 @@ def without(text, ranges):
 
 def public(text, hidden):
     """What a source file shows: its imports of definitions, and the rest."""
-    text = without_comments(text)
-    masked = mask(text)
-    text = without(text, [(one.start(), closing(masked, masked.index("[", one.start())))
-                          for one in ATTRIBUTE.finditer(masked)])
+    text = without_attributes(without_attributes(without_comments(text), NO_PROOF), NONE_ABOVE)
     masked = mask(text)
     text = without(text, [(one.start(), closing(masked, one.end() - 1))
                           for one in IMPL.finditer(masked) if one[1].split("::")[-1] in hidden])

@@ -9,10 +9,11 @@
     tools/wrong.py --look          says which edits cannot be made in the files as they are
     tools/wrong.py CRATE[/NAME] .. tries these
 
-The record, tests/wrong/RECORD, has a line for each crate: a sum of its sources, specs, proofs and
-edits, and of what the crates below show to it (tools/shown.py), as its edits were last tried and
-refused. A crate changed if its sum is another one: a comment, or a body in a crate below, changes
-no sum, since the proof of the crate does not read it. The line `kit:` names the toolchain that all
+The record, tests/wrong/RECORD, has a line for each crate: a sum of its edits, of its sources, specs
+and proofs, and of what the crates below show to it (tools/shown.py), as they were last tried and
+refused. Edits that name a law of another crate have a line of their own, CRATE/CRATE, whose sum has
+that of the other crate too. A crate changed if its sum is another one: a comment, or a body in a
+crate below, changes no sum, since the proof of the crate does not read it. The line `kit:` names the toolchain that all
 were last tried by. WRONG_RECORD names another record: --gate writes target/gate/edits.record, where
 those of the record that stay are too. What is random is drawn by the sums of the crates, or by
 WRONG_SEED, and the seed is printed.
@@ -31,6 +32,7 @@ body and definition agree, and the law must not, over the edited sources.
 """
 import collections
 import concurrent.futures
+import functools
 import hashlib
 import os
 import random
@@ -63,14 +65,30 @@ def with_edits():
     return [crate for crate in crates.lines() if edits_of(crate)]
 
 
-def line_of(crate):
-    """The line of the record for the crate as it is, with the crates of the laws of its edits."""
-    edits = edits_of(crate)
+@functools.lru_cache(None)
+def group_of(edit):
+    """The name under which the record has an edit: its crate, and that of the law that it names if
+    this is another one."""
+    law = LAW.match(edit.read_text())
+    crate = edit.parent.name
+    return f"{crate}/{law[1]}" if law and law[1] != crate else crate
+
+
+def groups():
+    """The edits by the names under which the record has them."""
+    found = collections.defaultdict(list)
+    for edit in (edit for crate in with_edits() for edit in edits_of(crate)):
+        found[group_of(edit)].append(edit)
+    return found
+
+
+def line_of(name, edits):
+    """The line of the record for these edits as they are."""
     texts = [(edit.name, edit.read_text()) for edit in edits]
-    laws = {law[1] for law in (LAW.match(text) for _, text in texts) if law}
-    read = [shown.read_by(one, crates.below(one)) for one in (crate, *sorted(laws - {crate}))]
-    whole = hashlib.sha256(repr([crates.lines()[crate], texts, *read]).encode()).hexdigest()[:32]
-    return f"{crate} {whole} {len(edits)}"
+    read = [(crates.lines()[crate], shown.read_by(crate, crates.below(crate)))
+            for crate in name.split("/") if crate in crates.lines()]
+    whole = hashlib.sha256(repr([texts, *read]).encode()).hexdigest()[:32]
+    return f"{name} {whole} {len(edits)}"
 
 
 def known_lines():
@@ -78,9 +96,9 @@ def known_lines():
 
 
 def changed():
-    """The crates whose line of the record is another one."""
+    """The groups of edits whose line of the record is another one."""
     known = known_lines()
-    return [crate for crate in with_edits() if line_of(crate) not in known]
+    return [name for name, edits in groups().items() if line_of(name, edits) not in known]
 
 
 def kit_line():
@@ -94,9 +112,9 @@ def at_random(found):
     of another toolchain."""
     if kit_line() in known_lines():
         return [], ""
-    sums = " ".join(map(line_of, with_edits()))
+    sums = " ".join(line_of(*one) for one in groups().items())
     seed = os.environ.get("WRONG_SEED") or hashlib.sha256(sums.encode()).hexdigest()[:8]
-    others = [edit for crate in with_edits() if crate not in found for edit in edits_of(crate)]
+    others = [edit for name, edits in groups().items() if name not in found for edit in edits]
     more = random.Random(seed).sample(others, min(MORE, len(others)))
     return more, f"{len(more)} at random, by WRONG_SEED={seed}, since the record is not of this kit"
 
@@ -264,7 +282,7 @@ def sweep():
 
 
 def tried(edits, is_shown=False):
-    """Tries edits, tells of each, and returns the crates of those that are not refused."""
+    """Tries edits, tells of each, and returns the groups of those that are not refused."""
     sweep()
     wrong, begun = set(), time.monotonic()
     counts = collections.Counter(edit.parent.name for edit in edits)
@@ -276,20 +294,20 @@ def tried(edits, is_shown=False):
         for done in concurrent.futures.as_completed(made):
             edit, (is_refused, why) = made[done], done.result()
             print(f"wrong: {edit.parent.name}/{edit.stem}: {why}", flush=True)
-            wrong |= set() if is_refused else {edit.parent.name}
+            wrong |= set() if is_refused else {group_of(edit)}
     print(f"wrong: {len(edits)} edits, in {time.monotonic() - begun:.0f} s; "
           + (f"not all refused, of {' '.join(sorted(wrong))}" if wrong else "all refused"))
     return wrong
 
 
 def try_changed(found, more, record):
-    """Tries the edits of these crates and more, and writes a record."""
+    """Tries the edits of these groups and more, and writes a record."""
     # (a file that changes meanwhile has another sum)
-    lines = {crate: line_of(crate) for crate in with_edits()}
-    wrong = tried([edit for crate in found for edit in edits_of(crate)] + more)
+    lines = {name: line_of(name, edits) for name, edits in groups().items()}
+    wrong = tried([edit for name in found for edit in groups()[name]] + more)
     known = known_lines()
-    kept = [line for crate, line in lines.items()
-            if crate not in wrong and (crate in found or line in known)]
+    kept = [line for name, line in lines.items()
+            if name not in wrong and (name in found or line in known)]
     is_of_kit = not wrong and (kit_line() in known or set(found) == set(lines))
     kits = [kit_line()] if is_of_kit else [line for line in known if line.startswith("kit: ")]
     record.parent.mkdir(parents=True, exist_ok=True)
@@ -335,7 +353,7 @@ def main():
     if words == ["--gate"]:
         return try_for_gate()
     if words in ([], ["--all"]):
-        return try_changed(with_edits() if words else changed(), [], RECORD)
+        return try_changed(list(groups()) if words else changed(), [], RECORD)
     is_shown = words[0] == "--show"
     named = [edit for word in words[is_shown:] for edit in
              ([WRONG / f"{word}.edit"] if "/" in word else edits_of(word))]

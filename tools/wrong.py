@@ -13,10 +13,10 @@ The record, tests/wrong/RECORD, has a line for each crate: a sum of its edits, o
 and proofs, and of what the crates below show to it (tools/shown.py), as they were last tried and
 refused. Edits that name a law of another crate have a line of their own, CRATE/CRATE, whose sum has
 that of the other crate too. A crate changed if its sum is another one: a comment, or a body in a
-crate below, changes no sum, since the proof of the crate does not read it. The line `kit:` names the toolchain that all
-were last tried by. WRONG_RECORD names another record: --gate writes target/gate/edits.record, where
-those of the record that stay are too. What is random is drawn by the sums of the crates, or by
-WRONG_SEED, and the seed is printed.
+crate below, changes no sum, since the proof of the crate does not read it. The line `kit:` names
+the toolchain that all were last tried by. WRONG_RECORD names another record: --gate writes
+target/gate/edits.record, where those of the record that stay are too. What is random is drawn by
+the sums of the crates, or by WRONG_SEED, and the seed is printed.
 
 An edit is a line `file: src/..`, and then pairs of lines `old: TEXT` and `new: TEXT`; further lines
 `file:` begin the pairs of other files. It is made in a copy of the crate: first the function or the

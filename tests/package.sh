@@ -192,7 +192,7 @@ grep -q '^License: Apache-2.0' $copyright && grep -q '^License: Expat' $copyrigh
     { echo 'dh_fixperms left another mode' && exit 1; }
 ! pkg-config --static --libs stunp 2>/dev/null | grep -q gc-sections ||
     { echo "stunp.pc has flags of the program's link" && exit 1; }
-(cd stunp && autopkgtest --apt-upgrade=no -B . -- null) >tested 2>&1 || autopkg=$?
+(cd stunp && autopkgtest -B . -- null) >tested 2>&1 || autopkg=$?
 if ! grep -q '^three-calls *PASS' tested; then
     # (autopkgtest has apt look for what the test depends on, which may need a network)
     mkdir -p scratch && (cd stunp && AUTOPKGTEST_TMP=/work/scratch debian/tests/three-calls) ||

@@ -13,7 +13,7 @@ use Rattle.std.proofs.lemmas.Bool.Decides.{nat_tests}
 use Rattle.std.proofs.lemmas.Slice.Eq.{bytes_eq-Decides}
 use Rattle.stun_base.specs.declared.keys.algorithm.IntegrityAlgorithm.TheVariants.{Sha1}
 use Rattle.stun_extra.specs.CanonicalAddress.{address_octets, is_same_address}
-use Rattle.stun_ice.specs.Agent.{Agent, SentCheck, check_bytes}
+use Rattle.stun_ice.specs.Agent.{Agent, Peer, SentCheck, check_bytes}
 use Rattle.stun_ice.specs.Answers.{conflict_answer, success_answer}
 use Rattle.stun_ice.specs.Conflicts.{AreSettled, Event, Happening, Said, Side, Sides, Told, at}
 use Rattle.stun_ice.specs.Conflicts.{after_check, after_event, after_told, answered, beginning}
@@ -26,9 +26,10 @@ use Rattle.stun_ice.specs.Roles.{is_same_role, opposite, role_after_check}
 use Rattle.stun_ice.specs.declared.received.Mapped.{Mapped}
 use Rattle.stun_ice.specs.declared.received.Outcome.TheVariants.{Failed, RoleConflict, Valid}
 use Rattle.stun_ice.specs.declared.role.Role.{Role}
-use Rattle.stun_peers.specs.Peers.{ArePeers, IsAgent, IsNumbered, given_by, mapped_of, role_by}
+use Rattle.stun_peers.specs.Peers.{IsAgent, IsNumbered, Knows, given_by, mapped_of, role_by}
 use Rattle.stun_peers.specs.Peers.{said_by, written_check}
-use Rattle.stun_peer_runs.specs.Datagrams.{AreSettledParties, AreUnsettled, Delivery, IsUsual}
+use Rattle.stun_peer_runs.specs.Datagrams.{AreSettledParties, AreUnsettled, Correspond}
+use Rattle.stun_peer_runs.specs.Datagrams.{Correspondent, Delivery, IsUsual}
 use Rattle.stun_peer_runs.specs.Datagrams.{IsUsualDelivery, Parties, Party, Posted, Posting}
 use Rattle.stun_peer_runs.specs.Datagrams.{Replied, after_arrival, after_datagram, after_given}
 use Rattle.stun_peer_runs.specs.Datagrams.{after_postings, after_reply, agent_as}
@@ -38,24 +39,27 @@ use Rattle.stun_peer_runs.specs.Datagrams.{turned_parties}
 
 -- what the laws of the crates below say of checks and their answers
 pub record PeerLaws : Type 0 where
-  pub judged : (a b : Agent) (c : Option SentCheck) (from : SocketAddr) (id priority : ℕ)
-      (nominates : Bool) → IsAgent a → IsNumbered id priority → ArePeers a b
-      → given b from (judgement_of b c from (check_bytes a id priority nominates))
-      ≡ given_by b from (check_bytes a id priority nominates) priority nominates
+  pub judged : (a b : Agent) (peer : Peer) (c : Option SentCheck) (from : SocketAddr)
+      (id priority : ℕ) (nominates : Bool) → IsAgent a peer → IsNumbered id priority
+      → Knows a b peer
+      → given b from (judgement_of b c from (check_bytes a peer id priority nominates))
+      ≡ given_by b from (check_bytes a peer id priority nominates) priority nominates
       (role_after_check b.role b.tie_breaker (rival_of b.role (said_by a)))
-  pub role : (a b : Agent) (c : Option SentCheck) (from : SocketAddr) (id priority : ℕ)
-      (nominates : Bool) → IsAgent a → IsNumbered id priority → ArePeers a b
-      → role_left b.role (judgement_of b c from (check_bytes a id priority nominates))
+  pub role : (a b : Agent) (peer : Peer) (c : Option SentCheck) (from : SocketAddr)
+      (id priority : ℕ) (nominates : Bool) → IsAgent a peer → IsNumbered id priority
+      → Knows a b peer
+      → role_left b.role (judgement_of b c from (check_bytes a peer id priority nominates))
       ≡ role_by b.role (role_after_check b.role b.tie_breaker (rival_of b.role (said_by a)))
-  pub valid : (a b now : Agent) (id priority : ℕ) (nominates : Bool) (to from source : SocketAddr)
-      → IsAgent a → IsNumbered id priority → ArePeers now b → IsSocketAddr from
+  pub valid : (a b now : Agent) (sent peer : Peer) (id priority : ℕ) (nominates : Bool)
+      (to from source : SocketAddr) → IsAgent a sent → IsNumbered id priority → Knows now b peer
+      → IsSocketAddr from → is_same_address source to ≡ true
+      → IsValid now (written_check a sent id to priority nominates) source
+      (success_answer b from (check_bytes a sent id priority nominates) Sha1) (mapped_of from id)
+  pub conflict : (a b now : Agent) (sent peer : Peer) (id priority : ℕ) (nominates : Bool)
+      (to source : SocketAddr) → IsAgent a sent → IsNumbered id priority → Knows now b peer
       → is_same_address source to ≡ true
-      → IsValid now (written_check a id to priority nominates) source
-      (success_answer b from (check_bytes a id priority nominates) Sha1) (mapped_of from id)
-  pub conflict : (a b now : Agent) (id priority : ℕ) (nominates : Bool) (to source : SocketAddr)
-      → IsAgent a → IsNumbered id priority → ArePeers now b → is_same_address source to ≡ true
-      → let j = judgement_of now (Some (written_check a id to priority nominates)) source
-      (conflict_answer b (check_bytes a id priority nominates) Sha1) in
+      → let j = judgement_of now (Some (written_check a sent id to priority nominates)) source
+      (conflict_answer b (check_bytes a sent id priority nominates) Sha1) in
       (given now source j ≡ responded (RoleConflict (is_same_role now.role a.role)))
       × (role_left now.role j
       ≡ role_after_outcome now.role (RoleConflict (is_same_role now.role a.role)))
@@ -136,17 +140,14 @@ same_as_itself to =
     (λ i. same_number (socket_port to) i && bytes_eq octets octets)
     ∙ (bytes_eq-Decides octets octets).1 refl
 
-module _ (laws : PeerLaws) (a b : Agent) (agent : IsAgent a) (peers : ArePeers a b) where
-  as_agent : (by : Said) → by.tie_breaker < 2 ^ 64 → IsAgent (agent_as a by)
+module _ (laws : PeerLaws) (a b : Correspondent) (agent : IsAgent a.agent a.peer)
+    (knows : Knows a.agent b.agent a.peer) where
+  as_agent : (by : Said) → by.tie_breaker < 2 ^ 64 → IsAgent (agent_as a.agent by) a.peer
   as_agent by tie = record { name = agent.name; tie_breaker = tie }
 
-  as_peers : (one other : Said) → ArePeers (agent_as a one) (agent_as b other)
-  as_peers one other = record {
-    there = peers.there;
-    back = peers.back;
-    password_there = peers.password_there;
-    password_back = peers.password_back;
-  }
+  as_known : (one other : Said) → Knows (agent_as a.agent one) (agent_as b.agent other) a.peer
+  as_known one other =
+      record { known = knows.known; name = knows.name; password = knows.password }
 
   -- a check arrives
   abbrev sides_with : Parties → Posted → Bool → Role → Sides
@@ -171,8 +172,8 @@ module _ (laws : PeerLaws) (a b : Agent) (agent : IsAgent a) (peers : ArePeers a
       let left = role_after_check s.right.now.role s.right.now.tie_breaker
       (rival_of s.right.now.role p.said) in
       ap (sides_with s p (is_none left))
-      (laws.role (agent_as a p.said) (agent_as b s.right.now) None from p.id p.priority p.nominates
-      (as_agent p.said is.tie) is.numbered (as_peers p.said s.right.now))
+      (laws.role (agent_as a.agent p.said) (agent_as b.agent s.right.now) a.peer None from p.id
+      p.priority p.nominates (as_agent p.said is.tie) is.numbered (as_known p.said s.right.now))
       ∙ by_role s p left
 
   -- an answer arrives
@@ -181,13 +182,13 @@ module _ (laws : PeerLaws) (a b : Agent) (agent : IsAgent a) (peers : ArePeers a
     p = r.check
 
     abbrev check : SentCheck
-    check = written_check (agent_as a p.said) p.id p.to p.priority p.nominates
+    check = written_check (agent_as a.agent p.said) a.peer p.id p.to p.priority p.nominates
 
     abbrev hearer : Agent
-    hearer = agent_as a party.now
+    hearer = agent_as a.agent party.now
 
     abbrev answerer : Agent
-    answerer = agent_as b r.by
+    answerer = agent_as b.agent r.by
 
     abbrev of_given : List ℕ → Party
     of_given bytes =
@@ -200,23 +201,25 @@ module _ (laws : PeerLaws) (a b : Agent) (agent : IsAgent a) (peers : ArePeers a
         (Some (record { role = p.said.role; conflict = is_none left }))
     by_left None =
         ap (λ g. side_of (after_given party fresh g))
-        (laws.conflict (agent_as a p.said) answerer hearer p.id p.priority p.nominates p.to p.to
-        (as_agent p.said is.check.tie) is.check.numbered (as_peers party.now r.by)
+        (laws.conflict (agent_as a.agent p.said) answerer hearer a.peer a.peer p.id p.priority
+        p.nominates p.to p.to (as_agent p.said is.check.tie) is.check.numbered
+        (as_known party.now r.by)
         (same_as_itself p.to)).0
     by_left (Some role) =
         ap (λ g. side_of (after_given party fresh g))
         (laws.heard hearer check p.to (success_answer answerer r.from (bytes_posted a p) Sha1)
         (mapped_of r.from p.id)
-        (laws.valid (agent_as a p.said) answerer hearer p.id p.priority p.nominates p.to r.from p.to
-        (as_agent p.said is.check.tie) is.check.numbered (as_peers party.now r.by) is.from
+        (laws.valid (agent_as a.agent p.said) answerer hearer a.peer a.peer p.id p.priority
+        p.nominates p.to r.from p.to (as_agent p.said is.check.tie) is.check.numbered
+        (as_known party.now r.by) is.from
         (same_as_itself p.to)))
 
     pub replied_to : side_of (after_reply a b party fresh (Some r))
         ≡ after_told (side_of party) fresh (Some (told_of r))
     replied_to =
         ap (λ g. side_of (of_given (answer_sent g)))
-        (laws.judged (agent_as a p.said) answerer None r.from p.id p.priority p.nominates
-        (as_agent p.said is.check.tie) is.check.numbered (as_peers p.said r.by))
+        (laws.judged (agent_as a.agent p.said) answerer a.peer None r.from p.id p.priority
+        p.nominates (as_agent p.said is.check.tie) is.check.numbered (as_known p.said r.by))
         ∙ by_left (role_after_check r.by.role r.by.tie_breaker (rival_of r.by.role p.said))
 
   heard_as : (party : Party) (fresh : ℕ) (o : Option Replied) → OfSome IsReplied o
@@ -245,7 +248,7 @@ module _ (laws : PeerLaws) (a b : Agent) (agent : IsAgent a) (peers : ArePeers a
   given_kept party fresh (responded (Valid mapped)) is fits =
       record { tie = is.tie; posted = is.posted; replied = is.replied }
   given_kept party fresh (responded (Failed failure)) is fits = is
-  given_kept party fresh (checked answer judged) is fits = is
+  given_kept party fresh (checked bytes answer judged) is fits = is
   given_kept party fresh (indicated bytes) is fits = is
   given_kept party fresh (dropped why) is fits = is
 
@@ -279,69 +282,62 @@ module _ (laws : PeerLaws) (a b : Agent) (agent : IsAgent a) (peers : ArePeers a
       by None = left
       by (Some r) =
           let p = r.check in
-          let hearer = agent_as a s.left.now in
+          let hearer = agent_as a.agent s.left.now in
           given_kept s.left fresh
           (given hearer p.to (judgement_of hearer
-          (Some (written_check (agent_as a p.said) p.id p.to p.priority p.nominates)) p.to
+          (Some (written_check (agent_as a.agent p.said) a.peer p.id p.to p.priority
+          p.nominates)) p.to
           (bytes_replied a b r))) left usual
 
 -- ---- a run
 
-turned : (a b : Agent) → ArePeers a b → ArePeers b a
-turned a b peers = record {
-  there = peers.back;
-  back = peers.there;
-  password_there = peers.password_back;
-  password_back = peers.password_there;
-}
-
-pub run : PeerLaws → (a b : Agent) → IsAgent a → IsAgent b → ArePeers a b → (s : Parties)
-    → IsParty s.left → IsParty s.right → (postings : List Posting)
+pub run : PeerLaws → (a b : Correspondent) → IsAgent a.agent a.peer → IsAgent b.agent b.peer
+    → Correspond a b → (s : Parties) → IsParty s.left → IsParty s.right → (postings : List Posting)
     → AllByRecursion IsUsual postings
     → sides_of (after_postings a b s postings)
     ≡ said.after_all (sides_of s) (map happening_of postings)
 run laws a b left_agent right_agent peers s left right [] usual = refl
 run laws a b left_agent right_agent peers s left right (of_left d ∷ postings) usual =
-    let both = kept laws a b left_agent peers s d usual.0 left right in
+    let both = kept laws a b left_agent peers.there s d usual.0 left right in
     run laws a b left_agent right_agent peers (after_datagram a b s d) both.0 both.1 postings usual.1
     ∙ ap (λ sides. said.after_all sides (map happening_of postings))
-    (step laws a b left_agent peers s d left)
+    (step laws a b left_agent peers.there s d left)
 run laws a b left_agent right_agent peers s left right (of_right d ∷ postings) usual =
-    let back = turned a b peers in
-    let both = kept laws b a right_agent back (turned_parties s) d usual.0 right left in
+    let both = kept laws b a right_agent peers.back (turned_parties s) d usual.0 right left in
     run laws a b left_agent right_agent peers
     (turned_parties (after_datagram b a (turned_parties s) d)) both.1 both.0 postings usual.1
     ∙ ap (λ sides. said.after_all (swapped sides) (map happening_of postings))
-    (step laws b a right_agent back (turned_parties s) d right)
+    (step laws b a right_agent peers.back (turned_parties s) d right)
 
-begun : (a : Agent) → IsAgent a → IsParty (party_of a)
+begun : (a : Correspondent) → IsAgent a.agent a.peer → IsParty (party_of a.agent)
 begun a agent = record { tie = agent.tie_breaker; posted = tt; replied = tt }
 
 -- ---- what they come to
 
-module _ (laws : PeerLaws) (a b : Agent) (postings : List Posting) (left : IsAgent a)
-    (right : IsAgent b) (peers : ArePeers a b) (usual : AllByRecursion IsUsual postings) where
+module _ (laws : PeerLaws) (a b : Correspondent) (postings : List Posting)
+    (left : IsAgent a.agent a.peer) (right : IsAgent b.agent b.peer) (peers : Correspond a b)
+    (usual : AllByRecursion IsUsual postings) where
   abbrev sides_after : Role → Sides
   sides_after role =
       said.after_all
-      (record { left = beginning a.role a.tie_breaker; right = beginning role b.tie_breaker })
+      (record { left = beginning a.agent.role a.agent.tie_breaker; right = beginning role b.agent.tie_breaker })
       (map happening_of postings)
 
-  whole : sides_of (both_after a b postings) ≡ sides_after b.role
+  whole : sides_of (both_after a b postings) ≡ sides_after b.agent.role
   whole =
-      run laws a b left right peers (record { left = party_of a; right = party_of b }) (begun a left)
+      run laws a b left right peers (record { left = party_of a.agent; right = party_of b.agent }) (begun a left)
       (begun b right) postings usual
 
-  as_role : (role : Role) → b.role ≡ role → sides_after role ≡ sides_of (both_after a b postings)
+  as_role : (role : Role) → b.agent.role ≡ role → sides_after role ≡ sides_of (both_after a b postings)
   as_role role is = sym (whole ∙ ap sides_after is)
 
   abbrev Ends : Sides → Type 0
-  Ends both = ((both.left.role ≡ a.role) × (both.right.role ≡ a.role) × (both.left.heard ≡ false)
-      × (both.right.heard ≡ false)) ⊎ AreSettled a.tie_breaker b.tie_breaker both
+  Ends both = ((both.left.role ≡ a.agent.role) × (both.right.role ≡ a.agent.role) × (both.left.heard ≡ false)
+      × (both.right.heard ≡ false)) ⊎ AreSettled a.agent.tie_breaker b.agent.tie_breaker both
 
   ended : Ends (sides_of (both_after a b postings))
-      → AreUnsettled a.role (both_after a b postings)
-      ⊎ AreSettledParties a.tie_breaker b.tie_breaker (both_after a b postings)
+      → AreUnsettled a.agent.role (both_after a b postings)
+      ⊎ AreSettledParties a.agent.tie_breaker b.agent.tie_breaker (both_after a b postings)
   ended (inl same) = inl (record {
     left = same.0;
     right = same.1;
@@ -350,15 +346,15 @@ module _ (laws : PeerLaws) (a b : Agent) (postings : List Posting) (left : IsAge
   })
   ended (inr settled) = inr (record { left = settled.left; right = settled.right })
 
-  pub roles_end : b.role ≡ a.role → Ends (sides_after a.role)
-      → AreUnsettled a.role (both_after a b postings)
-      ⊎ AreSettledParties a.tie_breaker b.tie_breaker (both_after a b postings)
-  roles_end same ends = ended (subst Ends (as_role a.role same) ends)
+  pub roles_end : b.agent.role ≡ a.agent.role → Ends (sides_after a.agent.role)
+      → AreUnsettled a.agent.role (both_after a b postings)
+      ⊎ AreSettledParties a.agent.tie_breaker b.agent.tie_breaker (both_after a b postings)
+  roles_end same ends = ended (subst Ends (as_role a.agent.role same) ends)
 
   abbrev Stays : Sides → Type 0
-  Stays both = (both.left.role ≡ a.role) × (both.right.role ≡ opposite a.role)
+  Stays both = (both.left.role ≡ a.agent.role) × (both.right.role ≡ opposite a.agent.role)
 
-  pub roles_stay : b.role ≡ opposite a.role → Stays (sides_after (opposite a.role))
-      → ((both_after a b postings).left.now.role ≡ a.role)
-      × ((both_after a b postings).right.now.role ≡ opposite a.role)
-  roles_stay other stays = subst Stays (as_role (opposite a.role) other) stays
+  pub roles_stay : b.agent.role ≡ opposite a.agent.role → Stays (sides_after (opposite a.agent.role))
+      → ((both_after a b postings).left.now.role ≡ a.agent.role)
+      × ((both_after a b postings).right.now.role ≡ opposite a.agent.role)
+  roles_stay other stays = subst Stays (as_role (opposite a.agent.role) other) stays

@@ -5,14 +5,14 @@ use Rattle.std.specs.Prelude.{Some, None}
 use Rattle.std.specs.List.{AllByRecursion}
 use Rattle.std.specs.Net.Socket.{IsSocketAddr}
 use Rattle.std.specs.declared.net.socket_addr.SocketAddr.{SocketAddr}
-use Rattle.stun_ice.specs.Agent.{Agent, check_bytes}
+use Rattle.stun_ice.specs.Agent.{Agent, Peer, check_bytes}
 use Rattle.stun_ice.specs.Conflicts.{Said, at, settled_role}
 use Rattle.stun_ice.specs.Received.{Given, checked, dropped, given, indicated, judgement_of}
 use Rattle.stun_ice.specs.Received.{responded, role_after_outcome, role_left}
 use Rattle.stun_ice.specs.Roles.{opposite}
 use Rattle.stun_ice.specs.declared.received.Outcome.TheVariants.{Failed, RoleConflict, Valid}
 use Rattle.stun_ice.specs.declared.role.Role.{Role}
-use Rattle.stun_peers.specs.Peers.{ArePeers, IsAgent, IsNumbered, written_check}
+use Rattle.stun_peers.specs.Peers.{IsAgent, IsNumbered, Knows, written_check}
 
 -- ---- what is on the network
 
@@ -47,6 +47,16 @@ pub record Parties : Type 0 where
 abbrev pub turned_parties : Parties → Parties
 turned_parties s = record { left = s.right; right = s.left }
 
+-- an agent with the credentials of its peer
+pub record Correspondent : Type 0 where
+  pub agent : Agent
+  pub peer : Peer
+
+-- each of two agents has the credentials of the other
+pub record Correspond (a b : Correspondent) : Type 0 where
+  pub there : Knows a.agent b.agent a.peer
+  pub back : Knows b.agent a.agent b.peer
+
 -- an agent with this role and this tie-breaker
 abbrev pub agent_as : Agent → Said → Agent
 agent_as a said = record a { role = said.role; tie_breaker = said.tie_breaker }
@@ -63,20 +73,20 @@ party_of a = record {
 -- ---- the bytes
 
 -- a check of an agent, as it is sent
-abbrev pub bytes_posted : Agent → Posted → List ℕ
-bytes_posted a p = check_bytes (agent_as a p.said) p.id p.priority p.nominates
+abbrev pub bytes_posted : Correspondent → Posted → List ℕ
+bytes_posted a p = check_bytes (agent_as a.agent p.said) a.peer p.id p.priority p.nominates
 
 -- the answer that an agent is given to send, if it is given one
 abbrev pub answer_sent : Given → List ℕ
-answer_sent (checked answer judged) = answer
+answer_sent (checked bytes answer judged) = answer
 answer_sent (responded outcome) = []
 answer_sent (indicated bytes) = []
 answer_sent (dropped why) = []
 
 -- the answer of an agent to a check of its peer, as it is sent
-abbrev pub bytes_replied : Agent → Agent → Replied → List ℕ
+abbrev pub bytes_replied : Correspondent → Correspondent → Replied → List ℕ
 bytes_replied a b r =
-    let answerer = agent_as b r.by in
+    let answerer = agent_as b.agent r.by in
     answer_sent (given answerer r.from (judgement_of answerer None r.from (bytes_posted a r.check)))
 
 -- ---- what happens: each datagram is of a check of the left agent, or of one of the right agent
@@ -109,7 +119,7 @@ after_posting party id to priority nominates = record party {
 
 -- the check arrives at the agent `b`, which answers it, and is left with the role that its bytes
 -- give
-abbrev pub after_arrival : Agent → Agent → Parties → SocketAddr → Option Posted → Parties
+abbrev pub after_arrival : Correspondent → Correspondent → Parties → SocketAddr → Option Posted → Parties
 after_arrival a b s from None = s
 after_arrival a b s from (Some p) = record {
   left = record s.left {
@@ -118,7 +128,7 @@ after_arrival a b s from (Some p) = record {
   right = record s.right {
     now = record s.right.now {
       role = role_left s.right.now.role
-          (judgement_of (agent_as b s.right.now) None from (bytes_posted a p));
+          (judgement_of (agent_as b.agent s.right.now) None from (bytes_posted a p));
     };
   };
 }
@@ -134,34 +144,34 @@ after_given party fresh (responded (RoleConflict switched)) = record party {
 }
 after_given party fresh (responded (Valid mapped)) = record party { heard = true }
 after_given party fresh (responded (Failed failure)) = party
-after_given party fresh (checked answer judged) = party
+after_given party fresh (checked bytes answer judged) = party
 after_given party fresh (indicated bytes) = party
 after_given party fresh (dropped why) = party
 
 -- the answer arrives at the agent `a`
-abbrev pub after_reply : Agent → Agent → Party → ℕ → Option Replied → Party
+abbrev pub after_reply : Correspondent → Correspondent → Party → ℕ → Option Replied → Party
 after_reply a b party fresh None = party
 after_reply a b party fresh (Some r) =
-    let hearer = agent_as a party.now in
+    let hearer = agent_as a.agent party.now in
     let p = r.check in
-    let check = written_check (agent_as a p.said) p.id p.to p.priority p.nominates in
+    let check = written_check (agent_as a.agent p.said) a.peer p.id p.to p.priority p.nominates in
     after_given party fresh
     (given hearer p.to (judgement_of hearer (Some check) p.to (bytes_replied a b r)))
 
-abbrev pub after_datagram : Agent → Agent → Parties → Delivery → Parties
+abbrev pub after_datagram : Correspondent → Correspondent → Parties → Delivery → Parties
 after_datagram a b s (sends id to priority nominates) =
     record s { left = after_posting s.left id to priority nominates }
 after_datagram a b s (arrives n from) = after_arrival a b s from (at n s.left.posted)
 after_datagram a b s (hears n fresh) =
     record s { left = after_reply a b s.left fresh (at n s.left.replied) }
 
-abbrev pub after_turn : Agent → Agent → Parties → Posting → Parties
+abbrev pub after_turn : Correspondent → Correspondent → Parties → Posting → Parties
 after_turn a b s (of_left datagram) = after_datagram a b s datagram
 after_turn a b s (of_right datagram) =
     turned_parties (after_datagram b a (turned_parties s) datagram)
 
 -- both agents after datagrams, the first of which comes first
-abbrev pub after_postings : Agent → Agent → Parties → List Posting → Parties
+abbrev pub after_postings : Correspondent → Correspondent → Parties → List Posting → Parties
 after_postings a b s [] = s
 after_postings a b s (posting ∷ postings) = after_postings a b (after_turn a b s posting) postings
 
@@ -178,9 +188,9 @@ IsUsual (of_left datagram) = IsUsualDelivery datagram
 IsUsual (of_right datagram) = IsUsualDelivery datagram
 
 -- both agents after all that is sent between them
-abbrev pub both_after : Agent → Agent → List Posting → Parties
+abbrev pub both_after : Correspondent → Correspondent → List Posting → Parties
 both_after a b postings =
-    after_postings a b (record { left = party_of a; right = party_of b }) postings
+    after_postings a b (record { left = party_of a.agent; right = party_of b.agent }) postings
 
 -- both have the role that they began in, and no answer has arrived
 pub record AreUnsettled (role : Role) (s : Parties) : Type 0 where
@@ -196,14 +206,16 @@ pub record AreSettledParties (left_tie right_tie : ℕ) (s : Parties) : Type 0 w
 
 abbrev pub RolesEnd : Type 0
 RolesEnd =
-    (a b : Agent) (postings : List Posting) → IsAgent a → IsAgent b → ArePeers a b
-    → b.role ≡ a.role → a.tie_breaker ≢ b.tie_breaker → AllByRecursion IsUsual postings
-    → AreUnsettled a.role (both_after a b postings)
-    ⊎ AreSettledParties a.tie_breaker b.tie_breaker (both_after a b postings)
+    (a b : Correspondent) (postings : List Posting) → IsAgent a.agent a.peer
+    → IsAgent b.agent b.peer → Correspond a b → b.agent.role ≡ a.agent.role
+    → a.agent.tie_breaker ≢ b.agent.tie_breaker → AllByRecursion IsUsual postings
+    → AreUnsettled a.agent.role (both_after a b postings)
+    ⊎ AreSettledParties a.agent.tie_breaker b.agent.tie_breaker (both_after a b postings)
 
 abbrev pub RolesStay : Type 0
 RolesStay =
-    (a b : Agent) (postings : List Posting) → IsAgent a → IsAgent b → ArePeers a b
-    → b.role ≡ opposite a.role → AllByRecursion IsUsual postings
-    → ((both_after a b postings).left.now.role ≡ a.role)
-    × ((both_after a b postings).right.now.role ≡ opposite a.role)
+    (a b : Correspondent) (postings : List Posting) → IsAgent a.agent a.peer
+    → IsAgent b.agent b.peer → Correspond a b → b.agent.role ≡ opposite a.agent.role
+    → AllByRecursion IsUsual postings
+    → ((both_after a b postings).left.now.role ≡ a.agent.role)
+    × ((both_after a b postings).right.now.role ≡ opposite a.agent.role)

@@ -12,8 +12,8 @@ ghost use Rattle.stun_peer_runs.specs.Datagrams.{RolesEnd, RolesStay};
 /// This holds for every network that loses, repeats, delays and reorders: any datagram may arrive
 /// at any time after it was sent, any number of times.
 ///
-/// Premises: the agents are peers (`ArePeers`, `IsAgent`: law `agents_of_one_session_are_peers` of
-/// `stun_peers` says which calls create such agents); an ID has 96 bits, a priority 32, a
+/// Premises: each agent knows the other (`Correspond`, `IsAgent`: law
+/// `agents_of_one_session_know_each_other` of `stun_peers` says which calls create such agents); an ID has 96 bits, a priority 32, a
 /// tie-breaker 64 (`IsUsual`); and an answer comes from the address that its check went to. An
 /// agent believes no other answer.
 pub fn roles_end_opposite_of_datagrams()

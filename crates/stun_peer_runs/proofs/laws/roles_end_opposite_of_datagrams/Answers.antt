@@ -15,7 +15,7 @@ returns-clause-settle c = λ a b postings left right peers same other usual.
           ap (given agent from)
           ((c.pairs_are_valid_exactly.ensures agent check from bytes mapped).1 valid);
     }) a b postings left right peers usual same
-    (c.roles_end_opposite.ensures.settle a.role a.tie_breaker b.tie_breaker other
+    (c.roles_end_opposite.ensures.settle a.agent.role a.agent.tie_breaker b.agent.tie_breaker other
     (map happening_of postings))
 
 pub returns-clause-stay : goal.returns-clause-stay
@@ -29,4 +29,4 @@ returns-clause-stay c = λ a b postings left right peers other usual.
           ap (given agent from)
           ((c.pairs_are_valid_exactly.ensures agent check from bytes mapped).1 valid);
     }) a b postings left right peers usual other
-    (c.roles_end_opposite.ensures.stay a.role a.tie_breaker b.tie_breaker (map happening_of postings))
+    (c.roles_end_opposite.ensures.stay a.agent.role a.agent.tie_breaker b.agent.tie_breaker (map happening_of postings))

@@ -158,14 +158,17 @@ impl Bench {
             .credentials(user)
             .understands(&understood());
         let mut client = client.build([self.seed; 32]).unwrap();
-        client.request(method.method(), body, self.now).unwrap();
+        let mut now = self.now;
+        client.request(method.method(), body, now).unwrap();
         loop {
-            match client.poll(self.now) {
+            match client.poll(now) {
                 Output::Transmit(bytes) => {
                     let bytes = bytes.to_vec();
                     let answer = self.receive(link(of.1), &bytes);
-                    let _ = client.receive(&answer, server, self.now);
+                    let _ = client.receive(&answer, server, now);
                 }
+                // A user who is refused is believed to be refused after a retransmission.
+                Output::Wait(Some(until)) => now = until,
                 Output::Ended(_, Ok(response)) => return Ok(response),
                 Output::Ended(_, Err(RequestError::Refused(error))) => return Err(error.code()),
                 Output::Ended(_, Err(RequestError::Unauthorized)) => return Err(401),

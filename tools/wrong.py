@@ -246,6 +246,8 @@ def verdict_of_law(crate, texts, name, law, is_shown):
     ran = check(crate, texts, True, "--only", name)
     if is_shown or ran.returncode != 0:
         print(ran.stdout, end="")
+    if ran.returncode != 0 and not re.search(r"^only=\d+ proved=\d+", ran.stdout, re.M):
+        return False, f"NOT TRIED: the check of {name} ended with {ran.returncode}"
     if ran.returncode != 0:
         return False, f"NOT TRIED: {name} is not proved, so its body and definition do not agree"
     ran = check(crate, texts, True, "--only", law[1], of=law[0])

@@ -96,7 +96,7 @@ class Endpoints:
     # ---- An agent of ICE.
 
     def endpoint_ice(self, what, *words):
-        if what != "new" and not self.has_agent:
+        if what not in ("new", "offer") and not self.has_agent:
             raise Words("no agent")
         return getattr(self, "ice_" + what.replace("-", "_"))(*words)
 

@@ -55,7 +55,7 @@ class Reading:
         message, found, place = plain(word), [], 0
         kind, length = c_uint16(), c_size_t()
         while (place := ask("next", message, c_size_t(place), byref(kind), byref(length))) > 0:
-            found.append(f"0x{kind.value:04x}@{place}:{length.value}")
+            found.append(f"0x{kind.value:04x}@{place - 4}:{length.value}")
         return " ".join(found) or "none"
 
     @call
@@ -67,7 +67,7 @@ class Reading:
             place = ask("find", message, c_uint32(kind), byref(length))
         except Refused as refused:
             return "none" if refused.args[0] == MISSING else "refused"
-        return self.value(kind, message, place, message[place + 4:place + 4 + length.value])
+        return self.value(kind, message, place, message[place:place + length.value])
 
     def value(self, kind, message, place, value):
         place, out, port = c_size_t(place), (c_uint8 * 16)(), c_uint16()

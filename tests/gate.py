@@ -161,6 +161,53 @@ def taken_out(top, name):
            and lines[-1] == "23 passed, 1 failed" and say(lines, f"FAILED: {name} was called for, and did not run"), lines)
 
 
+LOW = """//! A crate.
+pub trait Drawn {
+    fn drawn(&self) -> bool;
+}
+pub struct Low;
+impl Low {
+    /// A comment.
+    pub fn used(&self) -> bool
+        ensures result == self.named()
+    {
+        true
+    }
+    pub fn named(&self) -> bool
+        ensures result
+    {
+        true
+    }
+    pub fn unused(&self) -> bool
+        ensures result
+    {
+        true
+    }
+}
+impl Drawn for Low {
+    fn drawn(&self) -> bool
+        ensures result
+    {
+        true
+    }
+}
+"""
+
+
+def shows(top):
+    """What a crate shows to one above it: what that one names, what the contracts of this name, and
+    what is a trait's, without bodies and comments."""
+    import shown
+    shown.TOP = top
+    write(top / "crates/low/src/lib.rt", LOW)
+    write(top / "crates/high/src/lib.rt", "pub fn high(low: &Low) -> bool {\n    low.used()\n}\n")
+    text = "\n".join(shown.to("high", ["low"]))
+    expect("a function is shown to a crate that names it, or that is shown one which does",
+           all(f"fn {name}(" in text for name in ("used", "named", "drawn")), [text])
+    expect("no function, body or comment is shown that says nothing to it",
+           not any(word in text for word in ("unused", "{\n        true", "comment")), [text])
+
+
 def main():
     sys.path.insert(0, str(TOP / "tools"))
     from parts import PARTS
@@ -174,6 +221,7 @@ def main():
     with tempfile.TemporaryDirectory(prefix="gate-") as scratch:
         lay(Path(scratch) / "usual", GATE)
         tried(Path(scratch) / "usual")
+        shows(Path(scratch) / "shown")
         for name in ("suite", "examples"):
             taken_out(Path(scratch) / name, name)
     print(f"gate: {len(PARTS)} parts; {f'{len(wrong)} wrong' if wrong else 'as it should be'}")

@@ -3,7 +3,9 @@ else of it, so that a change of anything else leaves them as they are.
 
 Of the sources that is what is `pub` (types, constants, traits, and functions with their contracts
 and without their bodies), what is re-exported, and the impls of traits; of the definitions the
-modules that these name, and those that such a module names. Comments are left out.
+modules that these name, and those that such a module names. Comments are left out, and so is a
+function that is no trait's and whose name stands neither in the crate above nor in anything that is
+shown to it: that crate cannot call it, so a new one changes nothing for those that do not use it.
 """
 import functools
 import re
@@ -19,6 +21,7 @@ FUNCTION = re.compile(
 CLAUSE = re.compile(r"\b(?:ensures|requires)\*?(?:\s+\w+)?\s*$")
 IMPL = re.compile(r"(?m)^(?:unsafe )?impl\b(?:<[^{]*?>)? (?:[^{]*\bfor )?&?([\w:]+)[^{]*\{")
 DECLARED = re.compile(r"(?m)^(pub(?:\([^)]*\))? )?(?:struct|enum|trait|type) (\w+)")
+TRAIT = re.compile(r"(?m)^pub trait\b[^{]*\{")
 OF_TRAIT = re.compile(r"^impl(?:<[^{]*?>)?\s+[^{]*?\bfor\b")
 HIDDEN = re.compile(r"(?m)^(?:pub\([^)]*\) )?"
                     r"(?:struct|enum|trait|const|static|type|mod|use|unsafe impl)\b[^;{]*[;{]")
@@ -91,7 +94,7 @@ def public(text, hidden):
     spans = [(one.start(), closing(masked, one.end() - 1), bool(OF_TRAIT.match(one.group(0))))
              for one in IMPL.finditer(masked)]
     spans += [(one.start(), closing(masked, one.end() - 1), True)
-              for one in re.finditer(r"(?m)^pub trait\b[^{]*\{", masked)]
+              for one in TRAIT.finditer(masked)]
     for found in FUNCTION.finditer(masked):
         if found.start() < at:
             continue
@@ -110,21 +113,42 @@ def public(text, hidden):
 
 
 def words_of(text):
-    return set(re.split(r"[\s(){}\[\],;.◌]+", text))
+    return frozenset(re.split(r"[\s(){}\[\],;.◌]+", text))
+
+
+def names_of(text):
+    return frozenset(re.findall(r"\w+", text))
+
+
+def of_functions(text):
+    """A text that is shown, in pieces: each function that is no trait's, with its name, and the
+    rest, with none."""
+    masked, pieces, at = mask(text), [], 0
+    of_traits = [(one.start(), closing(masked, one.end() - 1))
+                 for one in [*IMPL.finditer(masked), *TRAIT.finditer(masked)]
+                 if not one[0].startswith(("impl", "unsafe")) or OF_TRAIT.match(one[0])]
+    for found in FUNCTION.finditer(masked):
+        if any(first < found.start() < last for first, last in of_traits):
+            continue
+        end = body_of(masked, found)[1]
+        pieces += [("", text[at:found.start()]), (found[0].split()[-1], text[found.start():end])]
+        at = end
+    return [*pieces, ("", text[at:])]
 
 
 @functools.lru_cache(None)
 def sources(crate):
-    """The text that the sources of a crate show, and the modules of definitions that it names."""
-    shown, named = [], set()
+    """What the sources of a crate show: of each file its imports of definitions, each module with
+    the words that name it, and its text in pieces, each with the name of its function, if it has
+    one, and with its words."""
+    shown = []
     for path in sorted((TOP / "crates" / crate / "src").rglob("*.rt")):
         imports, text = public(path.read_text(), hidden_types(crate))
-        words = words_of(text)
-        named |= {(of, module) for of, module, names in imports
-                  if any(words_of(name.split(" as ")[-1]) & words - {""}
-                         for name in names.split(","))}
-        shown.append(text)
-    return "\n".join(shown), frozenset(named)
+        named = [((of, module), frozenset.union(*map(words_of, name.split(" as ")[-1:])) - {""})
+                 for of, module, names in imports for name in names.split(",")]
+        shown.append((named, [(name, piece, words_of(piece), names_of(piece))
+                              for name, piece in of_functions(text)]))
+    return shown
 
 
 @functools.lru_cache(None)
@@ -132,32 +156,38 @@ def definitions(crate, module):
     """A module of definitions without its comments, and the modules that it names."""
     path = TOP / "crates" / crate / "specs" / (module.replace(".", "/") + ".antt")
     if not path.is_file():
-        return "", frozenset()
+        return "", frozenset(), frozenset()
     text = code_of(path)
-    return text, frozenset((of, name) for of, name, _ in IMPORT.findall(text))
+    return text, frozenset((of, name) for of, name, _ in IMPORT.findall(text)), names_of(text)
 
 
-def named_by(folder):
-    """The modules of definitions that the files of a crate name."""
-    return {(of, module) for part in ("src", "specs", "proofs")
-            for path in (folder / part).rglob("*") if path.suffix in (".rt", ".antt")
-            for of, module, _ in IMPORT.findall(path.read_text())}
-
-
-def to(crate, below):
-    """What the crates below show to a crate."""
-    texts, open_ones = [], named_by(TOP / "crates" / crate)
-    for name in sorted(below):
-        text, named = sources(name)
-        texts.append(text)
-        open_ones |= named
-    done = set()
+def reached(open_ones, below):
+    """These modules of definitions, and those that they name, of the crates below."""
+    open_ones, done = set(open_ones), set()
     while open_ones:
         one = open_ones.pop()
         if one[0] in below and one not in done:
             done.add(one)
             open_ones |= definitions(*one)[1]
-    return texts + [f"{of}.{module}\n{definitions(of, module)[0]}" for of, module in sorted(done)]
+    return done
+
+
+def to(crate, below):
+    """What the crates below show to a crate."""
+    own = [text for _, text in code_in(crate)]
+    modules = {(of, module) for text in own for of, module, _ in IMPORT.findall(text)}
+    names, known = frozenset().union(*map(names_of, own)), None
+    while names != known:
+        known, texts = names, []
+        for file_imports, pieces in (file for name in sorted(below) for file in sources(name)):
+            pieces = [piece for piece in pieces if not piece[0] or piece[0] in known]
+            words = frozenset().union(*(piece[2] for piece in pieces))
+            modules |= {module for module, named in file_imports if named & words}
+            names = names.union(*(piece[3] for piece in pieces))
+            texts += [piece[1] for piece in pieces]
+        read = sorted(reached(modules, below))
+        names = names.union(*(definitions(*module)[2] for module in read))
+    return ["".join(texts)] + [f"{of}.{module}\n{definitions(of, module)[0]}" for of, module in read]
 
 
 @functools.lru_cache(None)

@@ -169,24 +169,24 @@ pub struct Low;
 impl Low {
     /// A comment.
     pub fn used(&self) -> bool
-        ensures result == self.named()
+        ensures { result ≡ self.named }
     {
         true
     }
     pub fn named(&self) -> bool
-        ensures result
+        ensures so { result ≡ True }
     {
         true
     }
     pub fn unused(&self) -> bool
-        ensures result
+        ensures so { result ≡ True }
     {
         true
     }
 }
 impl Drawn for Low {
     fn drawn(&self) -> bool
-        ensures result
+        ensures so { result ≡ True }
     {
         true
     }

@@ -194,18 +194,20 @@ impl Drawn for Low {
 """
 
 
-def shows(top):
-    """What a crate shows to one above it: what that one names, what the contracts of this name, and
-    what is a trait's, without bodies and comments."""
+def decides(top):
+    """What decides of an edit: its file, and of the crates below what that names, what the
+    contracts of this name, and what is a trait's, without bodies and comments."""
     import shown
     shown.TOP = top
     write(top / "crates/low/src/lib.rt", LOW)
     write(top / "crates/high/src/lib.rt", "pub fn high(low: &Low) -> bool {\n    low.used()\n}\n")
-    text = "\n".join(shown.to("high", ["low"]))
-    expect("a function is shown to a crate that names it, or that is shown one which does",
-           all(f"fn {name}(" in text for name in ("used", "named", "drawn")), [text])
-    expect("no function, body or comment is shown that says nothing to it",
-           not any(word in text for word in ("unused", "{\n        true", "comment")), [text])
+    write(top / "crates/high/src/other.rt", "pub fn other(low: &Low) -> bool {\n    low.unused()\n}\n")
+    text = "\n".join(shown.decides("high", ["low"], {"src/lib.rt"}))
+    expect("a function decides if the file names it, or something that does decides",
+           all(f"fn {name}(" in text for name in ("high", "used", "named", "drawn"))
+           and "low.used()" in text, [text])
+    expect("nothing decides that the file does not read",
+           not any(word in text for word in ("other", "unused", "{\n        true", "comment")), [text])
 
 
 def main():
@@ -221,7 +223,7 @@ def main():
     with tempfile.TemporaryDirectory(prefix="gate-") as scratch:
         lay(Path(scratch) / "usual", GATE)
         tried(Path(scratch) / "usual")
-        shows(Path(scratch) / "shown")
+        decides(Path(scratch) / "decides")
         for name in ("suite", "examples"):
             taken_out(Path(scratch) / name, name)
     print(f"gate: {len(PARTS)} parts; {f'{len(wrong)} wrong' if wrong else 'as it should be'}")

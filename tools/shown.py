@@ -1,11 +1,12 @@
-"""What a crate shows to the crates above it, as text: their proofs stand on this and on nothing
-else of it, so that a change of anything else leaves them as they are.
+"""What decides whether an edit of a function is wrong, as text: the files that it changes, and what
+the rest of the crate and the crates below show to these. A change of anything else leaves a wrong
+body wrong.
 
-Of the sources that is what is `pub` (types, constants, traits, and functions with their contracts
-and without their bodies), what is re-exported, and the impls of traits; of the definitions the
+What is shown of sources is types, constants, traits, functions with their contracts and without
+their bodies, and the impls of traits, of the crates below what is `pub`; of the definitions the
 modules that these name, and those that such a module names. Comments are left out, and so is a
-function that is no trait's and whose name stands neither in the crate above nor in anything that is
-shown to it: that crate cannot call it, so a new one changes nothing for those that do not use it.
+function that is no trait's and whose name stands neither in those files nor in anything that is
+shown to them: they cannot call it, so a new one changes nothing for those that do not use it.
 """
 import functools
 import re
@@ -84,12 +85,14 @@ def without(text, ranges):
     return "".join([*kept, text[at:]])
 
 
-def public(text, hidden):
-    """What a source file shows: its imports of definitions, and the rest."""
+def public(text, hidden, is_own=False):
+    """What a source file shows to the crates above, or to its own crate: its imports of
+    definitions, and the rest."""
     text = without_attributes(without_attributes(without_comments(text), NO_PROOF), NONE_ABOVE)
     masked = mask(text)
     text = without(text, [(one.start(), closing(masked, one.end() - 1))
-                          for one in IMPL.finditer(masked) if one[1].split("::")[-1] in hidden])
+                          for one in IMPL.finditer(masked)
+                          if one[1].split("::")[-1] in hidden and not is_own])
     masked, kept, at = mask(text), [], 0
     spans = [(one.start(), closing(masked, one.end() - 1), bool(OF_TRAIT.match(one.group(0))))
              for one in IMPL.finditer(masked)]
@@ -101,13 +104,13 @@ def public(text, hidden):
         start, end = body_of(masked, found)
         of_trait = any(first < found.start() < last for first, last, is_of in spans if is_of)
         kept.append(text[at:found.start()])
-        if found[2] == "pub " or of_trait:
+        if is_own or found[2] == "pub " or of_trait:
             kept.append(text[found.start():start].rstrip() + ";\n")
         at = end
     text = "".join([*kept, text[at:]])
     masked = mask(text)
     text = without(text, [(one.start(), closing(masked, one.end() - 1) if one[0][-1] == "{"
-                           else one.end()) for one in HIDDEN.finditer(masked)])
+                           else one.end()) for one in HIDDEN.finditer(masked) if not is_own])
     imports = IMPORT.findall(text)
     return imports, re.sub(r"(?m)^ *(?:ghost use .*|;?)\n", "", text)
 
@@ -133,21 +136,21 @@ def of_functions(text):
         end = body_of(masked, found)[1]
         pieces += [("", text[at:found.start()]), (found[0].split()[-1], text[found.start():end])]
         at = end
-    return [*pieces, ("", text[at:])]
+    return [(name, piece.strip()) for name, piece in [*pieces, ("", text[at:])] if piece.strip()]
 
 
 @functools.lru_cache(None)
-def sources(crate):
-    """What the sources of a crate show: of each file its imports of definitions, each module with
-    the words that name it, and its text in pieces, each with the name of its function, if it has
-    one, and with its words."""
-    shown = []
-    for path in sorted((TOP / "crates" / crate / "src").rglob("*.rt")):
-        imports, text = public(path.read_text(), hidden_types(crate))
-        named = [((of, module), frozenset.union(*map(words_of, name.split(" as ")[-1:])) - {""})
+def sources(crate, is_own=False):
+    """What the sources of a crate show to the crates above or to itself: of each file, by its path,
+    its imports of definitions, each module with the words that name it, and its text in pieces,
+    each with the name of its function, if it has one, and with its words."""
+    shown, folder = {}, TOP / "crates" / crate
+    for path in sorted((folder / "src").rglob("*.rt")):
+        imports, text = public(path.read_text(), hidden_types(crate), is_own)
+        named = [((of, module), words_of(name.split(" as ")[-1]) - {""})
                  for of, module, names in imports for name in names.split(",")]
-        shown.append((named, [(name, piece, words_of(piece), names_of(piece))
-                              for name, piece in of_functions(text)]))
+        shown[str(path.relative_to(folder))] = (named, [
+            (name, piece, words_of(piece), names_of(piece)) for name, piece in of_functions(text)])
     return shown
 
 
@@ -172,22 +175,48 @@ def reached(open_ones, below):
     return done
 
 
-def to(crate, below):
-    """What the crates below show to a crate."""
-    own = [text for _, text in code_in(crate)]
-    modules = {(of, module) for text in own for of, module, _ in IMPORT.findall(text)}
-    names, known = frozenset().union(*map(names_of, own)), None
-    while names != known:
-        known, texts = names, []
-        for file_imports, pieces in (file for name in sorted(below) for file in sources(name)):
-            pieces = [piece for piece in pieces if not piece[0] or piece[0] in known]
+def read_with(texts, modules, files, known):
+    """Of files that are shown, the pieces that a proof reads which has these texts, and the
+    definitions of known crates that both name, beside these modules of them."""
+    names, before = frozenset().union(*map(names_of, texts)), None
+    while names != before:
+        before, read = names, []
+        for imports, pieces in files:
+            pieces = [piece for piece in pieces if not piece[0] or piece[0] in before]
             words = frozenset().union(*(piece[2] for piece in pieces))
-            modules |= {module for module, named in file_imports if named & words}
+            modules |= {module for module, named in imports if named & words}
             names = names.union(*(piece[3] for piece in pieces))
-            texts += [piece[1] for piece in pieces]
-        read = sorted(reached(modules, below))
-        names = names.union(*(definitions(*module)[2] for module in read))
-    return ["".join(texts)] + [f"{of}.{module}\n{definitions(of, module)[0]}" for of, module in read]
+            read += [piece[1] for piece in pieces]
+        every = sorted(reached(modules, known))
+        names = names.union(*(definitions(*module)[2] for module in every))
+    return read + [f"{of}.{module}\n{definitions(of, module)[0]}" for of, module in every]
+
+
+def law_at(crate, path):
+    """The contract of a law, and the modules of definitions that it names."""
+    module, _, name = path.rpartition("::")
+    imports, pieces = sources(crate, True)[f"src/{module.replace('::', '/')}.rt"]
+    found = [piece for piece in pieces if piece[0] == name]
+    words = frozenset().union(*(piece[2] for piece in found))
+    return [piece[1] for piece in found], {named for named, by in imports if by & words}
+
+
+def decides(crate, below, paths, law=None):
+    """What decides whether an edit of these files of a crate is wrong: their code, the contracts of
+    the functions that it calls, in the crate and below, and the definitions that these name. If the
+    edit names a law (its crate, its path, and the crates below), then also the contract of the law
+    and what that names. Bodies in other files are left out, and so are proofs: none of them makes a
+    wrong body right."""
+    folder, known = TOP / "crates" / crate, {crate, *below}
+    texts = [code_of(folder / path) for path in sorted(paths)]
+    modules = {(of, module) for text in texts for of, module, _ in IMPORT.findall(text)}
+    files = [file for path, file in sources(crate, True).items() if path not in paths]
+    if law:
+        of_law = law_at(*law[:2])
+        texts, modules = texts + of_law[0], modules | of_law[1]
+        known |= {law[0], *law[2]}
+    files += [file for name in sorted(known - {crate}) for file in sources(name).values()]
+    return texts + read_with(texts, modules, files, known)
 
 
 @functools.lru_cache(None)
@@ -197,8 +226,3 @@ def code_in(crate):
     files = sorted(path for part in ("src", "specs", "proofs")
                    for path in (folder / part).rglob("*") if path.suffix in (".rt", ".antt"))
     return tuple((str(path.relative_to(folder)), code_of(path)) for path in files)
-
-
-def read_by(crate, below):
-    """What the proof of a crate reads: its own code, and what the crates below show to it."""
-    return [code_in(crate), to(crate, below)]

@@ -1,22 +1,23 @@
 #!/usr/bin/env python3
 """Tries the wrong edits of tests/wrong/CRATE/NAME.edit: the prover must refuse each.
 
-    tools/wrong.py                 tries those of the crates that changed, and writes the record
+    tools/wrong.py                 tries those that the record does not have as they are, and writes
+                                   the record
     tools/wrong.py --all           tries all, and writes the record
-    tools/wrong.py --gate          tries those of the crates that changed, and five more at random
+    tools/wrong.py --gate          tries those that the record does not have, and five more at random
                                    if the record is of another toolchain
     tools/wrong.py --whole         says whether the record is of the files as they are
     tools/wrong.py --look          says which edits cannot be made in the files as they are
     tools/wrong.py CRATE[/NAME] .. tries these
 
-The record, tests/wrong/RECORD, has a line for each crate: a sum of its edits, of its sources, specs
-and proofs, and of what the crates below show to it (tools/shown.py), as they were last tried and
-refused. Edits that name a law of another crate have a line of their own, CRATE/CRATE, whose sum has
-that of the other crate too. A crate changed if its sum is another one: a comment, or a body in a
-crate below, changes no sum, since the proof of the crate does not read it. The line `kit:` names
-the toolchain that all were last tried by. WRONG_RECORD names another record: --gate writes
-target/gate/edits.record, where those of the record that stay are too. What is random is drawn by
-the sums of the crates, or by WRONG_SEED, and the seed is printed.
+The record, tests/wrong/RECORD, has a line for each edit that was tried and refused: its sum, with
+what decides whether it is wrong (tools/shown.py), as it was then. That is the edit, the files that
+it changes, the contracts of what they call, and the definitions of these; of an edit that names a
+law, the contract of the law too. So a comment, a proof, or a body in another file calls for no
+edit: a proof cannot make a wrong body right. The line `kit:` names the toolchain that all were last
+tried by. WRONG_RECORD names another record: --gate writes target/gate/edits.record, where those of
+the record that stay are too. What is random is drawn by the sums of the edits, or by WRONG_SEED,
+and the seed is printed.
 
 An edit is a line `file: src/..`, and then pairs of lines `old: TEXT` and `new: TEXT`; further lines
 `file:` begin the pairs of other files. It is made in a copy of the crate: first the function or the
@@ -51,7 +52,7 @@ import shown
 WRONG = crates.TOP / "tests/wrong"
 RECORD = Path(os.environ.get("WRONG_RECORD") or WRONG / "RECORD")
 OF_GATE = crates.TOP / "target/gate/edits.record"
-HEAD = "# Of each crate: the sum of what its edits were last tried against, and their number.\n"
+HEAD = "# Of each edit: the sum of what it was last tried against, and refused.\n"
 MORE = 5
 LAW = re.compile(r"law: (\w+)::(\S+)\n")
 BUILDING, BUILT = threading.Lock(), set()
@@ -65,30 +66,25 @@ def with_edits():
     return [crate for crate in crates.lines() if edits_of(crate)]
 
 
+def every_edit():
+    return [edit for crate in with_edits() for edit in edits_of(crate)]
+
+
+def name_of(edit):
+    return f"{edit.parent.name}/{edit.stem}"
+
+
 @functools.lru_cache(None)
-def group_of(edit):
-    """The name under which the record has an edit: its crate, and that of the law that it names if
-    this is another one."""
-    law = LAW.match(edit.read_text())
-    crate = edit.parent.name
-    return f"{crate}/{law[1]}" if law and law[1] != crate else crate
-
-
-def groups():
-    """The edits by the names under which the record has them."""
-    found = collections.defaultdict(list)
-    for edit in (edit for crate in with_edits() for edit in edits_of(crate)):
-        found[group_of(edit)].append(edit)
-    return found
-
-
-def line_of(name, edits):
-    """The line of the record for these edits as they are."""
-    texts = [(edit.name, edit.read_text()) for edit in edits]
-    read = [(crates.lines()[crate], shown.read_by(crate, crates.below(crate)))
-            for crate in name.split("/") if crate in crates.lines()]
-    whole = hashlib.sha256(repr([texts, *read]).encode()).hexdigest()[:32]
-    return f"{name} {whole} {len(edits)}"
+def line_of(edit):
+    """The line of the record for an edit as it is."""
+    crate, text = edit.parent.name, edit.read_text()
+    law = LAW.match(text)
+    paths = {line[len("file: "):].strip() for line in text.splitlines() if line.startswith("file: ")}
+    of = {crate, law[1]} if law else {crate}
+    read = [crates.lines()[one] for one in sorted(of)]
+    decides = shown.decides(crate, crates.below(crate), paths,
+                            (law[1], law[2], crates.below(law[1])) if law else None)
+    return f"{name_of(edit)} {hashlib.sha256(repr([text, read, decides]).encode()).hexdigest()[:32]}"
 
 
 def known_lines():
@@ -96,9 +92,15 @@ def known_lines():
 
 
 def changed():
-    """The groups of edits whose line of the record is another one."""
+    """The edits whose line the record does not have."""
     known = known_lines()
-    return [name for name, edits in groups().items() if line_of(name, edits) not in known]
+    return [edit for edit in every_edit() if line_of(edit) not in known]
+
+
+def in_words(edits):
+    """The crates of edits with their numbers."""
+    counts = collections.Counter(edit.parent.name for edit in edits)
+    return ", ".join(f"{count} of {crate}" for crate, count in counts.items())
 
 
 def kit_line():
@@ -108,13 +110,13 @@ def kit_line():
 
 
 def at_random(found):
-    """The edits that are tried although their crates did not change, and why: some if the record is
-    of another toolchain."""
+    """The edits that are tried although nothing of them changed, and why: some if the record is of
+    another toolchain."""
     if kit_line() in known_lines():
         return [], ""
-    sums = " ".join(line_of(*one) for one in groups().items())
+    sums = " ".join(map(line_of, every_edit()))
     seed = os.environ.get("WRONG_SEED") or hashlib.sha256(sums.encode()).hexdigest()[:8]
-    others = [edit for name, edits in groups().items() if name not in found for edit in edits]
+    others = [edit for edit in every_edit() if edit not in found]
     more = random.Random(seed).sample(others, min(MORE, len(others)))
     return more, f"{len(more)} at random, by WRONG_SEED={seed}, since the record is not of this kit"
 
@@ -122,8 +124,8 @@ def at_random(found):
 def called_for():
     """What --gate is going to try, in words, or an empty text."""
     found = changed()
-    of_crates = f"those of {' '.join(found)}, which changed since the record" if found else ""
-    return "; ".join(filter(None, (of_crates, at_random(found)[1])))
+    words = f"{in_words(found)}, which changed since the record" if found else ""
+    return "; ".join(filter(None, (words, at_random(found)[1])))
 
 
 def edited(edit, folder):
@@ -284,9 +286,9 @@ def sweep():
 
 
 def tried(edits, is_shown=False):
-    """Tries edits, tells of each, and returns the groups of those that are not refused."""
+    """Tries edits, tells of each, and returns those that are not refused."""
     sweep()
-    wrong, begun = set(), time.monotonic()
+    wrong, begun = [], time.monotonic()
     counts = collections.Counter(edit.parent.name for edit in edits)
     # To prove all crates below takes longer than one or two edits over sources.
     bare = {crate for crate, count in counts.items() if count < 3 and not crates.are_left(crate)}
@@ -295,21 +297,21 @@ def tried(edits, is_shown=False):
                 edit for edit in edits}
         for done in concurrent.futures.as_completed(made):
             edit, (is_refused, why) = made[done], done.result()
-            print(f"wrong: {edit.parent.name}/{edit.stem}: {why}", flush=True)
-            wrong |= set() if is_refused else {group_of(edit)}
+            print(f"wrong: {name_of(edit)}: {why}", flush=True)
+            wrong += [] if is_refused else [edit]
     print(f"wrong: {len(edits)} edits, in {time.monotonic() - begun:.0f} s; "
-          + (f"not all refused, of {' '.join(sorted(wrong))}" if wrong else "all refused"))
+          + (f"not refused: {' '.join(sorted(map(name_of, wrong)))}" if wrong else "all refused"))
     return wrong
 
 
 def try_changed(found, more, record):
-    """Tries the edits of these groups and more, and writes a record."""
+    """Tries these edits and more, and writes a record."""
     # (a file that changes meanwhile has another sum)
-    lines = {name: line_of(name, edits) for name, edits in groups().items()}
-    wrong = tried([edit for name in found for edit in groups()[name]] + more)
+    lines = {edit: line_of(edit) for edit in every_edit()}
+    wrong = tried(found + more)
     known = known_lines()
-    kept = [line for name, line in lines.items()
-            if name not in wrong and (name in found or line in known)]
+    kept = [line for edit, line in lines.items()
+            if edit not in wrong and (edit in found or line in known)]
     is_of_kit = not wrong and (kit_line() in known or set(found) == set(lines))
     kits = [kit_line()] if is_of_kit else [line for line in known if line.startswith("kit: ")]
     record.parent.mkdir(parents=True, exist_ok=True)
@@ -349,13 +351,13 @@ def main():
         return look()
     if words == ["--whole"]:
         found = changed()
-        print(f"wrong: not tried as they are now: the edits of {' '.join(found)}: run `make wrong`"
+        print(f"wrong: not tried as they are now: edits, {in_words(found)}: run `make wrong`"
               if found else "wrong: the record is of the files as they are")
         return 1 if found else 0
     if words == ["--gate"]:
         return try_for_gate()
     if words in ([], ["--all"]):
-        return try_changed(list(groups()) if words else changed(), [], RECORD)
+        return try_changed(every_edit() if words else changed(), [], RECORD)
     is_shown = words[0] == "--show"
     named = [edit for word in words[is_shown:] for edit in
              ([WRONG / f"{word}.edit"] if "/" in word else edits_of(word))]

@@ -39,9 +39,12 @@ awaited_as id n all after same is = record {
   goes_on = is.goes_on;
 }
 
--- a change that leaves the ID and the end of a request, after which no more bytes are to be handed out
+-- a change that leaves the ID, the body, the bytes and the end of a request, after which no more bytes
+-- are to be handed out
 pub record IsQuiet (f : Pending → Pending) : Type 0 where
   pub id_stays : (p : Pending) → (f p).id ≡ p.id
+  pub body_stays : (p : Pending) → (f p).body ≡ p.body
+  pub bytes_stay : (p : Pending) → (f p).bytes ≡ p.bytes
   pub end_stays : (p : Pending) → (f p).end ≡ p.end
   pub unsent_was : (p : Pending) → (f p).is_unsent ≡ true → p.is_unsent ≡ true
 

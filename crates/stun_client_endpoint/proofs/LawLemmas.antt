@@ -1,5 +1,5 @@
 -- Each call leaves a request stored, or hands out its end, and names none that is over.
-use Rattle.std.proofs.Common.{◌≡◌, ◌∙◌, ◌⊎◌, ◌+◌, ◌<◌, ◌≤◌, [], ℕ, Bool, true, false, List, Option}
+use Rattle.std.proofs.Common.{◌≡◌, ◌∙◌, ◌⊎◌, ◌+◌, ◌<◌, ◌≤◌, [], ◌∷◌, ℕ, Bool, true, false, List, Option}
 use Rattle.std.proofs.Common.{Some, None, Ok, Err, ap, arith, cond, inl, inr, refl, subst, sym}
 use Rattle.std.specs.BTreeMap.{is_at}
 use Rattle.std.specs.Bool.{⊤}
@@ -36,7 +36,8 @@ use Rattle.stun_client.specs.declared.requests.RequestRefusal.{RequestRefusal}
 use Rattle.stun_client.specs.declared.requests.RequestRefusal.TheVariants as Refusals
 use Rattle.stun_client_loop.specs.Calls.{answer, cancel, poll_timers, poll_transmit, time_out}
 use Rattle.stun_client_loop.specs.Loops.{after_answer, after_cancel, after_hearing}
-use Rattle.stun_client_loop.specs.Loops.{after_time_out, after_timers, after_transmit, again_refused}
+use Rattle.stun_client_loop.specs.Loops.{after_again, after_time_out, after_timers, after_transmit}
+use Rattle.stun_client_loop.specs.Loops.{again_refused}
 use Rattle.stun_client_loop.specs.Loops.{LoopSeen, of_client, request_refused}
 use Rattle.stun_client_loop.specs.Loops.{timed_of, timed_out_of}
 use Rattle.stun_client_loop.specs.declared.refusal.LoopRefusal.TheVariants.{NotSent}
@@ -72,24 +73,31 @@ use Rattle.stun_client_endpoint.specs.Runs.{Call, Calls, Event, call, cancels, c
 use Rattle.stun_client_endpoint.specs.Runs.{count_ends, count_names, ends_one, hands_out}
 use Rattle.stun_client_endpoint.specs.Runs.{names, no_call, polled, polls, receives, requests}
 use Rattle.stun_client_endpoint.specs.Runs.{silent, starts}
-use Rattle.stun_client_endpoint.specs.Written.{Form, Page?}
+use Rattle.stun_client_endpoint.specs.Sent.{Asking, HasItsBytes, IsStoredAs, KeepsItsBytes, SendsItsBytes}
+use Rattle.stun_client_endpoint.specs.Sent.{asking}
+use Rattle.stun_client_endpoint.specs.Written.{Form, Page?, request_bytes}
 use Rattle.stun_client_endpoint.specs.declared.ended.DropReason.{DropReason}
 use Rattle.stun_client_endpoint.specs.declared.ended.DropReason.TheVariants.{LateChallenge, OutOfMemory}
 use Rattle.stun_client_endpoint.specs.declared.ended.RequestEnd.{RequestEnd}
 use Rattle.stun_client_endpoint.specs.declared.ended.RequestEnd.TheVariants as how
 use Rattle.stun_client_endpoint.specs.declared.told.RequestError.TheVariants as Errors
-use Rattle.stun_client_endpoint.proofs.KeptLemmas.{HasSame, IsQuiet, kept_changed, kept_ended}
+use Rattle.stun_client_endpoint.proofs.KeptLemmas.{HasSame, IsQuiet, Loses, kept_changed, kept_ended}
 use Rattle.stun_client_endpoint.proofs.KeptLemmas.{kept_first, kept_resent, kept_same, kept_started}
 use Rattle.stun_client_endpoint.proofs.KeptLemmas.{kept_without, loses_asked, loses_cancelled}
 use Rattle.stun_client_endpoint.proofs.KeptLemmas.{same_without}
-use Rattle.stun_client_endpoint.proofs.PendingLemmas.{none_without}
+use Rattle.stun_client_endpoint.proofs.PendingLemmas.{Ascend, none_without}
 use Rattle.stun_client_endpoint.proofs.PollLemmas.{again_next, timers_next}
+use Rattle.stun_client_endpoint.proofs.SentLemmas.{HaveBytes, IsAskedOf, IsLike, IsLikeIn, KeepsBytes}
+use Rattle.stun_client_endpoint.proofs.SentLemmas.{bytes_heard, bytes_kept_then, bytes_polled}
+use Rattle.stun_client_endpoint.proofs.SentLemmas.{bytes_transmitted, bytes_withdrawn, like_changed}
+use Rattle.stun_client_endpoint.proofs.SentLemmas.{like_ended, like_new, like_removed, like_resent}
+use Rattle.stun_client_endpoint.proofs.SentLemmas.{like_same, like_started, like_without}
 use Rattle.stun_client_endpoint.proofs.StoredLemmas.{IsAt, IsSame, apart, changed_other, changed_same}
 use Rattle.stun_client_endpoint.proofs.StoredLemmas.{ended_is_there, names_apart, overdue_first}
 use Rattle.stun_client_endpoint.proofs.StoredLemmas.{put_other, put_same}
 use Rattle.stun_client_endpoint.proofs.StoredLemmas.{removed, removed_other, same_changed}
 use Rattle.stun_client_endpoint.proofs.StoredLemmas.{same_itself, same_or_apart, unsent_is_there}
-use Rattle.stun_client_endpoint.proofs.WrittenLemmas.{request_id}
+use Rattle.stun_client_endpoint.proofs.WrittenLemmas.{request_id, request_method}
 
 -- ---- what a call does
 
@@ -104,6 +112,7 @@ pub record IsStep (e : Endpoint) (event : Event) (after : Endpoint) : Type 0 whe
   pub over : (n : ℕ) → n < next_number e → request_at n e.requests ≡ None
       → (request_at n after.requests ≡ None) × (names n event ≡ false)
   pub sends : (n : ℕ) → event ≡ polled (transmit n) → IsSome (outstanding_at n after.requests)
+  pub bytes : KeepsBytes e after
 
 after_silence : (e mid after : Endpoint) (event : Event) → IsStep e silent mid
     → IsStep mid event after → IsStep e event after
@@ -116,34 +125,36 @@ after_silence e mid after event one other = record {
   ];
   over = λ n low none. other.over n (omega (arith, low, one.grows)) (one.over n low none).0;
   sends = other.sends;
+  bytes = bytes_kept_then e mid after one.grows one.bytes other.bytes;
 }
 
 -- requests stay stored at the same numbers
-same_step : (e after : Endpoint) (event : Event) → IsEndpoint after
+same_step : (e after : Endpoint) (event : Event) → IsEndpoint after → KeepsBytes e after
     → next_number after ≡ next_number e → IsSame e.requests after.requests
     → ((n : ℕ) → hands_out n event ≡ false)
     → ((n : ℕ) → request_at n e.requests ≡ None → names n event ≡ false)
     → ((n : ℕ) → event ≡ polled (transmit n) → IsSome (outstanding_at n after.requests))
     → IsStep e event after
-same_step e after event kept next same none_ends none_named sends = record {
+same_step e after event kept bytes next same none_ends none_named sends = record {
   kept = kept;
   grows = omega (arith, next);
   going = λ n there. inl (same.there n there, none_ends n);
   over = λ n low none. (same.none n none, none_named n none);
   sends = sends;
+  bytes = bytes;
 }
 
-silent_step : (e after : Endpoint) → IsEndpoint after → next_number after ≡ next_number e
-    → IsSame e.requests after.requests → IsStep e silent after
-silent_step e after kept next same =
-    same_step e after silent kept next same (λ n. refl) (λ n none. refl) (λ n is. cc)
+silent_step : (e after : Endpoint) → IsEndpoint after → KeepsBytes e after
+    → next_number after ≡ next_number e → IsSame e.requests after.requests → IsStep e silent after
+silent_step e after kept bytes next same =
+    same_step e after silent kept bytes next same (λ n. refl) (λ n none. refl) (λ n is. cc)
 
 -- one request is stored no more, and its end is handed out
 ending_step : (e after : Endpoint) (m : ℕ) (x : Ended) (p : Pending) → IsEndpoint e
-    → IsEndpoint after → next_number after ≡ next_number e
+    → IsEndpoint after → KeepsBytes e after → next_number after ≡ next_number e
     → after.requests ≡ without_request m e.requests → request_at m e.requests ≡ Some p
     → x.number ≡ m → IsStep e (polled (ends x)) after
-ending_step e after m x p is kept next left_over here named = record {
+ending_step e after m x p is kept bytes next left_over here named = record {
   kept = kept;
   grows = omega (arith, next);
   going = λ n there. elim (same_or_apart n m) [
@@ -158,6 +169,7 @@ ending_step e after m x p is kept next left_over here named = record {
     ap (λ k. k == n) named ∙ names_apart n m e.requests p here none,
   );
   sends = λ n is. cc;
+  bytes = bytes;
 }
   where
     gone : (n : ℕ) → m ≡ n → request_at n after.requests ≡ None
@@ -173,11 +185,11 @@ outstanding_some m all p here none =
     ap (λ (o : Option Pending). is_some (if_outstanding o)) here
     ∙ ap (λ (end : Option RequestEnd). is_some (cond (is_none end) (Some p) None)) none
 
-sending_step : (e after : Endpoint) (m : ℕ) → IsEndpoint after → next_number after ≡ next_number e
-    → IsSame e.requests after.requests → IsAt m e.requests
+sending_step : (e after : Endpoint) (m : ℕ) → IsEndpoint after → KeepsBytes e after
+    → next_number after ≡ next_number e → IsSame e.requests after.requests → IsAt m e.requests
     → IsSome (outstanding_at m after.requests) → IsStep e (polled (transmit m)) after
-sending_step e after m kept next same there out =
-    same_step e after (polled (transmit m)) kept next same (λ n. refl)
+sending_step e after m kept bytes next same there out =
+    same_step e after (polled (transmit m)) kept bytes next same (λ n. refl)
     (λ n none. names_apart n m e.requests there.0 there.1 none)
     (λ n is. sends n is)
   where
@@ -197,11 +209,21 @@ told_event (Some told) = polled told
 abbrev IsGood : Endpoint → Step → Type 0
 IsGood e s = IsStep e (told_event s.0) s.1
 
-waiting_step : (e after : Endpoint) (until : Option ℕ) → IsEndpoint after
+waiting_step : (e after : Endpoint) (until : Option ℕ) → IsEndpoint after → KeepsBytes e after
     → next_number after ≡ next_number e → IsSame e.requests after.requests
     → IsStep e (polled (waits until)) after
-waiting_step e after until kept next same =
-    same_step e after (polled (waits until)) kept next same (λ n. refl) (λ n none. refl) (λ n is. cc)
+waiting_step e after until kept bytes next same =
+    same_step e after (polled (waits until)) kept bytes next same (λ n. refl) (λ n none. refl) (λ n is. cc)
+
+-- the timers leave who the client is
+timers_identity : (now : ℕ) (l : LoopSeen)
+    → (after_timers now l).client.identity ≡ l.client.identity
+timers_identity now l = by (poll_answer now l.agent)
+  where
+    by : (said : StunAgentPollRet) → (after_hearing l.client said).identity ≡ l.client.identity
+    by (TransactionTimedOut id) = refl
+    by (TransactionCancelled id) = refl
+    by (AgentWaits until) = refl
 
 module _ (now : ℕ) (e : Endpoint) (is : IsEndpoint e) where
   abbrev mid : Endpoint
@@ -212,6 +234,17 @@ module _ (now : ℕ) (e : Endpoint) (is : IsEndpoint e) where
 
   kept_mid : HasSame e.state (after_timers now e.state) → IsEndpoint mid
   kept_mid has = kept_same e.state (after_timers now e.state) e.requests has is
+
+  polled_same : HaveBytes e.state.agent.transactions (after_timers now e.state).agent.transactions
+  polled_same = bytes_polled now e.state.agent is.loop.timed.all_ascend
+
+  bytes_mid : HasSame e.state (after_timers now e.state) → KeepsBytes e mid
+  bytes_mid has = record {
+    form = refl;
+    seed = refl;
+    like = λ s of was. like_same s e.state (after_timers now e.state) e.requests has
+        (timers_identity now e.state) polled_same was;
+  }
 
   timers_by : (said : StunAgentPollRet) → poll_answer now e.state.agent ≡ said
       → IsGood e (timed mid (timed_of e.state.client said))
@@ -224,37 +257,49 @@ module _ (now : ℕ) (e : Endpoint) (is : IsEndpoint e) where
       by : (o : Option AskedSeen) → at id e.state.client.requests.asked ≡ o
           → IsGood e (timed mid (timed_out_of o))
       by None found =
-          silent_step e mid (kept_mid (record {
+          let has : HasSame e.state (after_timers now e.state) = record {
             loop = loops;
             next = timers_next now e.state;
             same = λ other. ap (at other) asked
                 ∙ same_without id e.state.client.requests is.loop.timed.asked_ascend found other;
-          })) (timers_next now e.state) (same_itself e.requests)
+          } in
+          silent_step e mid (kept_mid has) (bytes_mid has) (timers_next now e.state)
+          (same_itself e.requests)
       by (Some a) found =
           let waiting = is.awaited id a found in
+          let loses = loses_asked a.number id a e.state (after_timers now e.state) is.loop loops
+          (timers_next now e.state) asked found refl in
           subst (λ (o : Option Pending). IsStep e
           (told_event (option_map (λ p. ends (timed_out a.number p)) o))
           (with_requests (without_request a.number e.requests) mid)) (sym waiting.there)
           (ending_step e (with_requests (without_request a.number e.requests) mid) a.number
           (timed_out a.number waiting.pending) waiting.pending is
-          (kept_without a.number e.state (after_timers now e.state) e.requests
-          (loses_asked a.number id a e.state (after_timers now e.state) is.loop loops
-          (timers_next now e.state) asked found refl) is)
+          (kept_without a.number e.state (after_timers now e.state) e.requests loses is)
+          (record {
+            form = refl;
+            seed = refl;
+            like = λ s of was. like_without a.number s e.state (after_timers now e.state) e.requests
+                is.ascending loses (timers_identity now e.state) polled_same was;
+          })
           (timers_next now e.state) refl waiting.there refl)
   timers_by (TransactionCancelled id) said =
-      silent_step e mid (kept_mid (record {
+      let has : HasSame e.state (after_timers now e.state) = record {
         loop = loops;
         next = timers_next now e.state;
         same = λ other. ap (λ (r : StunAgentPollRet).
             at other (after_hearing e.state.client r).requests.asked) said;
-      })) (timers_next now e.state) (same_itself e.requests)
+      } in
+      silent_step e mid (kept_mid has) (bytes_mid has) (timers_next now e.state)
+      (same_itself e.requests)
   timers_by (AgentWaits until) said =
-      waiting_step e mid (until_of e.plan until e.requests) (kept_mid (record {
+      let has : HasSame e.state (after_timers now e.state) = record {
         loop = loops;
         next = timers_next now e.state;
         same = λ other. ap (λ (r : StunAgentPollRet).
             at other (after_hearing e.state.client r).requests.asked) said;
-      })) (timers_next now e.state) (same_itself e.requests)
+      } in
+      waiting_step e mid (until_of e.plan until e.requests) (kept_mid has) (bytes_mid has)
+      (timers_next now e.state) (same_itself e.requests)
 
   timers_is : IsGood e (timers_step now e)
   timers_is = timers_by (poll_answer now e.state.agent) refl
@@ -266,12 +311,21 @@ given_up_is e m id p is here named going =
     subst (λ (o : Option Pending). IsStep e (told_event (option_map (λ x. ends (timed_out m x)) o)) after)
     (sym here)
     (ending_step e after m (timed_out m p) p is
-    (kept_without m e.state (after_time_out id e.state) e.requests
-    (loses_cancelled m p e.state (after_time_out id e.state) e.requests is
-    (loop_call (time_out id) e.state is.loop) refl
-    (ap (λ k. remove_entry (is_at (nat_cmp k)) e.state.client.requests.asked) (sym named)) here going) is)
+    (kept_without m e.state (after_time_out id e.state) e.requests loses is)
+    (record {
+      form = refl;
+      seed = refl;
+      like = λ s of was. like_without m s e.state (after_time_out id e.state) e.requests is.ascending
+          loses refl (bytes_withdrawn id e.state.agent) was;
+    })
     refl refl here refl)
   where
+    loses : Loses m e.state (after_time_out id e.state)
+    loses =
+        loses_cancelled m p e.state (after_time_out id e.state) e.requests is
+        (loop_call (time_out id) e.state is.loop) refl
+        (ap (λ k. remove_entry (is_at (nat_cmp k)) e.state.client.requests.asked) (sym named)) here going
+
     after : Endpoint
     after = record e {
       state = after_time_out id e.state;
@@ -287,6 +341,19 @@ overdue_is now e is = by (overdue e.plan now e.requests) refl
         let first = overdue_first e.plan now e.requests it found in
         given_up_is e it.0 it.1 first.pending is first.there first.named first.going
 
+its_end : (o : Option RequestEnd) → is_some o ≡ true → (x : RequestEnd) × (o ≡ Some x)
+its_end None some = cc
+its_end (Some x) some = (x, refl)
+
+-- a request that has ended is stored no more
+bytes_removed : (m : ℕ) (e : Endpoint) → Ascend e.requests
+    → KeepsBytes e (with_requests (without_request m e.requests) e)
+bytes_removed m e sorted = record {
+  form = refl;
+  seed = refl;
+  like = λ s of was. like_removed m s e.state e.requests sorted was;
+}
+
 ends_is : (now : ℕ) (e : Endpoint) → IsEndpoint e → IsGood e (ends_step now e)
 ends_is now e is = by (first_ended e.requests) refl
   where
@@ -297,9 +364,10 @@ ends_is now e is = by (first_ended e.requests) refl
     by None found = overdue_is now e is
     by (Some m) found =
         let ended = ended_is_there e.requests m is.ascending found in
+        let end = its_end ended.0.end ended.2 in
         subst (λ (o : Option Pending). IsGood e (ends_or now
         (with_requests (without_request m e.requests) e) (option_and_then (ended_of m) o)))
-        (sym ended.1) (it ended.0 ended.1 ended.0.end refl ended.2)
+        (sym ended.1) (it ended.0 ended.1 end.0 end.1)
       where
         first_out : AreKept e.state (without_request m e.requests)
         first_out =
@@ -307,20 +375,17 @@ ends_is now e is = by (first_ended e.requests) refl
             (option_map_or (λ number. without_request number e.requests) o e.requests)) found
             (kept_first e.state e.requests is)
 
-        it : (p : Pending) → request_at m e.requests ≡ Some p → (end : Option RequestEnd)
-            → p.end ≡ end → is_some p.end ≡ true
+        it : (p : Pending) → request_at m e.requests ≡ Some p → (end : RequestEnd)
+            → p.end ≡ Some end
             → IsGood e (ends_or now (with_requests (without_request m e.requests) e) (ended_of m p))
-        it p here None over some =
-            let no : is_some p.end ≡ false = ap is_some over in
-            let clash : false ≡ true = sym no ∙ some in
-            cc
-        it p here (Some end) over some =
+        it p here end over =
             subst (λ (o : Option RequestEnd). IsGood e (ends_or now
             (with_requests (without_request m e.requests) e)
             (option_map (λ (x : RequestEnd). record { number = m; end = x; response = p.response }) o)))
             (sym over)
             (ending_step e (with_requests (without_request m e.requests) e) m
-            (record { number = m; end = end; response = p.response }) p is first_out refl refl here refl)
+            (record { number = m; end = end; response = p.response }) p is first_out
+            (bytes_removed m e is.ascending) refl refl here refl)
 
 -- the request whose bytes are sent again has a timer
 repeated_waits : (now : ℕ) (e : Endpoint) (m : ℕ) → IsEndpoint e → repeated now e.state ≡ Some m
@@ -340,9 +405,20 @@ repeated_waits now e m is found = by (repeated_id now e.state) found
     by None number = cc
     by (Some id) number = at_id id (at id e.state.client.requests.asked) refl number
 
+-- a quiet change
+bytes_changed : (f : Pending → Pending) (m : ℕ) (e : Endpoint) → IsQuiet f
+    → KeepsBytes e (with_requests (changed_at f m e.requests) e)
+bytes_changed f m e quiet = record {
+  form = refl;
+  seed = refl;
+  like = λ s of was. like_changed f m s e.state e.requests quiet was;
+}
+
 quiet_repeat : IsQuiet repeating
 quiet_repeat = record {
   id_stays = λ p. refl;
+  body_stays = λ p. refl;
+  bytes_stay = λ p. refl;
   end_stays = λ p. refl;
   unsent_was = λ p sent. sent;
 }
@@ -360,18 +436,32 @@ repeats_is now e is = by (repeated now e.state) refl
       timed = is.timed;
     }
 
+    like : (s : Asking) → IsLike s e.state e.requests
+        → IsLike s (after_transmit now e.state) e.requests
+    like s was =
+        like_same s e.state (after_transmit now e.state) e.requests
+        (record { loop = kept.loop; next = refl; same = λ id. refl }) refl
+        (bytes_transmitted now e.state.agent) was
+
     by : (o : Option ℕ) → repeated now e.state ≡ o
         → IsGood e (repeats_or now (record e { state = after_transmit now e.state }) o)
     by None found =
         let sent : Endpoint = record e { state = after_transmit now e.state } in
         after_silence e sent (ends_step now sent).1 (told_event (ends_step now sent).0)
-        (silent_step e sent kept refl (same_itself e.requests)) (ends_is now sent kept)
+        (silent_step e sent kept (record { form = refl; seed = refl; like = λ s of was. like s was }) refl
+        (same_itself e.requests)) (ends_is now sent kept)
     by (Some m) found =
         let waiting = repeated_waits now e m is found in
         let p = waiting.1.pending in
         sending_step e (with_requests (changed_at repeating m e.requests)
         (record e { state = after_transmit now e.state })) m
-        (kept_changed repeating m (after_transmit now e.state) e.requests quiet_repeat kept) refl
+        (kept_changed repeating m (after_transmit now e.state) e.requests quiet_repeat kept)
+        (record {
+          form = refl;
+          seed = refl;
+          like = λ s of was. like_changed repeating m s (after_transmit now e.state) e.requests
+              quiet_repeat (like s was);
+        }) refl
         (same_changed repeating m e.requests) (p, waiting.1.there)
         (outstanding_some m (changed_at repeating m e.requests) (repeating p)
         (changed_same repeating m e.requests ∙ ap (option_map repeating) waiting.1.there)
@@ -380,6 +470,8 @@ repeats_is now e is = by (repeated now e.state) refl
 quiet_hand_out : IsQuiet handing_out
 quiet_hand_out = record {
   id_stays = λ p. refl;
+  body_stays = λ p. refl;
+  bytes_stay = λ p. refl;
   end_stays = λ p. refl;
   unsent_was = λ p sent. let no : false ≡ true = sent in cc;
 }
@@ -394,7 +486,8 @@ step_is now e is = by (first_unsent e.requests) refl
         let unsent = unsent_is_there e.requests m is.ascending found in
         let none : unsent.0.end ≡ None = is.unsent m unsent.0 unsent.1 unsent.2 in
         sending_step e (with_requests (changed_at handing_out m e.requests) e) m
-        (kept_changed handing_out m e.state e.requests quiet_hand_out is) refl
+        (kept_changed handing_out m e.state e.requests quiet_hand_out is)
+        (bytes_changed handing_out m e quiet_hand_out) refl
         (same_changed handing_out m e.requests) (unsent.0, unsent.1)
         (outstanding_some m (changed_at handing_out m e.requests) (handing_out unsent.0)
         (changed_same handing_out m e.requests ∙ ap (option_map handing_out) unsent.1) none)
@@ -456,6 +549,8 @@ free_again l response bytes a here is =
 quiet_noting : (why : DropReason) (code : Option ℕ) → IsQuiet (noting why code)
 quiet_noting why code = record {
   id_stays = λ p. refl;
+  body_stays = λ p. refl;
+  bytes_stay = λ p. refl;
   end_stays = λ p. refl;
   unsent_was = λ p sent. sent;
 }
@@ -463,12 +558,16 @@ quiet_noting why code = record {
 quiet_refusing : (code : Option ℕ) → IsQuiet (refusing code)
 quiet_refusing code = record {
   id_stays = λ p. refl;
+  body_stays = λ p. refl;
+  bytes_stay = λ p. refl;
   end_stays = λ p. refl;
   unsent_was = λ p sent. sent;
 }
 
 unchanged : (e : Endpoint) → IsEndpoint e → IsStep e silent e
-unchanged e is = silent_step e e is refl (same_itself e.requests)
+unchanged e is =
+    silent_step e e is (record { form = refl; seed = refl; like = λ s of was. was }) refl
+    (same_itself e.requests)
 
 -- what comes of a datagram
 abbrev IsFine : Endpoint → Answer → Type 0
@@ -479,7 +578,8 @@ dropping_is : (number : ℕ) (why : DropReason) (bytes : List ℕ) (e : Endpoint
 dropping_is number why bytes e is =
     silent_step e (dropping number why bytes e).1
     (kept_changed (noting why (code_in bytes)) number e.state e.requests
-    (quiet_noting why (code_in bytes)) is) refl
+    (quiet_noting why (code_in bytes)) is)
+    (bytes_changed (noting why (code_in bytes)) number e (quiet_noting why (code_in bytes))) refl
     (same_changed (noting why (code_in bytes)) number e.requests)
 
 memory_is : (bytes : List ℕ) (e : Endpoint) → IsEndpoint e → IsFine e (out_of_memory bytes e)
@@ -495,17 +595,62 @@ module _ (number now : ℕ) (bytes : List ℕ) (e : Endpoint) (a : AskedSeen) (i
   ended_is : (end : RequestEnd) (stored : List ℕ) → IsFine e (ended_by number end stored bytes now e)
   ended_is end stored =
       silent_step e (ended_by number end stored bytes now e).1
-      (kept_ended (ending end stored) number e.state (after_answer bytes now e.state) e.requests
-      (loses_asked number (transaction_id_field bytes) a e.state (after_answer bytes now e.state)
-      is.loop (loop_call (answer bytes now) e.state is.loop) refl refl here named) (λ p. refl)
-      (λ p on. let no : Some end ≡ None = on in cc) is)
+      (kept_ended (ending end stored) number e.state (after_answer bytes now e.state) e.requests loses
+      (λ p. refl) (λ p on. let no : Some end ≡ None = on in cc) is)
+      (record {
+        form = refl;
+        seed = refl;
+        like = λ s of was. like_ended (ending end stored) number s e.state (after_answer bytes now e.state)
+            e.requests loses refl
+            (bytes_heard (Some now) bytes e.state.server e.state.agent is.loop.timed.all_ascend)
+            (λ p on. let no : Some end ≡ None = on in cc) was;
+      })
       refl (same_changed (ending end stored) number e.requests)
-
-  resent_is : (is_heard : Bool) (renewal : Renewal) (method : ℕ) (body : Body)
-      → IsFine e (resent_at is_heard number renewal bytes now e method body (chosen e))
-  resent_is is_heard renewal method body = by (chosen e)
     where
-      sent : (id_number : ℕ) (new : List ℕ) → message_of e (Some renewal.challenge) method id_number body ≡ Ok new
+      loses : Loses number e.state (after_answer bytes now e.state)
+      loses =
+          loses_asked number (transaction_id_field bytes) a e.state (after_answer bytes now e.state)
+          is.loop (loop_call (answer bytes now) e.state is.loop) refl refl here named
+
+  resent_is : (is_heard : Bool) (renewal : Renewal) (p : Pending) → request_at number e.requests ≡ Some p
+      → IsFine e (resent_at is_heard number renewal bytes now e a.method p.body (chosen e))
+  resent_is is_heard renewal p stored = by (chosen e)
+    where
+      -- the client has no other request under this number, and it has not ended
+      going : (q : Pending) → request_at number e.requests ≡ Some q → q.end ≡ None
+      going q found =
+          let waits = is.awaited (transaction_id_field bytes) a here in
+          let there : request_at number e.requests ≡ Some waits.pending =
+          subst (λ k. request_at k e.requests ≡ Some waits.pending) named waits.there in
+          let equal : q ≡ waits.pending = cc in
+          ap (λ (x : Pending). x.end) equal ∙ waits.goes_on
+
+      like : (id_number : ℕ) (new : List ℕ) → message_of e (Some renewal.challenge) a.method id_number p.body ≡ Ok new
+          → is_some (again_refused e.state bytes new) ≡ false → (s : Asking) → IsAskedOf s e
+          → IsLike s e.state e.requests
+          → IsLike s (after_again is_heard bytes new (Some renewal.challenge) now e.state)
+          (changed_at (sending renewal.is_refusal (id_of e.seed id_number) new) number e.requests)
+      like id_number new written passed s of was =
+          subst (λ (d : List ℕ). IsLike s (after_again is_heard bytes new (Some renewal.challenge) now e.state)
+          (changed_at (sending renewal.is_refusal (id_of d id_number) new) number e.requests)) (sym of.seed)
+          (like_resent is_heard renewal.is_refusal number id_number now bytes new
+          (Some renewal.challenge) s e.state e.requests a here named
+          (request_id e.form e.state.client.identity (Some renewal.challenge) a.method id_number e.seed
+          p.body new written ∙ ap (λ (d : List ℕ). id_of d id_number) of.seed)
+          (free_again e.state bytes new a here passed) is.loop was
+          (λ q found.
+          let equal : p ≡ q =
+          ap (λ (o : Option Pending). option_map_or (λ x. x) o p) (sym stored ∙ found) in
+          subst (λ (x : Pending). request_bytes s.form e.state.client.identity (Some renewal.challenge)
+          a.method (id_of s.seed id_number) x.body ≡ Ok new) equal
+          (subst (λ (f : Form). request_bytes f e.state.client.identity (Some renewal.challenge)
+          a.method (id_of s.seed id_number) p.body ≡ Ok new) of.form
+          (subst (λ (d : List ℕ). request_bytes e.form e.state.client.identity (Some renewal.challenge)
+          a.method (id_of d id_number) p.body ≡ Ok new) of.seed written)))
+          going)
+
+      sent : (id_number : ℕ) (new : List ℕ)
+          → message_of e (Some renewal.challenge) a.method id_number p.body ≡ Ok new
           → (b : Bool) → is_some (again_refused e.state bytes new) ≡ b
           → IsFine e (cond b (out_of_memory bytes e)
           (resent is_heard number renewal bytes now id_number new e))
@@ -515,36 +660,38 @@ module _ (number now : ℕ) (bytes : List ℕ) (e : Endpoint) (a : AskedSeen) (i
           (kept_resent is_heard renewal.is_refusal number (id_of e.seed id_number) now bytes new
           (Some renewal.challenge) e.state
           e.requests a here named
-          (request_id e.form e.state.client.identity (Some renewal.challenge) method id_number e.seed body new written)
+          (request_id e.form e.state.client.identity (Some renewal.challenge) a.method id_number e.seed p.body new written)
           (free_again e.state bytes new a here passed) is)
+          (record { form = refl; seed = refl; like = like id_number new written passed })
           (again_next is_heard bytes new (Some renewal.challenge) now e.state)
           (same_changed (sending renewal.is_refusal (id_of e.seed id_number) new) number e.requests)
 
       page_is : (id_number : ℕ) (page : Page?)
-          → message_of e (Some renewal.challenge) method id_number body ≡ page
+          → message_of e (Some renewal.challenge) a.method id_number p.body ≡ page
           → IsFine e (resent_by is_heard number renewal bytes now e id_number page)
       page_is id_number (Err why) written = dropping_is number _ bytes e is
       page_is id_number (Ok new) written =
           sent id_number new written (is_some (again_refused e.state bytes new)) refl
 
       by : (o : Option ℕ)
-          → IsFine e (resent_at is_heard number renewal bytes now e method body o)
+          → IsFine e (resent_at is_heard number renewal bytes now e a.method p.body o)
       by None = memory_is bytes e is
-      by (Some id_number) = page_is id_number (message_of e (Some renewal.challenge) method id_number body) refl
+      by (Some id_number) =
+          page_is id_number (message_of e (Some renewal.challenge) a.method id_number p.body) refl
 
   challenged_is : (is_heard : Bool) (renewal : Renewal)
       → IsFine e (challenged_with is_heard number renewal bytes now e (Some a))
   challenged_is is_heard renewal = in_time (is_late now (request_at number e.requests))
     where
-      stored : (o : Option Pending)
+      stored : (o : Option Pending) → request_at number e.requests ≡ o
           → IsFine e (resent_if is_heard number renewal bytes now e a.method o)
-      stored None = memory_is bytes e is
-      stored (Some p) = resent_is is_heard renewal a.method p.body
+      stored None found = memory_is bytes e is
+      stored (Some p) found = resent_is is_heard renewal p found
 
       by : (b : Bool) → IsFine e (cond b (unauthorized_by number bytes now e)
           (resent_if is_heard number renewal bytes now e a.method (request_at number e.requests)))
       by true = ended_is how.Unauthorized []
-      by false = stored (request_at number e.requests)
+      by false = stored (request_at number e.requests) refl
 
       in_time : (b : Bool) → IsFine e (cond b (dropping number LateChallenge bytes e)
           (cond (is_spent renewal number e a) (unauthorized_by number bytes now e)
@@ -558,7 +705,8 @@ module _ (number now : ℕ) (bytes : List ℕ) (e : Endpoint) (a : AskedSeen) (i
   refused_is false =
       silent_step e (dropping_refusal number bytes e).1
       (kept_changed (refusing (code_in bytes)) number e.state e.requests
-      (quiet_refusing (code_in bytes)) is) refl
+      (quiet_refusing (code_in bytes)) is)
+      (bytes_changed (refusing (code_in bytes)) number e (quiet_refusing (code_in bytes))) refl
       (same_changed (refusing (code_in bytes)) number e.requests)
 
   answered_is : (is_heard : Bool) (renewal : Renewal)
@@ -645,10 +793,58 @@ receives_is from bytes now e given is (inr (inr none)) =
 
 -- ---- requests
 
+-- a request that is not refused has the ID of a number, and bytes that are sent
+record IsWritten (e : Endpoint) (method : ℕ) (body : Body) : Type 0 where
+  number : ℕ
+  bytes : List ℕ
+  chosen_is : chosen e ≡ Some number
+  written : first_message e method number body ≡ Ok bytes
+  unrefused : is_some (request_refused e.state bytes) ≡ false
+
+written_is : (e : Endpoint) (method : ℕ) (body : Body) → refusal_to_start e method body ≡ None
+    → IsWritten e method body
+written_is e method body none = by (chosen e) refl none
+  where
+    unrefused : (b : Bool) → cond b (Some Errors.NoId) None ≡ None → b ≡ false
+    unrefused true is = cc
+    unrefused false is = refl
+
+    page_is : (number : ℕ) → chosen e ≡ Some number → (page : Page?)
+        → first_message e method number body ≡ page → refusal_of_bytes e page ≡ None
+        → IsWritten e method body
+    page_is number has (Err why) written none = cc
+    page_is number has (Ok bytes) written none = record {
+      number = number;
+      bytes = bytes;
+      chosen_is = has;
+      written = written;
+      unrefused = unrefused (is_some (request_refused e.state bytes)) none;
+    }
+
+    by : (o : Option ℕ) → chosen e ≡ o → refusal_of_number e method body o ≡ None
+        → IsWritten e method body
+    by None has none = cc
+    by (Some number) has none = page_is number has (first_message e method number body) refl none
+
+started_by_it : (e : Endpoint) (method : ℕ) (body : Body) (now : ℕ) (it : IsWritten e method body)
+    → started method body now e ≡ after_start it.number body it.bytes now e
+started_by_it e method body now it =
+    ap (started_at e method body now) it.chosen_is ∙ ap (started_by e body now it.number) it.written
+
 module _ (e : Endpoint) (is : IsEndpoint e) where
   -- a request that is started is stored at the next number
   abbrev pub IsBegun : Endpoint → Type 0
   IsBegun after = IsStep e (starts (next_number e)) after × IsAt (next_number e) after.requests
+
+  bytes_started : (number : ℕ) (body : Body) (bytes : List ℕ) (now : ℕ)
+      → at (transaction_id_field bytes) e.state.client.requests.asked ≡ None
+      → KeepsBytes e (after_start number body bytes now e)
+  bytes_started number body bytes now free = record {
+    form = refl;
+    seed = refl;
+    like = λ s of was. like_started s e.state e.requests (sending false (id_of e.seed number) bytes)
+        (new_pending body (until_from now e)) now bytes is.loop of.low free was;
+  }
 
   begun : (number : ℕ) (body : Body) (bytes : List ℕ) (now : ℕ)
       → transaction_id_field bytes ≡ id_of e.seed number
@@ -668,6 +864,7 @@ module _ (e : Endpoint) (is : IsEndpoint e) where
         ne_eqb (next_number e) n (λ same. omega (arith, same, low)),
       );
       sends = λ n said. cc;
+      bytes = bytes_started number body bytes now free;
     },
     (
       sending false (id_of e.seed number) bytes (new_pending body (until_from now e)),
@@ -693,25 +890,26 @@ module _ (e : Endpoint) (is : IsEndpoint e) where
 
   pub started_is : (method : ℕ) (body : Body) (now : ℕ) → refusal_to_start e method body ≡ None
       → IsBegun (started method body now e)
-  started_is method body now none = by (chosen e) none
-    where
-      unrefused : (b : Bool) → cond b (Some Errors.NoId) None ≡ None → b ≡ false
-      unrefused true is = cc
-      unrefused false is = refl
+  started_is method body now none =
+      let it = written_is e method body none in
+      subst IsBegun (sym (started_by_it e method body now it))
+      (begun it.number body it.bytes now (request_id e.form e.state.client.identity
+      e.state.client.standing.current method it.number e.seed body it.bytes it.written)
+      (free_to_start e.state it.bytes it.unrefused))
 
-      page_is : (number : ℕ) (page : Page?) → first_message e method number body ≡ page
-          → refusal_of_bytes e page ≡ None → IsBegun (started_by e body now number page)
-      page_is number (Err why) written none = cc
-      page_is number (Ok bytes) written none =
-          begun number body bytes now (request_id e.form e.state.client.identity
-          e.state.client.standing.current method number e.seed body bytes written)
-          (free_to_start e.state bytes (unrefused (is_some (request_refused e.state bytes)) none))
-
-      by : (o : Option ℕ) → refusal_of_number e method body o ≡ None
-          → IsBegun (started_at e method body now o)
-      by None none = cc
-      by (Some number) none =
-          page_is number (first_message e method number body) refl none
+  -- and it is stored with its own bytes
+  pub started_like : (method : ℕ) (body : Body) (now : ℕ) → method < 4096
+      → refusal_to_start e method body ≡ None
+      → IsLikeIn (asking e method body) (started method body now e)
+  started_like method body now low none =
+      let it = written_is e method body none in
+      subst (IsLikeIn (asking e method body)) (sym (started_by_it e method body now it))
+      (like_new (asking e method body) e.state e.requests (until_from now e) it.number now it.bytes is.loop
+      refl refl
+      (request_method e.form e.state.client.identity e.state.client.standing.current method it.number e.seed
+      body it.bytes low it.written)
+      (request_id e.form e.state.client.identity e.state.client.standing.current method it.number e.seed body
+      it.bytes it.written) it.written)
 
 -- ---- cancellation
 
@@ -740,16 +938,26 @@ cancels_is : (number : ℕ) (p : Pending) (e : Endpoint) → IsEndpoint e
 cancels_is number p e is out =
     subst (λ (o : Option Pending). IsStep e (cancels number) (cancelled_with number e o)) (sym out)
     (same_step e (cancelled_with number e (Some p)) (cancels number)
-    (kept_ended (ending how.Cancelled []) number e.state (after_cancel p.id e.state) e.requests
-    (loses_cancelled number p e.state (after_cancel p.id e.state) e.requests is
-    (loop_call (cancel p.id) e.state is.loop) refl refl here
-    (is_going (request_at number e.requests) p out)) (λ q. refl)
-    (λ q on. let no : Some how.Cancelled ≡ None = on in cc) is)
+    (kept_ended (ending how.Cancelled []) number e.state (after_cancel p.id e.state) e.requests loses
+    (λ q. refl) (λ q on. let no : Some how.Cancelled ≡ None = on in cc) is)
+    (record {
+      form = refl;
+      seed = refl;
+      like = λ s of was. like_ended (ending how.Cancelled []) number s e.state (after_cancel p.id e.state)
+          e.requests loses refl (bytes_withdrawn p.id e.state.agent)
+          (λ q on. let no : Some how.Cancelled ≡ None = on in cc) was;
+    })
     refl (same_changed (ending how.Cancelled []) number e.requests) (λ n. refl)
     (λ n none. names_apart n number e.requests p here none) (λ n is. cc))
   where
     here : request_at number e.requests ≡ Some p
     here = outstanding_is (request_at number e.requests) p out
+
+    loses : Loses number e.state (after_cancel p.id e.state)
+    loses =
+        loses_cancelled number p e.state (after_cancel p.id e.state) e.requests is
+        (loop_call (cancel p.id) e.state is.loop) refl refl here
+        (is_going (request_at number e.requests) p out)
 
 -- ---- any call
 
@@ -919,3 +1127,63 @@ pub sends_what_is_there : (now number : ℕ) (e after : Endpoint) → IsEndpoint
     → Polls now e (transmit number) after → IsSome (outstanding_at number after.requests)
 sends_what_is_there now number e after is said =
     (polls_is now e after (transmit number) is said).sends number refl
+
+-- ---- the bytes of a request
+
+-- calls, and then a poll
+append_call : List Event → Told → List Event
+append_call [] told = polled told ∷ []
+append_call (event ∷ events) told = event ∷ append_call events told
+
+calls_then : (e later last : Endpoint) (events : List Event) (told : Told) (now : ℕ)
+    → Calls e events later → Polls now later told last → Calls e (append_call events told) last
+unfolding append_call
+calls_then e later last events told now (no_call _) said =
+    call later last last (polled told) [] (polls later last now told said) (no_call last)
+calls_then e later last events told now (call _ next _ event others made rest) said =
+    call e next last event (append_call others told) made
+    (calls_then next later last others told now rest said)
+
+-- each request is still stored as it was started
+stays_like : (s : Asking) (e after : Endpoint) (events : List Event) → IsEndpoint e → IsAskedOf s e
+    → IsLikeIn s e → Calls e events after → IsLikeIn s after
+stays_like s e after events is of like (no_call _) = like
+stays_like s e after events is of like (call _ next _ event others made rest) =
+    let one = call_is e next event is made in
+    stays_like s next after others one.kept (record {
+      low = omega (arith, of.low, one.grows);
+      form = one.bytes.form ∙ of.form;
+      seed = one.bytes.seed ∙ of.seed;
+    }) (one.bytes.like s of like) rest
+
+pub keeps_its_bytes : KeepsItsBytes
+keeps_its_bytes = λ e later between method body now p is low none calls out.
+    let begun = started_is e is method body now none in
+    let first = started method body now e in
+    let after = stays_like (asking e method body) first later between begun.0.kept (record {
+      low = below (next_number e) first begun.0.kept begun.1;
+      form = begun.0.bytes.form;
+      seed = begun.0.bytes.seed;
+    }) (started_like e is method body now low none) calls in
+    after.stored p (outstanding_is (request_at (next_number e) later.requests) p out)
+    (is_going (request_at (next_number e) later.requests) p out)
+
+pub sends_its_bytes : SendsItsBytes
+sends_its_bytes = λ e later last between method body start now is low none calls said.
+    let begun = started_is e is method body start none in
+    let kept = stays_kept (started method body start e) later between begun.0.kept calls in
+    let step = polls_is now later last (transmit (next_number e)) kept said in
+    by e last method body (outstanding_at (next_number e) last.requests) refl
+    (step.sends (next_number e) refl)
+    (λ p there. keeps_its_bytes e last (append_call between (transmit (next_number e))) method body start p is low none
+    (calls_then (started method body start e) later last between (transmit (next_number e)) now calls said) there)
+  where
+    by : (e last : Endpoint) (method : ℕ) (body : Body) (o : Option Pending)
+        → outstanding_at (next_number e) last.requests ≡ o
+        → IsSome (outstanding_at (next_number e) last.requests)
+        → ((p : Pending) → outstanding_at (next_number e) last.requests ≡ Some p
+        → IsStoredAs (asking e method body) p last.state) → HasItsBytes (asking e method body) last
+    by e last method body None out some stored =
+        let no : is_some (outstanding_at (next_number e) last.requests) ≡ false = ap is_some out in cc
+    by e last method body (Some p) out some stored =
+        record { pending = p; there = out; stored = stored p out }

@@ -8,6 +8,7 @@ pub mod PendingLemmas
 pub mod PollLemmas
 pub mod ReceivingLemmas
 pub mod RequestingLemmas
+pub mod SentLemmas
 pub mod StoredLemmas
 pub mod TallyLemmas
 pub mod TurnLemmas

@@ -18,5 +18,7 @@ pub mod Endpoints
 pub mod Runs
 -- laws over any calls
 pub mod Laws
+-- whose bytes are sent
+pub mod Sent
 -- what no clause of a public call cites: views of the code's own structs
 pub mod code

@@ -1406,12 +1406,12 @@ typedef struct {
 /* What to do next. A field is 0 unless its line names the kind or the result. After an error `kind`
  * is STUNP_NO_EVENT and `length` is 0. After STUNP_BUFFER_TOO_SMALL the other fields are those of
  * the event whose bytes are lost, so that `result` and `request` say which request has ended, if
- * one has. If `size` is wrong, nothing but `kind` and `length` is written.
+ * one has: otherwise `result` is 0. If `size` is wrong, nothing but `kind` and `length` is written.
  *
  *   size            sizeof (stunp_event), set by STUNP_INIT once, before the loop
  *   kind            what to do
  *   result          STUNP_ENDED: how the request has ended
- *   request         STUNP_ENDED: the number of the request
+ *   request         STUNP_TRANSMIT, STUNP_ENDED: the number of the request
  *   until           STUNP_WAIT: when to call stunp_endpoint_client_poll again if nothing has
  *                   arrived, in nanoseconds of your clock, like `now`; UINT64_MAX if no request is
  *                   outstanding

@@ -386,6 +386,41 @@ fn a_body_is_written_again_under_each_id() {
     }
 }
 
+/// Under each transaction ID that a request has, until it ends.
+#[test]
+fn the_bytes_to_send_name_their_request() {
+    let service = Service::new(1, &BOTH);
+    let mut client = client(1, "wonderland", &BOTH);
+    let other = binding(&mut client, ms(0));
+    let request = binding(&mut client, ms(0));
+    let id_in = |bytes: &[u8]| Message::from_bytes(bytes).unwrap().transaction_id();
+    let of_other = id_in(&sent(&mut client, 0).unwrap());
+    let mut ids = vec![];
+    for _ in 0..2 {
+        let bytes = sent(&mut client, 0).unwrap();
+        let id = id_in(&bytes);
+        assert_eq!(client.request_of(id), Some(request));
+        assert_eq!(client.transaction_id(request), Some(id));
+        assert_eq!(client.request_of(of_other), Some(other));
+        ids.push(id);
+        let received = service
+            .server
+            .receive(&bytes, at(HERE), wall(ms(0)), &service.users);
+        match received {
+            Received::Answer(answer) => {
+                let _ = client.receive(answer.bytes(), at(SERVER), ms(0));
+            }
+            other => panic!("{other:?}"),
+        }
+    }
+    assert_ne!(ids[0], ids[1]);
+    for id in ids {
+        assert_eq!(client.request_of(id), None);
+    }
+    assert_eq!(client.transaction_id(request), None);
+    assert_eq!(client.transaction_id(other), Some(of_other));
+}
+
 #[test]
 fn a_body_refuses_what_the_client_writes() {
     for kind in [

@@ -229,6 +229,7 @@ static void ends(void) {
         uint64_t number = ask(&client, STUNP_BINDING, NULL, i);
         want("number", (int64_t)number, (int64_t)i);
         want("transmit", polled(&client, i), STUNP_TRANSMIT);
+        want("of", (int64_t)event.request, (int64_t)number);
         stunp_writer told = answer(rows[i].code == 1 ? 0 : rows[i].code, bytes);
         if (rows[i].code == 1) told = stunp_write(STUNP_ERROR, STUNP_BINDING, out + 8, bytes, 512);
         if (rows[i].type == STUNP_ALTERNATE_SERVER)

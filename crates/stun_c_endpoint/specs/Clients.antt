@@ -163,7 +163,7 @@ or_for_ever None = 18446744073709551615
 or_for_ever (Some until) = until
 
 abbrev pub event_told : Endpoint → Told → Event → Event
-event_told e (transmit number) v = sent_told (length (bytes_told e (transmit number))) v
+event_told e (transmit number) v = sent_told number (length (bytes_told e (transmit number))) v
 event_told e (ends x) v = ended_told x v
 event_told e (waits until) v = wait_told (or_for_ever until) v
 

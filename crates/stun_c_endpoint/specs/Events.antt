@@ -83,8 +83,8 @@ event_unless false count e = e
 abbrev pub wait_told : ℕ → Event → Event
 wait_told until e = record (event_blank 0 e) { until = until }
 
-abbrev pub sent_told : ℕ → Event → Event
-sent_told length e = record (event_blank 1 e) { length = length }
+abbrev pub sent_told : ℕ → ℕ → Event → Event
+sent_told number length e = record (event_blank 1 e) { request = number; length = length }
 
 -- how a response that is believed ends its request
 abbrev pub outcome_told : Outcome → Event → Event

@@ -58,7 +58,8 @@ use stun_types::message::{IntegrityAlgorithm, LongTermCredentials, Message, Prep
 #[derive(Drop)]
 pub struct Challenge<A: Allocator = Global> {
     preferences: Preferences,
-    kept: KeptChallenge<A>,
+    /// In a box, because it is long, and each request has room for one, signed or not.
+    kept: Box<KeptChallenge<A>, A>,
 }
 
 impl<A: Allocator> Model for Challenge<A> {
@@ -70,10 +71,10 @@ impl<A: Allocator> Model for Challenge<A> {
 
     ghost view = { λ c. record {
       preferences = c.preferences;
-      challenge = challenge_seen c.kept;
+      challenge = challenge_seen c.kept.value;
     } };
 
-    ghost invariant = { λ c. IsChosen c.preferences (challenge_seen c.kept) };
+    ghost invariant = { λ c. IsChosen c.preferences (challenge_seen c.kept.value) };
 }
 
 impl<A: Allocator> fmt::Debug for Challenge<A> {
@@ -166,6 +167,7 @@ impl<A: Allocator + Copy> Challenge<A> {
             list,
             algorithm,
         )?;
+        let kept = Box::new(alloc, kept)?;
         Ok(Some(Challenge { preferences, kept }))
     }
 }
@@ -374,9 +376,10 @@ impl<A: Allocator + Copy> Clone for Challenge<A> {
 
     #[tactic(auto, using(crate::proofs::ChosenLemmas::chosen_copy))]
     fn clone(&self) -> Result<Self, AllocError> {
+        let kept = self.kept.copied()?;
         Ok(Challenge {
             preferences: self.preferences,
-            kept: self.kept.copied()?,
+            kept: Box::new(*self.kept.offered.allocator(), kept)?,
         })
     }
 }

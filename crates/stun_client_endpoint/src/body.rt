@@ -3,7 +3,8 @@ ghost use Rattle.std.specs.Prelude.{◌≡◌, ◌≤◌, ◌++◌, ◌∷◌, �
 ghost use Rattle.std.specs.Prelude.{IsOk, MatchOption, Ok, OnErr, OnOk, length, true};
 ghost use Rattle.stun_types.specs.Attribute.{attribute_length};
 ghost use Rattle.stun_client_endpoint.specs.Bodies.{body_refusal, fits, is_reserved, of_peer};
-ghost use Rattle.stun_client_endpoint.specs.Bodies.{body_size_refusal, piece_length, with_value};
+ghost use Rattle.stun_client_endpoint.specs.Bodies.{body_length, body_size_refusal, piece_length};
+ghost use Rattle.stun_client_endpoint.specs.Bodies.{with_value};
 ghost use Rattle.stun_client_endpoint.specs.Written.{with_body};
 
 use crate::piece::Piece;
@@ -132,8 +133,10 @@ impl<A: Allocator + Copy> Body<A> {
         if !self.has_room(20) {
             return Err(BodyError::TooLarge);
         }
-        let piece = Piece::of(self.alloc, address);
-        self.push(piece, 20)
+        match Piece::of(self.alloc, address) {
+            Ok(piece) => self.push(piece, 20),
+            Err(_) => Err(BodyError::OutOfMemory),
+        }
     }
 
     /// Returns whether an attribute whose value has this many bytes still fits.
@@ -141,6 +144,13 @@ impl<A: Allocator + Copy> Body<A> {
         ensures { result ≡ fits self.now length }
     {
         self.length.saturating_add(attribute_length(length)) <= BODY_LIMIT
+    }
+
+    /// Returns how many bytes the attributes have, where each XOR-PEER-ADDRESS counts as 24.
+    pub(crate) fn length(&self) -> usize
+        ensures { result ≡ body_length self.now }
+    {
+        self.length
     }
 
     /// Adds an attribute that fits, whose value has at most so many bytes.

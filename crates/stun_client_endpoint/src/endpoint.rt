@@ -4,7 +4,7 @@ ghost use Rattle.std.specs.Prelude.{◌≡◌, IfOk, count_by};
 ghost use Rattle.std.specs.Duration.{as_nanos};
 ghost use Rattle.stun_agent.specs.Timing.{settings_of};
 ghost use Rattle.stun_client.specs.Judging.{identity_of};
-ghost use Rattle.stun_client_endpoint.specs.Endpoints.{cancelled, new_endpoint, plan_of};
+ghost use Rattle.stun_client_endpoint.specs.Endpoints.{cancelled, new_endpoint, number_at, plan_of};
 ghost use Rattle.stun_client_endpoint.specs.Pendings.{outstanding_at};
 
 use crate::ended::{Drops, RequestEnd};
@@ -20,7 +20,7 @@ use stun_base::transport::TransportType;
 use stun_client::credentials::Credentials;
 use stun_client_loop::client_loop::ClientLoop;
 use stun_types::attribute::AttributeType;
-use stun_types::message::{IntegrityAlgorithm, IntegrityKey, PreparedKey};
+use stun_types::message::{IntegrityAlgorithm, IntegrityKey, PreparedKey, TransactionId};
 
 mod polling;
 mod receiving;
@@ -160,6 +160,23 @@ impl<A: Allocator + Copy> ClientEndpoint<A> {
     {
         let pending = outstanding(&self.requests, number)?;
         Some(pending.bytes())
+    }
+
+    /// Returns the transaction ID of a request, while it is outstanding. A challenge that the request is
+    /// sent again for changes it.
+    pub fn transaction_id(&self, number: u64) -> Option<TransactionId>
+        ensures { result ≡ option_map (λ p. p.id) (outstanding_at number self.now.requests) }
+    {
+        let pending = outstanding(&self.requests, number)?;
+        Some(pending.id())
+    }
+
+    /// Returns the number of the outstanding request that has this transaction ID.
+    pub fn request_of(&self, id: TransactionId) -> Option<u64>
+        ensures { result ≡ number_at self.now.state id }
+    {
+        let asked = self.state.client().get(id)?;
+        Some(asked.number())
     }
 
     /// Returns what was dropped for a request, while it is outstanding.

@@ -1,6 +1,6 @@
 //! The bytes of a request.
 ghost use Rattle.std.specs.Option.{option_copied, option_map};
-ghost use Rattle.std.specs.Prelude.{◌≡◌, ◌≤◌, ◌⊎◌, Err, IfErr, IfOk, Ok, OnOk, length, true};
+ghost use Rattle.std.specs.Prelude.{◌≡◌, ◌≤◌, ◌⊎◌, [], Err, IfErr, IfOk, Ok, OnOk, length, true};
 ghost use Rattle.std.specs.String.{string_bytes};
 ghost use Rattle.stun_types.specs.Writing.{empty_message};
 ghost use Rattle.stun_client.specs.Judging.{identity_of};
@@ -13,6 +13,7 @@ ghost use Rattle.stun_client_endpoint.specs.Written.{with_software_text};
 use crate::body::Body;
 use std::alloc::{AllocError, Allocator, Global};
 use std::marker::Model;
+use stun_base::header::HEADER_LENGTH;
 use stun_client::challenge::Challenge;
 use stun_client::credentials::Credentials;
 use stun_extra::attribute::Software;
@@ -252,25 +253,36 @@ fn begun_with<A: Allocator + Copy>(
     ensures refused { IfErr result (λ why. (why ≡ StunWriteError.OutOfMemory)
         ⊎ (with_body id body.now (empty_message MessageClass.Request method id) ≡ Err why)) }
 {
-    let mut page = begun(alloc, method, id)?;
+    let mut page = begun(alloc, method, id, body.length())?;
     body.write(id, &mut page)?;
     Ok(page)
 }
 
-/// Begins a request.
+/// Begins a request whose attributes may have this many bytes.
 fn begun<A: Allocator + Copy>(
     alloc: A,
     method: Method,
     id: TransactionId,
+    length: usize,
 ) -> Result<MessageWriteVec<A>, AllocError>
     ensures bytes { IfOk result (λ page. page.bytes
         ≡ empty_message MessageClass.Request method id) }
     ensures header { IfOk result (λ page. 20 ≤ length page.bytes) }
 {
-    match Message::builder_request(method, id, MessageWriteVec::new(alloc)) {
+    match Message::builder_request(method, id, page_for(alloc, length)) {
         Ok(page) => Ok(page),
         Err(_) => Err(AllocError),
     }
+}
+
+/// Creates a writer with memory for a header and this many bytes after it, so that most requests take
+/// one block. If there is no memory for so many, adding the attributes asks for it again.
+fn page_for<A: Allocator>(alloc: A, length: usize) -> MessageWriteVec<A>
+    ensures { result.bytes ≡ [] }
+{
+    let mut page = MessageWriteVec::new(alloc);
+    let _reserved = page.reserve(HEADER_LENGTH.saturating_add(length));
+    page
 }
 
 /// Signs a request.

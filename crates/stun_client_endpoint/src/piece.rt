@@ -17,16 +17,18 @@ use stun_types::prelude::*;
 pub(crate) struct Piece<A: Allocator> {
     kind: AttributeType,
     value: Vec<u8, A>,
-    peer: Option<SocketAddr>,
+    /// In a box, because it is long and few attributes have one.
+    peer: Option<Box<SocketAddr, A>>,
 }
 
 impl<A: Allocator> Model for Piece<A> {
+    ghost use Rattle.std.specs.Option.{option_map};
     ghost use Rattle.stun_client_endpoint.specs.Bodies.{Piece as PieceSeen};
     ghost use Rattle.stun_client_endpoint.specs.code.Pieces.{piece_of};
 
     ghost Value = { PieceSeen };
 
-    ghost view = { λ p. piece_of p.kind.0 p.value.items p.peer };
+    ghost view = { λ p. piece_of p.kind.0 p.value.items (option_map (λ b. b.value) p.peer) };
 }
 
 impl<A: Allocator + Copy> Piece<A> {
@@ -43,26 +45,25 @@ impl<A: Allocator + Copy> Piece<A> {
     }
 
     /// Stores the address of XOR-PEER-ADDRESS.
-    pub(crate) fn of(alloc: A, address: SocketAddr) -> Piece<A>
-        ensures { result ≡ of_peer address }
+    pub(crate) fn of(alloc: A, address: SocketAddr) -> Result<Piece<A>, AllocError>
+        ensures { IfOk result (λ piece. piece ≡ of_peer address) }
     {
-        Piece {
+        let peer = Box::new(alloc, address)?;
+        Ok(Piece {
             kind: AttributeType(0x0012),
             value: Vec::new(alloc),
-            peer: Some(address),
-        }
+            peer: Some(peer),
+        })
     }
 
     /// Copies the attribute.
     pub(crate) fn cloned(&self, alloc: A) -> Result<Piece<A>, AllocError>
         ensures { IfOk result (λ copy. copy ≡ self.now) }
     {
-        let value = Vec::from_slice(alloc, &self.value)?;
-        Ok(Piece {
-            kind: self.kind,
-            value,
-            peer: self.peer,
-        })
+        if let Some(peer) = &self.peer {
+            return Piece::of(alloc, **peer);
+        }
+        Piece::new(alloc, self.kind, &self.value)
     }
 
     /// Adds the attribute to a message with this transaction ID.
@@ -78,8 +79,8 @@ impl<A: Allocator + Copy> Piece<A> {
         ensures refused { IfErr result (λ why. (why ≡ StunWriteError.OutOfMemory)
             ⊎ (with_another (attribute_for id self.now) page.old.bytes ≡ Err why)) }
     {
-        match self.peer {
-            Some(address) => add_another(page, &XorPeerAddress::new(address, id)),
+        match &self.peer {
+            Some(address) => add_another(page, &XorPeerAddress::new(**address, id)),
             None => add_another(page, &RawAttribute::new(self.kind, &self.value)),
         }
     }

@@ -4,6 +4,8 @@ use crate::copies::granted;
 use crate::exported::stun_client_endpoint::body::{Body as Core, is_reserved};
 use crate::exported::stun_extra::canonical_address::canonical;
 use crate::exported::stun_types::attribute::Attribute;
+use crate::exported::stun_types::message::MessageWriteMutSlice;
+use crate::exported::stun_types::prelude::MessageWrite;
 use crate::kit::alloc::Global;
 use crate::message::Message;
 use crate::transaction::TransactionId;
@@ -101,11 +103,16 @@ impl Body {
         if !self.core.has_room(length) {
             return Err(BodyError::TooLarge);
         }
-        // An attribute that is allowed and not too long fits an empty message.
-        let mut page = scratch();
-        let added = page.add_attribute(attribute);
-        added.map_err(|_| BodyError::OutOfMemory)?;
-        self.core.add(kind, &page[24..24 + length])
+        // An attribute that is allowed and not too long fits an empty message, and most of them fit
+        // a small one, which needs no memory.
+        let mut small = [0; SMALL];
+        if length <= SMALL - BEFORE - PADDING {
+            let page = scratch(MessageWriteMutSlice::new(&mut small), attribute)?;
+            self.core.add(kind, &page.data()[BEFORE..BEFORE + length])
+        } else {
+            let page = scratch(MessageWriteVec::new(), attribute)?;
+            self.core.add(kind, &page[BEFORE..BEFORE + length])
+        }
     }
 
     /// Adds XOR-PEER-ADDRESS with this address (RFC 8656, section 18.3). An IPv4 address is written as
@@ -175,7 +182,21 @@ impl From<AddError> for BodyError {
     }
 }
 
-fn scratch() -> MessageWriteVec {
+/// The length of a message in which most attributes fit.
+const SMALL: usize = 128;
+
+/// How many bytes are before the value of the first attribute of a message.
+const BEFORE: usize = 24;
+
+/// The most bytes that follow the value of an attribute.
+const PADDING: usize = 3;
+
+/// Writes an attribute into an empty message.
+fn scratch<W: MessageWrite, A: Attribute>(page: W, attribute: &A) -> Result<W, BodyError> {
     let id = TransactionId::from([0; 12]);
-    Message::builder_request_with_id(BINDING, id, MessageWriteVec::new())
+    let mut page = Message::builder_request_with_id(BINDING, id, page);
+    match page.add_attribute(attribute) {
+        Ok(()) => Ok(page),
+        Err(_) => Err(BodyError::OutOfMemory),
+    }
 }

@@ -16,6 +16,7 @@ use crate::stats::StunAgentStats;
 #[cfg(feature = "tracing")]
 use crate::trace::event;
 use crate::trace::record;
+use crate::transaction::TransactionId;
 use core::fmt;
 use core::net::SocketAddr;
 
@@ -182,6 +183,34 @@ impl Client {
     /// it has ended already.
     pub fn cancel(&mut self, request: RequestId) -> bool {
         self.core.cancel(request.0)
+    }
+
+    /// Returns the transaction ID of a request, while it is outstanding. It changes when the client
+    /// sends the request again for a challenge.
+    pub fn transaction_id(&self, request: RequestId) -> Option<TransactionId> {
+        self.core.transaction_id(request.0).map(TransactionId)
+    }
+
+    /// Returns the outstanding request with this transaction ID: that of the bytes in
+    /// [`Output::Transmit`], for example.
+    ///
+    /// # Examples
+    ///
+    /// ```
+    /// use seatcrane_stun::Instant;
+    /// use seatcrane_stun::endpoint::{Body, Client, Output};
+    /// use seatcrane_stun::types::message::{BINDING, Message};
+    ///
+    /// let server = "192.0.2.1:3478".parse().unwrap();
+    /// let mut client = Client::builder(server).build([7; 32]).unwrap();
+    /// let request = client.request(BINDING, Body::new(), Instant::ZERO).unwrap();
+    /// let Output::Transmit(bytes) = client.poll(Instant::ZERO) else { panic!() };
+    /// let id = Message::from_bytes(bytes).unwrap().transaction_id();
+    /// assert_eq!(client.request_of(id), Some(request));
+    /// assert_eq!(client.transaction_id(request), Some(id));
+    /// ```
+    pub fn request_of(&self, id: TransactionId) -> Option<RequestId> {
+        self.core.request_of(id.0).map(RequestId)
     }
 
     /// Returns what was dropped for a request, while it is outstanding.

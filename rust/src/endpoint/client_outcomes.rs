@@ -393,7 +393,8 @@ pub(super) fn result_of(ended: ended::Ended<Global>) -> Result<Response, Request
 #[derive(Clone, Debug, PartialEq, Eq)]
 #[non_exhaustive]
 pub enum Output<'c> {
-    /// Send these bytes to the server.
+    /// Send these bytes to the server. [`Client::request_of`](super::Client::request_of) returns their
+    /// request.
     Transmit(&'c [u8]),
     /// This request ended, with this result.
     Ended(RequestId, Result<Response, RequestError>),

@@ -225,11 +225,11 @@ fn transmit(
 {
     match client.bytes_of(number) {
         Some(bytes) => {
-            event.sends(bytes.len());
+            event.sends(number, bytes.len());
             written(bytes, 1, out, event)
         }
         None => {
-            event.sends(0);
+            event.sends(number, 0);
             written(&[], 1, out, event)
         }
     }

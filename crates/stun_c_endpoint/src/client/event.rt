@@ -34,7 +34,7 @@ pub struct Event {
     pub kind: u32,
     /// The number of the way in which a request ended.
     pub result: u32,
-    /// The number of the request that ended.
+    /// The number of the request that ended, or whose bytes are to be sent.
     pub request: u64,
     /// The time until which to wait.
     pub until: u64,
@@ -142,11 +142,12 @@ impl Event {
         self.until = until;
     }
 
-    /// Sets the number of bytes to send.
-    pub fn sends(&mut self, length: usize)
-        ensures { self.new ≡ sent_told length self.old }
+    /// Sets the number of a request and the number of its bytes, which are to be sent.
+    pub fn sends(&mut self, number: u64, length: usize)
+        ensures { self.new ≡ sent_told number length self.old }
     {
         self.begin(1);
+        self.request = number;
         self.length = length;
     }
 

@@ -19,20 +19,20 @@ pub returns-clause-grows : goal.returns-clause-grows
 returns-clause-grows g c =
     let bytes = g.W.MessageWrite.bytes in
     let room = g.W.MessageWrite.room in
-    let added = challenge_additions true (challenge_seen c.self.inside.kept) in
+    let added = challenge_additions true (challenge_seen c.self.inside.kept.value) in
     subst (λ (v : Answered). IfOk c.signed.result
     (λ signed. length (bytes signed)
     ≡ length (bytes c.args.writer) + growth (challenge_additions true v.challenge)))
     c.self.view_is
     (grown_answer bytes room added c.args.writer
     (WantsMemory added (page_in bytes room c.args.writer) (g.W.MessageWrite.reserved c.args.writer))
-    c.signed.result c.requires c.signed.ensures)
+    c.signed.result c.requires (rw c.deref-2.ensures at c.signed.ensures))
 
 pub returns-clause-reads : goal.returns-clause-reads
 returns-clause-reads g c =
     let bytes = g.W.MessageWrite.bytes in
     let room = g.W.MessageWrite.room in
-    let kept = challenge_seen c.self.inside.kept in
+    let kept = challenge_seen c.self.inside.kept.value in
     let laws : WritingLaws = record {
       shown = c.writing_adds_one_attribute.ensures.shown;
       added = c.writing_adds_one_attribute.ensures.added;
@@ -48,13 +48,13 @@ returns-clause-reads g c =
     (reads_signed laws bytes room kept c.args.writer c.signed.result
     (WantsMemory (challenge_additions true kept) (page_in bytes room c.args.writer)
     (g.W.MessageWrite.reserved c.args.writer))
-    c.keeps_texts.ensures c.signed.ensures)
+    (rw c.deref.ensures at c.keeps_texts.ensures) (rw c.deref-2.ensures at c.signed.ensures))
 
 pub returns-clause-not_bid_down : goal.returns-clause-not_bid_down
 returns-clause-not_bid_down g c =
     let bytes = g.W.MessageWrite.bytes in
     let room = g.W.MessageWrite.room in
-    let kept = challenge_seen c.self.inside.kept in
+    let kept = challenge_seen c.self.inside.kept.value in
     let class = class_in (bytes c.args.writer) in
     let error = error_code (bytes c.args.writer) in
     let laws : WritingLaws = record {
@@ -76,13 +76,13 @@ returns-clause-not_bid_down g c =
     (reads_signed laws bytes room kept c.args.writer c.signed.result
     (WantsMemory (challenge_additions true kept) (page_in bytes room c.args.writer)
     (g.W.MessageWrite.reserved c.args.writer))
-    c.keeps_texts.ensures c.signed.ensures))
+    (rw c.deref.ensures at c.keeps_texts.ensures) (rw c.deref-2.ensures at c.signed.ensures)))
 
 pub returns-clause-hashed : goal.returns-clause-hashed
 returns-clause-hashed g c =
     let bytes = g.W.MessageWrite.bytes in
     let room = g.W.MessageWrite.room in
-    let kept = challenge_seen c.self.inside.kept in
+    let kept = challenge_seen c.self.inside.kept.value in
     let class = class_in (bytes c.args.writer) in
     let error = error_code (bytes c.args.writer) in
     let laws : WritingLaws = record {
@@ -105,4 +105,4 @@ returns-clause-hashed g c =
     (reads_signed laws bytes room kept c.args.writer c.signed.result
     (WantsMemory (challenge_additions true kept) (page_in bytes room c.args.writer)
     (g.W.MessageWrite.reserved c.args.writer))
-    c.keeps_texts.ensures c.signed.ensures))
+    (rw c.deref.ensures at c.keeps_texts.ensures) (rw c.deref-2.ensures at c.signed.ensures)))

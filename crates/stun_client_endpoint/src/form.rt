@@ -263,13 +263,13 @@ fn begun<A: Allocator + Copy>(
     alloc: A,
     method: Method,
     id: TransactionId,
-    length: usize,
+    room: usize,
 ) -> Result<MessageWriteVec<A>, AllocError>
     ensures bytes { IfOk result (λ page. page.bytes
         ≡ empty_message MessageClass.Request method id) }
     ensures header { IfOk result (λ page. 20 ≤ length page.bytes) }
 {
-    match Message::builder_request(method, id, page_for(alloc, length)) {
+    match Message::builder_request(method, id, page_for(alloc, room)) {
         Ok(page) => Ok(page),
         Err(_) => Err(AllocError),
     }
@@ -277,11 +277,11 @@ fn begun<A: Allocator + Copy>(
 
 /// Creates a writer with memory for a header and this many bytes after it, so that most requests take
 /// one block. If there is no memory for so many, adding the attributes asks for it again.
-fn page_for<A: Allocator>(alloc: A, length: usize) -> MessageWriteVec<A>
+fn page_for<A: Allocator>(alloc: A, room: usize) -> MessageWriteVec<A>
     ensures { result.bytes ≡ [] }
 {
     let mut page = MessageWriteVec::new(alloc);
-    let _reserved = page.reserve(HEADER_LENGTH.saturating_add(length));
+    let _reserved = page.reserve(HEADER_LENGTH.saturating_add(room));
     page
 }
 

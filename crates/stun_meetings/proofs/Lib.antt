@@ -1,0 +1,6 @@
+-- Lemmas of the crate.
+
+-- what any call leaves of a client
+pub mod SideLemmas
+-- a request that is sent again
+pub mod SendLemmas

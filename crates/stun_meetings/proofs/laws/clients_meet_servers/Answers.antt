@@ -1,0 +1,138 @@
+-- Each exchange is a law of what a client and a server make of each other's messages.
+use Rattle.std.proofs.Common.{◌≡◌, ◌∙◌, ◌<◌, ◌^◌, ℕ, List, Option, Some, None, Ok, true, ap, refl, subst}
+use Rattle.std.proofs.Common.{sym}
+use Rattle.std.specs.Option.{option_map_or}
+use Rattle.stun_base.specs.Header.{transaction_id_field, type_field}
+use Rattle.stun_base.specs.MessageType.{method_of}
+use Rattle.stun_client.specs.Challenges.{Answered, is_one}
+use Rattle.stun_client.specs.Clients.{responded}
+use Rattle.stun_client.specs.Ids.{id_of}
+use Rattle.stun_client.specs.Judging.{Identity, anew, believed, long_term, sent_for}
+use Rattle.stun_client.specs.Requests.{AskedSeen, at}
+use Rattle.stun_client_endpoint.specs.Bodies.{Body}
+use Rattle.stun_client_endpoint.specs.Endpoints.{Endpoint, next_number, started}
+use Rattle.stun_client_endpoint.specs.Pendings.{Pending}
+use Rattle.stun_client_endpoint.specs.Sent.{IsStoredAs, asking}
+use Rattle.stun_client_endpoint.specs.Written.{Form, request_bytes}
+use Rattle.stun_client_endpoint.proofs.WrittenLemmas.{request_id}
+use Rattle.stun_endpoint.specs.Nonces.{current_nonce, epoch_of, words_of}
+use Rattle.stun_endpoint.specs.Received.{challenge_answer}
+use Rattle.stun_endpoint.specs.declared.received.Refusal.TheVariants.{Unauthenticated}
+use Rattle.stun_exchanges.specs.Agreement.{IsSignedAnswer}
+use Rattle.stun_exchanges.specs.Exchange.{IsResponseTo, realm_knowing}
+use Rattle.stun_requests.proofs.ServedLemmas.{texts_of}
+use Rattle.stun_meetings.specs.Meeting.{ClientSide, IsClientOf, IsSignedFor, challenge_at}
+use Rattle.stun_meetings.proofs.SendLemmas.{id_low, is_printed, sent_again, unfold_received}
+use Rattle.stun_meetings.proofs.SideLemmas.{stays_client}
+use Rattle.stun_meetings.proofs.laws.clients_meet_servers.Goals as goal
+
+-- what is known of a request that is signed for a challenge, or for none
+record IsKnown (side : ClientSide) (e : Endpoint) (method : ℕ) (body : Body) (later : Endpoint)
+    (p : Pending) (signed_for : Option Answered) (asked : AskedSeen) : Type 0 where
+  id_number : ℕ
+  derived : p.id ≡ id_of e.seed id_number
+  id_is : transaction_id_field p.bytes ≡ p.id
+  number_is : asked.number ≡ next_number e
+  method_is : asked.method ≡ method
+  written : request_bytes side.form
+      (long_term side.who side.preferences side.accepts_unsigned) signed_for method p.id body
+      ≡ Ok p.bytes
+
+known_of : (side : ClientSide) (e : Endpoint) (method : ℕ) (body : Body) (later : Endpoint)
+    (p : Pending) (signed_for : Option Answered) → IsClientOf side e
+    → IsStoredAs (asking e method body) p later.state
+    → (signed : IsSignedFor (next_number e) signed_for later p)
+    → IsKnown side e method body later p signed_for signed.asked
+known_of side e method body later p signed_for of is signed = record {
+  id_number = is.sent.id_number;
+  derived = is.sent.derived;
+  id_is = request_id e.form e.state.client.identity is.sent.asked.signed_for method is.sent.id_number
+      e.seed body p.bytes
+      (ap (λ id. request_bytes e.form e.state.client.identity is.sent.asked.signed_for method id body)
+      (sym is.sent.derived) ∙ is.sent.written)
+      ∙ sym is.sent.derived;
+  number_is = ap (λ (a : AskedSeen). a.number) (sym one) ∙ is.sent.numbered;
+  method_is = ap (λ (a : AskedSeen). a.method) (sym one) ∙ is.sent.method;
+  written = ap (λ (f : Form). request_bytes f (long_term side.who side.preferences
+      side.accepts_unsigned) signed_for method p.id body) (sym of.form_is)
+      ∙ ap (λ (i : Identity). request_bytes e.form i signed_for method p.id body) (sym of.identity)
+      ∙ ap (λ (o : Option Answered). request_bytes e.form e.state.client.identity o method p.id body)
+      (sym signed.signed ∙ ap (λ (a : AskedSeen). a.signed_for) (sym one))
+      ∙ is.sent.written;
+}
+  where
+    one : is.sent.asked ≡ signed.asked
+    one = ap (λ (o : Option AskedSeen). option_map_or (λ a. a) o is.sent.asked)
+        (sym is.sent.there ∙ signed.found)
+
+pub returns : goal.returns
+returns c = λ s users from side a e later method body start events p meet of low ordinary none calls out.
+    let who = side.who in
+    let prefers = side.preferences in
+    let accepts = side.accepts_unsigned in
+    let number = next_number e in
+    let client = stays_client side e later method body start events of none calls in
+    let stored = c.requests_are_sent_as_they_were_started.ensures.kept e later events method body start
+    p of.endpoint low none calls out in
+    record {
+      challenged = λ time unsigned.
+          let known = known_of side e method body later p None of stored unsigned in
+          c.requests_are_challenged.ensures s (realm_knowing s users) from time side.form who prefers
+          accepts method p.id body p.bytes low ordinary meet.printed known.written;
+      renewed = λ time now unsigned can strong.
+          let nonce = current_nonce s from time in
+          let response = (challenge_answer s Unauthenticated nonce from p.bytes).bytes in
+          let challenge = challenge_at s side a from time in
+          let known = known_of side e method body later p None of stored unsigned in
+          let read = c.requests_are_read_back.ensures.as_made side.form who prefers accepts None method
+          p.id body p.bytes low ordinary
+          (record { nonce = tt; realm = tt; username = tt; userhash = tt }) known.written in
+          let short : transaction_id_field p.bytes < 2 ^ 96 =
+          subst (λ id. id < 2 ^ 96) (sym (known.id_is ∙ known.derived)) (id_low e.seed known.id_number) in
+          let sends = λ (is : later.state.client.requires_fingerprint ≡ true).
+          is_printed side.form.has_fingerprint p.bytes read.print
+          (meet.required (sym client.required_is ∙ is)) in
+          let heard_as = c.challenges_are_read_as_meant.ensures s Unauthenticated s.secret from from
+          (epoch_of s time) later.state.client.requires_fingerprint p.bytes meet.built refl short sends in
+          let said = c.challenges_of_a_server_are_answered.ensures s Unauthenticated s.secret from from
+          side.server (epoch_of s time) p.bytes later.state.client unsigned.asked who prefers accepts a
+          meet.built refl short sends meet.agree client.identity client.hears
+          (ap (λ id. at id later.state.client.requests.asked) known.id_is ∙ unsigned.found)
+          (known.method_is ∙ sym read.method_is)
+          (ap (is_one (Some challenge)) unsigned.signed) strong in
+          sent_again side later number method body p unsigned.asked unsigned.there unsigned.found
+          known.method_is stored.body response (heard_as.0.id ∙ known.id_is) challenge now can
+          (started method body start e) events calls
+          (said ∙ ap (λ (o : Option Answered). responded response unsigned.asked.number
+          (sent_for o response challenge)) unsigned.signed
+          ∙ ap (λ n. responded response n (anew challenge)) known.number_is);
+      accepted = λ time now signed within.
+          let known = known_of side e method body later p (Some (challenge_at s side a from time)) of
+          stored signed in
+          c.requests_are_accepted.ensures s users from time now side.form who prefers accepts a method
+          p.id body p.bytes meet.built meet.known meet.text meet.agree within low ordinary meet.printed
+          known.written;
+      ended = λ time now response is_heard signed answers is_signed.
+          let challenge = challenge_at s side a from time in
+          let known = known_of side e method body later p (Some challenge) of stored signed in
+          let text = c.nonces_have_the_bits_of_their_server.ensures.text s
+          (words_of s.algorithms s.secret from (epoch_of s time)) in
+          let read = c.requests_are_read_back.ensures.as_made side.form who prefers accepts
+          (Some challenge) method p.id body p.bytes low ordinary
+          (texts_of s prefers who (current_nonce s from time) a meet.built meet.text text)
+          known.written in
+          unfold_received is_heard side.server response now later
+          (responded response number (believed (Some a)))
+          (c.signed_answers_end_requests.ensures.heard side.server p.bytes response later.state.client
+          signed.asked challenge who prefers accepts a client.identity
+          (record {
+            server = client.hears;
+            outstanding = ap (λ id. at id later.state.client.requests.asked) known.id_is ∙ signed.found;
+            method = known.method_is ∙ sym read.method_is;
+            answers = subst (λ b. IsResponseTo b p.bytes response) (sym client.required_is) answers;
+          })
+          signed.signed
+          (subst (λ b. IsSignedAnswer b response challenge.challenge.key a) (sym client.required_is)
+          is_signed)
+          ∙ ap (λ n. responded response n (believed (Some a))) known.number_is);
+    }

@@ -1,0 +1,4 @@
+-- What the contracts of this crate say.
+
+-- a client and a server that meet
+pub mod Meeting

@@ -1,0 +1,155 @@
+-- A client and a server that meet in two exchanges (RFC 8489, sections 9.2.3 to 9.2.5).
+use Rattle.std.specs.Prelude.{◌≡◌, ◌≤◌, ◌<◌, ℕ, Bool, true, false, List, Option, Some, None, Ok}
+use Rattle.std.specs.Prelude.{IsUtf8}
+use Rattle.std.specs.declared.net.socket_addr.SocketAddr.{SocketAddr}
+use Rattle.stun_base.specs.Credentials.{NameAndPassword}
+use Rattle.stun_base.specs.declared.keys.algorithm.IntegrityAlgorithm.{IntegrityAlgorithm}
+use Rattle.stun_auth.specs.Seen.{ClientSeen}
+use Rattle.stun_extra.specs.CanonicalAddress.{is_same_address}
+use Rattle.stun_client.specs.Challenges.{Answered}
+use Rattle.stun_client.specs.Judging.{long_term}
+use Rattle.stun_client.specs.Requests.{AskedSeen, at}
+use Rattle.stun_client.specs.Standing.{is_ignored}
+use Rattle.stun_client.specs.declared.preferences.Preferences.{Preferences}
+use Rattle.stun_client_endpoint.specs.Bodies.{Body}
+use Rattle.stun_client_endpoint.specs.Endpoints.{Endpoint, answered_by, chosen, message_of}
+use Rattle.stun_client_endpoint.specs.Endpoints.{next_number, received, refusal_to_start, started}
+use Rattle.stun_client_endpoint.specs.Laws.{IsEndpoint}
+use Rattle.stun_client_endpoint.specs.Pendings.{Pending, outstanding_at}
+use Rattle.stun_client_endpoint.specs.Runs.{Calls, Event}
+use Rattle.stun_client_endpoint.specs.Written.{Form}
+use Rattle.stun_client_endpoint.specs.declared.told.Received.TheVariants.{Consumed}
+use Rattle.stun_client_loop.specs.Loops.{again_refused}
+use Rattle.stun_endpoint.specs.Judged.{key_of_client}
+use Rattle.stun_endpoint.specs.Nonces.{current_nonce}
+use Rattle.stun_endpoint.specs.Received.{answered, challenge_answer, outcome_of_accepted}
+use Rattle.stun_endpoint.specs.Received.{received_by}
+use Rattle.stun_endpoint.specs.Settings.{Settings}
+use Rattle.stun_endpoint.specs.declared.received.Refusal.TheVariants.{Unauthenticated}
+use Rattle.stun_exchanges.specs.Agreement.{AgreeOn, IsSignedAnswer}
+use Rattle.stun_exchanges.specs.Exchange.{IsRegisteredUser, IsResponseTo, IsServer, IsWithinPeriod}
+use Rattle.stun_exchanges.specs.Exchange.{UserSecrets, meant_for, realm_knowing}
+use Rattle.stun_requests.specs.ReadBack.{AreOrdinary}
+use Rattle.stun_requests.specs.Served.{IsPrinted}
+
+-- ---- who meets
+
+-- what a client is: where the datagrams of its server come from, in either spelling of IPv4, its
+-- user, its preferences, whether it accepts unsigned responses, what each of its requests has, and
+-- whether each response must have a FINGERPRINT
+pub record ClientSide : Type 0 where
+  pub server : SocketAddr
+  pub who : NameAndPassword
+  pub preferences : Preferences
+  pub accepts_unsigned : Bool
+  pub form : Form
+  pub requires_fingerprint : Bool
+
+pub record IsClientOf (side : ClientSide) (e : Endpoint) : Type 0 where
+  pub endpoint : IsEndpoint e
+  pub hears : is_same_address side.server e.state.client.server ≡ true
+  pub identity : e.state.client.identity
+      ≡ long_term side.who side.preferences side.accepts_unsigned
+  pub form_is : e.form ≡ side.form
+  pub required_is : e.state.client.requires_fingerprint ≡ side.requires_fingerprint
+
+-- a client and a server can meet: the server was built, the user is registered at it and is a text,
+-- both agree on an algorithm, and the client sends the FINGERPRINT that one of them requires
+pub record CanMeet (s : Settings) (users : UserSecrets) (side : ClientSide)
+    (a : IntegrityAlgorithm) : Type 0 where
+  pub built : IsServer s
+  pub known : IsRegisteredUser s users side.who
+  pub text : IsUtf8 side.who.username
+  pub agree : AgreeOn side.preferences s.algorithms s.feature a
+  pub printed : IsPrinted s side.form
+  pub required : side.requires_fingerprint ≡ true → side.form.has_fingerprint ≡ true
+
+-- the challenge that a server means which it writes at a time, to a client at an address
+abbrev pub challenge_at : Settings → ClientSide → IntegrityAlgorithm → SocketAddr → ℕ → Answered
+challenge_at s side a from time =
+    meant_for s side.preferences side.who (current_nonce s from time) a
+
+-- ---- a request
+
+-- the request with a number is outstanding, and signed for this challenge, or for none
+pub record IsSignedFor (number : ℕ) (signed_for : Option Answered) (e : Endpoint) (p : Pending)
+    : Type 0 where
+  pub there : outstanding_at number e.requests ≡ Some p
+  pub asked : AskedSeen
+  pub found : at p.id e.state.client.requests.asked ≡ Some asked
+  pub signed : asked.signed_for ≡ signed_for
+
+-- it can be sent again for a challenge at a time: its first plan goes on, it was challenged less
+-- often than it may be, an ID is left, the message fits, and the agent sends it. Each client that
+-- was built for this server meets the last three, of a body that `Body` takes
+pub record CanGoOn (e : Endpoint) (method : ℕ) (body : Body) (p : Pending) (challenges : ℕ)
+    (response : List ℕ) (c : Answered) (now : ℕ) : Type 0 where
+  pub in_time : now ≤ p.until
+  pub often : challenges < e.challenges
+  pub id_number : ℕ
+  pub left : chosen e ≡ Some id_number
+  pub bytes : List ℕ
+  pub fits : message_of e (Some c) method id_number body ≡ Ok bytes
+  pub sent : again_refused e.state response bytes ≡ None
+
+-- a response has a client send a request again, signed for a challenge. The client then is one after
+-- calls that began with the start of the request
+pub record IsSentAgain (side : ClientSide) (begun : Endpoint) (number : ℕ) (c : Answered)
+    (later : Endpoint) (response : List ℕ) (now : ℕ) : Type 0 where
+  pub next : Endpoint
+  pub consumed : received true side.server response now later ≡ (Consumed, next)
+  pub events : List Event
+  pub calls : Calls begun events next
+  pub pending : Pending
+  pub signed : IsSignedFor number (Some c) next pending
+
+-- a server accepts bytes as a user's by this algorithm, whatever they ask for
+abbrev pub IsAcceptedAs : Settings → UserSecrets → SocketAddr → ℕ → List ℕ → List ℕ
+    → IntegrityAlgorithm → Type 0
+IsAcceptedAs s users from now bytes name a =
+    let client : ClientSeen = record { name = name; algorithm = a } in
+    received_by s (realm_knowing s users) from now bytes
+    ≡ outcome_of_accepted s (key_of_client (realm_knowing s users) client) from bytes client
+
+-- ---- the meeting
+
+-- what a client and a server make of a request that is outstanding, whose bytes come from an address
+pub record Meets (s : Settings) (users : UserSecrets) (from : SocketAddr) (side : ClientSide)
+    (a : IntegrityAlgorithm) (begun : Endpoint) (number method : ℕ) (body : Body)
+    (later : Endpoint) (p : Pending) : Type 0 where
+  -- without a signature it is challenged
+  pub challenged : (time : ℕ) → IsSignedFor number None later p
+      → received_by s (realm_knowing s users) from time p.bytes
+      ≡ answered (challenge_answer s Unauthenticated (current_nonce s from time) from p.bytes)
+  -- the challenge has it sent again, signed for it. One that is weaker than what a success has
+  -- confirmed is ignored on purpose
+  pub renewed : (time now : ℕ) (unsigned : IsSignedFor number None later p)
+      → let response =
+      (challenge_answer s Unauthenticated (current_nonce s from time) from p.bytes).bytes in
+      let c = challenge_at s side a from time in
+      CanGoOn later method body p unsigned.asked.challenges response c now
+      → is_ignored later.state.client.standing c ≡ false
+      → IsSentAgain side begun number c later response now
+  -- signed for a challenge of the server, it is accepted while the nonce lasts
+  pub accepted : (time now : ℕ) → IsSignedFor number (Some (challenge_at s side a from time)) later p
+      → IsWithinPeriod s time now → IsAcceptedAs s users from now p.bytes side.who.username a
+  -- and each signed answer ends it with its result. Those of the server are such
+  -- (`signed_answers_end_requests` of `stun_exchanges`)
+  pub ended : (time now : ℕ) (response : List ℕ) (is_heard : Bool)
+      → IsSignedFor number (Some (challenge_at s side a from time)) later p
+      → IsResponseTo side.requires_fingerprint p.bytes response
+      → IsSignedAnswer side.requires_fingerprint response
+      (challenge_at s side a from time).challenge.key a
+      → received is_heard side.server response now later
+      ≡ answered_by number (Some a) response now later
+
+-- a request is started at a client that can meet a server, and any calls follow
+abbrev pub ClientsMeetServers : Type 0
+ClientsMeetServers =
+    (s : Settings) (users : UserSecrets) (from : SocketAddr) (side : ClientSide)
+    (a : IntegrityAlgorithm) (e later : Endpoint) (method : ℕ) (body : Body) (start : ℕ)
+    (events : List Event) (p : Pending) → CanMeet s users side a → IsClientOf side e
+    → method < 4096 → AreOrdinary body → refusal_to_start e method body ≡ None
+    → Calls (started method body start e) events later
+    → outstanding_at (next_number e) later.requests ≡ Some p
+    → Meets s users from side a (started method body start e) (next_number e) method body later p

@@ -15,7 +15,9 @@ use Rattle.stun_agent.specs.Timing.{repetitions, slots}
 use Rattle.std.specs.Ordering.{nat_cmp, is_eq, match_ordering}
 use Rattle.std.specs.declared.cmp.Ordering.{Ordering}
 use Rattle.std.specs.declared.cmp.Ordering.TheVariants.{Less, Equal, Greater}
-use Rattle.stun_agent.specs.Transactions.{Transaction, Transactions, at, with, sooner, has_slots}
+use Rattle.std.specs.BTreeMap.{is_at}
+use Rattle.stun_agent.specs.Transactions.{Transaction, Transactions, at, with, without, sooner}
+use Rattle.stun_agent.specs.Transactions.{has_slots}
 use Rattle.stun_agent.specs.Transactions.{is_cancelled, is_due, is_over, awaited_moment}
 use Rattle.stun_agent.specs.Transactions.{awaited_moments, next_awaited, first_over}
 use Rattle.stun_agent.specs.code.Awaited.{Awaited, nothing, slot_at, end_at, cancelled_one}
@@ -112,12 +114,15 @@ pub awaited_of-four : (transport : TransportType) (a b c d : Transactions)
     → joined
     (joined (joined (awaited_of transport a) (awaited_of transport b)) (awaited_of transport c))
     (awaited_of transport d)
-    ≡ awaited_of transport ((a ++ b) ++ (c ++ d))
+    ≡ awaited_of transport (a ++ (b ++ (c ++ d)))
 awaited_of-four transport a b c d =
     joined_joined (joined (awaited_of transport a) (awaited_of transport b))
     (awaited_of transport c) (awaited_of transport d)
-    ∙ ap₂ joined (sym (awaited_of-append transport a b)) (sym (awaited_of-append transport c d))
-    ∙ sym (awaited_of-append transport (a ++ b) (c ++ d))
+    ∙ joined_joined (awaited_of transport a) (awaited_of transport b)
+    (joined (awaited_of transport c) (awaited_of transport d))
+    ∙ sym (awaited_of-append transport a (b ++ (c ++ d))
+    ∙ ap (joined (awaited_of transport a)) (awaited_of-append transport b (c ++ d)
+    ∙ ap (joined (awaited_of transport b)) (awaited_of-append transport c d)))
 
 -- one more is joined to what the others await
 pub awaited_of-with : (transport : TransportType) (id : ℕ) (t : Transaction) (es : Transactions)
@@ -142,6 +147,29 @@ awaited_of-with transport id t (e ∷ es) absent =
         joined_joined (awaited_by transport e.1) (awaited_of transport es)
         (awaited_by transport t)
         ∙ ap (joined (awaited_by transport e.1)) (rest absent)
+
+-- all of them await what the others do, and what the one at an id does
+pub awaited_of-without : (transport : TransportType) (id : ℕ) (t : Transaction) (es : Transactions)
+    → at id es ≡ Some t
+    → awaited_of transport es
+    ≡ joined (awaited_of transport (without id es)) (awaited_by transport t)
+awaited_of-without transport id t [] there = cc
+awaited_of-without transport id t (e ∷ es) there =
+    by (is_at (nat_cmp id) e.0) there (awaited_of-without transport id t es)
+  where
+    by : (b : Bool) → cond b (Some e.1) (at id es) ≡ Some t
+        → (at id es ≡ Some t → awaited_of transport es
+        ≡ joined (awaited_of transport (without id es)) (awaited_by transport t))
+        → awaited_of transport (e ∷ es)
+        ≡ joined (awaited_of transport (cond b es (e ∷ without id es))) (awaited_by transport t)
+    by true there rest =
+        let same : e.1 ≡ t = ap (λ o. option_map_or (λ x. x) o t) there in
+        ap (λ x. joined (awaited_by transport x) (awaited_of transport es)) same
+        ∙ joined_turned (awaited_by transport t) (awaited_of transport es)
+    by false there rest =
+        ap (joined (awaited_by transport e.1)) (rest there)
+        ∙ sym (joined_joined (awaited_by transport e.1) (awaited_of transport (without id es))
+        (awaited_by transport t))
 
 -- ---- what is due, and what is over
 come_lesser : (now : ℕ) (a b : Option ℕ)

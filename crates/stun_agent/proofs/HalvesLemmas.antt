@@ -21,6 +21,10 @@ AreLater id es = AllByRecursion (λ (e : ℕ × Transaction). id < e.0) es
 abbrev pub AreSooner : ℕ → Transactions → Type 0
 AreSooner id es = AllByRecursion (λ (e : ℕ × Transaction). e.0 < id) es
 
+-- those of the first list have lesser ids than those of the second
+abbrev pub AreApart : Transactions → Transactions → Type 0
+AreApart xs ys = AllByRecursion (λ (x : ℕ × Transaction). AreLater x.0 ys) xs
+
 -- ---- a test of one id
 later_apart : (id k : ℕ) → id < k → is_at (nat_cmp id) k ≡ false
 later_apart id k less = sym (ap is_eq (nat_cmp_is id k Less less))
@@ -146,12 +150,10 @@ module _ (id : ℕ) where
         by (Some t) = set-right (f t) xs ys h
 
 -- ---- the ids ascend
-head_less : (k m : ℕ) (ys : Transactions) → k < m
-    → AllByRecursion (λ (y : ℕ × Transaction). m ≤ y.0) ys
+head_less : (k : ℕ) (ys : Transactions) → AreLater k ys
     → AllByRecursion (λ y. nat_cmp k y ≡ Less) (keys_of ys)
-head_less k m [] less h = tt
-head_less k m (y ∷ ys) less h =
-    (sym (nat_cmp_is k y.0 Less (omega (arith, h.0))), head_less k m ys less h.1)
+head_less k [] later = tt
+head_less k (y ∷ ys) later = (sym (nat_cmp_is k y.0 Less later.0), head_less k ys later.1)
 
 keys_both : (k : ℕ) (xs ys : Transactions)
     → AllByRecursion (λ y. nat_cmp k y ≡ Less) (keys_of xs)
@@ -160,13 +162,9 @@ keys_both : (k : ℕ) (xs ys : Transactions)
 keys_both k [] ys a b = b
 keys_both k (x ∷ xs) ys a b = (a.0, keys_both k xs ys a.1 b)
 
-pub ascending-append : (m : ℕ) (xs ys : Transactions)
-    → AllByRecursion (λ (x : ℕ × Transaction). x.0 < m) xs
-    → AllByRecursion (λ (y : ℕ × Transaction). m ≤ y.0) ys
-    → IsAscending xs → IsAscending ys → IsAscending (xs ++ ys)
+pub ascending-append : (xs ys : Transactions) → AreApart xs ys → IsAscending xs → IsAscending ys
+    → IsAscending (xs ++ ys)
 unfolding IsStrictlySortedBy
-ascending-append m [] ys below from sx sy = sy
-ascending-append m (x ∷ xs) ys below from sx sy = (
-  keys_both x.0 xs ys sx.0 (head_less x.0 m ys below.0 from),
-  ascending-append m xs ys below.1 from sx.1 sy,
-)
+ascending-append [] ys apart sx sy = sy
+ascending-append (x ∷ xs) ys apart sx sy =
+    (keys_both x.0 xs ys sx.0 (head_less x.0 ys apart.0), ascending-append xs ys apart.1 sx.1 sy)

@@ -13,6 +13,7 @@ pub mod NamedLemmas
 pub mod OnceLemmas
 pub mod PassedLemmas
 pub mod PeerLemmas
+pub mod QuarterLemmas
 pub mod QuietLemmas
 pub mod RefusalLemmas
 pub mod RemoveLemmas

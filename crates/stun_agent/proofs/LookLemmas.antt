@@ -1,5 +1,5 @@
 -- At how many links a search looks, and how many forks are one below another.
-use Rattle.std.proofs.Common.{ℕ, zero, suc, ◌≡◌, ◌+◌, ◌*◌, ◌^◌, ◌≤◌, arith, Bool, true}
+use Rattle.std.proofs.Common.{ℕ, ◌≡◌, ◌+◌, ◌-◌, ◌*◌, ◌≤◌, arith, Bool, true}
 use Rattle.std.specs.Prelude.{max, Option, Some, None, MatchOption}
 use Rattle.std.specs.Option.{option_map, is_some}
 use Rattle.stun_base.specs.declared.wire.transport.TransportType.{TransportType}
@@ -8,62 +8,48 @@ use Rattle.stun_agent.specs.declared.state.tree.Link.TheVariants.{Empty, Leaf, F
 use Rattle.stun_agent.specs.Deadlines.{most_levels, most_looks}
 use Rattle.stun_agent.specs.Transactions.{Transaction}
 use Rattle.stun_agent.specs.code.Transactions.{id_and_repeats}
-use Rattle.stun_agent.specs.code.Tree.{levels, middle, IsOrdered, IsTree}
+use Rattle.stun_agent.specs.code.Tree.{depth, IsOrdered, IsTree}
 
--- a search of both halves of a half
-pub looks_of_half : (told : Option (ℕ × Bool)) (old mid new a b : ℕ)
-    → mid ≤ old + 1
-    → MatchOption told (new ≤ mid + 1) (λ _. new ≤ mid + 1 + 4 * b)
-    → MatchOption told (new ≤ old + 2) (λ _. new ≤ old + 2 + 4 * max a b)
-looks_of_half None old mid new a b first second = omega (arith, first, second)
-looks_of_half (Some e) old mid new a b first second = omega (arith, first, second)
-
--- a search of both halves of a fork, of which one has a request that is over
+-- a search of the links of a fork, of which one has a request that is over
 pub looks_of_fork : (told : Option (ℕ × Bool)) (found : Option (ℕ × Transaction))
     → told ≡ option_map id_and_repeats found → is_some found ≡ true
-    → (old seen mid new a b : ℕ) → seen ≡ old + 1 → mid ≤ seen + 2
-    → MatchOption told (new ≤ mid + 2) (λ _. new ≤ mid + 2 + 4 * b)
-    → MatchOption told (new ≤ old + 1) (λ _. new ≤ old + 1 + 4 * (1 + max a b))
-looks_of_fork None None is some old seen mid new a b one first second = cc
-looks_of_fork None (Some e) is some old seen mid new a b one first second = cc
-looks_of_fork (Some s) found is some old seen mid new a b one first second =
-    omega (arith, one, first, second)
+    → (old seen new deep : ℕ) → seen ≡ old + 1
+    → MatchOption told (new ≤ seen + 4) (λ _. new ≤ seen + 4 + 4 * deep)
+    → MatchOption told (new ≤ old + 1) (λ _. new ≤ old + 1 + 4 * (1 + deep))
+looks_of_fork None None is some old seen new deep one looked = cc
+looks_of_fork None (Some e) is some old seen new deep one looked = cc
+looks_of_fork (Some s) found is some old seen new deep one looked = omega (arith, one, looked)
 
--- ---- each fork has a quarter of the ids
--- a quarter of a range of at most four times as many ids
-quarters : (low high n : ℕ) → high ≤ low + 4 * n → low + 2 ≤ high
-    → (middle low (middle low high) ≤ low + n)
-    × (middle low high ≤ middle low (middle low high) + n)
-    × (middle (middle low high) high ≤ middle low high + n)
-    × (high ≤ middle (middle low high) high + n)
-quarters low high n most wide = (omega arith, omega arith, omega arith, omega arith)
+-- the search of the last link of a fork
+pub looks_of_last : (told : Option (ℕ × Bool)) (old mid new a b c d : ℕ) → mid ≤ old + 3
+    → MatchOption told (new ≤ mid + 1) (λ _. new ≤ mid + 1 + 4 * d)
+    → MatchOption told (new ≤ old + 4)
+    (λ _. new ≤ old + 4 + 4 * max a (max b (max c d)))
+looks_of_last None old mid new a b c d first last = omega (arith, first, last)
+looks_of_last (Some e) old mid new a b c d first last = omega (arith, first, last)
 
-pub levels_within : {A : Type 0} (n low high : ℕ) (link : Link A) → high ≤ low + 4 ^ n
-    → IsOrdered low high link → levels link ≤ n
-levels_within n low high Empty most ordered = omega arith
-levels_within n low high (Leaf awaited leaf) most ordered = omega arith
-levels_within zero low high (Fork' awaited p a b c d) most ordered =
-    let wide = ordered.0 in
-    omega (arith, most, wide)
-levels_within (suc n) low high (Fork' awaited p a b c d) most ordered =
-    let wide = ordered.0 in
-    let width = quarters low high (4 ^ n) (omega (arith, most)) wide in
-    let one = levels_within n _ _ a width.0 ordered.1.0 in
-    let two = levels_within n _ _ b width.1 ordered.1.1 in
-    let three = levels_within n _ _ c width.2 ordered.2 in
-    let four = levels_within n _ _ d width.3 ordered.3 in
-    omega (arith, one, two, three, four)
+-- ---- each fork has fewer levels below it
+pub depth_within : {A : Type 0} (levels part : ℕ) (link : Link A) → IsOrdered levels part link
+    → depth link ≤ levels
+depth_within levels part Empty ordered = omega arith
+depth_within levels part (Leaf awaited leaf) ordered = omega arith
+depth_within levels part (Fork' awaited p a b c d) (deep, oa, ob, oc, od) =
+    let some = deep.some in
+    let one = depth_within (levels - 1) _ a oa in
+    let two = depth_within (levels - 1) _ b ob in
+    let three = depth_within (levels - 1) _ c oc in
+    let four = depth_within (levels - 1) _ d od in
+    omega (arith, some, one, two, three, four)
 
-pub levels_of_tree : {A : Type 0} (transport : TransportType) (root : Link A)
-    → IsTree transport root → levels root ≤ most_levels
-levels_of_tree transport root tree =
-    levels_within most_levels 0 (2 ^ 96) root (omega arith) tree.ordered
+pub depth_of_tree : {A : Type 0} (transport : TransportType) (root : Link A)
+    → IsTree transport root → depth root ≤ most_levels
+depth_of_tree transport root tree = depth_within most_levels 0 root tree.ordered
 
 -- ---- a poll
 -- a search from the root that finds one, or one that finds none and a look for the next moment
-pub looks_found : (entries looks levels : ℕ) → entries ≡ 1 → levels ≤ most_levels
-    → looks ≤ 1 + 4 * levels → looks ≤ most_looks entries
-looks_found entries looks levels one deep looked = omega (arith, one, deep, looked)
+pub looks_found : (entries looks deep : ℕ) → entries ≡ 1 → deep ≤ most_levels
+    → looks ≤ 1 + 4 * deep → looks ≤ most_looks entries
+looks_found entries looks deep one most looked = omega (arith, one, most, looked)
 
 pub looks_waiting : (old mid new entries : ℕ) → mid ≤ old + 1 → new ≤ mid + 1 → old ≡ 0
     → new ≤ most_looks entries

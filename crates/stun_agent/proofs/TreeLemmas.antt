@@ -1,16 +1,19 @@
--- The ids below a link are in its range, and they ascend.
-use Rattle.std.proofs.Common.{ℕ, ◌^◌, ◌<◌, ◌≤◌, arith, List, [], ◌∷◌, ◌++◌}
+-- The ids below a link are in its part, and they ascend.
+use Rattle.std.proofs.Common.{ℕ, ◌≡◌, ◌+◌, ◌-◌, ◌*◌, ◌/◌, ◌^◌, ◌<◌, arith, List, [], ◌∷◌}
+use Rattle.std.proofs.Common.{◌++◌, ap, sym, ◌∙◌, subst, ⊎_elim}
 use Rattle.std.specs.List.{AllByRecursion}
 use Rattle.std.specs.List.Sorted.{IsStrictlySortedBy}
+use Rattle.std.proofs.Math.Pow.{shr_mono}
+use Rattle.std.proofs.lemmas.Bool.{cases_lt}
+use Rattle.std.proofs.lemmas.Nat.{shr-shr}
 use Rattle.stun_base.specs.declared.wire.transport.TransportType.{TransportType}
-use Rattle.stun_agent.specs.declared.state.tree.Half.{Half}
 use Rattle.stun_agent.specs.declared.state.tree.Link.{Link}
 use Rattle.stun_agent.specs.declared.state.tree.Link.TheVariants.{Empty, Leaf, Fork'}
+use Rattle.stun_agent.specs.Deadlines.{most_levels}
 use Rattle.stun_agent.specs.Transactions.{Transaction, Transactions, IsAscending, IsNamed}
 use Rattle.stun_agent.specs.Transactions.{AreKept}
-use Rattle.stun_agent.specs.code.Tree.{items, half_items, middle, IsPlaced, IsOrdered}
-use Rattle.stun_agent.specs.code.Tree.{IsOrderedHalf, IsTree}
-use Rattle.stun_agent.proofs.HalvesLemmas.{AreLater, AreSooner, ascending-append}
+use Rattle.stun_agent.specs.code.Tree.{items, part_of, IsPlaced, IsDeep, IsOrdered, IsTree}
+use Rattle.stun_agent.proofs.HalvesLemmas.{AreLater, AreSooner, AreApart, ascending-append}
 
 -- ---- lists
 pub all_weaker : {X : Type 0} (P Q : X → Type 0) → ((x : X) → P x → Q x) → (xs : List X)
@@ -23,81 +26,92 @@ pub all_append : {X : Type 0} (P : X → Type 0) (xs ys : List X) → AllByRecur
 all_append P [] ys a b = b
 all_append P (x ∷ xs) ys a b = (a.0, all_append P xs ys a.1 b)
 
-pub middle_within : (low high : ℕ) → low ≤ high
-    → (low ≤ middle low high) × (middle low high ≤ high)
-middle_within low high le = (omega arith, omega arith)
+pub apart_append : (xs ys zs : Transactions) → AreApart xs ys → AreApart xs zs
+    → AreApart xs (ys ++ zs)
+apart_append [] ys zs a b = tt
+apart_append (x ∷ xs) ys zs a b =
+    (all_append _ ys zs a.0 b.0, apart_append xs ys zs a.1 b.1)
 
-wider : (low high from to : ℕ) → low ≤ from → to ≤ high → (e : ℕ × Transaction)
-    → IsPlaced from to e → IsPlaced low high e
-wider low high from to l h e placed =
-    record {
-      from = omega (arith, placed.from);
-      below = omega (arith, placed.below);
-      named = placed.named;
-    }
+-- ---- parts
+-- a part with fewer levels is in one with more of them
+pub quarter_in : (levels id : ℕ) → 0 < levels → part_of (levels - 1) id / 4 ≡ part_of levels id
+quarter_in levels id some =
+    shr-shr id (2 * (levels - 1)) 2 ∙ ap (λ k. id / 2 ^ k) (omega arith)
 
--- ---- all ids are in the range
+-- an id in a later part is greater
+pub later_part : (levels id k : ℕ) → part_of levels id < part_of levels k → id < k
+later_part levels id k less =
+    ⊎_elim (λ is. is)
+    (λ le. let most = shr_mono (2 * levels) le in omega (arith, less, most)) (cases_lt id k)
+
+-- ---- all ids are in the part
 abbrev pub ArePlaced : ℕ → ℕ → Transactions → Type 0
-ArePlaced low high es = AllByRecursion (IsPlaced low high) es
+ArePlaced levels part es = AllByRecursion (IsPlaced levels part) es
 
-placed_both : (low m high : ℕ) (xs ys : Transactions) → low ≤ m → m ≤ high → ArePlaced low m xs
-    → ArePlaced m high ys → ArePlaced low high (xs ++ ys)
-placed_both low m high xs ys l h px py =
-    all_append _ xs ys (all_weaker _ _ (wider low high low m (omega arith) h) xs px)
-    (all_weaker _ _ (wider low high m high l (omega arith)) ys py)
+-- those in a quarter are in the part
+wider : (levels part quarter : ℕ) → 0 < levels → quarter / 4 ≡ part → (es : Transactions)
+    → ArePlaced (levels - 1) quarter es → ArePlaced levels part es
+wider levels part quarter some is es h =
+    all_weaker _ _
+    (λ e at. record {
+      inside = let up = quarter_in levels e.0 some in omega (arith, up, at.inside, is);
+      named = at.named;
+    }) es h
 
 module _ {A : Type 0} where
-  pub placed : (low high : ℕ) (l : Link A) → low ≤ high → IsOrdered low high l
-      → ArePlaced low high (items l)
-  placed low high Empty le h = tt
-  placed low high (Leaf awaited leaf) le h = (h, tt)
-  placed low high (Fork' awaited p a b c d) le (wide, ls, rc, rd) =
-      let mid = middle_within low high le in
-      let one = middle_within low (middle low high) mid.0 in
-      let two = middle_within (middle low high) high mid.1 in
-      placed_both low (middle low high) high (items a ++ items b) (items c ++ items d) mid.0 mid.1
-      (placed_both low (middle low (middle low high)) (middle low high) (items a) (items b) one.0
-      one.1 (placed low _ a one.0 ls.0) (placed _ (middle low high) b one.1 ls.1))
-      (placed_both (middle low high) (middle (middle low high) high) high (items c) (items d) two.0
-      two.1 (placed (middle low high) _ c two.0 rc) (placed _ high d two.1 rd))
+  pub placed : (levels part : ℕ) (l : Link A) → IsOrdered levels part l
+      → ArePlaced levels part (items l)
+  placed levels part Empty h = tt
+  placed levels part (Leaf awaited leaf) h = (h, tt)
+  placed levels part (Fork' awaited p a b c d) (deep, oa, ob, oc, od) =
+      let some = deep.some in
+      all_append _ (items a) (items b ++ (items c ++ items d))
+      (wider levels part (4 * part) some (omega arith) (items a) (placed (levels - 1) _ a oa))
+      (all_append _ (items b) (items c ++ items d)
+      (wider levels part (4 * part + 1) some (omega arith) (items b) (placed (levels - 1) _ b ob))
+      (all_append _ (items c) (items d)
+      (wider levels part (4 * part + 2) some (omega arith) (items c) (placed (levels - 1) _ c oc))
+      (wider levels part (4 * part + 3) some (omega arith) (items d) (placed (levels - 1) _ d od))))
 
-  pub placed_half : (low high : ℕ) (half : Half A) → low ≤ high → IsOrderedHalf low high half
-      → ArePlaced low high (half_items half)
-  placed_half low high half le (l, r) =
-      let mid = middle_within low high le in
-      placed_both low (middle low high) high (items half.left) (items half.right) mid.0 mid.1
-      (placed low _ half.left mid.0 l) (placed _ high half.right mid.1 r)
+  -- ---- what that says of one id
+  module _ (levels part : ℕ) (l : Link A) (h : IsOrdered levels part l) (id : ℕ) where
+    pub are_later : part_of levels id < part → AreLater id (items l)
+    are_later less =
+        all_weaker _ _ (λ e at. later_part levels id e.0 (rw at.inside less)) (items l)
+        (placed levels part l h)
 
-  -- a fork says itself that its range has two ids
-  pub in_range : (low high : ℕ) (l : Link A) → IsOrdered low high l → ArePlaced low high (items l)
-  in_range low high Empty h = tt
-  in_range low high (Leaf awaited leaf) h = (h, tt)
-  in_range low high (Fork' awaited p a b c d) (wide, ls, rc, rd) =
-      placed low high (Fork' awaited p a b c d) (omega arith) (wide, ls, rc, rd)
+    pub are_sooner : part < part_of levels id → AreSooner id (items l)
+    are_sooner less =
+        all_weaker _ _ (λ e at. later_part levels e.0 id (rw at.inside less)) (items l)
+        (placed levels part l h)
 
--- ---- what that says of one id
-module _ (low high : ℕ) (es : Transactions) (h : ArePlaced low high es) where
-  pub are_later : (id : ℕ) → id < low → AreLater id es
-  are_later id less = all_weaker _ _ (λ e at. let from = at.from in omega arith) es h
+  -- links to parts of which the second is later
+  pub are_apart : (levels m n : ℕ) (k l : Link A) → m < n → IsOrdered levels m k
+      → IsOrdered levels n l → AreApart (items k) (items l)
+  are_apart levels m n k l less hk hl =
+      all_weaker _ _ (λ e at. are_later levels n l hl e.0 (rw at.inside less)) (items k)
+      (placed levels m k hk)
 
-  pub are_sooner : (id : ℕ) → high ≤ id → AreSooner id es
-  are_sooner id le = all_weaker _ _ (λ e at. let below = at.below in omega arith) es h
+  -- the parts of a fork
+  module _ (levels part : ℕ) (a b c d : Link A) (oa : IsOrdered levels (4 * part) a)
+      (ob : IsOrdered levels (4 * part + 1) b) (oc : IsOrdered levels (4 * part + 2) c)
+      (od : IsOrdered levels (4 * part + 3) d) where
+    pub first_apart : AreApart (items a) (items b ++ (items c ++ items d))
+    first_apart =
+        apart_append (items a) (items b) (items c ++ items d)
+        (are_apart levels _ _ a b (omega arith) oa ob)
+        (apart_append (items a) (items c) (items d) (are_apart levels _ _ a c (omega arith) oa oc)
+        (are_apart levels _ _ a d (omega arith) oa od))
 
-  pub are_below : AllByRecursion (λ (e : ℕ × Transaction). e.0 < high) es
-  are_below = all_weaker _ _ (λ e at. at.below) es h
+    pub second_apart : AreApart (items b) (items c ++ items d)
+    second_apart =
+        apart_append (items b) (items c) (items d) (are_apart levels _ _ b c (omega arith) ob oc)
+        (are_apart levels _ _ b d (omega arith) ob od)
 
-  pub are_from : AllByRecursion (λ (e : ℕ × Transaction). low ≤ e.0) es
-  are_from = all_weaker _ _ (λ e at. at.from) es h
-
-  pub are_named : AllByRecursion IsNamed es
-  are_named = all_weaker _ _ (λ e at. at.named) es h
+    pub third_apart : AreApart (items c) (items d)
+    third_apart = are_apart levels _ _ c d (omega arith) oc od
 
 -- ---- the ids ascend
-ascending_both : (low m high : ℕ) (xs ys : Transactions) → ArePlaced low m xs
-    → ArePlaced m high ys → IsAscending xs → IsAscending ys → IsAscending (xs ++ ys)
-ascending_both low m high xs ys px py sx sy =
-    ascending-append m xs ys (are_below low m xs px) (are_from m high ys py) sx sy
-
 one_ascends : (e : ℕ × Transaction) → IsAscending (e ∷ [])
 unfolding IsStrictlySortedBy
 one_ascends e = (tt, tt)
@@ -107,33 +121,23 @@ unfolding IsStrictlySortedBy
 none_ascends = tt
 
 module _ {A : Type 0} where
-  pub ascends : (low high : ℕ) (l : Link A) → low ≤ high → IsOrdered low high l
-      → IsAscending (items l)
-  ascends low high Empty le h = none_ascends
-  ascends low high (Leaf awaited leaf) le h = one_ascends leaf.value
-  ascends low high (Fork' awaited p a b c d) le (wide, ls, rc, rd) =
-      let mid = middle_within low high le in
-      let one = middle_within low (middle low high) mid.0 in
-      let two = middle_within (middle low high) high mid.1 in
-      let pa = placed low (middle low (middle low high)) a one.0 ls.0 in
-      let pb = placed (middle low (middle low high)) (middle low high) b one.1 ls.1 in
-      let pc = placed (middle low high) (middle (middle low high) high) c two.0 rc in
-      let pd = placed (middle (middle low high) high) high d two.1 rd in
-      ascending_both low (middle low high) high (items a ++ items b) (items c ++ items d)
-      (placed_both low (middle low (middle low high)) (middle low high) (items a) (items b) one.0
-      one.1 pa pb)
-      (placed_both (middle low high) (middle (middle low high) high) high (items c) (items d) two.0
-      two.1 pc pd)
-      (ascending_both low (middle low (middle low high)) (middle low high) (items a) (items b) pa pb
-      (ascends low _ a one.0 ls.0) (ascends _ (middle low high) b one.1 ls.1))
-      (ascending_both (middle low high) (middle (middle low high) high) high (items c) (items d)
-      pc pd (ascends (middle low high) _ c two.0 rc) (ascends _ high d two.1 rd))
+  pub ascends : (levels part : ℕ) (l : Link A) → IsOrdered levels part l → IsAscending (items l)
+  ascends levels part Empty h = none_ascends
+  ascends levels part (Leaf awaited leaf) h = one_ascends leaf.value
+  ascends levels part (Fork' awaited p a b c d) (deep, oa, ob, oc, od) =
+      ascending-append (items a) (items b ++ (items c ++ items d))
+      (first_apart (levels - 1) part a b c d oa ob oc od) (ascends (levels - 1) _ a oa)
+      (ascending-append (items b) (items c ++ items d)
+      (second_apart (levels - 1) part a b c d oa ob oc od) (ascends (levels - 1) _ b ob)
+      (ascending-append (items c) (items d) (third_apart (levels - 1) part a b c d oa ob oc od)
+      (ascends (levels - 1) _ c oc) (ascends (levels - 1) _ d od)))
 
   -- the whole tree
   pub kept : (transport : TransportType) (root : Link A) → IsTree transport root
       → AreKept (items root)
   kept transport root tree =
       record {
-        ascending = ascends 0 (2 ^ 96) root (omega arith) tree.ordered;
-        named = are_named 0 (2 ^ 96) (items root) (in_range 0 (2 ^ 96) root tree.ordered);
+        ascending = ascends most_levels 0 root tree.ordered;
+        named = all_weaker _ _ (λ e at. at.named) (items root)
+            (placed most_levels 0 root tree.ordered);
       }

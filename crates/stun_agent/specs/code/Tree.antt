@@ -1,11 +1,13 @@
 -- Transactions in a tree: which it holds, in which order, and what its links tell.
-use Rattle.std.specs.Prelude.{ℕ, max, ◌≡◌, ◌+◌, ◌-◌, ◌/◌, ◌^◌, ◌<◌, ◌≤◌, [], ◌∷◌, ◌++◌}
+use Rattle.std.specs.Prelude.{ℕ, max, ◌≡◌, ◌+◌, ◌-◌, ◌*◌, ◌/◌, ◌^◌, ◌<◌, ◌≤◌, [], ◌∷◌, ◌++◌}
 use Rattle.std.specs.Prelude.{Option, Some, None}
 use Rattle.stun_base.specs.declared.wire.transport.TransportType.{TransportType}
 use Rattle.stun_agent.specs.declared.state.tree.Fork.{Fork}
-use Rattle.stun_agent.specs.declared.state.tree.Half.{Half}
 use Rattle.stun_agent.specs.declared.state.tree.Link.{Link}
 use Rattle.stun_agent.specs.declared.state.tree.Link.TheVariants.{Empty, Leaf, Fork'}
+use Rattle.stun_agent.specs.declared.state.tree.Quarter.{Quarter}
+use Rattle.stun_agent.specs.declared.state.tree.Quarter.TheVariants.{First, Second, Third, Fourth}
+use Rattle.stun_agent.specs.Deadlines.{most_levels}
 use Rattle.stun_agent.specs.Transactions.{Transaction, Transactions, IsNamed}
 use Rattle.stun_agent.specs.code.Awaited.{Awaited, nothing, awaited_by, awaited_of}
 
@@ -14,53 +16,60 @@ use Rattle.stun_agent.specs.code.Awaited.{Awaited, nothing, awaited_by, awaited_
 abbrev pub items : {A : Type 0} → Link A → Transactions
 items Empty = []
 items (Leaf awaited leaf) = leaf.value ∷ []
-items (Fork' awaited p a b c d) = (items a ++ items b) ++ (items c ++ items d)
-
-abbrev pub half_items : {A : Type 0} → Half A → Transactions
-half_items half = items half.left ++ items half.right
+items (Fork' awaited p a b c d) = items a ++ (items b ++ (items c ++ items d))
 
 abbrev pub fork_items : {A : Type 0} → Fork A → Transactions
-fork_items fork = half_items fork.left ++ half_items fork.right
+fork_items fork =
+    items fork.first ++ (items fork.second ++ (items fork.third ++ items fork.fourth))
 
 -- ---- its order
--- where the greater half of the ids from `low` to `high` begins
-abbrev pub middle : ℕ → ℕ → ℕ
-middle low high = low + (high - low) / 2
+-- the part of all ids in which an id is, below which so many levels of forks have room: its bits but
+-- for two a level
+abbrev pub part_of : ℕ → ℕ → ℕ
+part_of levels id = id / 2 ^ (2 * levels)
 
--- an id in this range, which is that of the request
-pub record IsPlaced (low high : ℕ) (e : ℕ × Transaction) : Type 0 where
-  pub from : low ≤ e.0
-  pub below : e.0 < high
+-- an id in this part, which is that of the request
+pub record IsPlaced (levels part : ℕ) (e : ℕ × Transaction) : Type 0 where
+  pub inside : part_of levels e.0 ≡ part
   pub named : IsNamed e
 
--- each half of a range of ids is on a side of its own, down to the single transactions
-abbrev pub IsOrdered : {A : Type 0} → ℕ → ℕ → Link A → Type 0
-IsOrdered low high Empty = Unit {0}
-IsOrdered low high (Leaf awaited leaf) = IsPlaced low high leaf.value
-IsOrdered low high (Fork' awaited p a b c d) =
-    (low + 2 ≤ high)
-    × (IsOrdered low (middle low (middle low high)) a
-    × IsOrdered (middle low (middle low high)) (middle low high) b)
-    × IsOrdered (middle low high) (middle (middle low high) high) c
-    × IsOrdered (middle (middle low high) high) high d
+-- the two bits of an id that tell a quarter of a part
+abbrev pub number_of : Quarter → ℕ
+number_of First = 0
+number_of Second = 1
+number_of Third = 2
+number_of Fourth = 3
 
-abbrev pub IsOrderedHalf : {A : Type 0} → ℕ → ℕ → Half A → Type 0
-IsOrderedHalf low high half =
-    IsOrdered low (middle low high) half.left × IsOrdered (middle low high) high half.right
+-- so many levels of forks have room below a link, if that is a fork
+pub record IsDeep (levels : ℕ) : Type 0 where
+  pub some : 0 < levels
+  pub most : levels ≤ most_levels
+
+-- each quarter of a part is below a link of its own, down to the single transactions
+abbrev pub IsOrdered : {A : Type 0} → ℕ → ℕ → Link A → Type 0
+IsOrdered levels part Empty = Unit {0}
+IsOrdered levels part (Leaf awaited leaf) = IsPlaced levels part leaf.value
+IsOrdered levels part (Fork' awaited p a b c d) =
+    IsDeep levels
+    × IsOrdered (levels - 1) (4 * part) a × IsOrdered (levels - 1) (4 * part + 1) b
+    × IsOrdered (levels - 1) (4 * part + 2) c × IsOrdered (levels - 1) (4 * part + 3) d
 
 abbrev pub IsOrderedFork : {A : Type 0} → ℕ → ℕ → Fork A → Type 0
-IsOrderedFork low high fork =
-    IsOrderedHalf low (middle low high) fork.left × IsOrderedHalf (middle low high) high fork.right
+IsOrderedFork levels part fork =
+    IsOrdered (levels - 1) (4 * part) fork.first × IsOrdered (levels - 1) (4 * part + 1) fork.second
+    × IsOrdered (levels - 1) (4 * part + 2) fork.third
+    × IsOrdered (levels - 1) (4 * part + 3) fork.fourth
 
 -- ---- its depth
 -- how many forks are one below another at most
-abbrev pub levels : {A : Type 0} → Link A → ℕ
-levels Empty = 0
-levels (Leaf awaited leaf) = 0
-levels (Fork' awaited p a b c d) = 1 + max (max (levels a) (levels b)) (max (levels c) (levels d))
+abbrev pub depth : {A : Type 0} → Link A → ℕ
+depth Empty = 0
+depth (Leaf awaited leaf) = 0
+depth (Fork' awaited p a b c d) = 1 + max (depth a) (max (depth b) (max (depth c) (depth d)))
 
-abbrev pub half_levels : {A : Type 0} → Half A → ℕ
-half_levels half = max (levels half.left) (levels half.right)
+abbrev pub fork_depth : {A : Type 0} → Fork A → ℕ
+fork_depth fork =
+    max (depth fork.first) (max (depth fork.second) (max (depth fork.third) (depth fork.fourth)))
 
 -- ---- its times
 -- what a link tells of those below it
@@ -74,18 +83,17 @@ abbrev pub IsTimed : {A : Type 0} → TransportType → Link A → Type 0
 IsTimed transport Empty = Unit {0}
 IsTimed transport (Leaf awaited leaf) = awaited ≡ awaited_by transport leaf.value.1
 IsTimed transport (Fork' awaited p a b c d) =
-    (awaited ≡ awaited_of transport ((items a ++ items b) ++ (items c ++ items d)))
-    × (IsTimed transport a × IsTimed transport b) × IsTimed transport c × IsTimed transport d
-
-abbrev pub IsTimedHalf : {A : Type 0} → TransportType → Half A → Type 0
-IsTimedHalf transport half = IsTimed transport half.left × IsTimed transport half.right
+    (awaited ≡ awaited_of transport (items a ++ (items b ++ (items c ++ items d))))
+    × IsTimed transport a × IsTimed transport b × IsTimed transport c × IsTimed transport d
 
 abbrev pub IsTimedFork : {A : Type 0} → TransportType → Fork A → Type 0
-IsTimedFork transport fork = IsTimedHalf transport fork.left × IsTimedHalf transport fork.right
+IsTimedFork transport fork =
+    IsTimed transport fork.first × IsTimed transport fork.second × IsTimed transport fork.third
+    × IsTimed transport fork.fourth
 
 -- a tree of all ids
 pub record IsTree {A : Type 0} (transport : TransportType) (root : Link A) : Type 0 where
-  pub ordered : IsOrdered 0 (2 ^ 96) root
+  pub ordered : IsOrdered most_levels 0 root
   pub timed : IsTimed transport root
 
 -- ---- one link

@@ -6,17 +6,18 @@ ghost use Rattle.stun_agent.specs.Deadlines.{early_requests, most_reads, most_lo
 ghost use Rattle.stun_agent.specs.Transactions.{AreKept, at, with, without, with_change_at};
 ghost use Rattle.stun_agent.specs.Transactions.{first_over, wake_up, next_awaited};
 ghost use Rattle.stun_agent.specs.Transactions.{next_sent, after_slots, IsNamed};
-ghost use Rattle.stun_agent.specs.code.Transactions.{contents, id_and_repeats, changed_transaction};
+ghost use Rattle.stun_agent.specs.code.Transactions.{contents, id_and_repeats, has_room};
+ghost use Rattle.stun_agent.specs.code.Transactions.{changed_transaction};
 
 use crate::calls::uncounted::Uncounted;
 use crate::error::NoRoom;
 use crate::poll::reads::Reads;
 use crate::state::search;
 use crate::state::transaction::{Change, Transaction};
-use crate::state::tree::change::{change, fits, pass_all, pass_slots};
+use crate::state::tree::change::{change, pass_slots};
 use crate::state::tree::insert::insert;
 use crate::state::tree::remove::remove;
-use crate::state::tree::{IDS, Leaf, Link, lookups};
+use crate::state::tree::{LEVELS, Leaf, Link, lookups};
 use std::alloc::{AllocError, Allocator, Global};
 use std::marker::Model;
 use std::sync::ledger::Ledger;
@@ -82,7 +83,8 @@ impl<A: Allocator> Outstanding<A> {
         ensures answer { result ≡ at id self.old.requests }
         ensures after { self.new ≡ record self.old { requests = without id self.old.requests } }
     {
-        remove(&mut self.root, 0, IDS, id)
+        let (_awaited, leaf) = remove(&mut self.root, LEVELS, id)?;
+        Some(Box::into_inner(leaf).into_request())
     }
 }
 
@@ -99,7 +101,7 @@ impl<A: Allocator + Copy> Outstanding<A> {
     pub(crate) fn get(&self, id: TransactionId, leave: Uncounted) -> Option<&Transaction<A>>
         ensures { option_copied result ≡ at id self.now.requests }
     {
-        lookups::get(&self.root, 0, IDS, id, leave)
+        lookups::get(&self.root, LEVELS, id, leave)
     }
 
     /// Stores a request whose ID has none. If an allocation fails, the requests stay as they were,
@@ -120,7 +122,7 @@ impl<A: Allocator + Copy> Outstanding<A> {
     {
         let awaited = request.awaited_by(self.transport);
         let leaf = Box::new(alloc, Leaf::new(id, request))?;
-        insert(&mut self.root, 0, IDS, alloc, &awaited, leaf)
+        insert(&mut self.root, LEVELS, alloc, &awaited, leaf)
     }
 
     /// Returns the next time that a request awaits. Canceled requests do not count.
@@ -161,15 +163,12 @@ impl<A: Allocator + Copy> Outstanding<A> {
             (λ e. r < length e.1.bytes))) }
         ensures same { OnErr result (self.new ≡ self.old) }
     {
-        let sent = pass_slots(&mut self.root, self.transport, now, room, leave);
-        let Some((id, length)) = sent else {
-            pass_all(&mut self.root, self.transport, now, leave);
-            return Ok(None);
-        };
-        if !fits(room, length) {
+        let sent = lookups::length_sent(&self.root, now, leave);
+        if !fits(room, &sent) {
             return Err(NoRoom);
         }
-        Ok(Some((id, length)))
+        let _is_sent = pass_slots(&mut self.root, self.transport, now, leave);
+        Ok(sent)
     }
 
     /// Returns the request that `pass_due_slots` would send again.
@@ -186,6 +185,17 @@ impl<A: Allocator + Copy> Outstanding<A> {
           requests = with_change_at (changed_transaction to) id self.old.requests;
         } }
     {
-        change(&mut self.root, 0, IDS, self.transport, id, to);
+        change(&mut self.root, LEVELS, self.transport, id, to);
+    }
+}
+
+/// Returns whether the bytes of the request to send again, if there is one, fit into the room, if
+/// that is limited.
+fn fits(room: Option<usize>, sent: &Option<(TransactionId, usize)>) -> bool
+    ensures { result ≡ has_room room sent.now }
+{
+    match (room, sent) {
+        (Some(room), Some((_, length))) => *length <= room,
+        _ => true,
     }
 }

@@ -9,11 +9,11 @@ ghost use Rattle.stun_base.specs.declared.wire.transport.TransportType.{Transpor
 ghost use Rattle.stun_agent.specs.Deadlines.{early_requests, most_reads, most_looks};
 ghost use Rattle.stun_agent.specs.Transactions.{first_over, wake_up};
 ghost use Rattle.stun_agent.specs.code.Transactions.{id_and_repeats};
-ghost use Rattle.stun_agent.specs.code.Tree.{items, half_items, IsTimed, IsTimedHalf, IsTree};
-ghost use Rattle.stun_agent.specs.code.Tree.{levels, half_levels};
+ghost use Rattle.stun_agent.specs.code.Tree.{items, fork_items, IsTimed, IsTimedFork, IsTree};
+ghost use Rattle.stun_agent.specs.code.Tree.{depth, fork_depth};
 
 use crate::poll::reads::Reads;
-use crate::state::tree::{Half, Link, read_entry};
+use crate::state::tree::{Fork, Link, read_entry};
 use std::alloc::Allocator;
 use std::sync::ledger::Ledger;
 use std::time::Duration;
@@ -82,7 +82,7 @@ fn find_ended<A: Allocator, L: Ledger>(
         (λ _. reads.new.entries ≡ reads.old.entries + 1) }
     ensures looks { (transport : TransportType) → IsTimed transport link.now
         → MatchOption result (reads.new.looks ≤ reads.old.looks + 1)
-        (λ _. reads.new.looks ≤ reads.old.looks + 1 + 4 * levels link.now) }
+        (λ _. reads.new.looks ≤ reads.old.looks + 1 + 4 * depth link.now) }
 {
     match link {
         Link::Empty => None,
@@ -97,31 +97,34 @@ fn find_ended<A: Allocator, L: Ledger>(
             if !awaited.is_over(now, reads) {
                 return None;
             }
-            match find_ended_in(&fork.left, now, reads) {
-                Some(ended) => Some(ended),
-                None => find_ended_in(&fork.right, now, reads),
-            }
+            find_ended_below(fork, now, reads)
         }
     }
 }
 
-/// Like `find_ended`, but for the requests below a half of a fork.
+/// Like `find_ended`, but for the requests below a fork.
 #[cycle(find_ended)]
-fn find_ended_in<A: Allocator, L: Ledger>(
-    half: &Half<A>,
+fn find_ended_below<A: Allocator, L: Ledger>(
+    fork: &Fork<A>,
     now: Instant,
     reads: &mut Reads<L>,
 ) -> Option<(TransactionId, bool)>
-    ensures answer { (transport : TransportType) → IsTimedHalf transport half.now
-        → result ≡ option_map id_and_repeats (first_over transport now (half_items half.now)) }
+    ensures answer { (transport : TransportType) → IsTimedFork transport fork.now
+        → result ≡ option_map id_and_repeats (first_over transport now (fork_items fork.now)) }
     ensures counts { MatchOption result (reads.new.entries ≡ reads.old.entries)
         (λ _. reads.new.entries ≡ reads.old.entries + 1) }
-    ensures looks { (transport : TransportType) → IsTimedHalf transport half.now
-        → MatchOption result (reads.new.looks ≤ reads.old.looks + 2)
-        (λ _. reads.new.looks ≤ reads.old.looks + 2 + 4 * half_levels half.now) }
+    ensures looks { (transport : TransportType) → IsTimedFork transport fork.now
+        → MatchOption result (reads.new.looks ≤ reads.old.looks + 4)
+        (λ _. reads.new.looks ≤ reads.old.looks + 4 + 4 * fork_depth fork.now) }
 {
-    match find_ended(&half.left, now, reads) {
-        Some(ended) => Some(ended),
-        None => find_ended(&half.right, now, reads),
+    if let Some(ended) = find_ended(&fork.first, now, reads) {
+        return Some(ended);
     }
+    if let Some(ended) = find_ended(&fork.second, now, reads) {
+        return Some(ended);
+    }
+    if let Some(ended) = find_ended(&fork.third, now, reads) {
+        return Some(ended);
+    }
+    find_ended(&fork.fourth, now, reads)
 }

@@ -2,7 +2,7 @@
 ghost use Rattle.std.specs.Prelude.{◌≡◌, ◌<◌};
 ghost use Rattle.stun_base.specs.Address.{same_address};
 ghost use Rattle.stun_agent.specs.code.Awaited.{awaited_by};
-ghost use Rattle.stun_agent.specs.code.Transactions.{length_sent, changed_transaction};
+ghost use Rattle.stun_agent.specs.code.Transactions.{changed_transaction};
 ghost use Rattle.stun_agent.specs.Timing.{settings_of, repetitions};
 ghost use Rattle.stun_agent.specs.Transactions.{repeats, is_cancelled, after_silence};
 ghost use Rattle.stun_agent.specs.Transactions.{new_transaction, has_slots, awaited_moment};
@@ -208,17 +208,6 @@ impl<A: Allocator> Transaction<A> {
             Awaited::slot_at(self.awaited(transport))
         } else {
             Awaited::end_at(self.awaited(transport))
-        }
-    }
-
-    /// Returns the number of bytes of the request, if it is still retransmitted.
-    pub(crate) fn length_sent(&self) -> Option<usize>
-        ensures { result ≡ length_sent self.now }
-    {
-        if self.sending.repeats() {
-            Some(self.bytes().len())
-        } else {
-            None
         }
     }
 

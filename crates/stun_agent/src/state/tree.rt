@@ -7,11 +7,11 @@
 //! (`Awaited::is_over` and `Link::first`), and `read_entry`, which gives the entry of one request.
 //! Both count (`Reads`). All other calls of the modules below want a link that can be changed, or
 //! the permission `Uncounted`, which neither the search nor `poll` can create.
-ghost use Rattle.std.specs.Prelude.{◌≡◌, ◌+◌};
+ghost use Rattle.std.specs.Prelude.{◌≡◌, ◌+◌, ◌-◌, ◌*◌};
 ghost use Rattle.stun_base.specs.declared.wire.transport.TransportType.{TransportType};
 ghost use Rattle.stun_agent.specs.code.Awaited.{awaited_of, first_awaited, joined};
-ghost use Rattle.stun_agent.specs.code.Tree.{items, fork_items, told, middle};
-ghost use Rattle.stun_agent.specs.code.Tree.{IsTimed, IsTimedFork};
+ghost use Rattle.stun_agent.specs.code.Tree.{items, fork_items, told, part_of, number_of};
+ghost use Rattle.stun_agent.specs.code.Tree.{IsDeep, IsTimed, IsTimedFork};
 
 use crate::poll::reads::Reads;
 use crate::state::transaction::{Sending, Transaction};
@@ -51,15 +51,15 @@ impl<A: Allocator> Leaf<A> {
         Leaf { id, request }
     }
 
-    fn into_request(self) -> Transaction<A>
+    pub(crate) fn into_request(self) -> Transaction<A>
         ensures { result ≡ self.1 }
     {
         self.request
     }
 }
 
-/// Nothing, a request, or a range of IDs in four parts. A link also tells what the requests below
-/// it await.
+/// Nothing, a request, or a part of the IDs in four quarters. A link also tells what the requests
+/// below it await.
 #[cycle(tree)]
 #[derive(Drop)]
 pub(crate) enum Link<A: Allocator> {
@@ -68,21 +68,14 @@ pub(crate) enum Link<A: Allocator> {
     Fork(Awaited, Box<Fork<A>, A>),
 }
 
-/// The two halves of a range of IDs, each in two halves of its own. So one block of memory has two
-/// levels of the tree.
+/// The four quarters of a part of the IDs, by the next two bits of an ID.
 #[cycle(tree)]
 #[derive(Drop)]
 pub(crate) struct Fork<A: Allocator> {
-    pub(crate) left: Half<A>,
-    pub(crate) right: Half<A>,
-}
-
-/// The two halves of a half.
-#[cycle(tree)]
-#[derive(Drop)]
-pub(crate) struct Half<A: Allocator> {
-    pub(crate) left: Link<A>,
-    pub(crate) right: Link<A>,
+    pub(crate) first: Link<A>,
+    pub(crate) second: Link<A>,
+    pub(crate) third: Link<A>,
+    pub(crate) fourth: Link<A>,
 }
 
 impl<A: Allocator> Link<A> {
@@ -127,10 +120,10 @@ impl<A: Allocator> Fork<A> {
         ensures { (transport : TransportType) → IsTimedFork transport self.now
             → result ≡ awaited_of transport (fork_items self.now) }
     {
-        let mut all = self.left.left.awaited();
-        self.left.right.join_to(&mut all);
-        self.right.left.join_to(&mut all);
-        self.right.right.join_to(&mut all);
+        let mut all = self.first.awaited();
+        self.second.join_to(&mut all);
+        self.third.join_to(&mut all);
+        self.fourth.join_to(&mut all);
         all
     }
 }
@@ -149,12 +142,31 @@ pub(crate) fn read_entry<A: Allocator, L: Ledger>(
     (awaited.earliest(), leaf.id, leaf.request.sending())
 }
 
-/// All IDs are below this number.
-pub(crate) const IDS: u128 = 1 << 96;
+/// The number of levels of forks for which all IDs have room: each has two bits of the ID.
+pub(crate) const LEVELS: u32 = 48;
 
-/// Returns the first ID of the upper half of the range from `low` up to, but not including, `high`.
-fn middle(low: u128, high: u128) -> u128
-    ensures { result ≡ middle low high }
+/// A quarter of a part of the IDs.
+#[derive(Clone, Copy)]
+enum Quarter {
+    First,
+    Second,
+    Third,
+    Fourth,
+}
+
+/// Returns the quarter in which a fork with room for so many levels has an ID.
+fn quarter_of(id: TransactionId, levels: u32) -> Quarter
+    requires { IsDeep levels }
+    ensures { part_of (levels - 1) id ≡ 4 * part_of levels id + number_of result }
 {
-    low + high.saturating_sub(low) / 2
+    let bits = (id.as_u128() >> (2 * levels - 2)) % 4;
+    if bits == 0 {
+        Quarter::First
+    } else if bits == 1 {
+        Quarter::Second
+    } else if bits == 2 {
+        Quarter::Third
+    } else {
+        Quarter::Fourth
+    }
 }

@@ -5,7 +5,7 @@
 //! join times, are seen in `tree.rt` and the modules below it alone.
 ghost use Rattle.std.specs.Prelude.{◌≡◌, ◌+◌, ◌||◌, false, if◌then◌else◌, Some, None};
 ghost use Rattle.stun_base.specs.Moments.{last_moment};
-ghost use Rattle.stun_agent.specs.code.Awaited.{nothing, slot_at, end_at, cancelled_one, joined};
+ghost use Rattle.stun_agent.specs.code.Awaited.{Awaited, nothing, slot_at, end_at, cancelled_one, joined};
 ghost use Rattle.stun_agent.specs.code.Awaited.{first_awaited, some_due, some_over, lesser};
 
 use crate::poll::reads::Reads;
@@ -147,6 +147,17 @@ impl Awaited {
         self.has_slot |= other.has_slot;
         self.has_end |= other.has_end;
         self.is_cancelled |= other.is_cancelled;
+    }
+
+    /// Returns whether a time of these requests may be the earliest of all, which `all` tells of. If
+    /// it is not, the others await the same without them.
+    pub(super) fn may_be_first_of(&self, all: &Awaited) -> bool
+        ensures { result ≡ false → (others : Awaited)
+            → all.now ≡ joined others self.now → all.now ≡ others }
+    {
+        self.is_cancelled
+            || (self.has_slot && self.slot <= all.slot)
+            || (self.has_end && self.end <= all.end)
     }
 
     /// Returns whether the slot of one of the requests is due.

@@ -1,14 +1,15 @@
 //! Adds requests to a tree.
-ghost use Rattle.std.specs.Prelude.{◌≡◌, ◌≤◌, ◌+◌, [], ◌∷◌, None, OnOk, OnErr};
+ghost use Rattle.std.specs.Prelude.{◌≡◌, ◌≤◌, ℕ, [], ◌∷◌, None, OnOk, OnErr};
 ghost use Rattle.stun_base.specs.declared.wire.transport.TransportType.{TransportType};
-ghost use Rattle.stun_agent.specs.Transactions.{at, with};
+ghost use Rattle.stun_agent.specs.Deadlines.{most_levels};
+ghost use Rattle.stun_agent.specs.Transactions.{at, with, IsNamed};
 ghost use Rattle.stun_agent.specs.code.Awaited.{awaited_by};
-ghost use Rattle.stun_agent.specs.code.Tree.{items, half_items, fork_items, IsPlaced, IsFork};
-ghost use Rattle.stun_agent.specs.code.Tree.{IsLeaf, IsOrdered, IsOrderedHalf, IsOrderedFork};
-ghost use Rattle.stun_agent.specs.code.Tree.{IsTimed, IsTimedHalf, IsTimedFork};
+ghost use Rattle.stun_agent.specs.code.Tree.{items, fork_items, part_of, IsDeep, IsPlaced};
+ghost use Rattle.stun_agent.specs.code.Tree.{IsFork, IsLeaf};
+ghost use Rattle.stun_agent.specs.code.Tree.{IsOrdered, IsOrderedFork, IsTimed, IsTimedFork};
 
 use crate::state::tree::awaited::Awaited;
-use crate::state::tree::{Fork, Half, Leaf, Link, middle};
+use crate::state::tree::{Fork, Leaf, Link, Quarter, quarter_of};
 use std::alloc::{AllocError, Allocator};
 use std::mem;
 
@@ -17,18 +18,18 @@ use std::mem;
 #[cycle(insert)]
 pub(crate) fn insert<A: Allocator + Copy>(
     link: &mut Link<A>,
-    low: u128,
-    high: u128,
+    levels: u32,
     alloc: A,
     awaited: &Awaited,
     leaf: Box<Leaf<A>, A>,
 ) -> Result<(), AllocError>
-    requires ordered { IsOrdered low high link.old }
-    requires placed { IsPlaced low high leaf.value }
+    requires deep { levels ≤ most_levels }
+    requires ordered { IsOrdered levels (part_of levels leaf.value.0) link.old }
+    requires named { IsNamed leaf.value }
     requires absent { at leaf.value.0 (items link.old) ≡ None }
     ensures ok { OnOk result (items link.new ≡ with leaf.value.0 leaf.value.1 (items link.old)) }
     ensures err { OnErr result (items link.new ≡ items link.old) }
-    ensures ordered { IsOrdered low high link.new }
+    ensures ordered { IsOrdered levels (part_of levels leaf.value.0) link.new }
     ensures timed { (transport : TransportType) → awaited.now ≡ awaited_by transport leaf.value.1
         → IsTimed transport link.old → IsTimed transport link.new }
 {
@@ -38,10 +39,10 @@ pub(crate) fn insert<A: Allocator + Copy>(
             Ok(())
         }
         Link::Leaf(_, _) => {
-            deepen(link, low, high, alloc)?;
-            insert_below(link, low, high, alloc, awaited, leaf)
+            deepen(link, levels, alloc)?;
+            insert_below(link, levels, alloc, awaited, leaf)
         }
-        Link::Fork(_, _) => insert_below(link, low, high, alloc, awaited, leaf),
+        Link::Fork(_, _) => insert_below(link, levels, alloc, awaited, leaf),
     }
 }
 
@@ -49,26 +50,25 @@ pub(crate) fn insert<A: Allocator + Copy>(
 #[cycle(insert)]
 fn insert_below<A: Allocator + Copy>(
     link: &mut Link<A>,
-    low: u128,
-    high: u128,
+    levels: u32,
     alloc: A,
     awaited: &Awaited,
     leaf: Box<Leaf<A>, A>,
 ) -> Result<(), AllocError>
     requires fork { IsFork link.old }
-    requires ordered { IsOrdered low high link.old }
-    requires placed { IsPlaced low high leaf.value }
+    requires ordered { IsOrdered levels (part_of levels leaf.value.0) link.old }
+    requires named { IsNamed leaf.value }
     requires absent { at leaf.value.0 (items link.old) ≡ None }
     ensures ok { OnOk result (items link.new ≡ with leaf.value.0 leaf.value.1 (items link.old)) }
     ensures err { OnErr result (items link.new ≡ items link.old) }
-    ensures ordered { IsOrdered low high link.new }
+    ensures ordered { IsOrdered levels (part_of levels leaf.value.0) link.new }
     ensures timed { (transport : TransportType) → awaited.now ≡ awaited_by transport leaf.value.1
         → IsTimed transport link.old → IsTimed transport link.new }
 {
     let Link::Fork(before, fork) = link else {
         return Ok(());
     };
-    insert_into(fork, low, high, alloc, awaited, leaf)?;
+    insert_into(fork, levels, alloc, awaited, leaf)?;
     before.join(awaited);
     Ok(())
 }
@@ -77,79 +77,45 @@ fn insert_below<A: Allocator + Copy>(
 #[cycle(insert)]
 fn insert_into<A: Allocator + Copy>(
     fork: &mut Fork<A>,
-    low: u128,
-    high: u128,
+    levels: u32,
     alloc: A,
     awaited: &Awaited,
     leaf: Box<Leaf<A>, A>,
 ) -> Result<(), AllocError>
-    requires wide { low + 2 ≤ high }
-    requires ordered { IsOrderedFork low high fork.old }
-    requires placed { IsPlaced low high leaf.value }
+    requires deep { IsDeep levels }
+    requires ordered { IsOrderedFork levels (part_of levels leaf.value.0) fork.old }
+    requires named { IsNamed leaf.value }
     requires absent { at leaf.value.0 (fork_items fork.old) ≡ None }
     ensures ok { OnOk result
         (fork_items fork.new ≡ with leaf.value.0 leaf.value.1 (fork_items fork.old)) }
     ensures err { OnErr result (fork_items fork.new ≡ fork_items fork.old) }
-    ensures ordered { IsOrderedFork low high fork.new }
+    ensures ordered { IsOrderedFork levels (part_of levels leaf.value.0) fork.new }
     ensures timed { (transport : TransportType) → awaited.now ≡ awaited_by transport leaf.value.1
         → IsTimedFork transport fork.old → IsTimedFork transport fork.new }
 {
-    let middle = middle(low, high);
-    if leaf.id.as_u128() < middle {
-        insert_in(&mut fork.left, low, middle, alloc, awaited, leaf)
-    } else {
-        insert_in(&mut fork.right, middle, high, alloc, awaited, leaf)
-    }
-}
-
-/// Like `insert`, but for the requests below a half of a fork.
-#[cycle(insert)]
-fn insert_in<A: Allocator + Copy>(
-    half: &mut Half<A>,
-    low: u128,
-    high: u128,
-    alloc: A,
-    awaited: &Awaited,
-    leaf: Box<Leaf<A>, A>,
-) -> Result<(), AllocError>
-    requires ordered { IsOrderedHalf low high half.old }
-    requires placed { IsPlaced low high leaf.value }
-    requires absent { at leaf.value.0 (half_items half.old) ≡ None }
-    ensures ok { OnOk result
-        (half_items half.new ≡ with leaf.value.0 leaf.value.1 (half_items half.old)) }
-    ensures err { OnErr result (half_items half.new ≡ half_items half.old) }
-    ensures ordered { IsOrderedHalf low high half.new }
-    ensures timed { (transport : TransportType) → awaited.now ≡ awaited_by transport leaf.value.1
-        → IsTimedHalf transport half.old → IsTimedHalf transport half.new }
-{
-    let middle = middle(low, high);
-    if leaf.id.as_u128() < middle {
-        insert(&mut half.left, low, middle, alloc, awaited, leaf)
-    } else {
-        insert(&mut half.right, middle, high, alloc, awaited, leaf)
+    let below = levels - 1;
+    match quarter_of(leaf.id, levels) {
+        Quarter::First => insert(&mut fork.first, below, alloc, awaited, leaf),
+        Quarter::Second => insert(&mut fork.second, below, alloc, awaited, leaf),
+        Quarter::Third => insert(&mut fork.third, below, alloc, awaited, leaf),
+        Quarter::Fourth => insert(&mut fork.fourth, below, alloc, awaited, leaf),
     }
 }
 
 /// Replaces a leaf by a fork that contains it, so that another leaf can be added.
-fn deepen<A: Allocator + Copy>(
-    link: &mut Link<A>,
-    low: u128,
-    high: u128,
-    alloc: A,
-) -> Result<(), AllocError>
+fn deepen<A: Allocator + Copy>(link: &mut Link<A>, levels: u32, alloc: A) -> Result<(), AllocError>
     requires leaf { IsLeaf link.old }
-    requires ordered { IsOrdered low high link.old }
-    requires wide { low + 2 ≤ high }
+    requires deep { IsDeep levels }
     ensures ok { OnOk result (IsFork link.new) }
     ensures items { items link.new ≡ items link.old }
-    ensures ordered { IsOrdered low high link.new }
+    ensures ordered { (part : ℕ) → IsOrdered levels part link.old → IsOrdered levels part link.new }
     ensures timed { (transport : TransportType) → IsTimed transport link.old
         → IsTimed transport link.new }
 {
     let mut fork = Box::new(alloc, Fork::empty())?;
     match mem::replace(link, Link::Empty) {
         Link::Leaf(awaited, leaf) => {
-            *fork = Fork::of(low, high, awaited.copied(), leaf);
+            *fork = Fork::of(levels, awaited.copied(), leaf);
             *link = Link::Fork(awaited, fork);
         }
         other => *link = other,
@@ -161,65 +127,49 @@ impl<A: Allocator> Fork<A> {
     /// Creates a fork without requests.
     fn empty() -> Self {
         Fork {
-            left: Half {
-                left: Link::Empty,
-                right: Link::Empty,
-            },
-            right: Half {
-                left: Link::Empty,
-                right: Link::Empty,
-            },
+            first: Link::Empty,
+            second: Link::Empty,
+            third: Link::Empty,
+            fourth: Link::Empty,
         }
     }
 
-    /// Creates a fork with one request, which is put where its ID belongs in the range from `low`
-    /// up to `high`.
-    fn of(low: u128, high: u128, awaited: Awaited, leaf: Box<Leaf<A>, A>) -> Self
-        requires { IsPlaced low high leaf.value }
+    /// Creates a fork with one request, which is put in the quarter of its ID.
+    fn of(levels: u32, awaited: Awaited, leaf: Box<Leaf<A>, A>) -> Self
+        requires { IsDeep levels }
         ensures items { fork_items result ≡ leaf.value ∷ [] }
-        ensures ordered { IsOrderedFork low high result }
+        ensures ordered { (part : ℕ) → IsPlaced levels part leaf.value
+            → IsOrderedFork levels part result }
         ensures timed { (transport : TransportType) → awaited ≡ awaited_by transport leaf.value.1
             → IsTimedFork transport result }
     {
-        let none = Half {
-            left: Link::Empty,
-            right: Link::Empty,
-        };
-        let middle = middle(low, high);
-        if leaf.id.as_u128() < middle {
-            Fork {
-                left: Half::of(low, middle, awaited, leaf),
-                right: none,
-            }
-        } else {
-            Fork {
-                left: none,
-                right: Half::of(middle, high, awaited, leaf),
-            }
-        }
-    }
-}
-
-impl<A: Allocator> Half<A> {
-    /// Creates a half of a fork with one request, which is put where its ID belongs in the range
-    /// from `low` up to `high`.
-    fn of(low: u128, high: u128, awaited: Awaited, leaf: Box<Leaf<A>, A>) -> Self
-        requires { IsPlaced low high leaf.value }
-        ensures items { half_items result ≡ leaf.value ∷ [] }
-        ensures ordered { IsOrderedHalf low high result }
-        ensures timed { (transport : TransportType) → awaited ≡ awaited_by transport leaf.value.1
-            → IsTimedHalf transport result }
-    {
-        if leaf.id.as_u128() < middle(low, high) {
-            Half {
-                left: Link::Leaf(awaited, leaf),
-                right: Link::Empty,
-            }
-        } else {
-            Half {
-                left: Link::Empty,
-                right: Link::Leaf(awaited, leaf),
-            }
+        let quarter = quarter_of(leaf.id, levels);
+        let link = Link::Leaf(awaited, leaf);
+        match quarter {
+            Quarter::First => Fork {
+                first: link,
+                second: Link::Empty,
+                third: Link::Empty,
+                fourth: Link::Empty,
+            },
+            Quarter::Second => Fork {
+                first: Link::Empty,
+                second: link,
+                third: Link::Empty,
+                fourth: Link::Empty,
+            },
+            Quarter::Third => Fork {
+                first: Link::Empty,
+                second: Link::Empty,
+                third: link,
+                fourth: Link::Empty,
+            },
+            Quarter::Fourth => Fork {
+                first: Link::Empty,
+                second: Link::Empty,
+                third: Link::Empty,
+                fourth: link,
+            },
         }
     }
 }

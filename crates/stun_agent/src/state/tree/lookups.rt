@@ -1,15 +1,15 @@
 //! Finds requests in a tree without a count: the one with an ID, and the one to send again.
-ghost use Rattle.std.specs.Prelude.{◌≡◌};
+ghost use Rattle.std.specs.Prelude.{◌≡◌, length};
 ghost use Rattle.std.specs.Option.{option_map, option_copied};
 ghost use Rattle.stun_base.specs.declared.wire.transport.TransportType.{TransportType};
 ghost use Rattle.stun_agent.specs.Transactions.{at, next_sent};
 ghost use Rattle.stun_agent.specs.code.Awaited.{awaited_of, first_awaited};
-ghost use Rattle.stun_agent.specs.code.Tree.{items, half_items, IsOrdered, IsOrderedHalf};
-ghost use Rattle.stun_agent.specs.code.Tree.{IsTimed, IsTimedHalf};
+ghost use Rattle.stun_agent.specs.code.Tree.{items, fork_items, part_of, IsOrdered};
+ghost use Rattle.stun_agent.specs.code.Tree.{IsTimed, IsTimedFork};
 
 use crate::calls::uncounted::Uncounted;
 use crate::state::transaction::Transaction;
-use crate::state::tree::{Half, Link, middle};
+use crate::state::tree::{Fork, Leaf, Link, Quarter, quarter_of};
 use std::alloc::Allocator;
 use stun_base::instant::Instant;
 use stun_base::transaction_id::TransactionId;
@@ -18,12 +18,11 @@ use stun_base::transaction_id::TransactionId;
 #[cycle(get)]
 pub(crate) fn get<A: Allocator>(
     link: &Link<A>,
-    low: u128,
-    high: u128,
+    levels: u32,
     id: TransactionId,
     leave: Uncounted,
 ) -> Option<&Transaction<A>>
-    requires { IsOrdered low high link.now }
+    requires { IsOrdered levels (part_of levels id) link.now }
     ensures { option_copied result ≡ at id (items link.now) }
 {
     match link {
@@ -36,33 +35,14 @@ pub(crate) fn get<A: Allocator>(
             }
         }
         Link::Fork(_, fork) => {
-            let middle = middle(low, high);
-            if id.as_u128() < middle {
-                get_in(&fork.left, low, middle, id, leave)
-            } else {
-                get_in(&fork.right, middle, high, id, leave)
+            let below = levels - 1;
+            match quarter_of(id, levels) {
+                Quarter::First => get(&fork.first, below, id, leave),
+                Quarter::Second => get(&fork.second, below, id, leave),
+                Quarter::Third => get(&fork.third, below, id, leave),
+                Quarter::Fourth => get(&fork.fourth, below, id, leave),
             }
         }
-    }
-}
-
-/// Like `get`, but for the requests below a half of a fork.
-#[cycle(get)]
-fn get_in<A: Allocator>(
-    half: &Half<A>,
-    low: u128,
-    high: u128,
-    id: TransactionId,
-    leave: Uncounted,
-) -> Option<&Transaction<A>>
-    requires { IsOrderedHalf low high half.now }
-    ensures { option_copied result ≡ at id (half_items half.now) }
-{
-    let middle = middle(low, high);
-    if id.as_u128() < middle {
-        get(&half.left, low, middle, id, leave)
-    } else {
-        get(&half.right, middle, high, id, leave)
     }
 }
 
@@ -74,9 +54,7 @@ pub(crate) fn next_awaited<A: Allocator>(link: &Link<A>, _leave: Uncounted) -> O
     link.awaited().earliest()
 }
 
-/// Returns the request with the least ID among those that are due and still retransmitted.
-#[cycle(next_sent)]
-#[inline(always)]
+/// Returns the request to send again.
 pub(crate) fn next_sent<A: Allocator>(
     link: &Link<A>,
     now: Instant,
@@ -86,6 +64,31 @@ pub(crate) fn next_sent<A: Allocator>(
         → option_copied result
         ≡ option_map (λ e. e.1) (next_sent transport now (items link.now)) }
 {
+    let leaf = first_sent(link, now, leave)?;
+    Some(&leaf.request)
+}
+
+/// Returns the ID and the number of bytes of the request to send again.
+pub(crate) fn length_sent<A: Allocator>(
+    link: &Link<A>,
+    now: Instant,
+    leave: Uncounted,
+) -> Option<(TransactionId, usize)>
+    ensures { (transport : TransportType) → IsTimed transport link.now
+        → result ≡ option_map (λ e. (e.0, length e.1.bytes))
+        (next_sent transport now (items link.now)) }
+{
+    let leaf = first_sent(link, now, leave)?;
+    Some((leaf.id, leaf.request.bytes().len()))
+}
+
+/// Returns the leaf with the least ID among those whose request is due and still retransmitted.
+#[cycle(first_sent)]
+#[inline(always)]
+fn first_sent<A: Allocator>(link: &Link<A>, now: Instant, leave: Uncounted) -> Option<&Leaf<A>>
+    ensures { (transport : TransportType) → IsTimed transport link.now
+        → option_copied result ≡ next_sent transport now (items link.now) }
+{
     match link {
         Link::Empty => None,
         Link::Leaf(awaited, leaf) => {
@@ -93,7 +96,7 @@ pub(crate) fn next_sent<A: Allocator>(
                 return None;
             }
             if leaf.request.sending().repeats() {
-                Some(&leaf.request)
+                Some(leaf)
             } else {
                 None
             }
@@ -102,27 +105,29 @@ pub(crate) fn next_sent<A: Allocator>(
             if !awaited.is_due(now) {
                 return None;
             }
-            match next_sent_in(&fork.left, now, leave) {
-                Some(found) => Some(found),
-                None => next_sent_in(&fork.right, now, leave),
-            }
+            first_sent_below(fork, now, leave)
         }
     }
 }
 
-/// Like `next_sent`, but for the requests below a half of a fork.
-#[cycle(next_sent)]
-fn next_sent_in<A: Allocator>(
-    half: &Half<A>,
+/// Like `first_sent`, but for the requests below a fork.
+#[cycle(first_sent)]
+fn first_sent_below<A: Allocator>(
+    fork: &Fork<A>,
     now: Instant,
     leave: Uncounted,
-) -> Option<&Transaction<A>>
-    ensures { (transport : TransportType) → IsTimedHalf transport half.now
-        → option_copied result
-        ≡ option_map (λ e. e.1) (next_sent transport now (half_items half.now)) }
+) -> Option<&Leaf<A>>
+    ensures { (transport : TransportType) → IsTimedFork transport fork.now
+        → option_copied result ≡ next_sent transport now (fork_items fork.now) }
 {
-    match next_sent(&half.left, now, leave) {
-        Some(found) => Some(found),
-        None => next_sent(&half.right, now, leave),
+    if let Some(found) = first_sent(&fork.first, now, leave) {
+        return Some(found);
     }
+    if let Some(found) = first_sent(&fork.second, now, leave) {
+        return Some(found);
+    }
+    if let Some(found) = first_sent(&fork.third, now, leave) {
+        return Some(found);
+    }
+    first_sent(&fork.fourth, now, leave)
 }

@@ -1,35 +1,38 @@
 //! Removes requests from a tree.
-ghost use Rattle.std.specs.Prelude.{◌≡◌, ◌≤◌, ◌+◌, [], None, IfSome, IfOk, IfErr, true, false};
-ghost use Rattle.std.specs.Prelude.{MatchOption, OnErr};
+ghost use Rattle.std.specs.Prelude.{◌≡◌, ℕ, [], Some, None, IfSome, true, false};
+ghost use Rattle.std.specs.Prelude.{MatchOption};
+ghost use Rattle.std.specs.Option.{option_map};
 ghost use Rattle.stun_base.specs.declared.wire.transport.TransportType.{TransportType};
 ghost use Rattle.stun_agent.specs.Transactions.{at, without};
 ghost use Rattle.stun_agent.specs.declared.state.tree.Link.TheVariants.{Empty};
-ghost use Rattle.stun_agent.specs.code.Awaited.{awaited_of};
-ghost use Rattle.stun_agent.specs.code.Tree.{items, half_items, fork_items, first_request, IsLeaf};
-ghost use Rattle.stun_agent.specs.code.Tree.{IsLone, IsOrdered, IsOrderedHalf, IsOrderedFork};
-ghost use Rattle.stun_agent.specs.code.Tree.{IsTimed, IsTimedHalf, IsTimedFork};
+ghost use Rattle.stun_agent.specs.code.Awaited.{awaited_by, awaited_of, joined};
+ghost use Rattle.stun_agent.specs.code.Tree.{items, fork_items, first_request, IsLeaf, IsLone};
+ghost use Rattle.stun_agent.specs.code.Tree.{part_of, IsDeep, IsOrdered, IsOrderedFork};
+ghost use Rattle.stun_agent.specs.code.Tree.{IsTimed, IsTimedFork};
 
-use crate::state::transaction::Transaction;
 use crate::state::tree::awaited::Awaited;
-use crate::state::tree::{Fork, Half, Link, middle};
+use crate::state::tree::{Fork, Leaf, Link, Quarter, quarter_of};
 use std::alloc::Allocator;
 use std::mem;
 use stun_base::transaction_id::TransactionId;
 
 /// Removes the request with this ID, and the forks above it that are left with one leaf or nothing.
+/// Returns what the request awaited, and its leaf.
 #[cycle(remove)]
 pub(crate) fn remove<A: Allocator>(
     link: &mut Link<A>,
-    low: u128,
-    high: u128,
+    levels: u32,
     id: TransactionId,
-) -> Option<Transaction<A>>
-    requires { IsOrdered low high link.old }
-    ensures answer { result ≡ at id (items link.old) }
+) -> Option<(Awaited, Box<Leaf<A>, A>)>
+    requires { IsOrdered levels (part_of levels id) link.old }
+    ensures answer { option_map (λ taken. taken.1.value.1) result ≡ at id (items link.old) }
     ensures after { items link.new ≡ without id (items link.old) }
-    ensures ordered { IsOrdered low high link.new }
+    ensures same { MatchOption result (link.new ≡ link.old) (λ _. Unit {0}) }
+    ensures ordered { IsOrdered levels (part_of levels id) link.new }
     ensures timed { (transport : TransportType) → IsTimed transport link.old
         → IsTimed transport link.new }
+    ensures told { IfSome result (λ taken. (transport : TransportType) → IsTimed transport link.old
+        → taken.0 ≡ awaited_by transport taken.1.value.1) }
 {
     match link {
         Link::Empty => None,
@@ -41,71 +44,58 @@ pub(crate) fn remove<A: Allocator>(
             }
         }
         Link::Fork(before, fork) => {
-            let taken = remove_below(fork, low, high, id);
-            match fork.collapse() {
-                Ok(only) => *link = only,
-                Err(awaited) => *before = awaited,
+            let (awaited, leaf) = remove_from(fork, levels, id)?;
+            match fork.settle(before, &awaited) {
+                Some(only) => {
+                    *link = only;
+                    Some((awaited, leaf))
+                }
+                None => Some((awaited, leaf)),
             }
-            taken
         }
     }
 }
 
 /// Like `remove`, but for the requests below a fork, which may be left with one leaf or nothing.
 #[cycle(remove)]
-fn remove_below<A: Allocator>(
+fn remove_from<A: Allocator>(
     fork: &mut Fork<A>,
-    low: u128,
-    high: u128,
+    levels: u32,
     id: TransactionId,
-) -> Option<Transaction<A>>
-    requires wide { low + 2 ≤ high }
-    requires ordered { IsOrderedFork low high fork.old }
-    ensures answer { result ≡ at id (fork_items fork.old) }
+) -> Option<(Awaited, Box<Leaf<A>, A>)>
+    requires deep { IsDeep levels }
+    requires ordered { IsOrderedFork levels (part_of levels id) fork.old }
+    ensures answer { option_map (λ taken. taken.1.value.1) result ≡ at id (fork_items fork.old) }
     ensures after { fork_items fork.new ≡ without id (fork_items fork.old) }
-    ensures ordered { IsOrderedFork low high fork.new }
+    ensures same { MatchOption result (fork.new ≡ fork.old) (λ _. Unit {0}) }
+    ensures ordered { IsOrderedFork levels (part_of levels id) fork.new }
     ensures timed { (transport : TransportType) → IsTimedFork transport fork.old
         → IsTimedFork transport fork.new }
+    ensures told { IfSome result (λ taken. (transport : TransportType)
+        → IsTimedFork transport fork.old
+        → taken.0 ≡ awaited_by transport taken.1.value.1) }
 {
-    let middle = middle(low, high);
-    if id.as_u128() < middle {
-        remove_in(&mut fork.left, low, middle, id)
-    } else {
-        remove_in(&mut fork.right, middle, high, id)
-    }
-}
-
-/// Like `remove`, but for the requests below a half of a fork.
-#[cycle(remove)]
-fn remove_in<A: Allocator>(
-    half: &mut Half<A>,
-    low: u128,
-    high: u128,
-    id: TransactionId,
-) -> Option<Transaction<A>>
-    requires { IsOrderedHalf low high half.old }
-    ensures answer { result ≡ at id (half_items half.old) }
-    ensures after { half_items half.new ≡ without id (half_items half.old) }
-    ensures ordered { IsOrderedHalf low high half.new }
-    ensures timed { (transport : TransportType) → IsTimedHalf transport half.old
-        → IsTimedHalf transport half.new }
-{
-    let middle = middle(low, high);
-    if id.as_u128() < middle {
-        remove(&mut half.left, low, middle, id)
-    } else {
-        remove(&mut half.right, middle, high, id)
+    let below = levels - 1;
+    match quarter_of(id, levels) {
+        Quarter::First => remove(&mut fork.first, below, id),
+        Quarter::Second => remove(&mut fork.second, below, id),
+        Quarter::Third => remove(&mut fork.third, below, id),
+        Quarter::Fourth => remove(&mut fork.fourth, below, id),
     }
 }
 
 /// Removes the request that a link leads to.
-fn take_leaf<A: Allocator>(link: &mut Link<A>) -> Option<Transaction<A>>
+fn take_leaf<A: Allocator>(link: &mut Link<A>) -> Option<(Awaited, Box<Leaf<A>, A>)>
     requires { IsLeaf link.old }
-    ensures answer { result ≡ first_request (items link.old) }
+    ensures answer { option_map (λ taken. taken.1.value.1) result
+        ≡ first_request (items link.old) }
+    ensures told { IfSome result (λ taken. (transport : TransportType) → IsTimed transport link.old
+        → taken.0 ≡ awaited_by transport taken.1.value.1) }
+    ensures some { MatchOption result (Empty ≡ link.old) (λ _. Unit {0}) }
     ensures empty { link.new ≡ Empty }
 {
     match mem::replace(link, Link::Empty) {
-        Link::Leaf(_, leaf) => Some(Box::into_inner(leaf).into_request()),
+        Link::Leaf(awaited, leaf) => Some((awaited, leaf)),
         other => {
             *link = other;
             None
@@ -126,6 +116,24 @@ impl<A: Allocator> Link<A> {
             _ => false,
         }
     }
+
+    fn is_empty(&self) -> bool
+        ensures { result ≡ true → self.now ≡ Empty }
+    {
+        matches!(self, Link::Empty)
+    }
+
+    /// Takes out what this link leads to, if that is one leaf or nothing.
+    fn take_lone(&mut self) -> Option<Link<A>>
+        ensures none { MatchOption result (self.new ≡ self.old) (λ _. Unit {0}) }
+        ensures link { IfSome result (λ link. link ≡ self.old) }
+        ensures lone { IfSome result IsLone }
+    {
+        match self {
+            Link::Fork(_, _) => None,
+            _ => Some(mem::replace(self, Link::Empty)),
+        }
+    }
 }
 
 impl<A: Allocator> Fork<A> {
@@ -137,56 +145,47 @@ impl<A: Allocator> Fork<A> {
         ensures timed { IfSome result (λ link. (transport : TransportType)
             → IsTimedFork transport self.old → IsTimed transport link) }
     {
-        if self.left.is_empty() {
-            self.right.take_lone()
-        } else if self.right.is_empty() {
-            self.left.take_lone()
+        if self.first.is_empty() && self.second.is_empty() {
+            if self.third.is_empty() {
+                self.fourth.take_lone()
+            } else if self.fourth.is_empty() {
+                self.third.take_lone()
+            } else {
+                None
+            }
+        } else if self.third.is_empty() && self.fourth.is_empty() {
+            if self.first.is_empty() {
+                self.second.take_lone()
+            } else if self.second.is_empty() {
+                self.first.take_lone()
+            } else {
+                None
+            }
         } else {
             None
         }
     }
 
-    /// Like `take_lone`, but otherwise returns what the requests below this fork await.
-    fn collapse(&mut self) -> Result<Link<A>, Awaited>
-        ensures items { IfOk result (λ link. items link ≡ fork_items self.old) }
-        ensures lone { IfOk result IsLone }
-        ensures timed { IfOk result (λ link. (transport : TransportType)
-            → IsTimedFork transport self.old → IsTimed transport link) }
-        ensures same { OnErr result (self.new ≡ self.old) }
-        ensures awaited { IfErr result (λ awaited. (transport : TransportType)
-            → IsTimedFork transport self.old
-            → awaited ≡ awaited_of transport (fork_items self.old)) }
-    {
-        match self.take_lone() {
-            Some(link) => Ok(link),
-            None => Err(self.awaited()),
-        }
-    }
-}
-
-impl<A: Allocator> Half<A> {
-    fn is_empty(&self) -> bool
-        ensures { result ≡ true → half_items self.now ≡ [] }
-    {
-        match (&self.left, &self.right) {
-            (Link::Empty, Link::Empty) => true,
-            _ => false,
-        }
-    }
-
-    /// Takes out what is below this half, if that is one leaf or nothing.
-    fn take_lone(&mut self) -> Option<Link<A>>
-        ensures none { MatchOption result (self.new ≡ self.old) (λ _. Unit {0}) }
-        ensures items { IfSome result (λ link. items link ≡ half_items self.old) }
+    /// Takes out what is below this fork, if that is one leaf or nothing. Otherwise joins anew what
+    /// the requests below it await, if the one that has left, which awaited `gone`, was the earliest
+    /// of all those that `all` told of.
+    fn settle(&mut self, all: &mut Awaited, gone: &Awaited) -> Option<Link<A>>
+        ensures same { MatchOption result (self.new ≡ self.old) (λ _. Unit {0}) }
+        ensures items { IfSome result (λ link. items link ≡ fork_items self.old) }
         ensures lone { IfSome result IsLone }
         ensures timed { IfSome result (λ link. (transport : TransportType)
-            → IsTimedHalf transport self.old → IsTimed transport link) }
+            → IsTimedFork transport self.old → IsTimed transport link) }
+        ensures awaited { MatchOption result ((transport : TransportType)
+            → IsTimedFork transport self.old
+            → all.old ≡ joined (awaited_of transport (fork_items self.old)) gone.now
+            → all.new ≡ awaited_of transport (fork_items self.old)) (λ _. Unit {0}) }
     {
-        match (&self.left, &self.right) {
-            (Link::Empty, Link::Empty) => Some(Link::Empty),
-            (Link::Leaf(_, _), Link::Empty) => Some(mem::replace(&mut self.left, Link::Empty)),
-            (Link::Empty, Link::Leaf(_, _)) => Some(mem::replace(&mut self.right, Link::Empty)),
-            _ => None,
+        if let Some(lone) = self.take_lone() {
+            return Some(lone);
         }
+        if gone.may_be_first_of(all) {
+            *all = self.awaited();
+        }
+        None
     }
 }

@@ -2,10 +2,10 @@
 -- that one and beside these.
 use Rattle.std.proofs.Common.{arith, ap}
 use Rattle.std.specs.Prelude.{Some}
-use Rattle.stun_agent.specs.code.Tree.{items, levels}
+use Rattle.stun_agent.specs.code.Tree.{items, depth}
 use Rattle.stun_agent.specs.Deadlines.{Work}
 use Rattle.stun_agent.proofs.EndedLemmas.{reads_early}
-use Rattle.stun_agent.proofs.LookLemmas.{levels_of_tree, looks_found, looks_waiting}
+use Rattle.stun_agent.proofs.LookLemmas.{depth_of_tree, looks_found, looks_waiting}
 use Rattle.stun_agent.proofs.state.search.decide.Goals as goal
 
 pub returns-in-Some-clause-work : goal.returns-in-Some-clause-work
@@ -17,12 +17,12 @@ returns-in-Some-clause-work g c transport tree =
 pub returns-in-Some-clause-looks : goal.returns-in-Some-clause-looks
 returns-in-Some-clause-looks g c transport tree fresh =
     let root = c.args.index.now in
-    let deep = levels_of_tree transport root tree in
+    let deep = depth_of_tree transport root tree in
     let looked = c.in-Some.ensures.looks transport tree.timed in
     let read = c.in-Some.ensures.counts in
     let none = ap (λ (w : Work). w.entries) fresh in
     let unseen = ap (λ (w : Work). w.looks) fresh in
-    looks_found _ _ (levels root) (omega (arith, read, none)) deep (omega (arith, looked, unseen))
+    looks_found _ _ (depth root) (omega (arith, read, none)) deep (omega (arith, looked, unseen))
 
 pub returns-in-None-clause-looks : goal.returns-in-None-clause-looks
 returns-in-None-clause-looks g c transport tree fresh =

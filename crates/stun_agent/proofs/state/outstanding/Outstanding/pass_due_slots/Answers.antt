@@ -1,10 +1,9 @@
 -- The request that is sent has the ID of its bytes, and it keeps them.
-use Rattle.std.proofs.Common.{◌∙◌, subst, sym}
+use Rattle.std.proofs.Common.{subst}
 use Rattle.stun_agent.specs.Transactions.{AreKept}
 use Rattle.stun_agent.specs.code.Transactions.{Outstanding}
 use Rattle.stun_agent.specs.code.Tree.{items}
 use Rattle.stun_agent.proofs.NamedLemmas.{named-found}
-use Rattle.stun_agent.proofs.PassedLemmas.{passed_found}
 use Rattle.stun_agent.proofs.TransactionLemmas.{kept_contents}
 use Rattle.stun_agent.proofs.TreeLemmas.{kept}
 use Rattle.stun_agent.proofs.state.outstanding.Outstanding.pass_due_slots.Goals as goal
@@ -19,9 +18,8 @@ pub returns-clause-kept : goal.returns-clause-kept
 returns-clause-kept g c =
     let inside = c.self.inside in
     let all = kept inside.transport inside.root c.self.invariant in
-    let after = c.in-Some.ensures.after _ _ c.self.invariant.ordered in
     rw (← c.self.view_is)
     (kept_contents inside.transport c.args.now (items inside.root)
-    (items c.pass_slots-sent.new.link) _ all.ascending c.in-Some.ensures.sent
-    (passed_found inside.transport c.args.now c.args.room (items inside.root) _ _
-    c.in-Some.ensures.sent after (sym c.fits.ensures ∙ c.if-not-fits.false)))
+    (items c.pass_slots-is_sent.new.link) _ all.ascending
+    (c.length_sent-sent.ensures inside.transport c.self.invariant.timed)
+    (c.pass_slots-is_sent.ensures.after _ _ c.self.invariant.ordered))

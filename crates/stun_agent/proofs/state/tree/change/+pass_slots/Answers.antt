@@ -1,19 +1,14 @@
--- Where a link tells of none that is due, nothing changes. Else the search goes to the first half,
--- and to the second one if it finds none there. All that are due in the first half then pass, if
--- what it found has room.
-use Rattle.std.proofs.Common.{ℕ, length, arith, ◌≡◌, true, false, [], ◌∷◌, ap, sym, subst, ◌∙◌}
-use Rattle.std.specs.Prelude.{◌&&◌, Some, None}
-use Rattle.std.specs.Option.{option_map, option_map_or}
-use Rattle.stun_agent.specs.Transactions.{Transaction, is_due, repeats}
+-- Where a link tells of none that is due, nothing changes. Else the slots pass link by link, up to the
+-- one that has the request that is sent.
+use Rattle.std.proofs.Common.{◌-◌, ap, sym, subst, ◌∙◌}
+use Rattle.std.specs.Option.{is_some}
 use Rattle.stun_agent.specs.code.Awaited.{some_due}
-use Rattle.stun_agent.specs.code.Transactions.{after_slots_within, has_room, length_sent}
-use Rattle.stun_agent.specs.code.Tree.{items, half_items, fork_items, middle}
-use Rattle.stun_agent.specs.code.Tree.{IsOrdered, IsTimed, IsPlaced}
-use Rattle.stun_agent.proofs.FoundLemmas.{found_first, found_second}
-use Rattle.stun_agent.proofs.PassedLemmas.{none_due-next, due_one, id_and_length, leaf_searched}
-use Rattle.stun_agent.proofs.PassedLemmas.{placed_choice, found_in_first, found_in_none}
-use Rattle.stun_agent.proofs.PassedLemmas.{refused_in_second, sent_in_second}
-use Rattle.stun_agent.proofs.TreeLemmas.{placed, placed_half, middle_within, are_below, are_from}
+use Rattle.stun_agent.specs.code.Tree.{items, fork_items, IsTimed}
+use Rattle.stun_agent.proofs.FoundLemmas.{found_in_first, found_in_second, found_in_third}
+use Rattle.stun_agent.proofs.FoundLemmas.{found_in_fourth}
+use Rattle.stun_agent.proofs.PassedLemmas.{none_due-next, passed_none, sends}
+use Rattle.stun_agent.proofs.PassedLemmas.{passed_in_first, passed_in_second, passed_in_third}
+use Rattle.stun_agent.proofs.PassedLemmas.{passed_in_fourth}
 use Rattle.stun_agent.proofs.state.tree.change.+pass_slots.Goals as goal
 
 pub pass_slots-returns-then-not-is_due-2-clause-sent :
@@ -23,230 +18,84 @@ pass_slots-returns-then-not-is_due-2-clause-sent g t c =
     let none = ap (some_due c.args.now) (sym told.0) ∙ sym c.is_due-in-Fork.ensures
     ∙ c.if-not-is_due-2.true in
     rw (ap items c.in-Fork.is)
-    (ap (option_map (λ (e : ℕ × Transaction). (e.0, length e.1.bytes)))
+    (ap is_some
     (sym (none_due-next c.args.transport c.args.now (fork_items c.in-Fork.fork.value) none)))
 
 pub pass_slots-returns-then-not-is_due-2-clause-after :
     goal.pass_slots-returns-then-not-is_due-2-clause-after
-pass_slots-returns-then-not-is_due-2-clause-after g t c low high ordered =
+pass_slots-returns-then-not-is_due-2-clause-after g t c levels part ordered =
     let told = subst (IsTimed c.args.transport) c.in-Fork.is c.requires in
     let none = ap (some_due c.args.now) (sym told.0) ∙ sym c.is_due-in-Fork.ensures
     ∙ c.if-not-is_due-2.true in
-    let all = fork_items c.in-Fork.fork.value in
     rw (ap items c.in-Fork.is)
-    (sym (ap (λ o. after_slots_within c.args.transport c.args.now c.args.room o all)
-    (none_due-next c.args.transport c.args.now all none)))
+    (passed_none c.args.transport c.args.now (fork_items c.in-Fork.fork.value) none)
 
-pub pass_slots-returns-else-not-is_due-clause-after :
-    goal.pass_slots-returns-else-not-is_due-clause-after
-pass_slots-returns-else-not-is_due-clause-after g t c low high ordered =
-    let leaf = c.in-Leaf.leaf.value in
-    let after = rw c.deref_mut.ensures.value at c.send_within.ensures.after in
-    let told = subst (IsTimed c.args.transport) c.in-Leaf.is c.requires in
-    let due : is_due c.args.transport c.args.now leaf.1 ≡ true =
-    sym (due_one c.args.transport c.args.now leaf.1) ∙ ap (some_due c.args.now) (sym told)
-    ∙ sym c.is_due.ensures ∙ c.if-not-is_due.false in
-    rw (ap items c.in-Leaf.is)
-    (ap (λ (e : ℕ × Transaction). e ∷ []) after
-    ∙ leaf_searched c.args.transport c.args.now c.args.room leaf due)
+pub pass_quarters-returns-then-pass_slots-clause-sent :
+    goal.pass_quarters-returns-then-pass_slots-clause-sent
+pass_quarters-returns-then-pass_slots-clause-sent g t c =
+    let one = sym c.pass_slots.ensures.sent ∙ c.if-pass_slots.true in
+    sym one
+    ∙ ap is_some (found_in_first (sends c.args.transport c.args.now) c.args.fork.now one)
 
-pub pass_slots-returns-else-not-is_due-clause-ordered :
-    goal.pass_slots-returns-else-not-is_due-clause-ordered
-pass_slots-returns-else-not-is_due-clause-ordered g t c low high ordered =
-    let leaf = c.in-Leaf.leaf.value in
-    let after = rw c.deref_mut.ensures.value at c.send_within.ensures.after in
-    subst (IsPlaced low high) (sym after)
-    (placed_choice low high c.args.now
-    (option_map_or (has_room c.args.room) (length_sent leaf.1) false) leaf
-    (subst (IsOrdered low high) c.in-Leaf.is ordered))
+pub pass_quarters-returns-then-pass_slots-clause-after :
+    goal.pass_quarters-returns-then-pass_slots-clause-after
+pass_quarters-returns-then-pass_slots-clause-after g t c levels part h =
+    let one = sym c.pass_slots.ensures.sent ∙ c.if-pass_slots.true in
+    passed_in_first c.args.transport c.args.now levels part c.args.fork.now h _
+    (c.pass_slots.ensures.after (levels - 1) _ h.0) one
 
-pub pass_slots-returns-else-not-is_due-2-clause-after :
-    goal.pass_slots-returns-else-not-is_due-2-clause-after
-pass_slots-returns-else-not-is_due-2-clause-after g t c low high ordered =
-    let old = subst (IsOrdered low high) c.in-Fork.is ordered in
-    let wide = old.0 in
-    rw (ap items c.in-Fork.is)
-    ((rw c.deref_mut-in-Fork.ensures.value at c.pass_slots_below.ensures.after) low high
-    (omega (arith, wide)) (old.1, (old.2, old.3)))
+pub pass_quarters-returns-then-pass_slots-2-clause-sent :
+    goal.pass_quarters-returns-then-pass_slots-2-clause-sent
+pass_quarters-returns-then-pass_slots-2-clause-sent g t c =
+    let one = sym c.pass_slots.ensures.sent ∙ c.if-pass_slots.false in
+    let two = sym c.pass_slots-2.ensures.sent ∙ c.if-pass_slots-2.true in
+    sym two
+    ∙ ap is_some (found_in_second (sends c.args.transport c.args.now) c.args.fork.now one two)
 
-pub pass_slots_in-returns-in-Some-clause-sent : goal.pass_slots_in-returns-in-Some-clause-sent
-pass_slots_in-returns-in-Some-clause-sent g t c =
-    let half = c.args.half.now in
-    found_first id_and_length
-    (λ e. is_due c.args.transport c.args.now e.1 && repeats e.1.sending) (items half.left)
-    (items half.right) c.in-Some.found c.in-Some.ensures.sent
+pub pass_quarters-returns-then-pass_slots-2-clause-after :
+    goal.pass_quarters-returns-then-pass_slots-2-clause-after
+pass_quarters-returns-then-pass_slots-2-clause-after g t c levels part h =
+    let one = sym c.pass_slots.ensures.sent ∙ c.if-pass_slots.false in
+    let two = sym c.pass_slots-2.ensures.sent ∙ c.if-pass_slots-2.true in
+    passed_in_second c.args.transport c.args.now levels part c.args.fork.now h _
+    (c.pass_slots.ensures.after (levels - 1) _ h.0) one _
+    (c.pass_slots-2.ensures.after (levels - 1) _ h.1) two
 
-pub pass_slots_in-returns-in-Some-clause-after : goal.pass_slots_in-returns-in-Some-clause-after
-pass_slots_in-returns-in-Some-clause-after g t c low high le ordered =
-    let half = c.args.half.now in
-    let mid = middle_within low high le in
-    found_in_first c.args.transport c.args.now c.args.room (middle low high) (items half.left)
-    (items half.right)
-    (are_below low (middle low high) (items half.left)
-    (placed low (middle low high) half.left mid.0 ordered.0))
-    (are_from (middle low high) high (items half.right)
-    (placed (middle low high) high half.right mid.1 ordered.1)) c.in-Some.found
-    c.in-Some.ensures.sent _ (c.in-Some.ensures.after low (middle low high) ordered.0)
+pub pass_quarters-returns-then-pass_slots-3-clause-sent :
+    goal.pass_quarters-returns-then-pass_slots-3-clause-sent
+pass_quarters-returns-then-pass_slots-3-clause-sent g t c =
+    let one = sym c.pass_slots.ensures.sent ∙ c.if-pass_slots.false in
+    let two = sym c.pass_slots-2.ensures.sent ∙ c.if-pass_slots-2.false in
+    let three = sym c.pass_slots-3.ensures.sent ∙ c.if-pass_slots-3.true in
+    sym three
+    ∙ ap is_some (found_in_third (sends c.args.transport c.args.now) c.args.fork.now one two three)
 
-pub pass_slots_in-returns-in_err-id-clause-sent : goal.pass_slots_in-returns-in_err-id-clause-sent
-pass_slots_in-returns-in_err-id-clause-sent g t c =
-    let half = c.args.half.now in
-    c.from_residual.ensures
-    ∙ found_second id_and_length
-    (λ e. is_due c.args.transport c.args.now e.1 && repeats e.1.sending) (items half.left)
-    (items half.right) None c.in_default.ensures.sent
-    c.in_err-id.ensures.sent
+pub pass_quarters-returns-then-pass_slots-3-clause-after :
+    goal.pass_quarters-returns-then-pass_slots-3-clause-after
+pass_quarters-returns-then-pass_slots-3-clause-after g t c levels part h =
+    let one = sym c.pass_slots.ensures.sent ∙ c.if-pass_slots.false in
+    let two = sym c.pass_slots-2.ensures.sent ∙ c.if-pass_slots-2.false in
+    let three = sym c.pass_slots-3.ensures.sent ∙ c.if-pass_slots-3.true in
+    passed_in_third c.args.transport c.args.now levels part c.args.fork.now h _
+    (c.pass_slots.ensures.after (levels - 1) _ h.0) one _
+    (c.pass_slots-2.ensures.after (levels - 1) _ h.1) two _
+    (c.pass_slots-3.ensures.after (levels - 1) _ h.2) three
 
-pub pass_slots_in-returns-in_err-id-clause-after :
-    goal.pass_slots_in-returns-in_err-id-clause-after
-pass_slots_in-returns-in_err-id-clause-after g t c low high le ordered =
-    let half = c.args.half.now in
-    let mid = middle_within low high le in
-    found_in_none c.args.transport c.args.now c.args.room (middle low high) (items half.left)
-    (items half.right)
-    (are_below low (middle low high) (items half.left)
-    (placed low (middle low high) half.left mid.0 ordered.0))
-    (are_from (middle low high) high (items half.right)
-    (placed (middle low high) high half.right mid.1 ordered.1))
-    c.in_default.ensures.sent _ _ (c.in_default.ensures.after low (middle low high) ordered.0)
-    (c.in_err-id.ensures.after (middle low high) high ordered.1)
-    c.in_err-id.ensures.sent
+pub pass_quarters-returns-clause-sent : goal.pass_quarters-returns-clause-sent
+pass_quarters-returns-clause-sent g t c =
+    let one = sym c.pass_slots.ensures.sent ∙ c.if-pass_slots.false in
+    let two = sym c.pass_slots-2.ensures.sent ∙ c.if-pass_slots-2.false in
+    let three = sym c.pass_slots-3.ensures.sent ∙ c.if-pass_slots-3.false in
+    c.pass_slots-4.ensures.sent
+    ∙ ap is_some (found_in_fourth (sends c.args.transport c.args.now) c.args.fork.now one two three)
 
-pub pass_slots_in-returns-then-not-fits-clause-sent :
-    goal.pass_slots_in-returns-then-not-fits-clause-sent
-pass_slots_in-returns-then-not-fits-clause-sent g t c =
-    let half = c.args.half.now in
-    found_second id_and_length
-    (λ e. is_due c.args.transport c.args.now e.1 && repeats e.1.sending) (items half.left)
-    (items half.right) (Some (c.in_ok-id.id, c.in_ok-id.length))
-    c.in_default.ensures.sent c.in_ok-id.ensures.sent
-
-pub pass_slots_in-returns-then-not-fits-clause-after :
-    goal.pass_slots_in-returns-then-not-fits-clause-after
-pass_slots_in-returns-then-not-fits-clause-after g t c low high le ordered =
-    let half = c.args.half.now in
-    let mid = middle_within low high le in
-    refused_in_second c.args.transport c.args.now c.args.room (middle low high) (items half.left)
-    (items half.right)
-    (are_below low (middle low high) (items half.left)
-    (placed low (middle low high) half.left mid.0 ordered.0))
-    (are_from (middle low high) high (items half.right)
-    (placed (middle low high) high half.right mid.1 ordered.1))
-    c.in_default.ensures.sent _ _ (c.in_default.ensures.after low (middle low high) ordered.0)
-    (c.in_ok-id.ensures.after (middle low high) high ordered.1)
-    (c.in_ok-id.id, c.in_ok-id.length) c.in_ok-id.ensures.sent
-    (sym c.fits.ensures ∙ c.if-not-fits.true)
-
-pub pass_slots_in-returns-clause-sent : goal.pass_slots_in-returns-clause-sent
-pass_slots_in-returns-clause-sent g t c =
-    let half = c.args.half.now in
-    found_second id_and_length
-    (λ e. is_due c.args.transport c.args.now e.1 && repeats e.1.sending) (items half.left)
-    (items half.right) (Some (c.in_ok-id.id, c.in_ok-id.length))
-    c.in_default.ensures.sent c.in_ok-id.ensures.sent
-
-pub pass_slots_in-returns-clause-after : goal.pass_slots_in-returns-clause-after
-pass_slots_in-returns-clause-after g t c low high le ordered =
-    let half = c.args.half.now in
-    let mid = middle_within low high le in
-    sent_in_second c.args.transport c.args.now c.args.room (middle low high) (items half.left)
-    (items half.right)
-    (are_below low (middle low high) (items half.left)
-    (placed low (middle low high) half.left mid.0 ordered.0))
-    (are_from (middle low high) high (items half.right)
-    (placed (middle low high) high half.right mid.1 ordered.1))
-    c.in_default.ensures.sent _ _ (c.in_default.ensures.after low (middle low high) ordered.0)
-    (c.in_ok-id.ensures.after (middle low high) high ordered.1)
-    (c.in_ok-id.id, c.in_ok-id.length) c.in_ok-id.ensures.sent
-    (sym c.fits.ensures ∙ c.if-not-fits.false) _ c.pass_all.ensures.after
-
-pub pass_slots_of-returns-in-Some-clause-sent : goal.pass_slots_of-returns-in-Some-clause-sent
-pass_slots_of-returns-in-Some-clause-sent g t c =
-    let fork = c.args.fork.now in
-    found_first id_and_length
-    (λ e. is_due c.args.transport c.args.now e.1 && repeats e.1.sending) (half_items fork.left)
-    (half_items fork.right) c.in-Some.found c.in-Some.ensures.sent
-
-pub pass_slots_of-returns-in-Some-clause-after : goal.pass_slots_of-returns-in-Some-clause-after
-pass_slots_of-returns-in-Some-clause-after g t c low high le ordered =
-    let fork = c.args.fork.now in
-    let mid = middle_within low high le in
-    found_in_first c.args.transport c.args.now c.args.room (middle low high) (half_items fork.left)
-    (half_items fork.right)
-    (are_below low (middle low high) (half_items fork.left)
-    (placed_half low (middle low high) fork.left mid.0 ordered.0))
-    (are_from (middle low high) high (half_items fork.right)
-    (placed_half (middle low high) high fork.right mid.1 ordered.1)) c.in-Some.found
-    c.in-Some.ensures.sent _ (c.in-Some.ensures.after low (middle low high) mid.0 ordered.0)
-
-pub pass_slots_of-returns-in_err-id-clause-sent : goal.pass_slots_of-returns-in_err-id-clause-sent
-pass_slots_of-returns-in_err-id-clause-sent g t c =
-    let fork = c.args.fork.now in
-    c.from_residual.ensures
-    ∙ found_second id_and_length
-    (λ e. is_due c.args.transport c.args.now e.1 && repeats e.1.sending) (half_items fork.left)
-    (half_items fork.right) None c.in_default.ensures.sent
-    c.in_err-id.ensures.sent
-
-pub pass_slots_of-returns-in_err-id-clause-after :
-    goal.pass_slots_of-returns-in_err-id-clause-after
-pass_slots_of-returns-in_err-id-clause-after g t c low high le ordered =
-    let fork = c.args.fork.now in
-    let mid = middle_within low high le in
-    found_in_none c.args.transport c.args.now c.args.room (middle low high) (half_items fork.left)
-    (half_items fork.right)
-    (are_below low (middle low high) (half_items fork.left)
-    (placed_half low (middle low high) fork.left mid.0 ordered.0))
-    (are_from (middle low high) high (half_items fork.right)
-    (placed_half (middle low high) high fork.right mid.1 ordered.1))
-    c.in_default.ensures.sent _ _ (c.in_default.ensures.after low (middle low high) mid.0 ordered.0)
-    (c.in_err-id.ensures.after (middle low high) high mid.1 ordered.1)
-    c.in_err-id.ensures.sent
-
-pub pass_slots_of-returns-then-not-fits-clause-sent :
-    goal.pass_slots_of-returns-then-not-fits-clause-sent
-pass_slots_of-returns-then-not-fits-clause-sent g t c =
-    let fork = c.args.fork.now in
-    found_second id_and_length
-    (λ e. is_due c.args.transport c.args.now e.1 && repeats e.1.sending) (half_items fork.left)
-    (half_items fork.right) (Some (c.in_ok-id.id, c.in_ok-id.length))
-    c.in_default.ensures.sent c.in_ok-id.ensures.sent
-
-pub pass_slots_of-returns-then-not-fits-clause-after :
-    goal.pass_slots_of-returns-then-not-fits-clause-after
-pass_slots_of-returns-then-not-fits-clause-after g t c low high le ordered =
-    let fork = c.args.fork.now in
-    let mid = middle_within low high le in
-    refused_in_second c.args.transport c.args.now c.args.room (middle low high)
-    (half_items fork.left) (half_items fork.right)
-    (are_below low (middle low high) (half_items fork.left)
-    (placed_half low (middle low high) fork.left mid.0 ordered.0))
-    (are_from (middle low high) high (half_items fork.right)
-    (placed_half (middle low high) high fork.right mid.1 ordered.1))
-    c.in_default.ensures.sent _ _ (c.in_default.ensures.after low (middle low high) mid.0 ordered.0)
-    (c.in_ok-id.ensures.after (middle low high) high mid.1 ordered.1)
-    (c.in_ok-id.id, c.in_ok-id.length) c.in_ok-id.ensures.sent
-    (sym c.fits.ensures ∙ c.if-not-fits.true)
-
-pub pass_slots_of-returns-clause-sent : goal.pass_slots_of-returns-clause-sent
-pass_slots_of-returns-clause-sent g t c =
-    let fork = c.args.fork.now in
-    found_second id_and_length
-    (λ e. is_due c.args.transport c.args.now e.1 && repeats e.1.sending) (half_items fork.left)
-    (half_items fork.right) (Some (c.in_ok-id.id, c.in_ok-id.length))
-    c.in_default.ensures.sent c.in_ok-id.ensures.sent
-
-pub pass_slots_of-returns-clause-after : goal.pass_slots_of-returns-clause-after
-pass_slots_of-returns-clause-after g t c low high le ordered =
-    let fork = c.args.fork.now in
-    let mid = middle_within low high le in
-    sent_in_second c.args.transport c.args.now c.args.room (middle low high) (half_items fork.left)
-    (half_items fork.right)
-    (are_below low (middle low high) (half_items fork.left)
-    (placed_half low (middle low high) fork.left mid.0 ordered.0))
-    (are_from (middle low high) high (half_items fork.right)
-    (placed_half (middle low high) high fork.right mid.1 ordered.1))
-    c.in_default.ensures.sent _ _ (c.in_default.ensures.after low (middle low high) mid.0 ordered.0)
-    (c.in_ok-id.ensures.after (middle low high) high mid.1 ordered.1)
-    (c.in_ok-id.id, c.in_ok-id.length) c.in_ok-id.ensures.sent
-    (sym c.fits.ensures ∙ c.if-not-fits.false) _ c.pass_all_in.ensures.after
+pub pass_quarters-returns-clause-after : goal.pass_quarters-returns-clause-after
+pass_quarters-returns-clause-after g t c levels part h =
+    let one = sym c.pass_slots.ensures.sent ∙ c.if-pass_slots.false in
+    let two = sym c.pass_slots-2.ensures.sent ∙ c.if-pass_slots-2.false in
+    let three = sym c.pass_slots-3.ensures.sent ∙ c.if-pass_slots-3.false in
+    passed_in_fourth c.args.transport c.args.now levels part c.args.fork.now h _
+    (c.pass_slots.ensures.after (levels - 1) _ h.0) one _
+    (c.pass_slots-2.ensures.after (levels - 1) _ h.1) two _
+    (c.pass_slots-3.ensures.after (levels - 1) _ h.2) three _
+    (c.pass_slots-4.ensures.after (levels - 1) _ h.3)

@@ -1,11 +1,12 @@
--- The id is in one half of the range, so one more in that half is one more below the link.
-use Rattle.std.proofs.Common.{◌<◌, ◌≤◌, ◌∙◌, arith, rules, subst, sym, ap, ap₂}
+-- One more in the quarter that has the ID is one more below the link.
+use Rattle.std.proofs.Common.{ℕ, ◌≡◌, ◌+◌, ◌-◌, ◌*◌, ◌∙◌, arith, subst, sym, ap, ap₂}
+use Rattle.stun_agent.specs.Transactions.{Transaction}
 use Rattle.stun_agent.specs.code.Awaited.{joined, awaited_of}
-use Rattle.stun_agent.specs.code.Tree.{items, half_items, middle, IsPlaced}
-use Rattle.stun_agent.specs.code.Tree.{IsTimed}
-use Rattle.stun_agent.proofs.TreeLemmas.{middle_within, placed, placed_half}
+use Rattle.stun_agent.specs.code.Tree.{items, part_of, number_of, IsOrdered, IsTimed}
 use Rattle.stun_agent.proofs.AwaitedLemmas.{awaited_of-with}
-use Rattle.stun_agent.proofs.InsertLemmas.{ok_after, absent_both, more_in_first, more_in_second}
+use Rattle.stun_agent.proofs.InsertLemmas.{ok_after}
+use Rattle.stun_agent.proofs.QuarterLemmas.{with_acts, at_first, at_second, at_third, at_fourth}
+use Rattle.stun_agent.proofs.QuarterLemmas.{in_first, in_second, in_third, in_fourth}
 use Rattle.stun_agent.proofs.state.tree.insert.+insert.Goals as goal
 
 -- ---- a link
@@ -20,135 +21,111 @@ insert-returns-in_ok-deepen-in-Leaf-clause-timed g t c transport is timed =
     c.insert_below.ensures.timed transport is (c.deepen.ensures.timed transport timed)
 
 -- ---- a fork
--- ---- a fork
 pub insert_below-returns-clause-timed : goal.insert_below-returns-clause-timed
 insert_below-returns-clause-timed g t c transport is timed =
     let old = subst (IsTimed transport) c.in-Fork.is timed in
     let new = (rw c.deref_mut.ensures.value at c.insert_into.ensures.timed) transport is
-    (old.1, (old.2, old.3)) in
+    (old.1, old.2, old.3, old.4) in
     let more = rw c.deref_mut.ensures.value at c.in_ok-insert_into.ensures.ok in
     let absent = rw (ap items c.in-Fork.is) at c.requires.absent in
     let told = c.join.ensures ∙ ap₂ joined old.0 is
     ∙ awaited_of-with transport c.args.leaf.value.0 c.args.leaf.value.1 _ absent
     ∙ ap (awaited_of transport) (sym more) in
-    (told, new.0, new.1.0, new.1.1)
+    (told, new.0, new.1, new.2, new.3)
 
--- ---- the parts of a fork
-pub insert_into-insert_in-requires : goal.insert_into-insert_in-requires
-insert_into-insert_in-requires g t c κs within =
-    let id : c.args.leaf.value.0 < middle c.args.low c.args.high = search rules in
-    let given = c.requires.placed in
-    let fork = c.args.fork.now in
-    let absent =
-    absent_both c.args.leaf.value.0 (half_items fork.left) (half_items fork.right)
-    c.requires.absent in
-    let there : IsPlaced c.args.low (middle c.args.low c.args.high) c.args.leaf.value =
-    record { from = given.from; below = id; named = given.named } in
-    rw c.middle-middle.ensures (
-      omega (arith, c.requires.wide, c.decreases),
-      (within, (c.requires.ordered.0, (there, absent.0))),
+-- ---- the quarters of a fork
+pub insert_into-insert-requires : goal.insert_into-insert-requires
+insert_into-insert-requires g t c κs within =
+    let id = c.args.leaf.value.0 in
+    let own = ap (λ (e : ℕ × Transaction). e.0) (c.behind-leaf.view_is ∙ c.deref.ensures) in
+    let is : part_of (c.args.levels - 1) id ≡ 4 * part_of c.args.levels id =
+    omega (arith, rw own at c.quarter_of.ensures, ap number_of c.in-First.is) in
+    let absent = at_first c.args.levels id c.args.fork.now c.requires.ordered is
+    ∙ c.requires.absent in
+    let ordered = subst (λ part. IsOrdered (c.args.levels - 1) part c.args.fork.now.first) (sym is)
+    c.requires.ordered.0 in (
+      omega (arith, c.decreases, c.requires.deep.some),
+      (within, (omega (arith, c.requires.deep.most), (ordered, (c.requires.named, absent)))),
     )
 
-pub insert_into-insert_in-requires-else-as_u128-middle :
-    goal.insert_into-insert_in-requires-else-as_u128-middle
-insert_into-insert_in-requires-else-as_u128-middle g t c κs within =
-    let id : middle c.args.low c.args.high ≤ c.args.leaf.value.0 = search rules in
-    let given = c.requires.placed in
-    let fork = c.args.fork.now in
-    let absent =
-    absent_both c.args.leaf.value.0 (half_items fork.left) (half_items fork.right)
-    c.requires.absent in
-    let there : IsPlaced (middle c.args.low c.args.high) c.args.high c.args.leaf.value =
-    record { from = id; below = given.below; named = given.named } in
-    rw c.middle-middle.ensures (
-      omega (arith, c.requires.wide, c.decreases),
-      (within, (c.requires.ordered.1, (there, absent.1))),
+pub insert_into-insert-requires-in-Second : goal.insert_into-insert-requires-in-Second
+insert_into-insert-requires-in-Second g t c κs within =
+    let id = c.args.leaf.value.0 in
+    let own = ap (λ (e : ℕ × Transaction). e.0) (c.behind-leaf.view_is ∙ c.deref.ensures) in
+    let is : part_of (c.args.levels - 1) id ≡ 4 * part_of c.args.levels id + 1 =
+    omega (arith, rw own at c.quarter_of.ensures, ap number_of c.in-Second.is) in
+    let absent = at_second c.args.levels id c.args.fork.now c.requires.ordered is
+    ∙ c.requires.absent in
+    let ordered = subst (λ part. IsOrdered (c.args.levels - 1) part c.args.fork.now.second) (sym is)
+    c.requires.ordered.1 in (
+      omega (arith, c.decreases, c.requires.deep.some),
+      (within, (omega (arith, c.requires.deep.most), (ordered, (c.requires.named, absent)))),
     )
 
-pub insert_into-returns-then-as_u128-middle-clause-ok :
-    goal.insert_into-returns-then-as_u128-middle-clause-ok
-insert_into-returns-then-as_u128-middle-clause-ok g t c =
-    let low = c.args.low in
-    let high = c.args.high in
-    let new = c.args.leaf.value in
-    let fork = c.args.fork.now in
-    let id : new.0 < middle low high = search rules in
-    let mid = middle_within low high (omega (arith, c.requires.wide)) in
-    ok_after c.insert_in.result
-    (more_in_first (middle low high) high new.0 new.1 (half_items fork.left)
-    (half_items fork.right) (half_items c.insert_in.new.half)
-    (placed_half (middle low high) high fork.right mid.1 c.requires.ordered.1) id)
-    c.insert_in.ensures.ok
+pub insert_into-insert-requires-in-Third : goal.insert_into-insert-requires-in-Third
+insert_into-insert-requires-in-Third g t c κs within =
+    let id = c.args.leaf.value.0 in
+    let own = ap (λ (e : ℕ × Transaction). e.0) (c.behind-leaf.view_is ∙ c.deref.ensures) in
+    let is : part_of (c.args.levels - 1) id ≡ 4 * part_of c.args.levels id + 2 =
+    omega (arith, rw own at c.quarter_of.ensures, ap number_of c.in-Third.is) in
+    let absent = at_third c.args.levels id c.args.fork.now c.requires.ordered is
+    ∙ c.requires.absent in
+    let ordered = subst (λ part. IsOrdered (c.args.levels - 1) part c.args.fork.now.third) (sym is)
+    c.requires.ordered.2 in (
+      omega (arith, c.decreases, c.requires.deep.some),
+      (within, (omega (arith, c.requires.deep.most), (ordered, (c.requires.named, absent)))),
+    )
 
-pub insert_into-returns-else-as_u128-middle-clause-ok :
-    goal.insert_into-returns-else-as_u128-middle-clause-ok
-insert_into-returns-else-as_u128-middle-clause-ok g t c =
-    let low = c.args.low in
-    let high = c.args.high in
-    let new = c.args.leaf.value in
-    let fork = c.args.fork.now in
-    let id : middle low high ≤ new.0 = search rules in
-    let mid = middle_within low high (omega (arith, c.requires.wide)) in
-    ok_after c.insert_in-else-as_u128-middle.result
-    (more_in_second low (middle low high) new.0 new.1 (half_items fork.left)
-    (half_items fork.right) (half_items c.insert_in-else-as_u128-middle.new.half)
-    (placed_half low (middle low high) fork.left mid.0 c.requires.ordered.0) id)
-    c.insert_in-else-as_u128-middle.ensures.ok
+pub insert_into-insert-requires-in-Fourth : goal.insert_into-insert-requires-in-Fourth
+insert_into-insert-requires-in-Fourth g t c κs within =
+    let id = c.args.leaf.value.0 in
+    let own = ap (λ (e : ℕ × Transaction). e.0) (c.behind-leaf.view_is ∙ c.deref.ensures) in
+    let is : part_of (c.args.levels - 1) id ≡ 4 * part_of c.args.levels id + 3 =
+    omega (arith, rw own at c.quarter_of.ensures, ap number_of c.in-Fourth.is) in
+    let absent = at_fourth c.args.levels id c.args.fork.now c.requires.ordered is
+    ∙ c.requires.absent in
+    let ordered = subst (λ part. IsOrdered (c.args.levels - 1) part c.args.fork.now.fourth) (sym is)
+    c.requires.ordered.3 in (
+      omega (arith, c.decreases, c.requires.deep.some),
+      (within, (omega (arith, c.requires.deep.most), (ordered, (c.requires.named, absent)))),
+    )
 
--- ---- a half
-pub insert_in-insert-requires : goal.insert_in-insert-requires
-insert_in-insert-requires g t c κs within =
-    let id : c.args.leaf.value.0 < middle c.args.low c.args.high = search rules in
-    let given = c.requires.placed in
-    let half = c.args.half.now in
-    let absent =
-    absent_both c.args.leaf.value.0 (items half.left) (items half.right) c.requires.absent in
-    let there : IsPlaced c.args.low (middle c.args.low c.args.high) c.args.leaf.value =
-    record { from = given.from; below = id; named = given.named } in
-    rw c.middle-middle.ensures
-    (omega (arith, given.from, given.below, c.decreases), (within, (c.requires.ordered.0, (there, absent.0))))
-
-pub insert_in-insert-requires-else-as_u128-middle :
-    goal.insert_in-insert-requires-else-as_u128-middle
-insert_in-insert-requires-else-as_u128-middle g t c κs within =
-    let id : middle c.args.low c.args.high ≤ c.args.leaf.value.0 = search rules in
-    let given = c.requires.placed in
-    let half = c.args.half.now in
-    let absent =
-    absent_both c.args.leaf.value.0 (items half.left) (items half.right) c.requires.absent in
-    let there : IsPlaced (middle c.args.low c.args.high) c.args.high c.args.leaf.value =
-    record { from = id; below = given.below; named = given.named } in
-    rw c.middle-middle.ensures
-    (omega (arith, given.from, given.below, c.decreases), (within, (c.requires.ordered.1, (there, absent.1))))
-
-pub insert_in-returns-then-as_u128-middle-clause-ok :
-    goal.insert_in-returns-then-as_u128-middle-clause-ok
-insert_in-returns-then-as_u128-middle-clause-ok g t c =
-    let low = c.args.low in
-    let high = c.args.high in
-    let new = c.args.leaf.value in
-    let half = c.args.half.now in
-    let id : new.0 < middle low high = search rules in
-    let given = c.requires.placed in
-    let mid = middle_within low high (omega (arith, given.from, given.below)) in
+pub insert_into-returns-in-First-clause-ok : goal.insert_into-returns-in-First-clause-ok
+insert_into-returns-in-First-clause-ok g t c =
+    let id = c.args.leaf.value.0 in
+    let own = ap (λ (e : ℕ × Transaction). e.0) (c.behind-leaf.view_is ∙ c.deref.ensures) in
     ok_after c.insert.result
-    (more_in_first (middle low high) high new.0 new.1 (items half.left) (items half.right)
-    (items c.insert.new.link) (placed (middle low high) high half.right mid.1 c.requires.ordered.1)
-    id)
+    (in_first c.args.levels id c.args.fork.now c.requires.ordered
+    (with_acts id c.args.leaf.value.1) (items c.insert.new.link)
+    (omega (arith, rw own at c.quarter_of.ensures, ap number_of c.in-First.is)))
     c.insert.ensures.ok
 
-pub insert_in-returns-else-as_u128-middle-clause-ok :
-    goal.insert_in-returns-else-as_u128-middle-clause-ok
-insert_in-returns-else-as_u128-middle-clause-ok g t c =
-    let low = c.args.low in
-    let high = c.args.high in
-    let new = c.args.leaf.value in
-    let half = c.args.half.now in
-    let id : middle low high ≤ new.0 = search rules in
-    let given = c.requires.placed in
-    let mid = middle_within low high (omega (arith, given.from, given.below)) in
-    ok_after c.insert-else-as_u128-middle.result
-    (more_in_second low (middle low high) new.0 new.1 (items half.left) (items half.right)
-    (items c.insert-else-as_u128-middle.new.link)
-    (placed low (middle low high) half.left mid.0 c.requires.ordered.0) id)
-    c.insert-else-as_u128-middle.ensures.ok
+pub insert_into-returns-in-Second-clause-ok : goal.insert_into-returns-in-Second-clause-ok
+insert_into-returns-in-Second-clause-ok g t c =
+    let id = c.args.leaf.value.0 in
+    let own = ap (λ (e : ℕ × Transaction). e.0) (c.behind-leaf.view_is ∙ c.deref.ensures) in
+    ok_after c.insert-in-Second.result
+    (in_second c.args.levels id c.args.fork.now c.requires.ordered
+    (with_acts id c.args.leaf.value.1) (items c.insert-in-Second.new.link)
+    (omega (arith, rw own at c.quarter_of.ensures, ap number_of c.in-Second.is)))
+    c.insert-in-Second.ensures.ok
+
+pub insert_into-returns-in-Third-clause-ok : goal.insert_into-returns-in-Third-clause-ok
+insert_into-returns-in-Third-clause-ok g t c =
+    let id = c.args.leaf.value.0 in
+    let own = ap (λ (e : ℕ × Transaction). e.0) (c.behind-leaf.view_is ∙ c.deref.ensures) in
+    ok_after c.insert-in-Third.result
+    (in_third c.args.levels id c.args.fork.now c.requires.ordered
+    (with_acts id c.args.leaf.value.1) (items c.insert-in-Third.new.link)
+    (omega (arith, rw own at c.quarter_of.ensures, ap number_of c.in-Third.is)))
+    c.insert-in-Third.ensures.ok
+
+pub insert_into-returns-in-Fourth-clause-ok : goal.insert_into-returns-in-Fourth-clause-ok
+insert_into-returns-in-Fourth-clause-ok g t c =
+    let id = c.args.leaf.value.0 in
+    let own = ap (λ (e : ℕ × Transaction). e.0) (c.behind-leaf.view_is ∙ c.deref.ensures) in
+    ok_after c.insert-in-Fourth.result
+    (in_fourth c.args.levels id c.args.fork.now c.requires.ordered
+    (with_acts id c.args.leaf.value.1) (items c.insert-in-Fourth.new.link)
+    (omega (arith, rw own at c.quarter_of.ensures, ap number_of c.in-Fourth.is)))
+    c.insert-in-Fourth.ensures.ok

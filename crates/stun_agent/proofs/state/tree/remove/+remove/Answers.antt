@@ -1,154 +1,118 @@
--- The id is in the half that has its side, and the other half stays. A link to what is left, if
--- that is one request or none, is in order, as all of it is in the range.
-use Rattle.std.proofs.Common.{◌≡◌, ◌<◌, ◌≤◌, arith, subst, sym, ap, ◌∙◌}
-use Rattle.stun_agent.specs.Transactions.{without}
-use Rattle.stun_agent.specs.code.Awaited.{awaited_of}
-use Rattle.stun_agent.specs.code.Tree.{items, half_items, fork_items, middle}
-use Rattle.stun_agent.specs.code.Tree.{IsOrdered, IsOrderedFork, IsTimed, IsTimedFork}
-use Rattle.stun_agent.proofs.RemoveLemmas.{taken-left, taken-right, left-left, left-right}
-use Rattle.stun_agent.proofs.RemoveLemmas.{later_in, sooner_in, later_in_right, sooner_in_left}
+-- The id is in the quarter that has its bits, and the other quarters stay. A link to what is left, if
+-- that is one request or none, is in order, as all of it is in the part.
+use Rattle.std.proofs.Common.{◌≡◌, ◌∙◌, arith, subst, sym, ap, ap₂}
+use Rattle.stun_agent.specs.Transactions.{at, without}
+use Rattle.stun_agent.specs.code.Awaited.{awaited_of, joined}
+use Rattle.stun_agent.specs.code.Tree.{items, fork_items, part_of, number_of, IsTimed, IsTimedFork}
+use Rattle.stun_agent.proofs.AwaitedLemmas.{awaited_of-without}
+use Rattle.stun_agent.proofs.QuarterLemmas.{without_acts, at_first, at_second, at_third, at_fourth}
+use Rattle.stun_agent.proofs.QuarterLemmas.{in_first, in_second, in_third, in_fourth}
 use Rattle.stun_agent.proofs.RemoveLemmas.{kept_ordered}
 use Rattle.stun_agent.proofs.state.tree.remove.+remove.Goals as goal
 
-pub remove_in-returns-then-as_u128-middle-clause-answer :
-    goal.remove_in-returns-then-as_u128-middle-clause-answer
-remove_in-returns-then-as_u128-middle-clause-answer g t c =
-    let half = c.args.half.now in
-    let less : c.args.id < middle c.args.low c.args.high = omega (arith, c.middle-middle.ensures) in
-    taken-left c.args.id (items half.left) (items half.right) c.remove.result
-    (later_in c.args.id _ c.args.high half.right c.requires.1 less) c.remove.ensures.answer
+-- ---- a link
+pub remove-returns-in-Some-clause-ordered : goal.remove-returns-in-Some-clause-ordered
+remove-returns-in-Some-clause-ordered g t c =
+    let left = rw c.deref_mut.ensures.value at c.remove_from.ensures.after in
+    let kept : items c.in-Some.only ≡ fork_items c.remove_from.new.fork =
+    rw c.deref_mut-in-Fork.ensures.value at c.in-Some.ensures.items in
+    kept_ordered c.args.id c.args.levels (part_of c.args.levels c.args.id) c.args.link.now
+    c.in-Some.only c.requires c.in-Some.ensures.lone (kept ∙ (rw (ap items c.in-Fork.is) left))
 
-pub remove_in-returns-then-as_u128-middle-clause-after :
-    goal.remove_in-returns-then-as_u128-middle-clause-after
-remove_in-returns-then-as_u128-middle-clause-after g t c =
-    let half = c.args.half.now in
-    let less : c.args.id < middle c.args.low c.args.high = omega (arith, c.middle-middle.ensures) in
-    left-left c.args.id (items half.left) (items half.right) (items c.remove.new.link)
-    (later_in c.args.id _ c.args.high half.right c.requires.1 less) c.remove.ensures.after
-
-pub remove_in-returns-then-as_u128-middle-clause-timed :
-    goal.remove_in-returns-then-as_u128-middle-clause-timed
-remove_in-returns-then-as_u128-middle-clause-timed g t c transport timed =
-    (c.remove.ensures.timed transport timed.0, timed.1)
-
-pub remove_in-returns-else-as_u128-middle-clause-answer :
-    goal.remove_in-returns-else-as_u128-middle-clause-answer
-remove_in-returns-else-as_u128-middle-clause-answer g t c =
-    let half = c.args.half.now in
-    let from : middle c.args.low c.args.high ≤ c.args.id = omega (arith, c.middle-middle.ensures) in
-    taken-right c.args.id (items half.left) (items half.right) c.remove-else-as_u128-middle.result
-    (sooner_in c.args.id c.args.low _ half.left c.requires.0 from)
-    c.remove-else-as_u128-middle.ensures.answer
-
-pub remove_in-returns-else-as_u128-middle-clause-after :
-    goal.remove_in-returns-else-as_u128-middle-clause-after
-remove_in-returns-else-as_u128-middle-clause-after g t c =
-    let half = c.args.half.now in
-    let from : middle c.args.low c.args.high ≤ c.args.id = omega (arith, c.middle-middle.ensures) in
-    left-right c.args.id (items half.left) (items half.right)
-    (items c.remove-else-as_u128-middle.new.link)
-    (sooner_in c.args.id c.args.low _ half.left c.requires.0 from)
-    c.remove-else-as_u128-middle.ensures.after
-
-pub remove_in-returns-else-as_u128-middle-clause-timed :
-    goal.remove_in-returns-else-as_u128-middle-clause-timed
-remove_in-returns-else-as_u128-middle-clause-timed g t c transport timed =
-    (timed.0, c.remove-else-as_u128-middle.ensures.timed transport timed.1)
-
-pub remove_below-returns-then-as_u128-middle-clause-answer :
-    goal.remove_below-returns-then-as_u128-middle-clause-answer
-remove_below-returns-then-as_u128-middle-clause-answer g t c =
-    let fork = c.args.fork.now in
-    let less : c.args.id < middle c.args.low c.args.high = omega (arith, c.middle-middle.ensures) in
-    taken-left c.args.id (half_items fork.left) (half_items fork.right) c.remove_in.result
-    (later_in_right c.args.id c.args.low c.args.high fork c.requires.wide c.requires.ordered less)
-    c.remove_in.ensures.answer
-
-pub remove_below-returns-then-as_u128-middle-clause-after :
-    goal.remove_below-returns-then-as_u128-middle-clause-after
-remove_below-returns-then-as_u128-middle-clause-after g t c =
-    let fork = c.args.fork.now in
-    let less : c.args.id < middle c.args.low c.args.high = omega (arith, c.middle-middle.ensures) in
-    left-left c.args.id (half_items fork.left) (half_items fork.right)
-    (half_items c.remove_in.new.half)
-    (later_in_right c.args.id c.args.low c.args.high fork c.requires.wide c.requires.ordered less)
-    c.remove_in.ensures.after
-
-pub remove_below-returns-then-as_u128-middle-clause-timed :
-    goal.remove_below-returns-then-as_u128-middle-clause-timed
-remove_below-returns-then-as_u128-middle-clause-timed g t c transport timed =
-    (c.remove_in.ensures.timed transport timed.0, timed.1)
-
-pub remove_below-returns-else-as_u128-middle-clause-answer :
-    goal.remove_below-returns-else-as_u128-middle-clause-answer
-remove_below-returns-else-as_u128-middle-clause-answer g t c =
-    let fork = c.args.fork.now in
-    let from : middle c.args.low c.args.high ≤ c.args.id = omega (arith, c.middle-middle.ensures) in
-    taken-right c.args.id (half_items fork.left) (half_items fork.right)
-    c.remove_in-else-as_u128-middle.result
-    (sooner_in_left c.args.id c.args.low c.args.high fork c.requires.wide c.requires.ordered from)
-    c.remove_in-else-as_u128-middle.ensures.answer
-
-pub remove_below-returns-else-as_u128-middle-clause-after :
-    goal.remove_below-returns-else-as_u128-middle-clause-after
-remove_below-returns-else-as_u128-middle-clause-after g t c =
-    let fork = c.args.fork.now in
-    let from : middle c.args.low c.args.high ≤ c.args.id = omega (arith, c.middle-middle.ensures) in
-    left-right c.args.id (half_items fork.left) (half_items fork.right)
-    (half_items c.remove_in-else-as_u128-middle.new.half)
-    (sooner_in_left c.args.id c.args.low c.args.high fork c.requires.wide c.requires.ordered from)
-    c.remove_in-else-as_u128-middle.ensures.after
-
-pub remove_below-returns-else-as_u128-middle-clause-timed :
-    goal.remove_below-returns-else-as_u128-middle-clause-timed
-remove_below-returns-else-as_u128-middle-clause-timed g t c transport timed =
-    (timed.0, c.remove_in-else-as_u128-middle.ensures.timed transport timed.1)
-
-pub remove-returns-in-Ok-clause-ordered : goal.remove-returns-in-Ok-clause-ordered
-remove-returns-in-Ok-clause-ordered g t c =
-    let left = rw c.deref_mut.ensures.value at c.remove_below-taken.ensures.after in
-    let kept : items c.in-Ok.only ≡ fork_items c.remove_below-taken.new.fork =
-    rw c.deref_mut-in-Fork.ensures.value at c.in-Ok.ensures.items in
-    kept_ordered c.args.id c.args.low c.args.high c.args.link.now
-    (fork_items c.remove_below-taken.new.fork) c.in-Ok.only c.requires c.in-Ok.ensures.lone kept
-    (rw (ap items c.in-Fork.is) left)
-
-pub remove-returns-in-Ok-clause-timed : goal.remove-returns-in-Ok-clause-timed
-remove-returns-in-Ok-clause-timed g t c transport timed =
+pub remove-returns-in-Some-clause-timed : goal.remove-returns-in-Some-clause-timed
+remove-returns-in-Some-clause-timed g t c transport timed =
     let told = subst (IsTimed transport) c.in-Fork.is timed in
-    (rw c.deref_mut-in-Fork.ensures.value at c.in-Ok.ensures.timed) transport
-    ((rw c.deref_mut.ensures.value at c.remove_below-taken.ensures.timed) transport
-    (told.1, (told.2, told.3)))
+    (rw c.deref_mut-in-Fork.ensures.value at c.in-Some.ensures.timed) transport
+    ((rw c.deref_mut.ensures.value at c.remove_from.ensures.timed) transport
+    (told.1, told.2, told.3, told.4))
 
-pub remove-returns-in-Err-clause-after : goal.remove-returns-in-Err-clause-after
-remove-returns-in-Err-clause-after g t c =
-    let left : fork_items c.remove_below-taken.new.fork
-    ≡ without c.args.id (fork_items c.in-Fork.fork.value) =
-    rw c.deref_mut.ensures.value at c.remove_below-taken.ensures.after in
-    let same : c.collapse.new.self ≡ c.remove_below-taken.new.fork =
-    c.in-Err.ensures.same ∙ c.deref_mut-in-Fork.ensures.value in
-    rw (ap items c.in-Fork.is) (ap fork_items same ∙ left)
-
-pub remove-returns-in-Err-clause-ordered : goal.remove-returns-in-Err-clause-ordered
-remove-returns-in-Err-clause-ordered g t c =
-    let old = subst (IsOrdered c.args.low c.args.high) c.in-Fork.is c.requires in
-    let same : c.collapse.new.self ≡ c.remove_below-taken.new.fork =
-    c.in-Err.ensures.same ∙ c.deref_mut-in-Fork.ensures.value in
-    let kept : IsOrderedFork c.args.low c.args.high c.collapse.new.self =
-    subst (IsOrderedFork c.args.low c.args.high) (sym same) c.remove_below-taken.ensures.ordered in
-    (old.0, kept.0, kept.1.0, kept.1.1)
-
-pub remove-returns-in-Err-clause-timed : goal.remove-returns-in-Err-clause-timed
-remove-returns-in-Err-clause-timed g t c transport timed =
+pub remove-returns-in-None-clause-timed : goal.remove-returns-in-None-clause-timed
+remove-returns-in-None-clause-timed g t c transport timed =
     let told = subst (IsTimed transport) c.in-Fork.is timed in
-    let below = (rw c.deref_mut.ensures.value at c.remove_below-taken.ensures.timed) transport
-    (told.1, (told.2, told.3)) in
-    let found = subst (IsTimedFork transport) (sym c.deref_mut-in-Fork.ensures.value) below in
-    let kept : IsTimedFork transport c.collapse.new.self =
-    subst (IsTimedFork transport) (sym c.in-Err.ensures.same) found in (
-      c.in-Err.ensures.awaited transport found
-          ∙ ap (awaited_of transport) (ap fork_items (sym c.in-Err.ensures.same)),
+    let whole = subst (IsTimedFork transport) (sym c.deref_mut.ensures.value)
+    (told.1, told.2, told.3, told.4) in
+    let found = subst (IsTimedFork transport) (sym c.deref_mut-in-Fork.ensures.value)
+    (c.remove_from.ensures.timed transport whole) in
+    let kept = subst (IsTimedFork transport) (sym c.in-None.ensures.same) found in
+    let all = fork_items c.in-Fork.fork.value in
+    let there = sym (c.in_ok-awaited-in-Fork.ensures.answer
+    ∙ ap (λ f. at c.args.id (fork_items f)) c.deref_mut.ensures.value) in
+    let left : fork_items c.deref_mut-in-Fork.result.now ≡ without c.args.id all =
+    ap fork_items c.deref_mut-in-Fork.ensures.value ∙ c.remove_from.ensures.after
+    ∙ ap (λ f. without c.args.id (fork_items f)) c.deref_mut.ensures.value in
+    let gone = c.in_ok-awaited-in-Fork.ensures.told transport whole in
+    let others = told.0
+    ∙ awaited_of-without transport c.args.id c.in_ok-awaited-in-Fork.leaf.value.1 all there
+    ∙ ap₂ joined (ap (awaited_of transport) (sym left)) (sym gone) in (
+      c.in-None.ensures.awaited transport found others
+          ∙ ap (awaited_of transport) (ap fork_items (sym c.in-None.ensures.same)),
       kept.0,
-      kept.1.0,
-      kept.1.1,
+      kept.1,
+      kept.2,
+      kept.3,
     )
+
+-- ---- the quarters of a fork
+pub remove_from-returns-in-First-clause-answer : goal.remove_from-returns-in-First-clause-answer
+remove_from-returns-in-First-clause-answer g t c =
+    c.remove.ensures.answer
+    ∙ at_first c.args.levels c.args.id c.args.fork.now c.requires.ordered
+    (omega (arith, c.quarter_of.ensures, ap number_of c.in-First.is))
+
+pub remove_from-returns-in-First-clause-after : goal.remove_from-returns-in-First-clause-after
+remove_from-returns-in-First-clause-after g t c =
+    in_first c.args.levels c.args.id c.args.fork.now c.requires.ordered (without_acts c.args.id)
+    (items c.remove.new.link) (omega (arith, c.quarter_of.ensures, ap number_of c.in-First.is))
+    c.remove.ensures.after
+
+pub remove_from-returns-in-First-clause-timed : goal.remove_from-returns-in-First-clause-timed
+remove_from-returns-in-First-clause-timed g t c transport timed =
+    (c.remove.ensures.timed transport timed.0, timed.1, timed.2, timed.3)
+
+pub remove_from-returns-in-Second-clause-answer : goal.remove_from-returns-in-Second-clause-answer
+remove_from-returns-in-Second-clause-answer g t c =
+    c.remove-in-Second.ensures.answer
+    ∙ at_second c.args.levels c.args.id c.args.fork.now c.requires.ordered
+    (omega (arith, c.quarter_of.ensures, ap number_of c.in-Second.is))
+
+pub remove_from-returns-in-Second-clause-after : goal.remove_from-returns-in-Second-clause-after
+remove_from-returns-in-Second-clause-after g t c =
+    in_second c.args.levels c.args.id c.args.fork.now c.requires.ordered (without_acts c.args.id)
+    (items c.remove-in-Second.new.link) (omega (arith, c.quarter_of.ensures, ap number_of c.in-Second.is))
+    c.remove-in-Second.ensures.after
+
+pub remove_from-returns-in-Second-clause-timed : goal.remove_from-returns-in-Second-clause-timed
+remove_from-returns-in-Second-clause-timed g t c transport timed =
+    (timed.0, c.remove-in-Second.ensures.timed transport timed.1, timed.2, timed.3)
+
+pub remove_from-returns-in-Third-clause-answer : goal.remove_from-returns-in-Third-clause-answer
+remove_from-returns-in-Third-clause-answer g t c =
+    c.remove-in-Third.ensures.answer
+    ∙ at_third c.args.levels c.args.id c.args.fork.now c.requires.ordered
+    (omega (arith, c.quarter_of.ensures, ap number_of c.in-Third.is))
+
+pub remove_from-returns-in-Third-clause-after : goal.remove_from-returns-in-Third-clause-after
+remove_from-returns-in-Third-clause-after g t c =
+    in_third c.args.levels c.args.id c.args.fork.now c.requires.ordered (without_acts c.args.id)
+    (items c.remove-in-Third.new.link) (omega (arith, c.quarter_of.ensures, ap number_of c.in-Third.is))
+    c.remove-in-Third.ensures.after
+
+pub remove_from-returns-in-Third-clause-timed : goal.remove_from-returns-in-Third-clause-timed
+remove_from-returns-in-Third-clause-timed g t c transport timed =
+    (timed.0, timed.1, c.remove-in-Third.ensures.timed transport timed.2, timed.3)
+
+pub remove_from-returns-in-Fourth-clause-answer : goal.remove_from-returns-in-Fourth-clause-answer
+remove_from-returns-in-Fourth-clause-answer g t c =
+    c.remove-in-Fourth.ensures.answer
+    ∙ at_fourth c.args.levels c.args.id c.args.fork.now c.requires.ordered
+    (omega (arith, c.quarter_of.ensures, ap number_of c.in-Fourth.is))
+
+pub remove_from-returns-in-Fourth-clause-after : goal.remove_from-returns-in-Fourth-clause-after
+remove_from-returns-in-Fourth-clause-after g t c =
+    in_fourth c.args.levels c.args.id c.args.fork.now c.requires.ordered (without_acts c.args.id)
+    (items c.remove-in-Fourth.new.link) (omega (arith, c.quarter_of.ensures, ap number_of c.in-Fourth.is))
+    c.remove-in-Fourth.ensures.after
+
+pub remove_from-returns-in-Fourth-clause-timed : goal.remove_from-returns-in-Fourth-clause-timed
+remove_from-returns-in-Fourth-clause-timed g t c transport timed =
+    (timed.0, timed.1, timed.2, c.remove-in-Fourth.ensures.timed transport timed.3)

@@ -1,29 +1,27 @@
 -- What requests await tells which of them are due or over, and when.
-use Rattle.std.proofs.Common.{ℕ, ◌≡◌, ◌<◌, ◌≤◌, ◌+◌, arith, min}
+use Rattle.std.proofs.Common.{ℕ, ◌≡◌, ◌≤◌, ◌+◌, arith, min}
 use Rattle.std.proofs.Common.{Bool, true, false, not, ◌&&◌, ◌||◌, cond, List, [], ◌∷◌, ◌++◌, map}
 use Rattle.std.proofs.Common.{ap, ap₂, sym, refl, ◌∙◌}
-use Rattle.std.specs.Prelude.{Option, Some, None, find, filter, fold, nat_le, nat_lt}
+use Rattle.std.specs.Prelude.{Option, Some, None, find, filter, fold, nat_le}
 use Rattle.std.specs.Option.{option_map_or, is_some}
-use Rattle.std.proofs.lemmas.Bool.{ltb-true}
+use Rattle.std.proofs.Math.Bool.{or_assoc, or_comm, or-false}
 use Rattle.std.proofs.lemmas.List.Sums.{sum_by-cons}
 use Rattle.stun_base.specs.declared.wire.transport.TransportType.{TransportType}
-use Rattle.stun_base.specs.declared.wire.transport.TransportType.TheVariants.{Udp, Tcp}
 use Rattle.stun_agent.specs.declared.state.tree.Link.{Link}
 use Rattle.stun_agent.specs.declared.state.tree.Link.TheVariants.{Empty, Leaf, Fork'}
 use Rattle.stun_agent.specs.Deadlines.{is_early, early_requests}
-use Rattle.stun_agent.specs.Timing.{repetitions, slots}
 use Rattle.std.specs.Ordering.{nat_cmp, is_eq, match_ordering}
 use Rattle.std.specs.declared.cmp.Ordering.{Ordering}
 use Rattle.std.specs.declared.cmp.Ordering.TheVariants.{Less, Equal, Greater}
 use Rattle.std.specs.BTreeMap.{is_at}
 use Rattle.stun_agent.specs.Transactions.{Transaction, Transactions, at, with, without, sooner}
-use Rattle.stun_agent.specs.Transactions.{has_slots}
-use Rattle.stun_agent.specs.Transactions.{is_cancelled, is_due, is_over, awaited_moment}
+use Rattle.stun_agent.specs.Transactions.{has_slots, is_cancelled, is_due, is_over, awaited_moment}
 use Rattle.stun_agent.specs.Transactions.{awaited_moments, next_awaited, first_over}
 use Rattle.stun_agent.specs.code.Awaited.{Awaited, nothing, slot_at, end_at, cancelled_one}
 use Rattle.stun_agent.specs.code.Awaited.{awaited_by, lesser, joined, awaited_of, has_come}
 use Rattle.stun_agent.specs.code.Awaited.{some_due, some_over, first_awaited}
 use Rattle.stun_agent.specs.code.Tree.{items, told, IsTimed}
+use Rattle.stun_agent.proofs.FoundLemmas.{none_is}
 
 -- ---- the lesser of two moments
 lesser_none : (a : Option ℕ) → lesser None a ≡ a
@@ -50,14 +48,6 @@ lesser_of_four a b c d = lesser_lesser a b (lesser c d)
     ∙ sym (lesser_lesser a c (lesser b d))
 
 -- ---- these and those
-or_false : (b : Bool) → (b || false) ≡ b
-or_false true = refl
-or_false false = refl
-
-or_or : (a b c : Bool) → ((a || b) || c) ≡ (a || (b || c))
-or_or true b c = refl
-or_or false b c = refl
-
 pub nothing_joined : (a : Awaited) → joined nothing a ≡ a
 nothing_joined a =
     λ i. record {
@@ -68,20 +58,14 @@ nothing_joined a =
 
 pub joined_nothing : (a : Awaited) → joined a nothing ≡ a
 joined_nothing a =
-    λ i. record { slot = a.slot; end = a.end; cancelled = or_false a.cancelled i }
-
-or_turned : (b c : Bool) → (b || c) ≡ (c || b)
-or_turned true true = refl
-or_turned true false = refl
-or_turned false true = refl
-or_turned false false = refl
+    λ i. record { slot = a.slot; end = a.end; cancelled = or-false a.cancelled i }
 
 pub joined_turned : (a b : Awaited) → joined a b ≡ joined b a
 joined_turned a b =
     λ i. record {
       slot = lesser_turned a.slot b.slot i;
       end = lesser_turned a.end b.end i;
-      cancelled = or_turned a.cancelled b.cancelled i;
+      cancelled = or_comm a.cancelled b.cancelled i;
     }
 
 pub joined_joined : (a b c : Awaited) → joined (joined a b) c ≡ joined a (joined b c)
@@ -89,7 +73,7 @@ joined_joined a b c =
     λ i. record {
       slot = lesser_lesser a.slot b.slot c.slot i;
       end = lesser_lesser a.end b.end c.end i;
-      cancelled = or_or a.cancelled b.cancelled c.cancelled i;
+      cancelled = or_assoc a.cancelled b.cancelled c.cancelled i;
     }
 
 pub awaited_of-append : (transport : TransportType) (xs ys : Transactions)
@@ -174,7 +158,7 @@ awaited_of-without transport id t (e ∷ es) there =
 -- ---- what is due, and what is over
 come_lesser : (now : ℕ) (a b : Option ℕ)
     → has_come now (lesser a b) ≡ (has_come now a || has_come now b)
-come_lesser now a None = sym (or_false (has_come now a))
+come_lesser now a None = sym (or-false (has_come now a))
 come_lesser now None (Some m) = refl
 come_lesser now (Some l) (Some m) = grind arith
 
@@ -325,7 +309,7 @@ wake_up_is transport now hour (e ∷ es) h =
     let parts = none_first (λ (x : ℕ × Transaction). is_over transport now x.1) e es (ap is_some h) in
     let live = not_cancelled (is_cancelled e.1.sending)
     (not (has_slots transport e.1) && nat_le m now) parts.0 in
-    wake_up_is transport now (min hour m) es (none_found (first_over transport now es) parts.1)
+    wake_up_is transport now (min hour m) es (none_is (first_over transport now es) parts.1)
     ∙ least_with m hour first
     ∙ ap (λ o. option_map_or (λ x. min x hour) o hour)
     (ap (λ c. lesser (cond c None (Some m)) first) (sym live) ∙ sym (first_with transport e es))
@@ -333,10 +317,6 @@ wake_up_is transport now hour (e ∷ es) h =
     not_cancelled : (c b : Bool) → (c || b) ≡ false → c ≡ false
     not_cancelled true b h = h
     not_cancelled false b h = refl
-
-    none_found : (o : Option (ℕ × Transaction)) → is_some o ≡ false → o ≡ None
-    none_found None h = refl
-    none_found (Some x) h = cc
 
 -- ---- one of them
 pub over_early : (transport : TransportType) (now : ℕ) (all : Transactions)
@@ -365,20 +345,3 @@ over_early transport now (x ∷ xs) e h =
         (nat_le (awaited_moment transport x.1) now) is) in
         omega (arith, count, one)
     by false is h rest count = let more = rest h in omega (arith, count, more)
-
-pub due_has_slot : (transport : TransportType) (now : ℕ) (t : Transaction)
-    → is_due transport now t ≡ true → t.slot < repetitions t.settings
-due_has_slot transport now t h =
-    within transport
-    (slots_left (is_cancelled t.sending) (has_slots transport t)
-    (nat_le (awaited_moment transport t) now) h)
-  where
-    slots_left : (c s b : Bool) → (not c && (s && b)) ≡ true → s ≡ true
-    slots_left true s b h = cc
-    slots_left false true b h = refl
-    slots_left false false b h = h
-
-    within : (transport : TransportType) → nat_lt t.slot (slots transport t.settings) ≡ true
-        → t.slot < repetitions t.settings
-    within Udp h = ltb-true t.slot (repetitions t.settings) h
-    within Tcp h = let none : t.slot < 0 = ltb-true t.slot 0 h in omega (arith, none)

@@ -6,7 +6,6 @@ pub mod EndedLemmas
 pub mod EntryLemmas
 pub mod FoundLemmas
 pub mod HalvesLemmas
-pub mod InsertLemmas
 pub mod LookLemmas
 pub mod LookupLemmas
 pub mod NamedLemmas

@@ -2,13 +2,12 @@
 use Rattle.std.proofs.Common.{ℕ, ◌≡◌, ◌+◌, ◌-◌, ◌*◌, ◌≤◌, arith, Bool, true}
 use Rattle.std.specs.Prelude.{max, Option, Some, None, MatchOption}
 use Rattle.std.specs.Option.{option_map, is_some}
-use Rattle.stun_base.specs.declared.wire.transport.TransportType.{TransportType}
 use Rattle.stun_agent.specs.declared.state.tree.Link.{Link}
 use Rattle.stun_agent.specs.declared.state.tree.Link.TheVariants.{Empty, Leaf, Fork'}
 use Rattle.stun_agent.specs.Deadlines.{most_levels, most_looks}
 use Rattle.stun_agent.specs.Transactions.{Transaction}
 use Rattle.stun_agent.specs.code.Transactions.{id_and_repeats}
-use Rattle.stun_agent.specs.code.Tree.{depth, IsOrdered, IsTree}
+use Rattle.stun_agent.specs.code.Tree.{depth, IsOrdered}
 
 -- a search of the links of a fork, of which one has a request that is over
 pub looks_of_fork : (told : Option (ℕ × Bool)) (found : Option (ℕ × Transaction))
@@ -40,10 +39,6 @@ depth_within levels part (Fork' awaited p a b c d) (deep, oa, ob, oc, od) =
     let three = depth_within (levels - 1) _ c oc in
     let four = depth_within (levels - 1) _ d od in
     omega (arith, some, one, two, three, four)
-
-pub depth_of_tree : {A : Type 0} (transport : TransportType) (root : Link A)
-    → IsTree transport root → depth root ≤ most_levels
-depth_of_tree transport root tree = depth_within most_levels 0 root tree.ordered
 
 -- ---- a poll
 -- a search from the root that finds one, or one that finds none and a look for the next moment

@@ -1,6 +1,6 @@
 -- What is at an id, and how many there are, once entries are taken out, put in or changed.
 use Rattle.std.proofs.Common.{ℕ, ◌≡◌, ◌+◌, Bool, true, false, cond, List, []}
-use Rattle.std.proofs.Common.{◌∷◌, length, map, subst, ap, sym, refl, ◌∙◌, arith}
+use Rattle.std.proofs.Common.{◌∷◌, length, subst, ap, sym, refl, ◌∙◌, arith}
 use Rattle.std.specs.Prelude.{Option, Some, None, find}
 use Rattle.std.specs.Option.{option_map, option_map_or, is_some}
 use Rattle.std.specs.List.{AllByRecursion}
@@ -14,20 +14,7 @@ use Rattle.stun_agent.specs.Transactions.{Transaction, Transactions, IsAscending
 use Rattle.stun_agent.specs.Transactions.{at, with, without, with_change_at}
 use Rattle.stun_agent.proofs.Ascending.{lookup-set_other}
 use Rattle.stun_agent.proofs.EntryLemmas.{same_key, own_key}
-
-pub lookup-map : {X : Type 0} (g : ℕ × X → X) (k : ℕ) (es : List (ℕ × X))
-    → lookup (is_at (nat_cmp k)) (map (λ e. (e.0, g e)) es)
-    ≡ option_map (λ v. g (k, v)) (lookup (is_at (nat_cmp k)) es)
-lookup-map g k [] = refl
-lookup-map {X} g k (e ∷ es) = by (is_at (nat_cmp k) e.0) refl (lookup-map g k es)
-  where
-    by : (b : Bool) → is_at (nat_cmp k) e.0 ≡ b
-        → lookup (is_at (nat_cmp k)) (map (λ e. (e.0, g e)) es)
-        ≡ option_map (λ v. g (k, v)) (lookup (is_at (nat_cmp k)) es)
-        → cond b (Some (g e)) (lookup (is_at (nat_cmp k)) (map (λ e. (e.0, g e)) es))
-        ≡ option_map (λ v. g (k, v)) (cond b (Some e.1) (lookup (is_at (nat_cmp k)) es))
-    by true is rest = let key : e.0 ≡ k = same_key k e.0 is in ap Some (λ i. g (key i, e.1))
-    by false is rest = rest
+pub use Rattle.stun_agent.proofs.EntryLemmas.{lookup-map}
 
 pub none_above : {X : Type 0} (k : ℕ) (es : List (ℕ × X))
     → AllByRecursion (λ y. nat_cmp k y ≡ Less) (keys_of es) → lookup (is_at (nat_cmp k)) es ≡ None

@@ -35,8 +35,8 @@ use Rattle.stun_agent.proofs.Ascending.{IsAscending-map, IsAscending-set_value, 
 use Rattle.stun_agent.proofs.Ascending.{IsAscending-insert, lookup-remove_other}
 use Rattle.stun_agent.proofs.Ascending.{lookup-insert_other, lookup-insert_same}
 use Rattle.stun_agent.proofs.AnswerLemmas.{answered_there}
-use Rattle.stun_agent.proofs.EntryLemmas.{same_key, lookup_found}
-use Rattle.stun_agent.proofs.LookupLemmas.{lookup-map, at-without}
+use Rattle.stun_agent.proofs.EntryLemmas.{same_key, lookup_found, lookup-map}
+use Rattle.stun_agent.proofs.LookupLemmas.{at-without}
 use Rattle.stun_agent.proofs.LookupLemmas.{is_some-option_map, is_some-with_change_at}
 
 pub ascending_none : IsAscending []

@@ -6,6 +6,7 @@ use Rattle.std.specs.Option.{option_map, option_map_or, is_some}
 use Rattle.std.specs.List.{AllByRecursion}
 use Rattle.std.proofs.lemmas.Bool.{le-leb, lt-leb}
 use Rattle.std.proofs.lemmas.List.{map-append}
+use Rattle.stun_types.proofs.ReachedLemmas.{weaker}
 use Rattle.stun_base.specs.declared.wire.transport.TransportType.{TransportType}
 use Rattle.stun_agent.specs.declared.state.tree.Fork.{Fork}
 use Rattle.stun_agent.specs.Transactions.{Transaction, Transactions, repeats, is_due}
@@ -15,7 +16,7 @@ use Rattle.stun_agent.specs.code.Tree.{items, fork_items, IsOrderedFork}
 use Rattle.stun_agent.proofs.AwaitedLemmas.{due_is, none_first}
 use Rattle.stun_agent.proofs.FoundLemmas.{none_is, found_first, found_second}
 use Rattle.stun_agent.proofs.HalvesLemmas.{AreLater, AreSooner, AreApart}
-use Rattle.stun_agent.proofs.TreeLemmas.{all_weaker, first_apart, second_apart, third_apart}
+use Rattle.stun_agent.proofs.TreeLemmas.{first_apart, second_apart, third_apart}
 
 -- ---- nothing is due
 none_of_both : {X : Type 0} (p q : X → Bool) (xs : List X) → is_some (find p xs) ≡ false
@@ -42,11 +43,6 @@ none_pass transport now (e ∷ es) h =
     ap (λ b. cond b (after_slot now e.1) e.1) parts.0 in
     let rest = none_pass transport now es parts.1 in
     λ i. (e.0, here i) ∷ rest i
-
-pub none_due-after : (transport : TransportType) (now : ℕ) (es : Transactions)
-    → some_due now (awaited_of transport es) ≡ false → after_slots transport now None es ≡ es
-none_due-after transport now es h =
-    none_pass transport now es (sym (due_is transport now es) ∙ h)
 
 -- ---- what is found
 -- what holds of each holds of the one that is found
@@ -98,29 +94,13 @@ abbrev pub passed : TransportType → ℕ → Transactions → Transactions
 passed transport now es =
     after_slots transport now (option_map (λ e. e.0) (next_sent transport now es)) es
 
--- one that is due passes its slot, where it is all there is
-pub passed_one : (transport : TransportType) (now : ℕ) (e : ℕ × Transaction)
-    → is_due transport now e.1 ≡ true → (e.0, after_slot now e.1) ∷ [] ≡ passed transport now (e ∷ [])
-passed_one transport now e due =
-    by (repeats e.1.sending) (le-leb e.0 e.0 (omega arith))
-    ∙ ap (λ d. after_slots transport now
-    (option_map (λ (x : ℕ × Transaction). x.0) (cond (d && repeats e.1.sending) (Some e) None))
-    (e ∷ [])) (sym due)
-  where
-    by : (r : Bool) → nat_le e.0 e.0 ≡ true
-        → (e.0, after_slot now e.1) ∷ []
-        ≡ after_slots transport now
-        (option_map (λ (x : ℕ × Transaction). x.0) (cond r (Some e) None)) (e ∷ [])
-    by true own =
-        λ i. (e.0, cond (sym own i && sym due i) (after_slot now e.1) e.1) ∷ []
-    by false own = λ i. (e.0, cond (sym due i) (after_slot now e.1) e.1) ∷ []
-
 -- where none is due, none passes
 pub passed_none : (transport : TransportType) (now : ℕ) (es : Transactions)
     → some_due now (awaited_of transport es) ≡ false → es ≡ passed transport now es
 passed_none transport now es none =
     sym (ap (λ o. after_slots transport now (option_map (λ (x : ℕ × Transaction). x.0) o) es)
-    (none_due-next transport now es none) ∙ none_due-after transport now es none)
+    (none_due-next transport now es none)
+    ∙ none_pass transport now es (sym (due_is transport now es) ∙ none))
 
 module _ (transport : TransportType) (now : ℕ) (xs ys : Transactions) (apart : AreApart xs ys) where
   pub passed_first : (first : Transactions) → is_some (next_sent transport now xs) ≡ true
@@ -159,8 +139,8 @@ module _ (transport : TransportType) (now : ℕ) (xs ys : Transactions) (apart :
       by None h = sym (after_slots-append transport now None xs ys)
       by (Some e) h =
           let sooner : AreSooner e.0 xs =
-          all_weaker _ _ (λ (x : ℕ × Transaction) later.
-          found_all (λ (y : ℕ × Transaction). x.0 < y.0) (sends transport now) ys e later h) xs
+          weaker _ _ xs (λ (x : ℕ × Transaction) later.
+          found_all (λ (y : ℕ × Transaction). x.0 < y.0) (sends transport now) ys e later h)
           apart in
           sym (after_slots-append transport now (Some e.0) xs ys
           ∙ ap (λ l. l ++ after_slots transport now (Some e.0) ys)

@@ -1,11 +1,9 @@
 -- An id is in one quarter of a fork: what is there, or changes there, is so below the fork.
-use Rattle.std.proofs.Common.{ℕ, ◌≡◌, ◌+◌, ◌-◌, ◌*◌, ◌<◌, arith, ◌++◌, ap, sym, subst, ◌∙◌}
-use Rattle.std.specs.Prelude.{Option}
+use Rattle.std.proofs.Common.{ℕ, ◌≡◌, ◌+◌, ◌-◌, ◌*◌, ◌<◌, arith, ◌++◌, ap, sym, ◌∙◌}
 use Rattle.stun_agent.specs.declared.state.tree.Fork.{Fork}
-use Rattle.stun_agent.specs.declared.state.tree.Link.{Link}
 use Rattle.stun_agent.specs.Transactions.{Transaction, Transactions, at, with, without}
 use Rattle.stun_agent.specs.Transactions.{with_change_at}
-use Rattle.stun_agent.specs.code.Tree.{items, fork_items, part_of, IsOrdered, IsOrderedFork}
+use Rattle.stun_agent.specs.code.Tree.{items, fork_items, part_of, IsOrderedFork}
 use Rattle.stun_agent.proofs.HalvesLemmas.{AreLater, AreSooner, at-left, at-right, with-left}
 use Rattle.stun_agent.proofs.HalvesLemmas.{with-right, without-left, without-right, change-left}
 use Rattle.stun_agent.proofs.HalvesLemmas.{change-right}

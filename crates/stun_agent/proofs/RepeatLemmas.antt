@@ -31,8 +31,8 @@ use Rattle.stun_agent.specs.Transactions.{with_cancellation, with_settings, repe
 use Rattle.stun_agent.specs.Transactions.{slot_passed, after_slot, after_slots, round_trip}
 use Rattle.stun_agent.proofs.Ascending.{lookup-remove_other}
 use Rattle.stun_agent.proofs.Ascending.{lookup-insert_other, lookup-insert_same}
-use Rattle.stun_agent.proofs.EntryLemmas.{same_key, lookup_found}
-use Rattle.stun_agent.proofs.LookupLemmas.{lookup-map, at-without, at-with_change_at}
+use Rattle.stun_agent.proofs.EntryLemmas.{same_key, lookup_found, lookup-map}
+use Rattle.stun_agent.proofs.LookupLemmas.{at-without, at-with_change_at}
 use Rattle.stun_agent.proofs.LookupLemmas.{at-changed_other}
 use Rattle.stun_agent.proofs.OnceLemmas.{ascending_none, ascending_call}
 use Rattle.stun_agent.proofs.OnceLemmas.{ascending_calls, not_refused_is_new}

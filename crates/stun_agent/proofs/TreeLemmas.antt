@@ -1,26 +1,22 @@
 -- The ids below a link are in its part, and they ascend.
 use Rattle.std.proofs.Common.{ℕ, ◌≡◌, ◌+◌, ◌-◌, ◌*◌, ◌/◌, ◌^◌, ◌<◌, arith, List, [], ◌∷◌}
-use Rattle.std.proofs.Common.{◌++◌, ap, sym, ◌∙◌, subst, ⊎_elim}
+use Rattle.std.proofs.Common.{◌++◌, ap, ◌∙◌, ⊎_elim}
 use Rattle.std.specs.List.{AllByRecursion}
 use Rattle.std.specs.List.Sorted.{IsStrictlySortedBy}
 use Rattle.std.proofs.Math.Pow.{shr_mono}
 use Rattle.std.proofs.lemmas.Bool.{cases_lt}
 use Rattle.std.proofs.lemmas.Nat.{shr-shr}
+use Rattle.stun_types.proofs.ReachedLemmas.{weaker}
 use Rattle.stun_base.specs.declared.wire.transport.TransportType.{TransportType}
 use Rattle.stun_agent.specs.declared.state.tree.Link.{Link}
 use Rattle.stun_agent.specs.declared.state.tree.Link.TheVariants.{Empty, Leaf, Fork'}
 use Rattle.stun_agent.specs.Deadlines.{most_levels}
-use Rattle.stun_agent.specs.Transactions.{Transaction, Transactions, IsAscending, IsNamed}
+use Rattle.stun_agent.specs.Transactions.{Transaction, Transactions, IsAscending}
 use Rattle.stun_agent.specs.Transactions.{AreKept}
-use Rattle.stun_agent.specs.code.Tree.{items, part_of, IsPlaced, IsDeep, IsOrdered, IsTree}
+use Rattle.stun_agent.specs.code.Tree.{items, part_of, IsPlaced, IsOrdered, IsTree}
 use Rattle.stun_agent.proofs.HalvesLemmas.{AreLater, AreSooner, AreApart, ascending-append}
 
 -- ---- lists
-pub all_weaker : {X : Type 0} (P Q : X → Type 0) → ((x : X) → P x → Q x) → (xs : List X)
-    → AllByRecursion P xs → AllByRecursion Q xs
-all_weaker P Q f [] h = tt
-all_weaker P Q f (x ∷ xs) h = (f x h.0, all_weaker P Q f xs h.1)
-
 pub all_append : {X : Type 0} (P : X → Type 0) (xs ys : List X) → AllByRecursion P xs
     → AllByRecursion P ys → AllByRecursion P (xs ++ ys)
 all_append P [] ys a b = b
@@ -52,11 +48,11 @@ ArePlaced levels part es = AllByRecursion (IsPlaced levels part) es
 wider : (levels part quarter : ℕ) → 0 < levels → quarter / 4 ≡ part → (es : Transactions)
     → ArePlaced (levels - 1) quarter es → ArePlaced levels part es
 wider levels part quarter some is es h =
-    all_weaker _ _
+    weaker _ _ es
     (λ e at. record {
       inside = let up = quarter_in levels e.0 some in omega (arith, up, at.inside, is);
       named = at.named;
-    }) es h
+    }) h
 
 module _ {A : Type 0} where
   pub placed : (levels part : ℕ) (l : Link A) → IsOrdered levels part l
@@ -77,19 +73,19 @@ module _ {A : Type 0} where
   module _ (levels part : ℕ) (l : Link A) (h : IsOrdered levels part l) (id : ℕ) where
     pub are_later : part_of levels id < part → AreLater id (items l)
     are_later less =
-        all_weaker _ _ (λ e at. later_part levels id e.0 (rw at.inside less)) (items l)
+        weaker _ _ (items l) (λ e at. later_part levels id e.0 (rw at.inside less))
         (placed levels part l h)
 
     pub are_sooner : part < part_of levels id → AreSooner id (items l)
     are_sooner less =
-        all_weaker _ _ (λ e at. later_part levels e.0 id (rw at.inside less)) (items l)
+        weaker _ _ (items l) (λ e at. later_part levels e.0 id (rw at.inside less))
         (placed levels part l h)
 
   -- links to parts of which the second is later
   pub are_apart : (levels m n : ℕ) (k l : Link A) → m < n → IsOrdered levels m k
       → IsOrdered levels n l → AreApart (items k) (items l)
   are_apart levels m n k l less hk hl =
-      all_weaker _ _ (λ e at. are_later levels n l hl e.0 (rw at.inside less)) (items k)
+      weaker _ _ (items k) (λ e at. are_later levels n l hl e.0 (rw at.inside less))
       (placed levels m k hk)
 
   -- the parts of a fork
@@ -138,6 +134,6 @@ module _ {A : Type 0} where
   kept transport root tree =
       record {
         ascending = ascends most_levels 0 root tree.ordered;
-        named = all_weaker _ _ (λ e at. at.named) (items root)
+        named = weaker _ _ (items root) (λ e at. at.named)
             (placed most_levels 0 root tree.ordered);
       }

@@ -23,8 +23,8 @@ fork_items fork =
     items fork.first ++ (items fork.second ++ (items fork.third ++ items fork.fourth))
 
 -- ---- its order
--- the part of all ids in which an id is, below which so many levels of forks have room: its bits but
--- for two a level
+-- the part of all ids in which an id is, below which so many levels of forks have room: all its
+-- bits but two a level
 abbrev pub part_of : ℕ → ℕ → ℕ
 part_of levels id = id / 2 ^ (2 * levels)
 
@@ -34,11 +34,11 @@ pub record IsPlaced (levels part : ℕ) (e : ℕ × Transaction) : Type 0 where
   pub named : IsNamed e
 
 -- the two bits of an id that tell a quarter of a part
-abbrev pub number_of : Quarter → ℕ
-number_of First = 0
-number_of Second = 1
-number_of Third = 2
-number_of Fourth = 3
+abbrev pub two_bits : Quarter → ℕ
+two_bits First = 0
+two_bits Second = 1
+two_bits Third = 2
+two_bits Fourth = 3
 
 -- so many levels of forks have room below a link, if that is a fork
 pub record IsDeep (levels : ℕ) : Type 0 where

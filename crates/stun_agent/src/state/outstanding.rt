@@ -14,6 +14,7 @@ use crate::error::NoRoom;
 use crate::poll::reads::Reads;
 use crate::state::search;
 use crate::state::transaction::{Change, Transaction};
+use crate::state::tree::awaited::Awaited;
 use crate::state::tree::change::{change, pass_slots};
 use crate::state::tree::insert::insert;
 use crate::state::tree::remove::remove;
@@ -83,7 +84,7 @@ impl<A: Allocator> Outstanding<A> {
         ensures answer { result ≡ at id self.old.requests }
         ensures after { self.new ≡ record self.old { requests = without id self.old.requests } }
     {
-        let (_awaited, leaf) = remove(&mut self.root, LEVELS, id)?;
+        let leaf = remove(&mut self.root, LEVELS, id, &mut Awaited::nothing())?;
         Some(Box::into_inner(leaf).into_request())
     }
 }

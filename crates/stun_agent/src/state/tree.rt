@@ -2,15 +2,15 @@
 //! await, so a search for those that are due goes only where there are some.
 //!
 //! The tree is also the index of deadlines that a poll searches. A `&Link` is all that such a
-//! search sees. The fields of a `Leaf`, and the times in a link, are private to this module and to the
-//! modules below it, so the search has two ways to them: a look at the times of a link
+//! search sees. The fields of a `Leaf`, and the times in a link, are private to this module and to
+//! the modules below it, so the search has two ways to them: a look at the times of a link
 //! (`Awaited::is_over` and `Link::first`), and `read_entry`, which gives the entry of one request.
 //! Both count (`Reads`). All other calls of the modules below want a link that can be changed, or
 //! the permission `Uncounted`, which neither the search nor `poll` can create.
 ghost use Rattle.std.specs.Prelude.{◌≡◌, ◌+◌, ◌-◌, ◌*◌};
 ghost use Rattle.stun_base.specs.declared.wire.transport.TransportType.{TransportType};
 ghost use Rattle.stun_agent.specs.code.Awaited.{awaited_of, first_awaited, joined};
-ghost use Rattle.stun_agent.specs.code.Tree.{items, fork_items, told, part_of, number_of};
+ghost use Rattle.stun_agent.specs.code.Tree.{items, fork_items, told, part_of, two_bits};
 ghost use Rattle.stun_agent.specs.code.Tree.{IsDeep, IsTimed, IsTimedFork};
 
 use crate::poll::reads::Reads;
@@ -157,7 +157,7 @@ enum Quarter {
 /// Returns the quarter in which a fork with room for so many levels has an ID.
 fn quarter_of(id: TransactionId, levels: u32) -> Quarter
     requires { IsDeep levels }
-    ensures { part_of (levels - 1) id ≡ 4 * part_of levels id + number_of result }
+    ensures { part_of (levels - 1) id ≡ 4 * part_of levels id + two_bits result }
 {
     let bits = (id.as_u128() >> (2 * levels - 2)) % 4;
     if bits == 0 {

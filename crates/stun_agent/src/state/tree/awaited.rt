@@ -5,8 +5,8 @@
 //! join times, are seen in `tree.rt` and the modules below it alone.
 ghost use Rattle.std.specs.Prelude.{◌≡◌, ◌+◌, ◌||◌, false, if◌then◌else◌, Some, None};
 ghost use Rattle.stun_base.specs.Moments.{last_moment};
-ghost use Rattle.stun_agent.specs.code.Awaited.{Awaited, nothing, slot_at, end_at, cancelled_one, joined};
-ghost use Rattle.stun_agent.specs.code.Awaited.{first_awaited, some_due, some_over, lesser};
+ghost use Rattle.stun_agent.specs.code.Awaited.{Awaited, nothing, slot_at, end_at, cancelled_one};
+ghost use Rattle.stun_agent.specs.code.Awaited.{joined, first_awaited, some_due, some_over, lesser};
 
 use crate::poll::reads::Reads;
 use std::marker::Model;
@@ -43,7 +43,7 @@ impl Model for Awaited {
 
 impl Awaited {
     /// Creates the value for no requests.
-    pub(super) fn nothing() -> Self
+    pub(crate) fn nothing() -> Self
         ensures { result ≡ nothing }
     {
         Awaited {
@@ -149,8 +149,8 @@ impl Awaited {
         self.is_cancelled |= other.is_cancelled;
     }
 
-    /// Returns whether a time of these requests may be the earliest of all, which `all` tells of. If
-    /// it is not, the others await the same without them.
+    /// Returns whether a time of these requests may be the earliest of all those that `all` is of.
+    /// If not, the others await the same without them.
     pub(super) fn may_be_first_of(&self, all: &Awaited) -> bool
         ensures { result ≡ false → (others : Awaited)
             → all.now ≡ joined others self.now → all.now ≡ others }

@@ -63,13 +63,13 @@ fn change_fork<A: Allocator>(
     ensures awaited { IsTimedFork transport fork.old
         → result ≡ awaited_of transport (fork_items fork.new) }
 {
-    change_quarter(fork, levels, transport, id, to);
+    change_in(fork, levels, transport, id, to);
     fork.awaited()
 }
 
 /// Like `change`, but for the requests below a fork.
 #[cycle(change)]
-fn change_quarter<A: Allocator>(
+fn change_in<A: Allocator>(
     fork: &mut Fork<A>,
     levels: u32,
     transport: TransportType,
@@ -172,14 +172,14 @@ fn pass_fork<A: Allocator>(
     ensures timed { IsTimedFork transport fork.new }
     ensures awaited { awaited.new ≡ awaited_of transport (fork_items fork.new) }
 {
-    let sent = pass_quarters(fork, transport, now, leave);
+    let sent = pass_in(fork, transport, now, leave);
     *awaited = fork.awaited();
     sent
 }
 
 /// Like `pass_slots`, but for the requests below a fork.
 #[cycle(pass_slots)]
-fn pass_quarters<A: Allocator>(
+fn pass_in<A: Allocator>(
     fork: &mut Fork<A>,
     transport: TransportType,
     now: Instant,

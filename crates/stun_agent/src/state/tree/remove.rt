@@ -17,40 +17,41 @@ use std::mem;
 use stun_base::transaction_id::TransactionId;
 
 /// Removes the request with this ID, and the forks above it that are left with one leaf or nothing.
-/// Returns what the request awaited, and its leaf.
+/// Returns the leaf of the request, and sets `gone` to what it awaited.
 #[cycle(remove)]
 pub(crate) fn remove<A: Allocator>(
     link: &mut Link<A>,
     levels: u32,
     id: TransactionId,
-) -> Option<(Awaited, Box<Leaf<A>, A>)>
+    gone: &mut Awaited,
+) -> Option<Box<Leaf<A>, A>>
     requires { IsOrdered levels (part_of levels id) link.old }
-    ensures answer { option_map (λ taken. taken.1.value.1) result ≡ at id (items link.old) }
+    ensures answer { option_map (λ leaf. leaf.value.1) result ≡ at id (items link.old) }
     ensures after { items link.new ≡ without id (items link.old) }
     ensures same { MatchOption result (link.new ≡ link.old) (λ _. Unit {0}) }
     ensures ordered { IsOrdered levels (part_of levels id) link.new }
     ensures timed { (transport : TransportType) → IsTimed transport link.old
         → IsTimed transport link.new }
-    ensures told { IfSome result (λ taken. (transport : TransportType) → IsTimed transport link.old
-        → taken.0 ≡ awaited_by transport taken.1.value.1) }
+    ensures gone { IfSome result (λ leaf. (transport : TransportType) → IsTimed transport link.old
+        → gone.new ≡ awaited_by transport leaf.value.1) }
 {
     match link {
         Link::Empty => None,
         Link::Leaf(_, _) => {
             if link.is_of(id) {
-                take_leaf(link)
+                take_leaf(link, gone)
             } else {
                 None
             }
         }
         Link::Fork(before, fork) => {
-            let (awaited, leaf) = remove_from(fork, levels, id)?;
-            match fork.settle(before, &awaited) {
+            let leaf = remove_from(fork, levels, id, gone)?;
+            match fork.settle(before, gone) {
                 Some(only) => {
                     *link = only;
-                    Some((awaited, leaf))
+                    Some(leaf)
                 }
-                None => Some((awaited, leaf)),
+                None => Some(leaf),
             }
         }
     }
@@ -62,40 +63,43 @@ fn remove_from<A: Allocator>(
     fork: &mut Fork<A>,
     levels: u32,
     id: TransactionId,
-) -> Option<(Awaited, Box<Leaf<A>, A>)>
+    gone: &mut Awaited,
+) -> Option<Box<Leaf<A>, A>>
     requires deep { IsDeep levels }
     requires ordered { IsOrderedFork levels (part_of levels id) fork.old }
-    ensures answer { option_map (λ taken. taken.1.value.1) result ≡ at id (fork_items fork.old) }
+    ensures answer { option_map (λ leaf. leaf.value.1) result ≡ at id (fork_items fork.old) }
     ensures after { fork_items fork.new ≡ without id (fork_items fork.old) }
     ensures same { MatchOption result (fork.new ≡ fork.old) (λ _. Unit {0}) }
     ensures ordered { IsOrderedFork levels (part_of levels id) fork.new }
     ensures timed { (transport : TransportType) → IsTimedFork transport fork.old
         → IsTimedFork transport fork.new }
-    ensures told { IfSome result (λ taken. (transport : TransportType)
-        → IsTimedFork transport fork.old
-        → taken.0 ≡ awaited_by transport taken.1.value.1) }
+    ensures gone { IfSome result (λ leaf. (transport : TransportType)
+        → IsTimedFork transport fork.old → gone.new ≡ awaited_by transport leaf.value.1) }
 {
     let below = levels - 1;
     match quarter_of(id, levels) {
-        Quarter::First => remove(&mut fork.first, below, id),
-        Quarter::Second => remove(&mut fork.second, below, id),
-        Quarter::Third => remove(&mut fork.third, below, id),
-        Quarter::Fourth => remove(&mut fork.fourth, below, id),
+        Quarter::First => remove(&mut fork.first, below, id, gone),
+        Quarter::Second => remove(&mut fork.second, below, id, gone),
+        Quarter::Third => remove(&mut fork.third, below, id, gone),
+        Quarter::Fourth => remove(&mut fork.fourth, below, id, gone),
     }
 }
 
-/// Removes the request that a link leads to.
-fn take_leaf<A: Allocator>(link: &mut Link<A>) -> Option<(Awaited, Box<Leaf<A>, A>)>
+/// Removes the request that a link leads to, and sets `gone` to what it awaited.
+fn take_leaf<A: Allocator>(link: &mut Link<A>, gone: &mut Awaited) -> Option<Box<Leaf<A>, A>>
     requires { IsLeaf link.old }
-    ensures answer { option_map (λ taken. taken.1.value.1) result
+    ensures answer { option_map (λ leaf. leaf.value.1) result
         ≡ first_request (items link.old) }
-    ensures told { IfSome result (λ taken. (transport : TransportType) → IsTimed transport link.old
-        → taken.0 ≡ awaited_by transport taken.1.value.1) }
+    ensures gone { IfSome result (λ leaf. (transport : TransportType) → IsTimed transport link.old
+        → gone.new ≡ awaited_by transport leaf.value.1) }
     ensures some { MatchOption result (Empty ≡ link.old) (λ _. Unit {0}) }
     ensures empty { link.new ≡ Empty }
 {
     match mem::replace(link, Link::Empty) {
-        Link::Leaf(awaited, leaf) => Some((awaited, leaf)),
+        Link::Leaf(awaited, leaf) => {
+            *gone = awaited;
+            Some(leaf)
+        }
         other => {
             *link = other;
             None
@@ -167,8 +171,8 @@ impl<A: Allocator> Fork<A> {
     }
 
     /// Takes out what is below this fork, if that is one leaf or nothing. Otherwise joins anew what
-    /// the requests below it await, if the one that has left, which awaited `gone`, was the earliest
-    /// of all those that `all` told of.
+    /// the requests below it await, if the one that has left, which awaited `gone`, may have been
+    /// the earliest of those that `all` was of.
     fn settle(&mut self, all: &mut Awaited, gone: &Awaited) -> Option<Link<A>>
         ensures same { MatchOption result (self.new ≡ self.old) (λ _. Unit {0}) }
         ensures items { IfSome result (λ link. items link ≡ fork_items self.old) }

@@ -1,8 +1,8 @@
--- Where a link tells of none that is over, there is none. Else the first link with one has the first,
--- and one of them has one, so the search looks at four links of each fork at most.
-use Rattle.std.proofs.Common.{ℕ, arith, ap, sym, subst, ◌∙◌}
+-- Where a link tells of none that is over, there is none. Else the first link with one has the
+-- first, and one of them has one, so the search looks at four links of each fork at most.
+use Rattle.std.proofs.Common.{arith, ap, sym, subst, ◌∙◌}
 use Rattle.std.specs.Option.{option_map}
-use Rattle.stun_agent.specs.Transactions.{Transaction, is_over}
+use Rattle.stun_agent.specs.Transactions.{is_over}
 use Rattle.stun_agent.specs.code.Awaited.{some_over}
 use Rattle.stun_agent.specs.code.Transactions.{id_and_repeats}
 use Rattle.stun_agent.specs.code.Tree.{items, fork_items, depth, IsTimed, IsTimedFork}
@@ -29,14 +29,14 @@ pub find_ended-returns-else-not-is_over-2-clause-looks :
 find_ended-returns-else-not-is_over-2-clause-looks g t c transport timed =
     let told = subst (IsTimed transport) c.in-Fork.is timed in
     let links : IsTimedFork transport c.in-Fork.fork.value = (told.1, told.2, told.3, told.4) in
-    let looked = (rw c.deref-in-Fork.ensures at c.find_ended_below.ensures.looks) transport links in
-    let answer = (rw c.deref-in-Fork.ensures at c.find_ended_below.ensures.answer) transport links in
+    let below = rw c.deref-in-Fork.ensures at c.find_ended_below.ensures.looks in
+    let found = rw c.deref-in-Fork.ensures at c.find_ended_below.ensures.answer in
     let some = sym (over_is transport c.args.now (fork_items c.in-Fork.fork.value))
     ∙ ap (some_over c.args.now) (sym told.0) ∙ sym c.is_over-in-Fork.ensures.over
     ∙ c.if-not-is_over-2.false in
     rw (ap depth c.in-Fork.is)
-    (looks_of_fork c.find_ended_below.result _ answer some _ _ _ _
-    (ap (λ (w : Work). w.looks) c.is_over-in-Fork.ensures.counts) looked)
+    (looks_of_fork c.find_ended_below.result _ (found transport links) some _ _ _ _
+    (ap (λ (w : Work). w.looks) c.is_over-in-Fork.ensures.counts) (below transport links))
 
 -- ---- the links of a fork
 pub find_ended_below-returns-in-Some-clause-answer :

@@ -3,9 +3,9 @@
 use Rattle.std.proofs.Common.{arith, ap}
 use Rattle.std.specs.Prelude.{Some}
 use Rattle.stun_agent.specs.code.Tree.{items, depth}
-use Rattle.stun_agent.specs.Deadlines.{Work}
+use Rattle.stun_agent.specs.Deadlines.{most_levels, Work}
 use Rattle.stun_agent.proofs.EndedLemmas.{reads_early}
-use Rattle.stun_agent.proofs.LookLemmas.{depth_of_tree, looks_found, looks_waiting}
+use Rattle.stun_agent.proofs.LookLemmas.{depth_within, looks_found, looks_waiting}
 use Rattle.stun_agent.proofs.state.search.decide.Goals as goal
 
 pub returns-in-Some-clause-work : goal.returns-in-Some-clause-work
@@ -17,7 +17,7 @@ returns-in-Some-clause-work g c transport tree =
 pub returns-in-Some-clause-looks : goal.returns-in-Some-clause-looks
 returns-in-Some-clause-looks g c transport tree fresh =
     let root = c.args.index.now in
-    let deep = depth_of_tree transport root tree in
+    let deep = depth_within most_levels 0 root tree.ordered in
     let looked = c.in-Some.ensures.looks transport tree.timed in
     let read = c.in-Some.ensures.counts in
     let none = ap (λ (w : Work). w.entries) fresh in

@@ -1,5 +1,5 @@
 -- A quarter of a part has two bits of an ID.
-use Rattle.std.proofs.Common.{ℕ, ◌≡◌, ◌-◌, ◌*◌, ◌/◌, ◌^◌, ◌<◌, arith, ap, ap₂}
+use Rattle.std.proofs.Common.{ℕ, ◌≡◌, ◌-◌, ◌*◌, ◌/◌, ◌^◌, ◌<◌, arith, ap₂}
 use Rattle.stun_agent.specs.code.Tree.{part_of}
 use Rattle.stun_agent.proofs.TreeLemmas.{quarter_in}
 use Rattle.stun_agent.proofs.state.tree.quarter_of.Goals as goal

@@ -2,9 +2,9 @@
 use Rattle.std.proofs.Common.{ℕ, ◌≡◌, ◌+◌, ◌-◌, ◌*◌, ◌∙◌, arith, subst, sym, ap, ap₂}
 use Rattle.stun_agent.specs.Transactions.{Transaction}
 use Rattle.stun_agent.specs.code.Awaited.{joined, awaited_of}
-use Rattle.stun_agent.specs.code.Tree.{items, part_of, number_of, IsOrdered, IsTimed}
+use Rattle.stun_agent.specs.code.Tree.{items, part_of, two_bits, IsOrdered, IsTimed}
 use Rattle.stun_agent.proofs.AwaitedLemmas.{awaited_of-with}
-use Rattle.stun_agent.proofs.InsertLemmas.{ok_after}
+use Rattle.std.proofs.lemmas.Result.{on_ok_weaker}
 use Rattle.stun_agent.proofs.QuarterLemmas.{with_acts, at_first, at_second, at_third, at_fourth}
 use Rattle.stun_agent.proofs.QuarterLemmas.{in_first, in_second, in_third, in_fourth}
 use Rattle.stun_agent.proofs.state.tree.insert.+insert.Goals as goal
@@ -39,7 +39,7 @@ insert_into-insert-requires g t c κs within =
     let id = c.args.leaf.value.0 in
     let own = ap (λ (e : ℕ × Transaction). e.0) (c.behind-leaf.view_is ∙ c.deref.ensures) in
     let is : part_of (c.args.levels - 1) id ≡ 4 * part_of c.args.levels id =
-    omega (arith, rw own at c.quarter_of.ensures, ap number_of c.in-First.is) in
+    omega (arith, rw own at c.quarter_of.ensures, ap two_bits c.in-First.is) in
     let absent = at_first c.args.levels id c.args.fork.now c.requires.ordered is
     ∙ c.requires.absent in
     let ordered = subst (λ part. IsOrdered (c.args.levels - 1) part c.args.fork.now.first) (sym is)
@@ -53,7 +53,7 @@ insert_into-insert-requires-in-Second g t c κs within =
     let id = c.args.leaf.value.0 in
     let own = ap (λ (e : ℕ × Transaction). e.0) (c.behind-leaf.view_is ∙ c.deref.ensures) in
     let is : part_of (c.args.levels - 1) id ≡ 4 * part_of c.args.levels id + 1 =
-    omega (arith, rw own at c.quarter_of.ensures, ap number_of c.in-Second.is) in
+    omega (arith, rw own at c.quarter_of.ensures, ap two_bits c.in-Second.is) in
     let absent = at_second c.args.levels id c.args.fork.now c.requires.ordered is
     ∙ c.requires.absent in
     let ordered = subst (λ part. IsOrdered (c.args.levels - 1) part c.args.fork.now.second) (sym is)
@@ -67,7 +67,7 @@ insert_into-insert-requires-in-Third g t c κs within =
     let id = c.args.leaf.value.0 in
     let own = ap (λ (e : ℕ × Transaction). e.0) (c.behind-leaf.view_is ∙ c.deref.ensures) in
     let is : part_of (c.args.levels - 1) id ≡ 4 * part_of c.args.levels id + 2 =
-    omega (arith, rw own at c.quarter_of.ensures, ap number_of c.in-Third.is) in
+    omega (arith, rw own at c.quarter_of.ensures, ap two_bits c.in-Third.is) in
     let absent = at_third c.args.levels id c.args.fork.now c.requires.ordered is
     ∙ c.requires.absent in
     let ordered = subst (λ part. IsOrdered (c.args.levels - 1) part c.args.fork.now.third) (sym is)
@@ -81,7 +81,7 @@ insert_into-insert-requires-in-Fourth g t c κs within =
     let id = c.args.leaf.value.0 in
     let own = ap (λ (e : ℕ × Transaction). e.0) (c.behind-leaf.view_is ∙ c.deref.ensures) in
     let is : part_of (c.args.levels - 1) id ≡ 4 * part_of c.args.levels id + 3 =
-    omega (arith, rw own at c.quarter_of.ensures, ap number_of c.in-Fourth.is) in
+    omega (arith, rw own at c.quarter_of.ensures, ap two_bits c.in-Fourth.is) in
     let absent = at_fourth c.args.levels id c.args.fork.now c.requires.ordered is
     ∙ c.requires.absent in
     let ordered = subst (λ part. IsOrdered (c.args.levels - 1) part c.args.fork.now.fourth) (sym is)
@@ -94,38 +94,38 @@ pub insert_into-returns-in-First-clause-ok : goal.insert_into-returns-in-First-c
 insert_into-returns-in-First-clause-ok g t c =
     let id = c.args.leaf.value.0 in
     let own = ap (λ (e : ℕ × Transaction). e.0) (c.behind-leaf.view_is ∙ c.deref.ensures) in
-    ok_after c.insert.result
+    on_ok_weaker c.insert.result
     (in_first c.args.levels id c.args.fork.now c.requires.ordered
     (with_acts id c.args.leaf.value.1) (items c.insert.new.link)
-    (omega (arith, rw own at c.quarter_of.ensures, ap number_of c.in-First.is)))
+    (omega (arith, rw own at c.quarter_of.ensures, ap two_bits c.in-First.is)))
     c.insert.ensures.ok
 
 pub insert_into-returns-in-Second-clause-ok : goal.insert_into-returns-in-Second-clause-ok
 insert_into-returns-in-Second-clause-ok g t c =
     let id = c.args.leaf.value.0 in
     let own = ap (λ (e : ℕ × Transaction). e.0) (c.behind-leaf.view_is ∙ c.deref.ensures) in
-    ok_after c.insert-in-Second.result
+    on_ok_weaker c.insert-in-Second.result
     (in_second c.args.levels id c.args.fork.now c.requires.ordered
     (with_acts id c.args.leaf.value.1) (items c.insert-in-Second.new.link)
-    (omega (arith, rw own at c.quarter_of.ensures, ap number_of c.in-Second.is)))
+    (omega (arith, rw own at c.quarter_of.ensures, ap two_bits c.in-Second.is)))
     c.insert-in-Second.ensures.ok
 
 pub insert_into-returns-in-Third-clause-ok : goal.insert_into-returns-in-Third-clause-ok
 insert_into-returns-in-Third-clause-ok g t c =
     let id = c.args.leaf.value.0 in
     let own = ap (λ (e : ℕ × Transaction). e.0) (c.behind-leaf.view_is ∙ c.deref.ensures) in
-    ok_after c.insert-in-Third.result
+    on_ok_weaker c.insert-in-Third.result
     (in_third c.args.levels id c.args.fork.now c.requires.ordered
     (with_acts id c.args.leaf.value.1) (items c.insert-in-Third.new.link)
-    (omega (arith, rw own at c.quarter_of.ensures, ap number_of c.in-Third.is)))
+    (omega (arith, rw own at c.quarter_of.ensures, ap two_bits c.in-Third.is)))
     c.insert-in-Third.ensures.ok
 
 pub insert_into-returns-in-Fourth-clause-ok : goal.insert_into-returns-in-Fourth-clause-ok
 insert_into-returns-in-Fourth-clause-ok g t c =
     let id = c.args.leaf.value.0 in
     let own = ap (λ (e : ℕ × Transaction). e.0) (c.behind-leaf.view_is ∙ c.deref.ensures) in
-    ok_after c.insert-in-Fourth.result
+    on_ok_weaker c.insert-in-Fourth.result
     (in_fourth c.args.levels id c.args.fork.now c.requires.ordered
     (with_acts id c.args.leaf.value.1) (items c.insert-in-Fourth.new.link)
-    (omega (arith, rw own at c.quarter_of.ensures, ap number_of c.in-Fourth.is)))
+    (omega (arith, rw own at c.quarter_of.ensures, ap two_bits c.in-Fourth.is)))
     c.insert-in-Fourth.ensures.ok

@@ -1,9 +1,9 @@
--- The id is in the quarter that has its bits, and the other quarters stay. A link to what is left, if
--- that is one request or none, is in order, as all of it is in the part.
+-- The id is in the quarter that has its bits, and the other quarters stay. A link to what is left,
+-- if that is one request or none, is in order, as all of it is in the part.
 use Rattle.std.proofs.Common.{◌≡◌, ◌∙◌, arith, subst, sym, ap, ap₂}
 use Rattle.stun_agent.specs.Transactions.{at, without}
 use Rattle.stun_agent.specs.code.Awaited.{awaited_of, joined}
-use Rattle.stun_agent.specs.code.Tree.{items, fork_items, part_of, number_of, IsTimed, IsTimedFork}
+use Rattle.stun_agent.specs.code.Tree.{items, fork_items, part_of, two_bits, IsTimed, IsTimedFork}
 use Rattle.stun_agent.proofs.AwaitedLemmas.{awaited_of-without}
 use Rattle.stun_agent.proofs.QuarterLemmas.{without_acts, at_first, at_second, at_third, at_fourth}
 use Rattle.stun_agent.proofs.QuarterLemmas.{in_first, in_second, in_third, in_fourth}
@@ -35,14 +35,14 @@ remove-returns-in-None-clause-timed g t c transport timed =
     (c.remove_from.ensures.timed transport whole) in
     let kept = subst (IsTimedFork transport) (sym c.in-None.ensures.same) found in
     let all = fork_items c.in-Fork.fork.value in
-    let there = sym (c.in_ok-awaited-in-Fork.ensures.answer
+    let there = sym (c.in_ok-leaf-in-Fork.ensures.answer
     ∙ ap (λ f. at c.args.id (fork_items f)) c.deref_mut.ensures.value) in
     let left : fork_items c.deref_mut-in-Fork.result.now ≡ without c.args.id all =
     ap fork_items c.deref_mut-in-Fork.ensures.value ∙ c.remove_from.ensures.after
     ∙ ap (λ f. without c.args.id (fork_items f)) c.deref_mut.ensures.value in
-    let gone = c.in_ok-awaited-in-Fork.ensures.told transport whole in
+    let gone = c.in_ok-leaf-in-Fork.ensures.gone transport whole in
     let others = told.0
-    ∙ awaited_of-without transport c.args.id c.in_ok-awaited-in-Fork.leaf.value.1 all there
+    ∙ awaited_of-without transport c.args.id c.in_ok-leaf-in-Fork.leaf.value.1 all there
     ∙ ap₂ joined (ap (awaited_of transport) (sym left)) (sym gone) in (
       c.in-None.ensures.awaited transport found others
           ∙ ap (awaited_of transport) (ap fork_items (sym c.in-None.ensures.same)),
@@ -57,13 +57,12 @@ pub remove_from-returns-in-First-clause-answer : goal.remove_from-returns-in-Fir
 remove_from-returns-in-First-clause-answer g t c =
     c.remove.ensures.answer
     ∙ at_first c.args.levels c.args.id c.args.fork.now c.requires.ordered
-    (omega (arith, c.quarter_of.ensures, ap number_of c.in-First.is))
+    (omega (arith, c.quarter_of.ensures, ap two_bits c.in-First.is))
 
 pub remove_from-returns-in-First-clause-after : goal.remove_from-returns-in-First-clause-after
 remove_from-returns-in-First-clause-after g t c =
-    in_first c.args.levels c.args.id c.args.fork.now c.requires.ordered (without_acts c.args.id)
-    (items c.remove.new.link) (omega (arith, c.quarter_of.ensures, ap number_of c.in-First.is))
-    c.remove.ensures.after
+    in_first c.args.levels c.args.id c.args.fork.now c.requires.ordered (without_acts c.args.id) _
+    (omega (arith, c.quarter_of.ensures, ap two_bits c.in-First.is)) c.remove.ensures.after
 
 pub remove_from-returns-in-First-clause-timed : goal.remove_from-returns-in-First-clause-timed
 remove_from-returns-in-First-clause-timed g t c transport timed =
@@ -73,12 +72,12 @@ pub remove_from-returns-in-Second-clause-answer : goal.remove_from-returns-in-Se
 remove_from-returns-in-Second-clause-answer g t c =
     c.remove-in-Second.ensures.answer
     ∙ at_second c.args.levels c.args.id c.args.fork.now c.requires.ordered
-    (omega (arith, c.quarter_of.ensures, ap number_of c.in-Second.is))
+    (omega (arith, c.quarter_of.ensures, ap two_bits c.in-Second.is))
 
 pub remove_from-returns-in-Second-clause-after : goal.remove_from-returns-in-Second-clause-after
 remove_from-returns-in-Second-clause-after g t c =
-    in_second c.args.levels c.args.id c.args.fork.now c.requires.ordered (without_acts c.args.id)
-    (items c.remove-in-Second.new.link) (omega (arith, c.quarter_of.ensures, ap number_of c.in-Second.is))
+    in_second c.args.levels c.args.id c.args.fork.now c.requires.ordered (without_acts c.args.id) _
+    (omega (arith, c.quarter_of.ensures, ap two_bits c.in-Second.is))
     c.remove-in-Second.ensures.after
 
 pub remove_from-returns-in-Second-clause-timed : goal.remove_from-returns-in-Second-clause-timed
@@ -89,12 +88,12 @@ pub remove_from-returns-in-Third-clause-answer : goal.remove_from-returns-in-Thi
 remove_from-returns-in-Third-clause-answer g t c =
     c.remove-in-Third.ensures.answer
     ∙ at_third c.args.levels c.args.id c.args.fork.now c.requires.ordered
-    (omega (arith, c.quarter_of.ensures, ap number_of c.in-Third.is))
+    (omega (arith, c.quarter_of.ensures, ap two_bits c.in-Third.is))
 
 pub remove_from-returns-in-Third-clause-after : goal.remove_from-returns-in-Third-clause-after
 remove_from-returns-in-Third-clause-after g t c =
-    in_third c.args.levels c.args.id c.args.fork.now c.requires.ordered (without_acts c.args.id)
-    (items c.remove-in-Third.new.link) (omega (arith, c.quarter_of.ensures, ap number_of c.in-Third.is))
+    in_third c.args.levels c.args.id c.args.fork.now c.requires.ordered (without_acts c.args.id) _
+    (omega (arith, c.quarter_of.ensures, ap two_bits c.in-Third.is))
     c.remove-in-Third.ensures.after
 
 pub remove_from-returns-in-Third-clause-timed : goal.remove_from-returns-in-Third-clause-timed
@@ -105,12 +104,12 @@ pub remove_from-returns-in-Fourth-clause-answer : goal.remove_from-returns-in-Fo
 remove_from-returns-in-Fourth-clause-answer g t c =
     c.remove-in-Fourth.ensures.answer
     ∙ at_fourth c.args.levels c.args.id c.args.fork.now c.requires.ordered
-    (omega (arith, c.quarter_of.ensures, ap number_of c.in-Fourth.is))
+    (omega (arith, c.quarter_of.ensures, ap two_bits c.in-Fourth.is))
 
 pub remove_from-returns-in-Fourth-clause-after : goal.remove_from-returns-in-Fourth-clause-after
 remove_from-returns-in-Fourth-clause-after g t c =
-    in_fourth c.args.levels c.args.id c.args.fork.now c.requires.ordered (without_acts c.args.id)
-    (items c.remove-in-Fourth.new.link) (omega (arith, c.quarter_of.ensures, ap number_of c.in-Fourth.is))
+    in_fourth c.args.levels c.args.id c.args.fork.now c.requires.ordered (without_acts c.args.id) _
+    (omega (arith, c.quarter_of.ensures, ap two_bits c.in-Fourth.is))
     c.remove-in-Fourth.ensures.after
 
 pub remove_from-returns-in-Fourth-clause-timed : goal.remove_from-returns-in-Fourth-clause-timed

@@ -1,6 +1,6 @@
 //! The bytes of a request.
 ghost use Rattle.std.specs.Option.{option_copied, option_map};
-ghost use Rattle.std.specs.Prelude.{◌≡◌, ◌≤◌, ◌⊎◌, [], Err, IfErr, IfOk, Ok, OnOk, length, true};
+ghost use Rattle.std.specs.Prelude.{◌≡◌, ◌≤◌, ◌⊎◌, Err, IfErr, IfOk, Ok, OnOk, length, true};
 ghost use Rattle.std.specs.String.{string_bytes};
 ghost use Rattle.stun_types.specs.Writing.{empty_message};
 ghost use Rattle.stun_client.specs.Judging.{identity_of};
@@ -269,20 +269,15 @@ fn begun<A: Allocator + Copy>(
         ≡ empty_message MessageClass.Request method id) }
     ensures header { IfOk result (λ page. 20 ≤ length page.bytes) }
 {
-    match Message::builder_request(method, id, page_for(alloc, room)) {
+    // Most requests are written in this one block.
+    let mut page = MessageWriteVec::new(alloc);
+    if page.reserve(HEADER_LENGTH.saturating_add(room)).is_err() {
+        return Err(AllocError);
+    }
+    match Message::builder_request(method, id, page) {
         Ok(page) => Ok(page),
         Err(_) => Err(AllocError),
     }
-}
-
-/// Creates a writer with memory for a header and this many bytes after it, so that most requests take
-/// one block. If there is no memory for so many, adding the attributes asks for it again.
-fn page_for<A: Allocator>(alloc: A, room: usize) -> MessageWriteVec<A>
-    ensures { result.bytes ≡ [] }
-{
-    let mut page = MessageWriteVec::new(alloc);
-    let _reserved = page.reserve(HEADER_LENGTH.saturating_add(room));
-    page
 }
 
 /// Signs a request.

@@ -24,7 +24,7 @@ IMPL = re.compile(r"(?m)^(?:unsafe )?impl\b(?:<[^{]*?>)? (?:[^{]*\bfor )?&?([\w:
 DECLARED = re.compile(r"(?m)^(pub(?:\([^)]*\))? )?(?:struct|enum|trait|type) (\w+)")
 TRAIT = re.compile(r"(?m)^pub trait\b[^{]*\{")
 OF_TRAIT = re.compile(r"^impl(?:<[^{]*?>)?\s+[^{]*?\bfor\b")
-HIDDEN = re.compile(r"(?m)^(?:pub\([^)]*\) )?"
+HIDDEN = re.compile(r"(?m)^(?:#\[.*\]\n)*(?:pub\([^)]*\) )?"
                     r"(?:struct|enum|trait|const|static|type|mod|use|unsafe impl)\b[^;{]*[;{]")
 # Attributes that no proof reads, and those that no proof above reads.
 NO_PROOF = re.compile(r"(?m)^[ \t]*#!?\[(?:allow|cold|doc|inline|must_use)\b")

@@ -1,6 +1,6 @@
 -- A request that is sent again for a challenge, and what is stored of it then.
-use Rattle.std.proofs.Common.{◌≡◌, ◌<◌, ◌≤◌, ◌^◌, ◌++◌, ◌∷◌, [], ℕ, zero, suc, Bool, true, false, List}
-use Rattle.std.proofs.Common.{Option, Some, None, Ok, arith, refl, sym, ◌∙◌, ap, cond, inl, subst}
+use Rattle.std.proofs.Common.{◌≡◌, ◌<◌, ◌^◌, ◌++◌, ◌∷◌, [], ℕ, zero, suc, Bool, true, false, List}
+use Rattle.std.proofs.Common.{Option, Some, None, arith, refl, sym, ◌∙◌, ap, cond, inl}
 use Rattle.std.specs.BTreeMap.{insert_entry, is_at}
 use Rattle.std.specs.Int.{byte_at, bytes_high_first}
 use Rattle.std.specs.List.{slice_index}
@@ -20,7 +20,9 @@ use Rattle.stun_extra.specs.Fingerprint.{fingerprint_in}
 use Rattle.stun_client.specs.Challenges.{Answered}
 use Rattle.stun_client.specs.Clients.{Given, heard, responded}
 use Rattle.stun_client.specs.Ids.{id_of}
-use Rattle.stun_client.specs.Judging.{anew}
+use Rattle.stun_base.specs.declared.keys.algorithm.IntegrityAlgorithm.{IntegrityAlgorithm}
+use Rattle.stun_client.specs.Judging.{anew, believed}
+use Rattle.stun_client.specs.Outcomes.{outcome_of}
 use Rattle.stun_client.specs.Requests.{AskedSeen, RequestsSeen, after_replacing, at, renewal_refusal}
 use Rattle.stun_client.specs.Requests.{renewal_refusal_of, renewed}
 use Rattle.stun_client.specs.declared.requests.RequestRefusal.TheVariants as Refusals
@@ -28,20 +30,21 @@ use Rattle.stun_client_loop.specs.Loops.{of_client}
 use Rattle.stun_client_loop.specs.declared.refusal.LoopRefusal.TheVariants.{NotSent}
 use Rattle.stun_client_loop.proofs.NumberLemmas.{apart_from_free, not_same}
 use Rattle.stun_client_endpoint.specs.Bodies.{Body}
-use Rattle.stun_client_endpoint.specs.Endpoints.{Endpoint, Renewal, by_given, challenged_with, chosen}
+use Rattle.stun_client_endpoint.specs.Endpoints.{Endpoint, Renewal, answered_by, by_given, challenged_with, chosen}
 use Rattle.stun_client_endpoint.specs.Endpoints.{dropping, out_of_memory, received, resent, resent_at}
 use Rattle.stun_client_endpoint.specs.Endpoints.{resent_by, resent_if, unauthorized_by}
-use Rattle.stun_client_endpoint.specs.Pendings.{Pending, if_outstanding, is_late, is_refused_out}
+use Rattle.stun_client_endpoint.specs.Pendings.{Pending, ending, if_outstanding, is_late, is_refused_out}
 use Rattle.stun_client_endpoint.specs.Pendings.{outstanding_at, request_at, sending}
-use Rattle.stun_client_endpoint.specs.Runs.{Call, Calls, Event, receives, silent}
+use Rattle.stun_client_endpoint.specs.Runs.{Calls, Event, receives, silent}
 use Rattle.stun_client_endpoint.specs.declared.ended.DropReason.TheVariants.{LateChallenge}
 use Rattle.stun_client_endpoint.specs.declared.ended.RequestEnd.{RequestEnd}
+use Rattle.stun_client_endpoint.specs.declared.ended.RequestEnd.TheVariants as how
 use Rattle.stun_client_endpoint.specs.declared.told.Received.TheVariants.{Consumed}
 use Rattle.stun_client_endpoint.proofs.StoredLemmas.{apart, changed_same}
 use Rattle.stun_client_endpoint.proofs.WrittenLemmas.{request_id}
 use Rattle.stun_endpoint.specs.Answers.{is_fingerprinted, is_right}
 use Rattle.stun_requests.specs.ReadBack.{print_of}
-use Rattle.stun_meetings.specs.Meeting.{CanGoOn, ClientSide, IsClientOf, IsSentAgain}
+use Rattle.stun_meetings.specs.Meeting.{CanGoOn, ClientSide, IsEndedBy, IsSentAgain}
 use Rattle.stun_meetings.proofs.SideLemmas.{one_more, with_event}
 
 -- ---- an ID has 96 bits
@@ -245,3 +248,23 @@ module _ (side : ClientSide) (e : Endpoint) (number method : ℕ) (body : Body) 
       signed = refl;
     };
   }
+
+-- ---- the end
+
+pub ended_by_answer : (side : ClientSide) (e : Endpoint) (number : ℕ) (a : IntegrityAlgorithm)
+    (response : List ℕ) (now : ℕ) (is_heard : Bool) (p : Pending)
+    → outstanding_at number e.requests ≡ Some p
+    → heard e.state.client side.server response ≡ responded response number (believed (Some a))
+    → IsEndedBy side number a e response now is_heard
+ended_by_answer side e number a response now is_heard p out is =
+    let end = how.Answered (outcome_of e.understood response) (Some a) in
+    record {
+      next = (answered_by number (Some a) response now e).1;
+      consumed = unfold_received is_heard side.server response now e
+          (responded response number (believed (Some a))) is;
+      pending = ending end response p;
+      there = changed_same (ending end response) number e.requests
+          ∙ ap (option_map (ending end response)) (outstanding_is (request_at number e.requests) p out);
+      end_is = refl;
+      response_is = refl;
+    }

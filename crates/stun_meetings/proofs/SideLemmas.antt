@@ -37,7 +37,7 @@ use Rattle.stun_client_endpoint.specs.Pendings.{outstanding_at, overdue, request
 use Rattle.stun_client_endpoint.specs.Pendings.{without_first}
 use Rattle.stun_client_endpoint.specs.Runs.{Call, Calls, Event, call, changes_nothing, ends_one}
 use Rattle.stun_client_endpoint.specs.Runs.{no_call, polls, receives, requests}
-use Rattle.stun_client_endpoint.specs.Written.{Form, Page?}
+use Rattle.stun_client_endpoint.specs.Written.{Page?}
 use Rattle.stun_client_endpoint.specs.declared.ended.DropReason.TheVariants.{LateChallenge}
 use Rattle.stun_client_endpoint.proofs.LawLemmas.{stays_kept, started_is}
 use Rattle.stun_meetings.specs.Meeting.{ClientSide, IsClientOf}

@@ -7,17 +7,19 @@ use Rattle.stun_base.specs.declared.keys.algorithm.IntegrityAlgorithm.{Integrity
 use Rattle.stun_auth.specs.Seen.{ClientSeen}
 use Rattle.stun_extra.specs.CanonicalAddress.{is_same_address}
 use Rattle.stun_client.specs.Challenges.{Answered}
+use Rattle.stun_client.specs.Outcomes.{outcome_of}
 use Rattle.stun_client.specs.Judging.{long_term}
 use Rattle.stun_client.specs.Requests.{AskedSeen, at}
 use Rattle.stun_client.specs.Standing.{is_ignored}
 use Rattle.stun_client.specs.declared.preferences.Preferences.{Preferences}
 use Rattle.stun_client_endpoint.specs.Bodies.{Body}
-use Rattle.stun_client_endpoint.specs.Endpoints.{Endpoint, answered_by, chosen, message_of}
+use Rattle.stun_client_endpoint.specs.Endpoints.{Endpoint, chosen, message_of}
 use Rattle.stun_client_endpoint.specs.Endpoints.{next_number, received, refusal_to_start, started}
 use Rattle.stun_client_endpoint.specs.Laws.{IsEndpoint}
-use Rattle.stun_client_endpoint.specs.Pendings.{Pending, outstanding_at}
+use Rattle.stun_client_endpoint.specs.Pendings.{Pending, outstanding_at, request_at}
 use Rattle.stun_client_endpoint.specs.Runs.{Calls, Event}
 use Rattle.stun_client_endpoint.specs.Written.{Form}
+use Rattle.stun_client_endpoint.specs.declared.ended.RequestEnd.TheVariants as how
 use Rattle.stun_client_endpoint.specs.declared.told.Received.TheVariants.{Consumed}
 use Rattle.stun_client_loop.specs.Loops.{again_refused}
 use Rattle.stun_endpoint.specs.Judged.{key_of_client}
@@ -25,10 +27,11 @@ use Rattle.stun_endpoint.specs.Nonces.{current_nonce}
 use Rattle.stun_endpoint.specs.Received.{answered, challenge_answer, outcome_of_accepted}
 use Rattle.stun_endpoint.specs.Received.{received_by}
 use Rattle.stun_endpoint.specs.Settings.{Settings}
-use Rattle.stun_endpoint.specs.declared.received.Refusal.TheVariants.{Unauthenticated}
+use Rattle.stun_endpoint.specs.declared.received.Refusal.TheVariants.{StaleNonce, Unauthenticated}
 use Rattle.stun_exchanges.specs.Agreement.{AgreeOn, IsSignedAnswer}
 use Rattle.stun_exchanges.specs.Exchange.{IsRegisteredUser, IsResponseTo, IsServer, IsWithinPeriod}
 use Rattle.stun_exchanges.specs.Exchange.{UserSecrets, meant_for, realm_knowing}
+use Rattle.stun_sessions.specs.Sessions.{IsForgotten}
 use Rattle.stun_requests.specs.ReadBack.{AreOrdinary}
 use Rattle.stun_requests.specs.Served.{IsPrinted}
 
@@ -103,6 +106,17 @@ pub record IsSentAgain (side : ClientSide) (begun : Endpoint) (number : ℕ) (c 
   pub pending : Pending
   pub signed : IsSignedFor number (Some c) next pending
 
+-- a response ends a request: it is stored as answered, with the response and what it says, signed by
+-- this algorithm. `poll` hands this end out
+pub record IsEndedBy (side : ClientSide) (number : ℕ) (a : IntegrityAlgorithm) (later : Endpoint)
+    (response : List ℕ) (now : ℕ) (is_heard : Bool) : Type 0 where
+  pub next : Endpoint
+  pub consumed : received is_heard side.server response now later ≡ (Consumed, next)
+  pub pending : Pending
+  pub there : request_at number next.requests ≡ Some pending
+  pub end_is : pending.end ≡ Some (how.Answered (outcome_of later.understood response) (Some a))
+  pub response_is : pending.response ≡ response
+
 -- a server accepts bytes as a user's by this algorithm, whatever they ask for
 abbrev pub IsAcceptedAs : Settings → UserSecrets → SocketAddr → ℕ → List ℕ → List ℕ
     → IntegrityAlgorithm → Type 0
@@ -133,6 +147,21 @@ pub record Meets (s : Settings) (users : UserSecrets) (from : SocketAddr) (side 
   -- signed for a challenge of the server, it is accepted while the nonce lasts
   pub accepted : (time now : ℕ) → IsSignedFor number (Some (challenge_at s side a from time)) later p
       → IsWithinPeriod s time now → IsAcceptedAs s users from now p.bytes side.who.username a
+  -- once that nonce has expired, it is answered with a 438, which has it sent again in the same way,
+  -- signed for the nonce that is current then
+  pub stale : (time now : ℕ) → IsSignedFor number (Some (challenge_at s side a from time)) later p
+      → IsForgotten s from time now
+      → received_by s (realm_knowing s users) from now p.bytes
+      ≡ answered (challenge_answer s StaleNonce (current_nonce s from now) from p.bytes)
+  pub refreshed : (time then_at now : ℕ)
+      (signed : IsSignedFor number (Some (challenge_at s side a from time)) later p)
+      → IsForgotten s from time then_at
+      → let response =
+      (challenge_answer s StaleNonce (current_nonce s from then_at) from p.bytes).bytes in
+      let c = challenge_at s side a from then_at in
+      CanGoOn later method body p signed.asked.challenges response c now
+      → is_ignored later.state.client.standing c ≡ false
+      → IsSentAgain side begun number c later response now
   -- and each signed answer ends it with its result. Those of the server are such
   -- (`signed_answers_end_requests` of `stun_exchanges`)
   pub ended : (time now : ℕ) (response : List ℕ) (is_heard : Bool)
@@ -140,8 +169,7 @@ pub record Meets (s : Settings) (users : UserSecrets) (from : SocketAddr) (side 
       → IsResponseTo side.requires_fingerprint p.bytes response
       → IsSignedAnswer side.requires_fingerprint response
       (challenge_at s side a from time).challenge.key a
-      → received is_heard side.server response now later
-      ≡ answered_by number (Some a) response now later
+      → IsEndedBy side number a later response now is_heard
 
 -- a request is started at a client that can meet a server, and any calls follow
 abbrev pub ClientsMeetServers : Type 0

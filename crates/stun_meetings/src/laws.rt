@@ -10,7 +10,9 @@ ghost use Rattle.stun_meetings.specs.Meeting.{ClientsMeetServers};
 /// - Once the request is signed for a challenge of the server, the server accepts its bytes as those
 ///   of the client's user, in the epoch of the challenge and in the next one, by the algorithm on
 ///   which both agree, the strongest that both support (`accepted`). A signed answer to them ends
-///   the request with its result (`ended`).
+///   the request with its result (`ended`). Once the nonce has expired, the server answers with a
+///   438 (`stale`), which has the request sent again, signed for the nonce that is current then
+///   (`refreshed`).
 ///
 /// This holds for every method and body, and whatever else is asked, received or canceled between.
 /// What other sources send to the server is no part of it, since what a server makes of a datagram
@@ -29,4 +31,6 @@ pub fn clients_meet_servers()
     stun_exchanges::exchanges::challenges_are_read_as_meant();
     stun_exchanges::exchanges::challenges_of_a_server_are_answered();
     stun_exchanges::exchanges::signed_answers_end_requests();
+    stun_client::laws::nonces_of_a_server_are_up_to_date();
+    stun_sessions::sessions::forgotten_nonces_are_stale();
 }

@@ -1,9 +1,11 @@
 -- Each exchange is a law of what a client and a server make of each other's messages.
-use Rattle.std.proofs.Common.{◌≡◌, ◌∙◌, ◌<◌, ◌^◌, ℕ, List, Option, Some, None, Ok, true, ap, refl, subst}
-use Rattle.std.proofs.Common.{sym}
+use Rattle.std.proofs.Common.{◌≡◌, ◌∙◌, ◌<◌, ◌^◌, ℕ, Option, Some, None, Ok, true, ap, refl, subst}
+use Rattle.std.proofs.Common.{map, sym}
 use Rattle.std.specs.Option.{option_map_or}
-use Rattle.stun_base.specs.Header.{transaction_id_field, type_field}
-use Rattle.stun_base.specs.MessageType.{method_of}
+use Rattle.stun_base.specs.Header.{transaction_id_field}
+use Rattle.stun_base.specs.declared.wire.message_type.MessageClass.TheVariants.{Request}
+use Rattle.stun_auth.specs.Nonces.{letter}
+use Rattle.stun_auth.specs.Reading.{reading_of}
 use Rattle.stun_client.specs.Challenges.{Answered, is_one}
 use Rattle.stun_client.specs.Clients.{responded}
 use Rattle.stun_client.specs.Ids.{id_of}
@@ -17,12 +19,17 @@ use Rattle.stun_client_endpoint.specs.Written.{Form, request_bytes}
 use Rattle.stun_client_endpoint.proofs.WrittenLemmas.{request_id}
 use Rattle.stun_endpoint.specs.Nonces.{current_nonce, epoch_of, words_of}
 use Rattle.stun_endpoint.specs.Received.{challenge_answer}
-use Rattle.stun_endpoint.specs.declared.received.Refusal.TheVariants.{Unauthenticated}
+use Rattle.stun_endpoint.specs.Lookups.{users_with}
+use Rattle.stun_endpoint.specs.declared.received.Refusal.TheVariants.{StaleNonce, Unauthenticated}
 use Rattle.stun_exchanges.specs.Agreement.{IsSignedAnswer}
 use Rattle.stun_exchanges.specs.Exchange.{IsResponseTo, realm_knowing}
-use Rattle.stun_requests.proofs.ServedLemmas.{texts_of}
+use Rattle.stun_exchanges.proofs.AgreedLemmas.{accepted_again}
+use Rattle.stun_sessions.specs.Sessions.{client_named}
+use Rattle.stun_sessions.proofs.SessionLemmas.{is_another}
+use Rattle.stun_requests.specs.ReadBack.{added_to}
+use Rattle.stun_requests.proofs.ServedLemmas.{texts_of, undropped}
 use Rattle.stun_meetings.specs.Meeting.{ClientSide, IsClientOf, IsSignedFor, challenge_at}
-use Rattle.stun_meetings.proofs.SendLemmas.{id_low, is_printed, sent_again, unfold_received}
+use Rattle.stun_meetings.proofs.SendLemmas.{ended_by_answer, id_low, is_printed, sent_again}
 use Rattle.stun_meetings.proofs.SideLemmas.{stays_client}
 use Rattle.stun_meetings.proofs.laws.clients_meet_servers.Goals as goal
 
@@ -112,6 +119,56 @@ returns c = λ s users from side a e later method body start events p meet of lo
           c.requests_are_accepted.ensures s users from time now side.form who prefers accepts a method
           p.id body p.bytes meet.built meet.known meet.text meet.agree within low ordinary meet.printed
           known.written;
+      stale = λ time now signed other.
+          let known = known_of side e method body later p (Some (challenge_at s side a from time)) of
+          stored signed in
+          let text = c.nonces_have_the_bits_of_their_server.ensures.text s
+          (words_of s.algorithms s.secret from (epoch_of s time)) in
+          let read = c.requests_are_read_back.ensures.as_made side.form who prefers accepts
+          (Some (challenge_at s side a from time)) method p.id body p.bytes low ordinary
+          (texts_of s prefers who (current_nonce s from time) a meet.built meet.text text)
+          known.written in
+          let up_to_date = c.nonces_of_a_server_are_up_to_date.ensures.marked (users_with s users)
+          s.feature in
+          let accepted_so = accepted_again s users who meet.known prefers (current_nonce s from time) a
+          Request None (reading_of p.bytes)
+          (up_to_date (map letter (words_of s.algorithms s.secret from (epoch_of s time)))) meet.agree
+          read.reads in
+          c.forgotten_nonces_are_stale.ensures s (realm_knowing s users) from time now p.bytes
+          (client_named who a)
+          (undropped s side.form method (added_to (Some (challenge_at s side a from time))) p.bytes
+          meet.printed read)
+          read.class accepted_so other;
+      refreshed = λ time then_at now signed other can strong.
+          let response = (challenge_answer s StaleNonce (current_nonce s from then_at) from p.bytes).bytes in
+          let challenge = challenge_at s side a from then_at in
+          let known = known_of side e method body later p (Some (challenge_at s side a from time)) of
+          stored signed in
+          let text = c.nonces_have_the_bits_of_their_server.ensures.text s
+          (words_of s.algorithms s.secret from (epoch_of s time)) in
+          let read = c.requests_are_read_back.ensures.as_made side.form who prefers accepts
+          (Some (challenge_at s side a from time)) method p.id body p.bytes low ordinary
+          (texts_of s prefers who (current_nonce s from time) a meet.built meet.text text)
+          known.written in
+          let short : transaction_id_field p.bytes < 2 ^ 96 =
+          subst (λ id. id < 2 ^ 96) (sym (known.id_is ∙ known.derived)) (id_low e.seed known.id_number) in
+          let sends = λ (is : later.state.client.requires_fingerprint ≡ true).
+          is_printed side.form.has_fingerprint p.bytes read.print
+          (meet.required (sym client.required_is ∙ is)) in
+          let heard_as = c.challenges_are_read_as_meant.ensures s StaleNonce s.secret from from
+          (epoch_of s then_at) later.state.client.requires_fingerprint p.bytes meet.built refl short sends
+          in
+          let said = c.challenges_of_a_server_are_answered.ensures s StaleNonce s.secret from from
+          side.server (epoch_of s then_at) p.bytes later.state.client signed.asked who prefers accepts a
+          meet.built refl short sends meet.agree client.identity client.hears
+          (ap (λ id. at id later.state.client.requests.asked) known.id_is ∙ signed.found)
+          (known.method_is ∙ sym read.method_is)
+          (is_another s prefers who a from time then_at signed.asked.signed_for signed.signed
+          other.current) strong in
+          sent_again side later number method body p signed.asked signed.there signed.found
+          known.method_is stored.body response (heard_as.0.id ∙ known.id_is) challenge now can
+          (started method body start e) events calls
+          (said ∙ ap (λ n. responded response n (anew challenge)) known.number_is);
       ended = λ time now response is_heard signed answers is_signed.
           let challenge = challenge_at s side a from time in
           let known = known_of side e method body later p (Some challenge) of stored signed in
@@ -121,8 +178,7 @@ returns c = λ s users from side a e later method body start events p meet of lo
           (Some challenge) method p.id body p.bytes low ordinary
           (texts_of s prefers who (current_nonce s from time) a meet.built meet.text text)
           known.written in
-          unfold_received is_heard side.server response now later
-          (responded response number (believed (Some a)))
+          ended_by_answer side later number a response now is_heard p signed.there
           (c.signed_answers_end_requests.ensures.heard side.server p.bytes response later.state.client
           signed.asked challenge who prefers accepts a client.identity
           (record {

@@ -86,7 +86,7 @@ awaited_of-append transport (e ∷ xs) ys =
     (awaited_of transport ys))
 
 -- what a link tells is what those below it await
-pub told_is : {A : Type 0} (transport : TransportType) (l : Link A) → IsTimed transport l
+pub told_is : {A D : Type 0} (transport : TransportType) (l : Link A D) → IsTimed transport l
     → told l ≡ awaited_of transport (items l)
 told_is transport Empty timed = refl
 told_is transport (Leaf awaited leaf) timed =

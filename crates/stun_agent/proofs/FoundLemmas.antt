@@ -40,7 +40,7 @@ module _ {X : Type 0} (p : X → Bool) (xs ys : List X) where
       by (Some x) h = cc
 
 -- the first link of a fork with one that passes has the first of them
-module _ {A : Type 0} (p : ℕ × Transaction → Bool) (fork : Fork A) where
+module _ {A D : Type 0} (p : ℕ × Transaction → Bool) (fork : Fork A D) where
   pub found_in_first : is_some (find p (items fork.first)) ≡ true
       → find p (items fork.first) ≡ find p (fork_items fork)
   found_in_first some = found_first p (items fork.first) _ some

@@ -4,7 +4,6 @@ use Rattle.std.specs.Prelude.{max, Option, Some, None, MatchOption}
 use Rattle.std.specs.Option.{option_map, is_some}
 use Rattle.stun_agent.specs.declared.state.tree.Link.{Link}
 use Rattle.stun_agent.specs.declared.state.tree.Link.TheVariants.{Empty, Leaf, Fork'}
-use Rattle.stun_agent.specs.Deadlines.{most_levels, most_looks}
 use Rattle.stun_agent.specs.Transactions.{Transaction}
 use Rattle.stun_agent.specs.code.Transactions.{id_and_repeats}
 use Rattle.stun_agent.specs.code.Tree.{depth, IsOrdered}
@@ -28,7 +27,7 @@ looks_of_last None old mid new a b c d first last = omega (arith, first, last)
 looks_of_last (Some e) old mid new a b c d first last = omega (arith, first, last)
 
 -- ---- each fork has fewer levels below it
-pub depth_within : {A : Type 0} (levels part : ℕ) (link : Link A) → IsOrdered levels part link
+pub depth_within : {A D : Type 0} (levels part : ℕ) (link : Link A D) → IsOrdered levels part link
     → depth link ≤ levels
 depth_within levels part Empty ordered = omega arith
 depth_within levels part (Leaf awaited leaf) ordered = omega arith
@@ -39,13 +38,3 @@ depth_within levels part (Fork' awaited p a b c d) (deep, oa, ob, oc, od) =
     let three = depth_within (levels - 1) _ c oc in
     let four = depth_within (levels - 1) _ d od in
     omega (arith, some, one, two, three, four)
-
--- ---- a poll
--- a search from the root that finds one, or one that finds none and a look for the next moment
-pub looks_found : (entries looks deep : ℕ) → entries ≡ 1 → deep ≤ most_levels
-    → looks ≤ 1 + 4 * deep → looks ≤ most_looks entries
-looks_found entries looks deep one most looked = omega (arith, one, most, looked)
-
-pub looks_waiting : (old mid new entries : ℕ) → mid ≤ old + 1 → new ≤ mid + 1 → old ≡ 0
-    → new ≤ most_looks entries
-looks_waiting old mid new entries first second unseen = omega (arith, first, second, unseen)

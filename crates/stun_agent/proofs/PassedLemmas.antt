@@ -147,7 +147,7 @@ module _ (transport : TransportType) (now : ℕ) (xs ys : Transactions) (apart :
           (before_sent transport now e.0 xs sooner))
 
 -- the slots pass link by link, up to the one that has the request that is sent
-module _ {A : Type 0} (transport : TransportType) (now levels part : ℕ) (fork : Fork A)
+module _ {A D : Type 0} (transport : TransportType) (now levels part : ℕ) (fork : Fork A D)
     (h : IsOrderedFork levels part fork) (a : Transactions)
     (is_a : a ≡ passed transport now (items fork.first)) where
   apart_first : AreApart (items fork.first)

@@ -23,7 +23,7 @@ without_acts id = record { before = without-left id; after = without-right id }
 pub change_acts : (id : ℕ) (f : Transaction → Transaction) → ActsAt id (with_change_at f id)
 change_acts id f = record { before = change-left id f; after = change-right id f }
 
-module _ {A : Type 0} (levels id : ℕ) (fork : Fork A)
+module _ {A D : Type 0} (levels id : ℕ) (fork : Fork A D)
     (h : IsOrderedFork levels (part_of levels id) fork) where
   abbrev part : ℕ
   part = part_of (levels - 1) id

@@ -20,16 +20,16 @@ all_without P id (e ∷ es) h = by (is_at (nat_cmp id) e.0) (all_without P id es
     by true rest = h.1
     by false rest = (h.0, rest)
 
-module _ {A : Type 0} where
+module _ {A D : Type 0} where
   -- one transaction in the part is in order
-  lone_ordered : (levels part : ℕ) (l : Link A) → IsLone l → ArePlaced levels part (items l)
+  lone_ordered : (levels part : ℕ) (l : Link A D) → IsLone l → ArePlaced levels part (items l)
       → IsOrdered levels part l
   lone_ordered levels part Empty lone h = tt
   lone_ordered levels part (Leaf awaited leaf) lone h = h.0
   lone_ordered levels part (Fork' awaited p a b c d) lone h = elim lone [ ]
 
   -- a link to the one transaction, or to none, that a fork has kept is in order
-  pub kept_ordered : (id levels part : ℕ) (whole only : Link A) → IsOrdered levels part whole
+  pub kept_ordered : (id levels part : ℕ) (whole only : Link A D) → IsOrdered levels part whole
       → IsLone only → items only ≡ without id (items whole) → IsOrdered levels part only
   kept_ordered id levels part whole only h lone is =
       lone_ordered levels part only lone

@@ -54,8 +54,8 @@ wider levels part quarter some is es h =
       named = at.named;
     }) h
 
-module _ {A : Type 0} where
-  pub placed : (levels part : ℕ) (l : Link A) → IsOrdered levels part l
+module _ {A D : Type 0} where
+  pub placed : (levels part : ℕ) (l : Link A D) → IsOrdered levels part l
       → ArePlaced levels part (items l)
   placed levels part Empty h = tt
   placed levels part (Leaf awaited leaf) h = (h, tt)
@@ -70,7 +70,7 @@ module _ {A : Type 0} where
       (wider levels part (4 * part + 3) some (omega arith) (items d) (placed (levels - 1) _ d od))))
 
   -- ---- what that says of one id
-  module _ (levels part : ℕ) (l : Link A) (h : IsOrdered levels part l) (id : ℕ) where
+  module _ (levels part : ℕ) (l : Link A D) (h : IsOrdered levels part l) (id : ℕ) where
     pub are_later : part_of levels id < part → AreLater id (items l)
     are_later less =
         weaker _ _ (items l) (λ e at. later_part levels id e.0 (rw at.inside less))
@@ -82,14 +82,14 @@ module _ {A : Type 0} where
         (placed levels part l h)
 
   -- links to parts of which the second is later
-  pub are_apart : (levels m n : ℕ) (k l : Link A) → m < n → IsOrdered levels m k
+  pub are_apart : (levels m n : ℕ) (k l : Link A D) → m < n → IsOrdered levels m k
       → IsOrdered levels n l → AreApart (items k) (items l)
   are_apart levels m n k l less hk hl =
       weaker _ _ (items k) (λ e at. are_later levels n l hl e.0 (rw at.inside less))
       (placed levels m k hk)
 
   -- the parts of a fork
-  module _ (levels part : ℕ) (a b c d : Link A) (oa : IsOrdered levels (4 * part) a)
+  module _ (levels part : ℕ) (a b c d : Link A D) (oa : IsOrdered levels (4 * part) a)
       (ob : IsOrdered levels (4 * part + 1) b) (oc : IsOrdered levels (4 * part + 2) c)
       (od : IsOrdered levels (4 * part + 3) d) where
     pub first_apart : AreApart (items a) (items b ++ (items c ++ items d))
@@ -116,8 +116,8 @@ none_ascends : IsAscending []
 unfolding IsStrictlySortedBy
 none_ascends = tt
 
-module _ {A : Type 0} where
-  pub ascends : (levels part : ℕ) (l : Link A) → IsOrdered levels part l → IsAscending (items l)
+module _ {A D : Type 0} where
+  pub ascends : (levels part : ℕ) (l : Link A D) → IsOrdered levels part l → IsAscending (items l)
   ascends levels part Empty h = none_ascends
   ascends levels part (Leaf awaited leaf) h = one_ascends leaf.value
   ascends levels part (Fork' awaited p a b c d) (deep, oa, ob, oc, od) =
@@ -129,7 +129,7 @@ module _ {A : Type 0} where
       (ascends (levels - 1) _ c oc) (ascends (levels - 1) _ d od)))
 
   -- the whole tree
-  pub kept : (transport : TransportType) (root : Link A) → IsTree transport root
+  pub kept : (transport : TransportType) (root : Link A D) → IsTree transport root
       → AreKept (items root)
   kept transport root tree =
       record {

@@ -59,7 +59,7 @@ pub struct StunAgent<A: Allocator = Global> {
     pub(crate) local_addr: SocketAddr,
     pub(crate) remote_addr: Option<SocketAddr>,
     pub(crate) settings: RequestRto,
-    pub(crate) outstanding: Outstanding<A>,
+    pub(crate) outstanding: Outstanding<A, ()>,
     pub(crate) peers: BTreeSet<SocketAddr, A>,
     pub(crate) stats: Option<StunAgentStats>,
 }

@@ -13,12 +13,12 @@ use Rattle.stun_agent.specs.code.Awaited.{Awaited, nothing, awaited_by, awaited_
 
 -- ---- what is in a tree
 -- the transactions below a link, in the order of their ids
-abbrev pub items : {A : Type 0} → Link A → Transactions
+abbrev pub items : {A D : Type 0} → Link A D → Transactions
 items Empty = []
 items (Leaf awaited leaf) = leaf.value ∷ []
 items (Fork' awaited p a b c d) = items a ++ (items b ++ (items c ++ items d))
 
-abbrev pub fork_items : {A : Type 0} → Fork A → Transactions
+abbrev pub fork_items : {A D : Type 0} → Fork A D → Transactions
 fork_items fork =
     items fork.first ++ (items fork.second ++ (items fork.third ++ items fork.fourth))
 
@@ -46,7 +46,7 @@ pub record IsDeep (levels : ℕ) : Type 0 where
   pub most : levels ≤ most_levels
 
 -- each quarter of a part is below a link of its own, down to the single transactions
-abbrev pub IsOrdered : {A : Type 0} → ℕ → ℕ → Link A → Type 0
+abbrev pub IsOrdered : {A D : Type 0} → ℕ → ℕ → Link A D → Type 0
 IsOrdered levels part Empty = Unit {0}
 IsOrdered levels part (Leaf awaited leaf) = IsPlaced levels part leaf.value
 IsOrdered levels part (Fork' awaited p a b c d) =
@@ -54,7 +54,7 @@ IsOrdered levels part (Fork' awaited p a b c d) =
     × IsOrdered (levels - 1) (4 * part) a × IsOrdered (levels - 1) (4 * part + 1) b
     × IsOrdered (levels - 1) (4 * part + 2) c × IsOrdered (levels - 1) (4 * part + 3) d
 
-abbrev pub IsOrderedFork : {A : Type 0} → ℕ → ℕ → Fork A → Type 0
+abbrev pub IsOrderedFork : {A D : Type 0} → ℕ → ℕ → Fork A D → Type 0
 IsOrderedFork levels part fork =
     IsOrdered (levels - 1) (4 * part) fork.first × IsOrdered (levels - 1) (4 * part + 1) fork.second
     × IsOrdered (levels - 1) (4 * part + 2) fork.third
@@ -62,55 +62,55 @@ IsOrderedFork levels part fork =
 
 -- ---- its depth
 -- how many forks are one below another at most
-abbrev pub depth : {A : Type 0} → Link A → ℕ
+abbrev pub depth : {A D : Type 0} → Link A D → ℕ
 depth Empty = 0
 depth (Leaf awaited leaf) = 0
 depth (Fork' awaited p a b c d) = 1 + max (depth a) (max (depth b) (max (depth c) (depth d)))
 
-abbrev pub fork_depth : {A : Type 0} → Fork A → ℕ
+abbrev pub fork_depth : {A D : Type 0} → Fork A D → ℕ
 fork_depth fork =
     max (depth fork.first) (max (depth fork.second) (max (depth fork.third) (depth fork.fourth)))
 
 -- ---- its times
 -- what a link tells of those below it
-abbrev pub told : {A : Type 0} → Link A → Awaited
+abbrev pub told : {A D : Type 0} → Link A D → Awaited
 told Empty = nothing
 told (Leaf awaited leaf) = awaited
 told (Fork' awaited p a b c d) = awaited
 
 -- each link tells what those below it await
-abbrev pub IsTimed : {A : Type 0} → TransportType → Link A → Type 0
+abbrev pub IsTimed : {A D : Type 0} → TransportType → Link A D → Type 0
 IsTimed transport Empty = Unit {0}
 IsTimed transport (Leaf awaited leaf) = awaited ≡ awaited_by transport leaf.value.1
 IsTimed transport (Fork' awaited p a b c d) =
     (awaited ≡ awaited_of transport (items a ++ (items b ++ (items c ++ items d))))
     × IsTimed transport a × IsTimed transport b × IsTimed transport c × IsTimed transport d
 
-abbrev pub IsTimedFork : {A : Type 0} → TransportType → Fork A → Type 0
+abbrev pub IsTimedFork : {A D : Type 0} → TransportType → Fork A D → Type 0
 IsTimedFork transport fork =
     IsTimed transport fork.first × IsTimed transport fork.second × IsTimed transport fork.third
     × IsTimed transport fork.fourth
 
 -- a tree of all ids
-pub record IsTree {A : Type 0} (transport : TransportType) (root : Link A) : Type 0 where
+pub record IsTree {A D : Type 0} (transport : TransportType) (root : Link A D) : Type 0 where
   pub ordered : IsOrdered most_levels 0 root
   pub timed : IsTimed transport root
 
 -- ---- one link
 -- it leads to one transaction
-abbrev pub IsLeaf : {A : Type 0} → Link A → Type 0
+abbrev pub IsLeaf : {A D : Type 0} → Link A D → Type 0
 IsLeaf Empty = ⊥
 IsLeaf (Leaf awaited leaf) = Unit {0}
 IsLeaf (Fork' awaited p a b c d) = ⊥
 
 -- it leads to a fork
-abbrev pub IsFork : {A : Type 0} → Link A → Type 0
+abbrev pub IsFork : {A D : Type 0} → Link A D → Type 0
 IsFork Empty = ⊥
 IsFork (Leaf awaited leaf) = ⊥
 IsFork (Fork' awaited p a b c d) = Unit {0}
 
 -- it leads to one transaction, or to none
-abbrev pub IsLone : {A : Type 0} → Link A → Type 0
+abbrev pub IsLone : {A D : Type 0} → Link A D → Type 0
 IsLone Empty = Unit {0}
 IsLone (Leaf awaited leaf) = Unit {0}
 IsLone (Fork' awaited p a b c d) = ⊥

@@ -166,7 +166,7 @@ impl<A: Allocator + Copy> StunAgent<A> {
         let id = self.id_to_ask(bytes, to)?;
         let kept = Vec::from_slice(self.alloc, bytes)?;
         let request = Transaction::new(kept, to, deciding_algorithm(bytes), self.settings, now);
-        self.outstanding.insert(self.alloc, id, request)?;
+        self.outstanding.insert(self.alloc, id, request, ())?;
         counting::count_sent(&mut self.stats, MessageClass::Request, bytes.len());
         Ok(id)
     }

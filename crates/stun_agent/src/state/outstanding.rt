@@ -19,24 +19,24 @@ use crate::state::tree::change::{change, pass_slots};
 use crate::state::tree::insert::insert;
 use crate::state::tree::remove::remove;
 use crate::state::tree::{LEVELS, Leaf, Link, lookups};
-use std::alloc::{AllocError, Allocator, Global};
+use std::alloc::{AllocError, Allocator};
 use std::marker::Model;
 use std::sync::ledger::Ledger;
 use stun_base::instant::Instant;
 use stun_base::transaction_id::TransactionId;
 use stun_base::transport::TransportType;
 
-/// The outstanding requests in a tree by their IDs, and the transport that carries them. A contract
-/// sees the requests by ascending IDs.
+/// The outstanding requests in a tree by their IDs, and the transport that carries them. Each leaf
+/// also has a datum of the owner. A contract sees the requests by ascending IDs.
 #[derive(Drop)]
 #[derive_where(Debug)]
-pub(crate) struct Outstanding<A: Allocator = Global> {
+pub(crate) struct Outstanding<A: Allocator, D> {
     transport: TransportType,
     #[derive_where(skip(Debug))]
-    root: Link<A>,
+    root: Link<A, D>,
 }
 
-impl<A: Allocator> Model for Outstanding<A> {
+impl<A: Allocator, D> Model for Outstanding<A, D> {
     ghost use Rattle.stun_agent.specs.code.Transactions.{Outstanding};
     ghost use Rattle.stun_agent.specs.code.Tree.{items, IsTree};
 
@@ -49,7 +49,7 @@ impl<A: Allocator> Model for Outstanding<A> {
 
 /// What a poll may call. These calls stand apart, because their bodies know nothing of `A: Copy`,
 /// which all others want.
-impl<A: Allocator> Outstanding<A> {
+impl<A: Allocator, D: Drop> Outstanding<A, D> {
     pub(crate) fn transport(&self) -> TransportType
         ensures { result ≡ self.now.transport }
     {
@@ -89,7 +89,7 @@ impl<A: Allocator> Outstanding<A> {
     }
 }
 
-impl<A: Allocator + Copy> Outstanding<A> {
+impl<A: Allocator + Copy, D: Drop> Outstanding<A, D> {
     pub(crate) fn new(transport: TransportType) -> Self
         ensures { result ≡ record { transport = transport; requests = [] } }
     {
@@ -112,6 +112,7 @@ impl<A: Allocator + Copy> Outstanding<A> {
         alloc: A,
         id: TransactionId,
         request: Transaction<A>,
+        datum: D,
     ) -> Result<(), AllocError>
         requires named { IsNamed (id, request) }
         requires absent { at id self.old.requests ≡ None }
@@ -122,7 +123,7 @@ impl<A: Allocator + Copy> Outstanding<A> {
         ensures err { OnErr result (self.new ≡ self.old) }
     {
         let awaited = request.awaited_by(self.transport);
-        let leaf = Box::new(alloc, Leaf::new(id, request))?;
+        let leaf = Box::new(alloc, Leaf::new(id, request, datum))?;
         insert(&mut self.root, LEVELS, alloc, &awaited, leaf)
     }
 

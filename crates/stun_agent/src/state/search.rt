@@ -25,8 +25,8 @@ const LONGEST_WAIT_SECONDS: u64 = 3600;
 
 /// Returns the ID of the request to end and whether it was still being retransmitted. If none ends,
 /// returns the time of the next poll.
-pub(crate) fn decide<A: Allocator, L: Ledger>(
-    index: &Link<A>,
+pub(crate) fn decide<A: Allocator, D, L: Ledger>(
+    index: &Link<A, D>,
     now: Instant,
     reads: &mut Reads<L>,
 ) -> Result<(TransactionId, bool), Instant>
@@ -52,7 +52,11 @@ pub(crate) fn decide<A: Allocator, L: Ledger>(
 }
 
 /// Returns the time of the next poll if no request is over.
-fn wake_up<A: Allocator, L: Ledger>(index: &Link<A>, now: Instant, reads: &mut Reads<L>) -> Instant
+fn wake_up<A: Allocator, D, L: Ledger>(
+    index: &Link<A, D>,
+    now: Instant,
+    reads: &mut Reads<L>,
+) -> Instant
     ensures until { (transport : TransportType) → IsTimed transport index.now
         → first_over transport now (items index.now) ≡ None
         → result ≡ wake_up transport now (items index.now) }
@@ -71,8 +75,8 @@ fn wake_up<A: Allocator, L: Ledger>(index: &Link<A>, now: Instant, reads: &mut R
 /// and only if it finds one. Otherwise it looks at this link alone.
 #[cycle(find_ended)]
 #[inline(always)]
-fn find_ended<A: Allocator, L: Ledger>(
-    link: &Link<A>,
+fn find_ended<A: Allocator, D, L: Ledger>(
+    link: &Link<A, D>,
     now: Instant,
     reads: &mut Reads<L>,
 ) -> Option<(TransactionId, bool)>
@@ -104,8 +108,8 @@ fn find_ended<A: Allocator, L: Ledger>(
 
 /// Like `find_ended`, but for the requests below a fork.
 #[cycle(find_ended)]
-fn find_ended_below<A: Allocator, L: Ledger>(
-    fork: &Fork<A>,
+fn find_ended_below<A: Allocator, D, L: Ledger>(
+    fork: &Fork<A, D>,
     now: Instant,
     reads: &mut Reads<L>,
 ) -> Option<(TransactionId, bool)>

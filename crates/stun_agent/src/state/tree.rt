@@ -28,14 +28,15 @@ pub(crate) mod insert;
 pub(crate) mod lookups;
 pub(crate) mod remove;
 
-/// A request and its ID.
+/// A request and its ID, with what its owner stores beside it.
 #[derive(Drop)]
-pub(crate) struct Leaf<A: Allocator> {
+pub(crate) struct Leaf<A: Allocator, D> {
     id: TransactionId,
     request: Transaction<A>,
+    datum: D,
 }
 
-impl<A: Allocator> Model for Leaf<A> {
+impl<A: Allocator, D> Model for Leaf<A, D> {
     ghost use Rattle.std.specs.Prelude.{ℕ};
     ghost use Rattle.stun_agent.specs.Transactions.{Transaction};
 
@@ -44,13 +45,15 @@ impl<A: Allocator> Model for Leaf<A> {
     ghost view = { λ leaf. (leaf.id, leaf.request) };
 }
 
-impl<A: Allocator> Leaf<A> {
-    pub(crate) fn new(id: TransactionId, request: Transaction<A>) -> Self
+impl<A: Allocator, D> Leaf<A, D> {
+    pub(crate) fn new(id: TransactionId, request: Transaction<A>, datum: D) -> Self
         ensures { result ≡ (id, request) }
     {
-        Leaf { id, request }
+        Leaf { id, request, datum }
     }
+}
 
+impl<A: Allocator, D: Drop> Leaf<A, D> {
     pub(crate) fn into_request(self) -> Transaction<A>
         ensures { result ≡ self.1 }
     {
@@ -62,23 +65,23 @@ impl<A: Allocator> Leaf<A> {
 /// below it await.
 #[cycle(tree)]
 #[derive(Drop)]
-pub(crate) enum Link<A: Allocator> {
+pub(crate) enum Link<A: Allocator, D> {
     Empty,
-    Leaf(Awaited, Box<Leaf<A>, A>),
-    Fork(Awaited, Box<Fork<A>, A>),
+    Leaf(Awaited, Box<Leaf<A, D>, A>),
+    Fork(Awaited, Box<Fork<A, D>, A>),
 }
 
 /// The four quarters of a part of the IDs, by the next two bits of an ID.
 #[cycle(tree)]
 #[derive(Drop)]
-pub(crate) struct Fork<A: Allocator> {
-    pub(crate) first: Link<A>,
-    pub(crate) second: Link<A>,
-    pub(crate) third: Link<A>,
-    pub(crate) fourth: Link<A>,
+pub(crate) struct Fork<A: Allocator, D> {
+    pub(crate) first: Link<A, D>,
+    pub(crate) second: Link<A, D>,
+    pub(crate) third: Link<A, D>,
+    pub(crate) fourth: Link<A, D>,
 }
 
-impl<A: Allocator> Link<A> {
+impl<A: Allocator, D> Link<A, D> {
     /// Looks at the earliest time that a request below this link awaits.
     pub(crate) fn first<L: Ledger>(&self, reads: &mut Reads<L>) -> Option<Instant>
         ensures first { (transport : TransportType) → IsTimed transport self.now
@@ -114,7 +117,7 @@ impl<A: Allocator> Link<A> {
     }
 }
 
-impl<A: Allocator> Fork<A> {
+impl<A: Allocator, D> Fork<A, D> {
     /// Returns what all the requests await.
     fn awaited(&self) -> Awaited
         ensures { (transport : TransportType) → IsTimedFork transport self.now
@@ -130,9 +133,9 @@ impl<A: Allocator> Fork<A> {
 
 /// Reads the entry of a request: returns the time that it awaits, if it is not canceled, its ID,
 /// and what is still sent of it. A search under `Reads` has no other way to an ID.
-pub(crate) fn read_entry<A: Allocator, L: Ledger>(
+pub(crate) fn read_entry<A: Allocator, D, L: Ledger>(
     awaited: &Awaited,
-    leaf: &Leaf<A>,
+    leaf: &Leaf<A, D>,
     reads: &mut Reads<L>,
 ) -> (Option<Instant>, TransactionId, Sending)
     ensures entry { result ≡ (first_awaited awaited.now, leaf.now.0, leaf.now.1.sending) }

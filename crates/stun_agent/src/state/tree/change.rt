@@ -19,8 +19,8 @@ use stun_base::transport::TransportType;
 
 /// Changes the request with this ID, if it is in the tree. Does not allocate.
 #[cycle(change)]
-pub(crate) fn change<A: Allocator>(
-    link: &mut Link<A>,
+pub(crate) fn change<A: Allocator, D>(
+    link: &mut Link<A, D>,
     levels: u32,
     transport: TransportType,
     id: TransactionId,
@@ -47,8 +47,8 @@ pub(crate) fn change<A: Allocator>(
 
 /// Like `change`, but for the requests below a fork. Returns what they then await.
 #[cycle(change)]
-fn change_fork<A: Allocator>(
-    fork: &mut Fork<A>,
+fn change_fork<A: Allocator, D>(
+    fork: &mut Fork<A, D>,
     levels: u32,
     transport: TransportType,
     id: TransactionId,
@@ -69,8 +69,8 @@ fn change_fork<A: Allocator>(
 
 /// Like `change`, but for the requests below a fork.
 #[cycle(change)]
-fn change_in<A: Allocator>(
-    fork: &mut Fork<A>,
+fn change_in<A: Allocator, D>(
+    fork: &mut Fork<A, D>,
     levels: u32,
     transport: TransportType,
     id: TransactionId,
@@ -92,7 +92,7 @@ fn change_in<A: Allocator>(
     }
 }
 
-impl<A: Allocator> Leaf<A> {
+impl<A: Allocator, D> Leaf<A, D> {
     /// Changes the request, and returns what it then awaits.
     fn change(&mut self, transport: TransportType, to: Change) -> Awaited
         ensures after { self.new ≡ (self.old.0, changed_transaction to self.old.1) }
@@ -120,8 +120,8 @@ impl<A: Allocator> Leaf<A> {
 /// request that is still retransmitted. Returns whether there is such a request.
 #[cycle(pass_slots)]
 #[inline(always)]
-pub(crate) fn pass_slots<A: Allocator>(
-    link: &mut Link<A>,
+pub(crate) fn pass_slots<A: Allocator, D>(
+    link: &mut Link<A, D>,
     transport: TransportType,
     now: Instant,
     leave: Uncounted,
@@ -154,8 +154,8 @@ pub(crate) fn pass_slots<A: Allocator>(
 
 /// Like `pass_slots`, but for the requests below a fork. Sets what they then await.
 #[cycle(pass_slots)]
-fn pass_fork<A: Allocator>(
-    fork: &mut Fork<A>,
+fn pass_fork<A: Allocator, D>(
+    fork: &mut Fork<A, D>,
     awaited: &mut Awaited,
     transport: TransportType,
     now: Instant,
@@ -179,8 +179,8 @@ fn pass_fork<A: Allocator>(
 
 /// Like `pass_slots`, but for the requests below a fork.
 #[cycle(pass_slots)]
-fn pass_in<A: Allocator>(
-    fork: &mut Fork<A>,
+fn pass_in<A: Allocator, D>(
+    fork: &mut Fork<A, D>,
     transport: TransportType,
     now: Instant,
     leave: Uncounted,

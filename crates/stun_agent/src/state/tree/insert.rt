@@ -16,12 +16,12 @@ use std::mem;
 /// Adds a request whose ID is not in the tree. If an allocation fails, the requests stay as they
 /// were, but forks that were made before the failure stay: up to 47 of them.
 #[cycle(insert)]
-pub(crate) fn insert<A: Allocator + Copy>(
-    link: &mut Link<A>,
+pub(crate) fn insert<A: Allocator + Copy, D: Drop>(
+    link: &mut Link<A, D>,
     levels: u32,
     alloc: A,
     awaited: &Awaited,
-    leaf: Box<Leaf<A>, A>,
+    leaf: Box<Leaf<A, D>, A>,
 ) -> Result<(), AllocError>
     requires deep { levels ≤ most_levels }
     requires ordered { IsOrdered levels (part_of levels leaf.value.0) link.old }
@@ -48,12 +48,12 @@ pub(crate) fn insert<A: Allocator + Copy>(
 
 /// Like `insert`, but for a link that leads to a fork.
 #[cycle(insert)]
-fn insert_below<A: Allocator + Copy>(
-    link: &mut Link<A>,
+fn insert_below<A: Allocator + Copy, D: Drop>(
+    link: &mut Link<A, D>,
     levels: u32,
     alloc: A,
     awaited: &Awaited,
-    leaf: Box<Leaf<A>, A>,
+    leaf: Box<Leaf<A, D>, A>,
 ) -> Result<(), AllocError>
     requires fork { IsFork link.old }
     requires ordered { IsOrdered levels (part_of levels leaf.value.0) link.old }
@@ -75,12 +75,12 @@ fn insert_below<A: Allocator + Copy>(
 
 /// Like `insert`, but for the requests below a fork.
 #[cycle(insert)]
-fn insert_into<A: Allocator + Copy>(
-    fork: &mut Fork<A>,
+fn insert_into<A: Allocator + Copy, D: Drop>(
+    fork: &mut Fork<A, D>,
     levels: u32,
     alloc: A,
     awaited: &Awaited,
-    leaf: Box<Leaf<A>, A>,
+    leaf: Box<Leaf<A, D>, A>,
 ) -> Result<(), AllocError>
     requires deep { IsDeep levels }
     requires ordered { IsOrderedFork levels (part_of levels leaf.value.0) fork.old }
@@ -103,7 +103,11 @@ fn insert_into<A: Allocator + Copy>(
 }
 
 /// Replaces a leaf by a fork that contains it, so that another leaf can be added.
-fn deepen<A: Allocator + Copy>(link: &mut Link<A>, levels: u32, alloc: A) -> Result<(), AllocError>
+fn deepen<A: Allocator + Copy, D: Drop>(
+    link: &mut Link<A, D>,
+    levels: u32,
+    alloc: A,
+) -> Result<(), AllocError>
     requires leaf { IsLeaf link.old }
     requires deep { IsDeep levels }
     ensures ok { OnOk result (IsFork link.new) }
@@ -112,7 +116,13 @@ fn deepen<A: Allocator + Copy>(link: &mut Link<A>, levels: u32, alloc: A) -> Res
     ensures timed { (transport : TransportType) → IsTimed transport link.old
         → IsTimed transport link.new }
 {
-    let mut fork = Box::new(alloc, Fork::empty())?;
+    let none = Fork {
+        first: Link::Empty,
+        second: Link::Empty,
+        third: Link::Empty,
+        fourth: Link::Empty,
+    };
+    let mut fork = Box::new(alloc, none)?;
     match mem::replace(link, Link::Empty) {
         Link::Leaf(awaited, leaf) => {
             *fork = Fork::of(levels, awaited.copied(), leaf);
@@ -123,19 +133,9 @@ fn deepen<A: Allocator + Copy>(link: &mut Link<A>, levels: u32, alloc: A) -> Res
     Ok(())
 }
 
-impl<A: Allocator> Fork<A> {
-    /// Creates a fork without requests.
-    fn empty() -> Self {
-        Fork {
-            first: Link::Empty,
-            second: Link::Empty,
-            third: Link::Empty,
-            fourth: Link::Empty,
-        }
-    }
-
+impl<A: Allocator, D> Fork<A, D> {
     /// Creates a fork with one request, which is put in the quarter of its ID.
-    fn of(levels: u32, awaited: Awaited, leaf: Box<Leaf<A>, A>) -> Self
+    fn of(levels: u32, awaited: Awaited, leaf: Box<Leaf<A, D>, A>) -> Self
         requires { IsDeep levels }
         ensures items { fork_items result ≡ leaf.value ∷ [] }
         ensures ordered { (part : ℕ) → IsPlaced levels part leaf.value

@@ -16,8 +16,8 @@ use stun_base::transaction_id::TransactionId;
 
 /// Returns the request with this ID.
 #[cycle(get)]
-pub(crate) fn get<A: Allocator>(
-    link: &Link<A>,
+pub(crate) fn get<A: Allocator, D>(
+    link: &Link<A, D>,
     levels: u32,
     id: TransactionId,
     leave: Uncounted,
@@ -47,7 +47,7 @@ pub(crate) fn get<A: Allocator>(
 }
 
 /// Returns the earliest time that a request awaits.
-pub(crate) fn next_awaited<A: Allocator>(link: &Link<A>, _leave: Uncounted) -> Option<Instant>
+pub(crate) fn next_awaited<A: Allocator, D>(link: &Link<A, D>, _leave: Uncounted) -> Option<Instant>
     ensures { (transport : TransportType) → IsTimed transport link.now
         → result ≡ first_awaited (awaited_of transport (items link.now)) }
 {
@@ -55,8 +55,8 @@ pub(crate) fn next_awaited<A: Allocator>(link: &Link<A>, _leave: Uncounted) -> O
 }
 
 /// Returns the request to send again.
-pub(crate) fn next_sent<A: Allocator>(
-    link: &Link<A>,
+pub(crate) fn next_sent<A: Allocator, D>(
+    link: &Link<A, D>,
     now: Instant,
     leave: Uncounted,
 ) -> Option<&Transaction<A>>
@@ -69,8 +69,8 @@ pub(crate) fn next_sent<A: Allocator>(
 }
 
 /// Returns the ID and the number of bytes of the request to send again.
-pub(crate) fn length_sent<A: Allocator>(
-    link: &Link<A>,
+pub(crate) fn length_sent<A: Allocator, D>(
+    link: &Link<A, D>,
     now: Instant,
     leave: Uncounted,
 ) -> Option<(TransactionId, usize)>
@@ -85,7 +85,11 @@ pub(crate) fn length_sent<A: Allocator>(
 /// Returns the leaf with the least ID among those whose request is due and still retransmitted.
 #[cycle(first_sent)]
 #[inline(always)]
-fn first_sent<A: Allocator>(link: &Link<A>, now: Instant, leave: Uncounted) -> Option<&Leaf<A>>
+fn first_sent<A: Allocator, D>(
+    link: &Link<A, D>,
+    now: Instant,
+    leave: Uncounted,
+) -> Option<&Leaf<A, D>>
     ensures { (transport : TransportType) → IsTimed transport link.now
         → option_copied result ≡ next_sent transport now (items link.now) }
 {
@@ -112,11 +116,11 @@ fn first_sent<A: Allocator>(link: &Link<A>, now: Instant, leave: Uncounted) -> O
 
 /// Like `first_sent`, but for the requests below a fork.
 #[cycle(first_sent)]
-fn first_sent_below<A: Allocator>(
-    fork: &Fork<A>,
+fn first_sent_below<A: Allocator, D>(
+    fork: &Fork<A, D>,
     now: Instant,
     leave: Uncounted,
-) -> Option<&Leaf<A>>
+) -> Option<&Leaf<A, D>>
     ensures { (transport : TransportType) → IsTimedFork transport fork.now
         → option_copied result ≡ next_sent transport now (fork_items fork.now) }
 {

@@ -19,12 +19,12 @@ use stun_base::transaction_id::TransactionId;
 /// Removes the request with this ID, and the forks above it that are left with one leaf or nothing.
 /// Returns the leaf of the request, and sets `gone` to what it awaited.
 #[cycle(remove)]
-pub(crate) fn remove<A: Allocator>(
-    link: &mut Link<A>,
+pub(crate) fn remove<A: Allocator, D: Drop>(
+    link: &mut Link<A, D>,
     levels: u32,
     id: TransactionId,
     gone: &mut Awaited,
-) -> Option<Box<Leaf<A>, A>>
+) -> Option<Box<Leaf<A, D>, A>>
     requires { IsOrdered levels (part_of levels id) link.old }
     ensures answer { option_map (λ leaf. leaf.value.1) result ≡ at id (items link.old) }
     ensures after { items link.new ≡ without id (items link.old) }
@@ -59,12 +59,12 @@ pub(crate) fn remove<A: Allocator>(
 
 /// Like `remove`, but for the requests below a fork, which may be left with one leaf or nothing.
 #[cycle(remove)]
-fn remove_from<A: Allocator>(
-    fork: &mut Fork<A>,
+fn remove_from<A: Allocator, D: Drop>(
+    fork: &mut Fork<A, D>,
     levels: u32,
     id: TransactionId,
     gone: &mut Awaited,
-) -> Option<Box<Leaf<A>, A>>
+) -> Option<Box<Leaf<A, D>, A>>
     requires deep { IsDeep levels }
     requires ordered { IsOrderedFork levels (part_of levels id) fork.old }
     ensures answer { option_map (λ leaf. leaf.value.1) result ≡ at id (fork_items fork.old) }
@@ -86,7 +86,10 @@ fn remove_from<A: Allocator>(
 }
 
 /// Removes the request that a link leads to, and sets `gone` to what it awaited.
-fn take_leaf<A: Allocator>(link: &mut Link<A>, gone: &mut Awaited) -> Option<Box<Leaf<A>, A>>
+fn take_leaf<A: Allocator, D: Drop>(
+    link: &mut Link<A, D>,
+    gone: &mut Awaited,
+) -> Option<Box<Leaf<A, D>, A>>
     requires { IsLeaf link.old }
     ensures answer { option_map (λ leaf. leaf.value.1) result
         ≡ first_request (items link.old) }
@@ -107,7 +110,7 @@ fn take_leaf<A: Allocator>(link: &mut Link<A>, gone: &mut Awaited) -> Option<Box
     }
 }
 
-impl<A: Allocator> Link<A> {
+impl<A: Allocator, D> Link<A, D> {
     /// Returns whether the request that this link leads to has this ID.
     fn is_of(&self, id: TransactionId) -> bool
         requires { IsLeaf self.now }
@@ -128,7 +131,7 @@ impl<A: Allocator> Link<A> {
     }
 
     /// Takes out what this link leads to, if that is one leaf or nothing.
-    fn take_lone(&mut self) -> Option<Link<A>>
+    fn take_lone(&mut self) -> Option<Link<A, D>>
         ensures none { MatchOption result (self.new ≡ self.old) (λ _. Unit {0}) }
         ensures link { IfSome result (λ link. link ≡ self.old) }
         ensures lone { IfSome result IsLone }
@@ -140,9 +143,9 @@ impl<A: Allocator> Link<A> {
     }
 }
 
-impl<A: Allocator> Fork<A> {
+impl<A: Allocator, D> Fork<A, D> {
     /// Takes out what is below this fork, if that is one leaf or nothing.
-    fn take_lone(&mut self) -> Option<Link<A>>
+    fn take_lone(&mut self) -> Option<Link<A, D>>
         ensures none { MatchOption result (self.new ≡ self.old) (λ _. Unit {0}) }
         ensures items { IfSome result (λ link. items link ≡ fork_items self.old) }
         ensures lone { IfSome result IsLone }
@@ -173,7 +176,7 @@ impl<A: Allocator> Fork<A> {
     /// Takes out what is below this fork, if that is one leaf or nothing. Otherwise joins anew what
     /// the requests below it await, if the one that has left, which awaited `gone`, may have been
     /// the earliest of those that `all` was of.
-    fn settle(&mut self, all: &mut Awaited, gone: &Awaited) -> Option<Link<A>>
+    fn settle(&mut self, all: &mut Awaited, gone: &Awaited) -> Option<Link<A, D>>
         ensures same { MatchOption result (self.new ≡ self.old) (λ _. Unit {0}) }
         ensures items { IfSome result (λ link. items link ≡ fork_items self.old) }
         ensures lone { IfSome result IsLone }

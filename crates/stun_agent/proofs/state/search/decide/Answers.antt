@@ -2,10 +2,10 @@
 -- that one and beside these.
 use Rattle.std.proofs.Common.{arith, ap}
 use Rattle.std.specs.Prelude.{Some}
-use Rattle.stun_agent.specs.code.Tree.{items, depth}
+use Rattle.stun_agent.specs.code.Tree.{items}
 use Rattle.stun_agent.specs.Deadlines.{most_levels, Work}
 use Rattle.stun_agent.proofs.EndedLemmas.{reads_early}
-use Rattle.stun_agent.proofs.LookLemmas.{depth_within, looks_found, looks_waiting}
+use Rattle.stun_agent.proofs.LookLemmas.{depth_within}
 use Rattle.stun_agent.proofs.state.search.decide.Goals as goal
 
 pub returns-in-Some-clause-work : goal.returns-in-Some-clause-work
@@ -22,11 +22,11 @@ returns-in-Some-clause-looks g c transport tree fresh =
     let read = c.in-Some.ensures.counts in
     let none = ap (λ (w : Work). w.entries) fresh in
     let unseen = ap (λ (w : Work). w.looks) fresh in
-    looks_found _ _ (depth root) (omega (arith, read, none)) deep (omega (arith, looked, unseen))
+    omega (arith, deep, looked, read, none, unseen)
 
 pub returns-in-None-clause-looks : goal.returns-in-None-clause-looks
 returns-in-None-clause-looks g c transport tree fresh =
     let first = c.in-None.ensures.looks transport tree.timed in
     let second = ap (λ (w : Work). w.looks) c.wake_up.ensures.counts in
     let unseen = ap (λ (w : Work). w.looks) fresh in
-    looks_waiting _ _ _ _ first (omega (arith, second)) unseen
+    omega (arith, first, second, unseen)

@@ -43,10 +43,8 @@ insert_into-insert-requires g t c κs within =
     let absent = at_first c.args.levels id c.args.fork.now c.requires.ordered is
     ∙ c.requires.absent in
     let ordered = subst (λ part. IsOrdered (c.args.levels - 1) part c.args.fork.now.first) (sym is)
-    c.requires.ordered.0 in (
-      omega (arith, c.decreases, c.requires.deep.some),
-      (within, (omega (arith, c.requires.deep.most), (ordered, (c.requires.named, absent)))),
-    )
+    c.requires.ordered.0 in
+    (omega arith, (within.0, (within.1, (omega arith, (ordered, (c.requires.named, absent))))))
 
 pub insert_into-insert-requires-in-Second : goal.insert_into-insert-requires-in-Second
 insert_into-insert-requires-in-Second g t c κs within =
@@ -57,10 +55,8 @@ insert_into-insert-requires-in-Second g t c κs within =
     let absent = at_second c.args.levels id c.args.fork.now c.requires.ordered is
     ∙ c.requires.absent in
     let ordered = subst (λ part. IsOrdered (c.args.levels - 1) part c.args.fork.now.second) (sym is)
-    c.requires.ordered.1 in (
-      omega (arith, c.decreases, c.requires.deep.some),
-      (within, (omega (arith, c.requires.deep.most), (ordered, (c.requires.named, absent)))),
-    )
+    c.requires.ordered.1 in
+    (omega arith, (within.0, (within.1, (omega arith, (ordered, (c.requires.named, absent))))))
 
 pub insert_into-insert-requires-in-Third : goal.insert_into-insert-requires-in-Third
 insert_into-insert-requires-in-Third g t c κs within =
@@ -71,10 +67,8 @@ insert_into-insert-requires-in-Third g t c κs within =
     let absent = at_third c.args.levels id c.args.fork.now c.requires.ordered is
     ∙ c.requires.absent in
     let ordered = subst (λ part. IsOrdered (c.args.levels - 1) part c.args.fork.now.third) (sym is)
-    c.requires.ordered.2 in (
-      omega (arith, c.decreases, c.requires.deep.some),
-      (within, (omega (arith, c.requires.deep.most), (ordered, (c.requires.named, absent)))),
-    )
+    c.requires.ordered.2 in
+    (omega arith, (within.0, (within.1, (omega arith, (ordered, (c.requires.named, absent))))))
 
 pub insert_into-insert-requires-in-Fourth : goal.insert_into-insert-requires-in-Fourth
 insert_into-insert-requires-in-Fourth g t c κs within =
@@ -85,10 +79,8 @@ insert_into-insert-requires-in-Fourth g t c κs within =
     let absent = at_fourth c.args.levels id c.args.fork.now c.requires.ordered is
     ∙ c.requires.absent in
     let ordered = subst (λ part. IsOrdered (c.args.levels - 1) part c.args.fork.now.fourth) (sym is)
-    c.requires.ordered.3 in (
-      omega (arith, c.decreases, c.requires.deep.some),
-      (within, (omega (arith, c.requires.deep.most), (ordered, (c.requires.named, absent)))),
-    )
+    c.requires.ordered.3 in
+    (omega arith, (within.0, (within.1, (omega arith, (ordered, (c.requires.named, absent))))))
 
 pub insert_into-returns-in-First-clause-ok : goal.insert_into-returns-in-First-clause-ok
 insert_into-returns-in-First-clause-ok g t c =

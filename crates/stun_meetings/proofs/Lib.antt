@@ -4,3 +4,5 @@
 pub mod SideLemmas
 -- a request that is sent again
 pub mod SendLemmas
+-- what a refusal comes to
+pub mod RefusingLemmas

@@ -103,7 +103,7 @@ unfold_received is_heard from bytes now e given is = ap (by_given is_heard now e
 
 -- ---- what is outstanding
 
-outstanding_is : (o : Option Pending) (p : Pending) → if_outstanding o ≡ Some p → o ≡ Some p
+pub outstanding_is : (o : Option Pending) (p : Pending) → if_outstanding o ≡ Some p → o ≡ Some p
 outstanding_is None p is = cc
 outstanding_is (Some q) p is = by (is_none q.end) is
   where
@@ -111,7 +111,7 @@ outstanding_is (Some q) p is = by (is_none q.end) is
     by true is = is
     by false is = cc
 
-is_going : (o : Option Pending) (p : Pending) → if_outstanding o ≡ Some p → p.end ≡ None
+pub is_going : (o : Option Pending) (p : Pending) → if_outstanding o ≡ Some p → p.end ≡ None
 is_going None p is = cc
 is_going (Some q) p is = by q.end refl is
   where

@@ -1,5 +1,6 @@
 //! The meeting of a client and a server.
 ghost use Rattle.stun_meetings.specs.Meeting.{ClientsMeetServers};
+ghost use Rattle.stun_meetings.specs.Refusing.{SecondRefusalsEnd, ThirdRefusalsEnd};
 
 /// A client and a server meet in two exchanges, by the strongest algorithm of both. After a request
 /// was started, and after any calls of its client, as long as it is outstanding:
@@ -34,3 +35,14 @@ pub fn clients_meet_servers()
     stun_client::laws::nonces_of_a_server_are_up_to_date();
     stun_sessions::sessions::forgotten_nonces_are_stale();
 }
+
+/// A wrong password ends a request soon. The challenge that the request is signed for is dropped as
+/// `Refused` the first time, and the request goes on by its timer. It ends the request as
+/// `Unauthorized` once the request was sent again after that, and at once over a reliable transport
+/// (`second`). A 401 for the same realm and security bits with another nonce or list ends it after
+/// it was sent again for two of these (`third`). Which challenges count is said by
+/// `refusals_ask_for_the_same_credentials` of `stun_exchanges`.
+pub fn refusals_end_requests()
+    ensures second { SecondRefusalsEnd }
+    ensures third { ThirdRefusalsEnd }
+{}

@@ -97,7 +97,7 @@ use Rattle.stun_client_endpoint.proofs.StoredLemmas.{ended_is_there, names_apart
 use Rattle.stun_client_endpoint.proofs.StoredLemmas.{put_other, put_same}
 use Rattle.stun_client_endpoint.proofs.StoredLemmas.{removed, removed_other, same_changed}
 use Rattle.stun_client_endpoint.proofs.StoredLemmas.{same_itself, same_or_apart, unsent_is_there}
-use Rattle.stun_client_endpoint.proofs.WrittenLemmas.{request_id, request_method}
+use Rattle.stun_client_endpoint.proofs.WrittenLemmas.{request_id, request_type}
 
 -- ---- what a call does
 
@@ -637,7 +637,9 @@ module _ (number now : ℕ) (bytes : List ℕ) (e : Endpoint) (a : AskedSeen) (i
           (Some renewal.challenge) s e.state e.requests a here named
           (request_id e.form e.state.client.identity (Some renewal.challenge) a.method id_number e.seed
           p.body new written ∙ ap (λ (d : List ℕ). id_of d id_number) of.seed)
-          (free_again e.state bytes new a here passed) is.loop was
+          (free_again e.state bytes new a here passed) is.loop was of.fits
+          (λ low. request_type e.form e.state.client.identity (Some renewal.challenge) a.method id_number
+          e.seed p.body new low written)
           (λ q found.
           let equal : p ≡ q =
           ap (λ (o : Option Pending). option_map_or (λ x. x) o p) (sym stored ∙ found) in
@@ -905,8 +907,8 @@ module _ (e : Endpoint) (is : IsEndpoint e) where
       let it = written_is e method body none in
       subst (IsLikeIn (asking e method body)) (sym (started_by_it e method body now it))
       (like_new (asking e method body) e.state e.requests (until_from now e) it.number now it.bytes is.loop
-      refl refl
-      (request_method e.form e.state.client.identity e.state.client.standing.current method it.number e.seed
+      refl refl low
+      (request_type e.form e.state.client.identity e.state.client.standing.current method it.number e.seed
       body it.bytes low it.written)
       (request_id e.form e.state.client.identity e.state.client.standing.current method it.number e.seed body
       it.bytes it.written) it.written)
@@ -1152,6 +1154,7 @@ stays_like s e after events is of like (call _ next _ event others made rest) =
     let one = call_is e next event is made in
     stays_like s next after others one.kept (record {
       low = omega (arith, of.low, one.grows);
+      fits = of.fits;
       form = one.bytes.form ∙ of.form;
       seed = one.bytes.seed ∙ of.seed;
     }) (one.bytes.like s of like) rest
@@ -1162,6 +1165,7 @@ keeps_its_bytes = λ e later between method body now p is low none calls out.
     let first = started method body now e in
     let after = stays_like (asking e method body) first later between begun.0.kept (record {
       low = below (next_number e) first begun.0.kept begun.1;
+      fits = low;
       form = begun.0.bytes.form;
       seed = begun.0.bytes.seed;
     }) (started_like e is method body now low none) calls in

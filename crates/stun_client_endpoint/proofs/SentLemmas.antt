@@ -7,7 +7,7 @@ use Rattle.std.specs.Ordering.{nat_cmp}
 use Rattle.std.specs.Prelude.{◌&&◌, length}
 use Rattle.std.specs.declared.net.socket_addr.SocketAddr.{SocketAddr}
 use Rattle.stun_base.specs.Header.{transaction_id_field, type_field}
-use Rattle.stun_base.specs.MessageType.{class_in, method_of}
+use Rattle.stun_base.specs.MessageType.{class_in, method_of, type_number}
 use Rattle.stun_base.specs.declared.wire.message_type.MessageClass.{MessageClass}
 use Rattle.stun_base.specs.declared.wire.message_type.MessageClass.TheVariants.{Request, Indication}
 use Rattle.stun_base.specs.declared.wire.message_type.MessageClass.TheVariants.{Success, Error}
@@ -43,6 +43,7 @@ use Rattle.stun_client_endpoint.proofs.KeptLemmas.{HasSame, IsQuiet, Loses}
 use Rattle.stun_client_endpoint.proofs.PendingLemmas.{Ascend}
 use Rattle.stun_client_endpoint.proofs.StoredLemmas.{apart, changed_from, changed_other}
 use Rattle.stun_client_endpoint.proofs.StoredLemmas.{put_other, put_same}
+use Rattle.stun_client_endpoint.proofs.WrittenLemmas.{method_again}
 
 -- ---- the bytes that an agent has
 
@@ -184,6 +185,8 @@ still_sent s id bytes l after loop is there keeps =
       numbered = is.numbered;
       method = is.method;
       written = is.written;
+      kind = is.kind;
+      named = is.named;
       transaction = timer.transaction;
       sent = timer.there;
       to = timer.to;
@@ -280,13 +283,14 @@ like_removed m s l all sorted is = record {
 -- the request is started
 pub like_new : (s : Asking) (l : LoopSeen) (all : Pendings) (until id_number now : ℕ) (bytes : List ℕ)
     → IsLoop l → l.client.identity ≡ s.identity → l.client.requests.next ≡ s.number
-    → method_of (type_field bytes) ≡ s.method → transaction_id_field bytes ≡ id_of s.seed id_number
+    → s.method < 4096 → type_field bytes ≡ type_number Request s.method
+    → transaction_id_field bytes ≡ id_of s.seed id_number
     → request_bytes s.form s.identity l.client.standing.current s.method (id_of s.seed id_number) s.body
     ≡ Ok bytes
     → IsLike s (after_request bytes now l)
     (changed_at (sending false (id_of s.seed id_number) bytes) l.client.requests.next
     (with_request l.client.requests.next (new_pending s.body until) all))
-like_new s l all until id_number now bytes loop who number method named written = record {
+like_new s l all until id_number now bytes loop who number low kind named written = record {
   identity = who;
   stored = λ p here on. elim (changed_from send s.number next stored p here) [
     | inl was ↦
@@ -324,8 +328,10 @@ like_new s l all until id_number now bytes loop who number method named written 
       there = subst (λ k. at k (after_request bytes now l).client.requests.asked ≡ Some first) named
           (lookup-insert_same (transaction_id_field bytes) first l.client.requests.asked);
       numbered = number;
-      method = method;
+      method = ap method_of kind ∙ method_again s.method low;
       written = written;
+      kind = kind;
+      named = named;
       transaction = request_of l.agent bytes l.server now;
       sent = subst (λ k. transaction_at k (after_request bytes now l).agent.transactions
           ≡ Some (request_of l.agent bytes l.server now)) named
@@ -407,10 +413,10 @@ module _ (is_heard is_refusal : Bool) (m id_number now : ℕ) (response bytes : 
       l.client.requests.asked a here free) (sym same))
 
   -- this request: it has the new ID and the new bytes
-  its_own : s.number ≡ m → a.method ≡ s.method
+  its_own : s.number ≡ m → a.method ≡ s.method → type_field bytes ≡ type_number Request s.method
       → request_bytes s.form s.identity challenge s.method (id_of s.seed id_number) s.body ≡ Ok bytes
       → IsSentAs s (id_of s.seed id_number) bytes again
-  its_own same method written =
+  its_own same method kind written =
       subst (λ k. IsSentAs s k bytes again) named (record {
         id_number = id_number;
         derived = named;
@@ -421,6 +427,8 @@ module _ (is_heard is_refusal : Bool) (m id_number now : ℕ) (response bytes : 
         written = subst
             (λ k. request_bytes s.form s.identity challenge s.method k s.body ≡ Ok bytes)
             (sym named) written;
+        kind = kind;
+        named = refl;
         transaction = timer.transaction;
         sent = timer.there;
         to = timer.to;
@@ -491,12 +499,14 @@ module _ (is_heard is_refusal : Bool) (m id_number now : ℕ) (response bytes : 
           l.client.requests.asked off
           ∙ was.sent.there
 
-  pub like_resent : ((p : Pending) → request_at m all ≡ Some p
+  pub like_resent : s.method < 4096
+      → (a.method < 4096 → type_field bytes ≡ type_number Request a.method)
+      → ((p : Pending) → request_at m all ≡ Some p
       → request_bytes s.form l.client.identity challenge a.method (id_of s.seed id_number) p.body
       ≡ Ok bytes)
       → ((p : Pending) → request_at m all ≡ Some p → p.end ≡ None)
       → IsLike s again (changed_at send m all)
-  like_resent written going = record {
+  like_resent low kind written going = record {
     identity = is.identity;
     stored = λ p there on. elim (changed_from send s.number m all p there) [
       | inl was ↦
@@ -524,6 +534,8 @@ module _ (is_heard is_refusal : Bool) (m id_number now : ℕ) (response bytes : 
           record {
             body = before.body;
             sent = its_own (sym same) method
+                (kind (subst (λ k. k < 4096) (sym method) low)
+                ∙ ap (type_number Request) method)
                 (subst (λ b. request_bytes s.form s.identity challenge s.method
                 (id_of s.seed id_number) b ≡ Ok bytes) before.body
                 (subst (λ k. request_bytes s.form s.identity challenge k
@@ -534,9 +546,10 @@ module _ (is_heard is_refusal : Bool) (m id_number now : ℕ) (response bytes : 
 
 -- ---- a client
 
--- a request that a client has started
+-- a request that a client has started. Its method has 12 bits
 pub record IsAskedOf (s : Asking) (e : Endpoint) : Type 0 where
   pub low : s.number < next_number e
+  pub fits : s.method < 4096
   pub form : e.form ≡ s.form
   pub seed : e.seed ≡ s.seed
 
@@ -556,6 +569,7 @@ bytes_kept_then e next after grows one other = record {
   seed = other.seed ∙ one.seed;
   like = λ s of is. other.like s (record {
     low = omega (arith, of.low, grows);
+    fits = of.fits;
     form = one.form ∙ of.form;
     seed = one.seed ∙ of.seed;
   }) (one.like s of is);

@@ -1,6 +1,6 @@
 -- The bytes of a request have its method and its transaction ID.
 use Rattle.std.proofs.Common.{◌≡◌, ◌∙◌, ◌-◌, ◌<◌, ◌≤◌, ◌^◌, ◌++◌, ◌∷◌, [], ℕ, zero, suc, Bool, true}
-use Rattle.std.proofs.Common.{false, List, Option, Some, None, Result, Ok, Err, ap, arith, cond, drop}
+use Rattle.std.proofs.Common.{false, List, Option, Some, None, Result, Ok, Err, arith, cond, drop}
 use Rattle.std.proofs.Common.{length}
 use Rattle.std.proofs.Common.{length-append, refl, subst}
 use Rattle.std.specs.Int.{byte_at, bytes_high_first}
@@ -270,17 +270,17 @@ pub request_id : (form : Form) (identity : Identity) (challenge : Option Answere
 request_id form identity challenge method number seed body bytes is =
     (request_head form identity challenge method number seed body bytes is).has
 
--- and its method
-pub request_method : (form : Form) (identity : Identity) (challenge : Option Answered)
+-- and the type of a request with its method
+pub request_type : (form : Form) (identity : Identity) (challenge : Option Answered)
     (method number : ℕ) (seed : List ℕ) (body : Body) (bytes : List ℕ) → method < 4096
     → request_bytes form identity challenge method (id_of seed number) body ≡ Ok bytes
-    → method_of (type_field bytes) ≡ method
-request_method form identity challenge method number seed body bytes low is =
-    ap method_of
-    ((request_head form identity challenge method number seed body bytes is).type_is
+    → type_field bytes ≡ type_number Request method
+request_type form identity challenge method number seed body bytes low is =
+    (request_head form identity challenge method number seed body bytes is).type_is
     ∙ big_number-reads_back 2 (type_number Request method)
     (big_bytes 2 (length (spelled_attributes [])) ++ big_bytes 4 MAGIC_COOKIE
-    ++ big_bytes 12 (id_of seed number) ++ spelled_attributes []) (omega (arith, low))) ∙ again
-  where
-    again : method_of (type_number Request method) ≡ method
-    again = omega (arith, low)
+    ++ big_bytes 12 (id_of seed number) ++ spelled_attributes []) (omega (arith, low))
+
+-- the method of such a type
+pub method_again : (method : ℕ) → method < 4096 → method_of (type_number Request method) ≡ method
+method_again method low = omega (arith, low)

@@ -1,6 +1,9 @@
 -- Whose bytes are sent: over any calls, those of the request that was started (RFC 8489, sections 6.1,
 -- 6.2.1 and 9.2.5).
 use Rattle.std.specs.Prelude.{◌≡◌, ◌<◌, ℕ, List, None, Some, Ok}
+use Rattle.stun_base.specs.Header.{transaction_id_field, type_field}
+use Rattle.stun_base.specs.MessageType.{type_number}
+use Rattle.stun_base.specs.declared.wire.message_type.MessageClass.TheVariants.{Request}
 use Rattle.stun_agent.specs.Transactions.{Transaction, at as transaction_at}
 use Rattle.stun_client.specs.Ids.{id_of}
 use Rattle.stun_client.specs.Judging.{Identity}
@@ -36,8 +39,9 @@ asking e method body = record {
 }
 
 -- a request has this transaction ID, which is derived from the seed. These are the bytes of a request
--- with its method, this ID and its body, signed for the challenge that the client has of it, and they
--- are what the agent has sent to the server and sends again
+-- with its method, this ID and its body, signed for the challenge that the client has of it. Their
+-- header has this method and this ID, and they are what the agent has sent to the server and sends
+-- again
 pub record IsSentAs (s : Asking) (id : ℕ) (bytes : List ℕ) (l : LoopSeen) : Type 0 where
   pub id_number : ℕ
   pub derived : id ≡ id_of s.seed id_number
@@ -46,6 +50,8 @@ pub record IsSentAs (s : Asking) (id : ℕ) (bytes : List ℕ) (l : LoopSeen) : 
   pub numbered : asked.number ≡ s.number
   pub method : asked.method ≡ s.method
   pub written : request_bytes s.form s.identity asked.signed_for s.method id s.body ≡ Ok bytes
+  pub kind : type_field bytes ≡ type_number Request s.method
+  pub named : transaction_id_field bytes ≡ id
   pub transaction : Transaction
   pub sent : transaction_at id l.agent.transactions ≡ Some transaction
   pub to : transaction.to ≡ l.server

@@ -5,6 +5,7 @@ pub mod Ascii
 -- the client
 pub mod AgreementLemmas
 pub mod HeardLemmas
+pub mod RefusalLemmas
 -- the server
 pub mod UnsignedLemmas
 pub mod InTimeLemmas

@@ -4,6 +4,8 @@
 pub mod Agreement
 -- the same realm with another password of one user
 pub mod OtherSecrets
+-- which challenges refuse a request
+pub mod Refusals
 -- what each side reads of the messages of the other
 pub mod Exchange
 -- a server, a user and a client that meet the premises

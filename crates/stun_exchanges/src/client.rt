@@ -16,6 +16,8 @@ ghost use Rattle.stun_client.specs.Preferences.{supports};
 ghost use Rattle.stun_client.specs.Standing.{StandingSeen};
 ghost use Rattle.stun_client.specs.declared.preferences.Preferences.{Preferences};
 ghost use Rattle.stun_exchanges.specs.Agreement.{AgreeOn, IsSignedAnswer, meant_by, offered_by};
+ghost use Rattle.stun_exchanges.specs.Refusals.{RefusalsAreOfTheSameCredentials};
+ghost use Rattle.stun_exchanges.specs.Refusals.{SameCredentialsAreRefused};
 
 /// A client answers a server with which it has an algorithm in common. If both support an
 /// algorithm, and the server takes hashes of names where the client must send them, there is one
@@ -49,4 +51,14 @@ pub fn signed_answers_are_believed()
         (a : IntegrityAlgorithm) → IsSignedAnswer required bytes c.challenge.key a
         → judged required (long_term who p accepts_unsigned) standing (Some c) bytes
         ≡ believed (Some a) }
+{}
+
+/// Which challenges count as a refusal of a request, beside the one that it was signed for: a 401
+/// to a request that was signed for the same realm and for a nonce that asks for the same
+/// credentials, and no other response (`only`). Each such 401 that the request is sent again for
+/// counts (`each`). A 438 counts as none, since a nonce that has expired says nothing of the
+/// password.
+pub fn refusals_ask_for_the_same_credentials()
+    ensures only { RefusalsAreOfTheSameCredentials }
+    ensures each { SameCredentialsAreRefused }
 {}

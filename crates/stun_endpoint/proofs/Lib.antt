@@ -22,3 +22,5 @@ pub mod CausedLemmas
 pub mod ResumeLemmas
 pub mod JudgementLemmas
 pub mod RunLemmas
+-- a response that is ended was refused nothing
+pub mod EndedLemmas

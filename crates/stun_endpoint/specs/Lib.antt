@@ -36,6 +36,8 @@ pub mod OpenOutcomes
 pub mod ShortTerm
 -- what the result of `ShortTermServer::receive` says
 pub mod ShortTermOutcomes
+-- what the results of `receive_into` say, with the bytes in the buffer
+pub mod Buffered
 -- the same by the calls of a server that keeps records
 pub mod Runs
 -- what no clause of a public call cites

@@ -7,12 +7,13 @@
 
 ghost use Rattle.std.specs.Fmt.{WritesOnOk, WritesStyledOnOk};
 ghost use Rattle.std.specs.Option.{option_map};
-ghost use Rattle.std.specs.Prelude.{◌≡◌, ◌++◌, Err, IfOk, IsOk, IsOkUnless, MatchOption, None, Some};
-ghost use Rattle.std.specs.Prelude.{codes, false, if◌then◌else◌};
+ghost use Rattle.std.specs.Prelude.{◌≡◌, ◌++◌, [], Err, IfOk, IsOk, IsOkUnless, MatchOption, None};
+ghost use Rattle.std.specs.Prelude.{OnErr, Some, codes, false, if◌then◌else◌};
 ghost use Rattle.std.specs.String.{string_bytes};
 ghost use Rattle.stun_base.specs.Header.{type_field};
 ghost use Rattle.stun_base.specs.MessageType.{class_in, is_request, method_of};
 ghost use Rattle.stun_endpoint.specs.Answers.{is_fingerprinted};
+ghost use Rattle.stun_endpoint.specs.Buffered.{LeavesNothingOpenly, open_outcome_in};
 ghost use Rattle.stun_endpoint.specs.Built.{software_refusal};
 ghost use Rattle.stun_endpoint.specs.Open.{by_class_openly, dropped, indicated, or_requested};
 ghost use Rattle.stun_endpoint.specs.Open.{received_openly};
@@ -21,6 +22,7 @@ ghost use Rattle.stun_endpoint.specs.Responding.{is_empty, is_undropped_request,
 ghost use Rattle.stun_extra.specs.CanonicalAddress.{IsCanonical};
 ghost use Rattle.stun_extra.specs.Unknown.{unknown_types};
 
+use crate::buffered::OpenReceivedInto;
 use crate::received::{Answer, DropReason};
 use crate::reply::Reply;
 use crate::responder::{Responder, ResponseSettings};
@@ -187,8 +189,56 @@ impl<A: Allocator + Copy> OpenServer<A> {
         ensures no_memory { is_undropped_request self.now.requires_fingerprint bytes.now
             ≡ false → IsOk result }
     {
+        let mut buffer = self.responder.buffer();
+        self.received(bytes, from, &mut buffer)
+    }
+
+    /// Judges a datagram like `receive`, and writes the response into a buffer, in place of what it
+    /// has. The buffer is empty afterwards if there is no response, or if the call fails. Its memory
+    /// is used again, so that nothing is allocated for a response that it has the capacity for.
+    ///
+    /// Fails if an allocation fails. Nothing is lost then, because the client sends again. Memory is
+    /// allocated for requests alone.
+    pub fn receive_into<'a>(
+        &self,
+        bytes: &'a [u8],
+        from: SocketAddr,
+        buffer: &mut Vec<u8, A>,
+    ) -> Result<OpenReceivedInto<'a, A>, AllocError>
+        // With the bytes in the buffer, the result is that of `receive`.
+        ensures received { IfOk result (λ received. open_outcome_in received buffer.new.items
+            ≡ received_openly self.now from bytes.now) }
+        ensures rest { IfOk result (λ received.
+            LeavesNothingOpenly received buffer.new.items) }
+        ensures no_memory { is_undropped_request self.now.requires_fingerprint bytes.now
+            ≡ false → IsOk result }
+        ensures err { OnErr result (buffer.new.items ≡ []) }
+    {
+        match self.received(bytes, from, buffer) {
+            Ok(received) => Ok(received.into_buffer(buffer)),
+            Err(_) => {
+                buffer.clear();
+                Err(AllocError)
+            }
+        }
+    }
+
+    /// What a datagram comes to. A response has the memory of the buffer.
+    fn received<'a>(
+        &self,
+        bytes: &'a [u8],
+        from: SocketAddr,
+        buffer: &mut Vec<u8, A>,
+    ) -> Result<OpenReceived<'a, A>, AllocError>
+        ensures received { IfOk result (λ received. open_outcome_of received
+            ≡ received_openly self.now from bytes.now) }
+        ensures no_memory { is_undropped_request self.now.requires_fingerprint bytes.now
+            ≡ false → IsOk result }
+    {
         match self.responder.read(bytes) {
-            Ok((message, has_fingerprint)) => self.by_class(message, from, has_fingerprint),
+            Ok((message, has_fingerprint)) => {
+                self.by_class(message, from, has_fingerprint, buffer)
+            }
             Err(reason) => Ok(OpenReceived::Dropped(reason)),
         }
     }
@@ -199,6 +249,7 @@ impl<A: Allocator + Copy> OpenServer<A> {
         message: Message<'a>,
         from: SocketAddr,
         has_fingerprint: bool,
+        buffer: &mut Vec<u8, A>,
     ) -> Result<OpenReceived<'a, A>, AllocError>
         requires { has_fingerprint ≡ is_fingerprinted message }
         ensures received { IfOk result (λ received. open_outcome_of received
@@ -206,7 +257,7 @@ impl<A: Allocator + Copy> OpenServer<A> {
         ensures no_memory { is_request (class_in message.entry) ≡ false → IsOk result }
     {
         match message.class() {
-            MessageClass::Request => self.request(message, from, has_fingerprint),
+            MessageClass::Request => self.request(message, from, has_fingerprint, buffer),
             MessageClass::Indication => Ok(self.indication(message)),
             MessageClass::Success => Ok(OpenReceived::Response(message)),
             MessageClass::Error => Ok(OpenReceived::Response(message)),
@@ -219,6 +270,7 @@ impl<A: Allocator + Copy> OpenServer<A> {
         message: Message<'a>,
         from: SocketAddr,
         has_fingerprint: bool,
+        buffer: &mut Vec<u8, A>,
     ) -> Result<OpenReceived<'a, A>, AllocError>
         requires { has_fingerprint ≡ is_fingerprinted message }
         ensures { IfOk result (λ received. open_outcome_of received
@@ -227,7 +279,7 @@ impl<A: Allocator + Copy> OpenServer<A> {
     {
         match self
             .responder
-            .own_answer(&message, from, &None, has_fingerprint)?
+            .own_answer(&message, from, &None, has_fingerprint, buffer)?
         {
             Some(answer) => Ok(OpenReceived::Answer(answer)),
             None => {

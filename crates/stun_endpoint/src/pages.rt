@@ -9,23 +9,24 @@ ghost use Rattle.stun_types.specs.Writing.{IsOpen, empty_answer, with_attribute}
 
 use std::alloc::{AllocError, Allocator};
 use std::net::SocketAddr;
+use stun_buffer::writer::BufferWriter;
 use stun_extra::canonical_address::mapped_address;
 use stun_types::attribute::ErrorCode;
-use stun_types::message::{Message, MessageWriteVec, StunWriteError};
+use stun_types::message::{Message, StunWriteError};
 use stun_types::prelude::*;
 
 /// Begins an error response with ERROR-CODE alone.
 pub(crate) fn error_page<A: Allocator + Copy>(
-    alloc: A,
+    buffer: &mut Vec<u8, A>,
     request: &Message<'_>,
     code: u16,
     reason: &str,
-) -> Result<MessageWriteVec<A>, AllocError>
+) -> Result<BufferWriter<A>, AllocError>
     ensures bytes { IfOk result (λ page. page.bytes
         ≡ error_page request.now code reason.now) }
     ensures open { IfOk result (λ page. IsOpen page.bytes) }
 {
-    match try_error_page(alloc, request, code, reason) {
+    match try_error_page(buffer, request, code, reason) {
         Ok(page) => Ok(page),
         Err(_) => Err(AllocError),
     }
@@ -34,17 +35,17 @@ pub(crate) fn error_page<A: Allocator + Copy>(
 /// Begins an error response with ERROR-CODE alone.
 #[tactic(auto, unfolding(crate::specs::Answers::error_page))]
 fn try_error_page<A: Allocator + Copy>(
-    alloc: A,
+    buffer: &mut Vec<u8, A>,
     request: &Message<'_>,
     code: u16,
     reason: &str,
-) -> Result<MessageWriteVec<A>, StunWriteError>
+) -> Result<BufferWriter<A>, StunWriteError>
     ensures bytes { IfOk result (λ page. page.bytes
         ≡ error_page request.now code reason.now) }
     ensures open { IfOk result (λ page. IsOpen page.bytes) }
 {
     let error = ErrorCode::builder(code).reason(reason).build()?;
-    let mut page = Message::builder_error(request, MessageWriteVec::new(alloc))?;
+    let mut page = Message::builder_error(request, BufferWriter::over(buffer))?;
     page.add_attribute(&error)?;
     Ok(page)
 }
@@ -52,14 +53,14 @@ fn try_error_page<A: Allocator + Copy>(
 /// Begins a success response with the address that a request came from.
 #[tactic(auto, unfolding(crate::specs::Answers::binding_page))]
 pub(crate) fn mapped_page<A: Allocator + Copy>(
-    alloc: A,
+    buffer: &mut Vec<u8, A>,
     request: &Message<'_>,
     from: SocketAddr,
-) -> Result<MessageWriteVec<A>, AllocError>
+) -> Result<BufferWriter<A>, AllocError>
     ensures bytes { IfOk result (λ page. page.bytes ≡ binding_page from request.now) }
     ensures header { IfOk result (λ page. 20 ≤ length page.bytes) }
 {
-    match try_mapped_page(alloc, request, from) {
+    match try_mapped_page(buffer, request, from) {
         Ok(page) => Ok(page),
         Err(_) => Err(AllocError),
     }
@@ -67,16 +68,16 @@ pub(crate) fn mapped_page<A: Allocator + Copy>(
 
 /// Begins a success response with the address that a request came from.
 fn try_mapped_page<A: Allocator + Copy>(
-    alloc: A,
+    buffer: &mut Vec<u8, A>,
     request: &Message<'_>,
     from: SocketAddr,
-) -> Result<MessageWriteVec<A>, StunWriteError>
+) -> Result<BufferWriter<A>, StunWriteError>
     ensures bytes { IfOk result (λ page. page.bytes
         ≡ with_attribute (empty_answer Success request.now)
         (mapped_address from request.now)) }
     ensures header { IfOk result (λ page. 20 ≤ length page.bytes) }
 {
-    let mut page = Message::builder_success(request, MessageWriteVec::new(alloc))?;
+    let mut page = Message::builder_success(request, BufferWriter::over(buffer))?;
     page.add_attribute(&mapped_address(from, request.transaction_id()))?;
     Ok(page)
 }

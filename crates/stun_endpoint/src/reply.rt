@@ -23,6 +23,7 @@ use std::fmt;
 use std::marker::Model;
 use std::net::SocketAddr;
 use stun_base::prepared_key::PreparedKey;
+use stun_buffer::writer::BufferWriter;
 use stun_extra::attribute::Software;
 use stun_extra::fingerprint::finish_with_fingerprint;
 use stun_types::attribute::ErrorCode;
@@ -259,6 +260,7 @@ impl<A: Allocator + Copy> Reply<A> {
         ensures refused { IfErr result (λ why. (why ≡ StunWriteError.OutOfMemory)
             ⊎ (finish_refusal self.now.ending page.bytes ≡ Some why)) }
     {
+        let page = BufferWriter::after(page.finish());
         finish_response(page, &self.software, &self.signature, self.has_fingerprint)
     }
 }
@@ -266,7 +268,7 @@ impl<A: Allocator + Copy> Reply<A> {
 /// Ends a response.
 #[tactic(auto, using(crate::proofs::VerifyingLemmas::verifies_by_same))]
 pub(crate) fn finish_response<A: Allocator + Copy>(
-    page: MessageWriteVec<A>,
+    page: BufferWriter<A>,
     software: &Option<String<A>>,
     signature: &Option<Signature<A>>,
     has_fingerprint: bool,
@@ -305,7 +307,7 @@ pub(crate) fn finish_response<A: Allocator + Copy>(
 
 /// Adds SOFTWARE, if there is one.
 fn add_software<A: Allocator + Copy>(
-    page: &mut MessageWriteVec<A>,
+    page: &mut BufferWriter<A>,
     software: &Option<String<A>>,
 ) -> Result<(), StunWriteError>
     requires { 20 ≤ length page.old.bytes }
@@ -324,7 +326,7 @@ fn add_software<A: Allocator + Copy>(
 
 /// Adds the integrity attribute, if the response is signed.
 fn add_signature<A: Allocator + Copy>(
-    page: &mut MessageWriteVec<A>,
+    page: &mut BufferWriter<A>,
     signature: &Option<Signature<A>>,
 ) -> Result<(), StunWriteError>
     requires { 20 ≤ length page.old.bytes }

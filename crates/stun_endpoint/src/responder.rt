@@ -23,10 +23,11 @@ use std::marker::Model;
 use std::net::SocketAddr;
 use stun_base::attribute_type::AttributeType;
 use stun_base::header::MessageHeader;
+use stun_buffer::writer::BufferWriter;
 use stun_extra::fingerprint::{Fingerprint, check_fingerprint};
 use stun_extra::unknown::answer_unknown;
 use stun_types::limits::TEXT_LIMIT;
-use stun_types::message::{BINDING, Message, MessageWriteVec};
+use stun_types::message::{BINDING, Message};
 use stun_types::prelude::*;
 
 /// What a server without a realm understands, and what it adds to its responses. `new` sets no
@@ -201,6 +202,13 @@ impl<A: Allocator> Responder<A> {
 }
 
 impl<A: Allocator + Copy> Responder<A> {
+    /// An empty buffer for a response.
+    pub(crate) fn buffer(&self) -> Vec<u8, A>
+        ensures { result.items ≡ [] }
+    {
+        Vec::new(self.alloc)
+    }
+
     /// Writes the response to an accepted request, if the server is to give it: the 420 to one whose
     /// attributes are not understood, or the answer to Binding.
     pub(crate) fn own_answer(
@@ -209,17 +217,18 @@ impl<A: Allocator + Copy> Responder<A> {
         from: SocketAddr,
         signature: &Option<Signature<A>>,
         has_fingerprint: bool,
+        buffer: &mut Vec<u8, A>,
     ) -> Result<Option<Answer<A>>, AllocError>
         requires { has_fingerprint ≡ is_fingerprinted request.now }
         ensures { IfOk result (λ answer. answer
             ≡ own_answer self.now signature.now from request.now) }
     {
         if !self.understands(request) {
-            let answer = self.unknown_answer(request, from, signature, has_fingerprint)?;
+            let answer = self.unknown_answer(request, from, signature, has_fingerprint, buffer)?;
             return Ok(Some(answer));
         }
         if self.answers(request) {
-            let answer = self.binding_answer(request, from, signature, has_fingerprint)?;
+            let answer = self.binding_answer(request, from, signature, has_fingerprint, buffer)?;
             return Ok(Some(answer));
         }
         Ok(None)
@@ -255,11 +264,12 @@ impl<A: Allocator + Copy> Responder<A> {
         from: SocketAddr,
         refusal: Refusal,
         has_fingerprint: bool,
+        buffer: &mut Vec<u8, A>,
     ) -> Result<Answer<A>, AllocError>
         requires { has_fingerprint ≡ is_fingerprinted request.now }
         ensures { IfOk result (λ answer. answer ≡ refusal_by self.now refusal from request.now) }
     {
-        let page = error_page(self.alloc, request, refusal.code(), refusal.phrase())?;
+        let page = error_page(buffer, request, refusal.code(), refusal.phrase())?;
         let bytes = self.end(page, &None, has_fingerprint)?;
         Ok(Answer::new(from, Some(refusal), bytes))
     }
@@ -267,7 +277,7 @@ impl<A: Allocator + Copy> Responder<A> {
     /// Ends a response.
     pub(crate) fn end(
         &self,
-        page: MessageWriteVec<A>,
+        page: BufferWriter<A>,
         signature: &Option<Signature<A>>,
         has_fingerprint: bool,
     ) -> Result<Vec<u8, A>, AllocError>
@@ -303,23 +313,28 @@ impl<A: Allocator + Copy> Responder<A> {
         from: SocketAddr,
         signature: &Option<Signature<A>>,
         has_fingerprint: bool,
+        buffer: &mut Vec<u8, A>,
     ) -> Result<Answer<A>, AllocError>
         requires { has_fingerprint ≡ is_fingerprinted request.now }
         ensures { IfOk result (λ answer. answer
             ≡ unknown_by self.now signature.now from request.now) }
     {
-        let page = self.unknown_page(request)?;
+        let page = self.unknown_page(request, buffer)?;
         let bytes = self.end(page, signature, has_fingerprint)?;
         Ok(Answer::new(from, Some(Refusal::UnknownAttribute), bytes))
     }
 
     /// Begins the 420 to a request.
-    fn unknown_page(&self, request: &Message<'_>) -> Result<MessageWriteVec<A>, AllocError>
+    fn unknown_page(
+        &self,
+        request: &Message<'_>,
+        buffer: &mut Vec<u8, A>,
+    ) -> Result<BufferWriter<A>, AllocError>
         ensures bytes { IfOk result (λ page. page.bytes
             ≡ refusing_answer self.now.known request.now) }
         ensures header { IfOk result (λ page. 20 ≤ length page.bytes) }
     {
-        let writer = MessageWriteVec::new(self.alloc);
+        let writer = BufferWriter::over(buffer);
         match answer_unknown(request, self.known.as_slice(), writer) {
             Ok(Some(page)) => Ok(page),
             _ => Err(AllocError),
@@ -334,12 +349,13 @@ impl<A: Allocator + Copy> Responder<A> {
         from: SocketAddr,
         signature: &Option<Signature<A>>,
         has_fingerprint: bool,
+        buffer: &mut Vec<u8, A>,
     ) -> Result<Answer<A>, AllocError>
         requires { has_fingerprint ≡ is_fingerprinted request.now }
         ensures { IfOk result (λ answer. answer
             ≡ binding_by self.now signature.now from request.now) }
     {
-        let page = mapped_page(self.alloc, request, from)?;
+        let page = mapped_page(buffer, request, from)?;
         let bytes = self.end(page, signature, has_fingerprint)?;
         Ok(Answer::new(from, None, bytes))
     }

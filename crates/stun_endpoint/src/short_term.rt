@@ -7,17 +7,19 @@
 
 ghost use Rattle.std.specs.Fmt.{WritesOnOk, WritesStyledOnOk};
 ghost use Rattle.std.specs.Option.{option_map};
-ghost use Rattle.std.specs.Prelude.{◌≡◌, ◌++◌, Err, IfOk, IsOk, IsOkUnless, MatchOption, Some};
-ghost use Rattle.std.specs.Prelude.{codes, false};
+ghost use Rattle.std.specs.Prelude.{◌≡◌, ◌++◌, [], Err, IfOk, IsOk, IsOkUnless, MatchOption};
+ghost use Rattle.std.specs.Prelude.{OnErr, Some, codes, false};
 ghost use Rattle.std.specs.String.{string_bytes};
 ghost use Rattle.stun_base.specs.MessageType.{class_in, is_request};
 ghost use Rattle.stun_endpoint.specs.Answers.{is_fingerprinted};
+ghost use Rattle.stun_endpoint.specs.Buffered.{LeavesNothingSigned, short_term_outcome_in};
 ghost use Rattle.stun_endpoint.specs.Built.{software_refusal};
 ghost use Rattle.stun_endpoint.specs.Responding.{is_undropped_request, own_answer};
 ghost use Rattle.stun_endpoint.specs.ShortTerm.{by_class_signed, by_signer, indicated_by, or_handed};
 ghost use Rattle.stun_endpoint.specs.ShortTerm.{received_signed, signature_of, signer_of};
 ghost use Rattle.stun_endpoint.specs.ShortTermOutcomes.{short_term_outcome_of};
 
+use crate::buffered::ShortTermReceivedInto;
 use crate::received::{Answer, DropReason, Refusal, Request};
 use crate::responder::{Responder, ResponseSettings};
 use crate::server::{BuildError, STUN_ATTRIBUTES};
@@ -180,9 +182,57 @@ impl<A: Allocator + Copy> ShortTermServer<A> {
         ensures no_memory { is_undropped_request self.now.requires_fingerprint bytes.now
             ≡ false → IsOk result }
     {
+        let mut buffer = self.responder.buffer();
+        self.received(bytes, from, users, &mut buffer)
+    }
+
+    /// Judges a datagram like `receive`, and writes the response into a buffer, in place of what it
+    /// has. The buffer is empty afterwards if there is no response, or if the call fails. Its memory
+    /// is used again, so that a response that it has the capacity for needs no other.
+    ///
+    /// Fails if an allocation fails. Nothing is lost then, because the client sends again. Memory is
+    /// allocated for requests alone.
+    pub fn receive_into<'a>(
+        &self,
+        bytes: &'a [u8],
+        from: SocketAddr,
+        users: &'a ShortTermUsers<A>,
+        buffer: &mut Vec<u8, A>,
+    ) -> Result<ShortTermReceivedInto<'a, A>, AllocError>
+        // With the bytes in the buffer, the result is that of `receive`.
+        ensures received { IfOk result (λ received. short_term_outcome_in received buffer.new.items
+            ≡ received_signed self.now users.now from bytes.now) }
+        ensures rest { IfOk result (λ received.
+            LeavesNothingSigned received buffer.new.items) }
+        ensures no_memory { is_undropped_request self.now.requires_fingerprint bytes.now
+            ≡ false → IsOk result }
+        ensures err { OnErr result (buffer.new.items ≡ []) }
+    {
+        match self.received(bytes, from, users, buffer) {
+            Ok(received) => Ok(received.into_buffer(buffer)),
+            Err(_) => {
+                buffer.clear();
+                Err(AllocError)
+            }
+        }
+    }
+
+    /// What a datagram comes to. A response has the memory of the buffer.
+    fn received<'a>(
+        &self,
+        bytes: &'a [u8],
+        from: SocketAddr,
+        users: &'a ShortTermUsers<A>,
+        buffer: &mut Vec<u8, A>,
+    ) -> Result<ShortTermReceived<'a, A>, AllocError>
+        ensures received { IfOk result (λ received. short_term_outcome_of received
+            ≡ received_signed self.now users.now from bytes.now) }
+        ensures no_memory { is_undropped_request self.now.requires_fingerprint bytes.now
+            ≡ false → IsOk result }
+    {
         match self.responder.read(bytes) {
             Ok((message, has_fingerprint)) => {
-                self.by_class(message, from, users, has_fingerprint)
+                self.by_class(message, from, users, has_fingerprint, buffer)
             }
             Err(reason) => Ok(ShortTermReceived::Dropped(reason)),
         }
@@ -195,6 +245,7 @@ impl<A: Allocator + Copy> ShortTermServer<A> {
         from: SocketAddr,
         users: &'a ShortTermUsers<A>,
         has_fingerprint: bool,
+        buffer: &mut Vec<u8, A>,
     ) -> Result<ShortTermReceived<'a, A>, AllocError>
         requires { has_fingerprint ≡ is_fingerprinted message }
         ensures received { IfOk result (λ received. short_term_outcome_of received
@@ -202,7 +253,7 @@ impl<A: Allocator + Copy> ShortTermServer<A> {
         ensures no_memory { is_request (class_in message.entry) ≡ false → IsOk result }
     {
         match message.class() {
-            MessageClass::Request => self.request(message, from, users, has_fingerprint),
+            MessageClass::Request => self.request(message, from, users, has_fingerprint, buffer),
             MessageClass::Indication => Ok(self.indication(message, users)),
             MessageClass::Success => Ok(ShortTermReceived::Response(message)),
             MessageClass::Error => Ok(ShortTermReceived::Response(message)),
@@ -216,17 +267,18 @@ impl<A: Allocator + Copy> ShortTermServer<A> {
         from: SocketAddr,
         users: &'a ShortTermUsers<A>,
         has_fingerprint: bool,
+        buffer: &mut Vec<u8, A>,
     ) -> Result<ShortTermReceived<'a, A>, AllocError>
         requires { has_fingerprint ≡ is_fingerprinted message }
         ensures { IfOk result (λ received. short_term_outcome_of received
             ≡ by_signer self.now from message.entry (signer_of users.now message.entry)) }
     {
         match signer_of(users, &message) {
-            Ok(signer) => self.accepted(message, from, signer, has_fingerprint),
+            Ok(signer) => self.accepted(message, from, signer, has_fingerprint, buffer),
             Err(refusal) => {
                 let answer = self
                     .responder
-                    .refusal(&message, from, refusal, has_fingerprint)?;
+                    .refusal(&message, from, refusal, has_fingerprint, buffer)?;
                 Ok(ShortTermReceived::Answer(answer))
             }
         }
@@ -239,6 +291,7 @@ impl<A: Allocator + Copy> ShortTermServer<A> {
         from: SocketAddr,
         signer: Signer<'a, A>,
         has_fingerprint: bool,
+        buffer: &mut Vec<u8, A>,
     ) -> Result<ShortTermReceived<'a, A>, AllocError>
         requires { has_fingerprint ≡ is_fingerprinted message }
         ensures { IfOk result (λ received. short_term_outcome_of received
@@ -248,7 +301,7 @@ impl<A: Allocator + Copy> ShortTermServer<A> {
         let signature = signer.signature()?;
         match self
             .responder
-            .own_answer(&message, from, &signature, has_fingerprint)?
+            .own_answer(&message, from, &signature, has_fingerprint, buffer)?
         {
             Some(answer) => Ok(ShortTermReceived::Answer(answer)),
             None => {

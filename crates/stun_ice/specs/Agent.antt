@@ -1,9 +1,9 @@
 -- An agent, and the checks that it sends (RFC 8445, sections 5.3, 7.2 and 7.3).
 use Rattle.std.specs.Prelude.{ℕ, List, [], Bool, true, false, ◌||◌, ◌&&◌, ◌==◌, not}
-use Rattle.std.specs.Prelude.{codes, drop, length, nat_le, take}
+use Rattle.std.specs.Prelude.{codes, drop, length, nat_le, take, ◌-◌}
 use Rattle.std.specs.Prelude.{if◌then◌else◌, Option, Some, None}
 use Rattle.std.specs.List.{list_any}
-use Rattle.std.specs.Option.{option_and_then}
+use Rattle.std.specs.Option.{option_and_then, option_or}
 use Rattle.std.specs.Str.{bytes_eq}
 use Rattle.std.specs.declared.net.socket_addr.SocketAddr.{SocketAddr}
 use Rattle.byteorder.specs.Endian.{big_bytes}
@@ -12,10 +12,13 @@ use Rattle.stun_base.specs.Keys.{with_colon}
 use Rattle.stun_base.specs.declared.keys.algorithm.IntegrityAlgorithm.TheVariants.{Sha1}
 use Rattle.stun_base.specs.declared.wire.message_type.MessageClass.TheVariants.{Request}
 use Rattle.stun_types.specs.Attribute.{TypedValue}
-use Rattle.stun_types.specs.Writing.{empty_message, with_attribute, with_integrity}
+use Rattle.stun_base.specs.declared.wire.error.StunWriteError.{StunWriteError}
+use Rattle.stun_types.specs.Limits.{LENGTH_LIMIT}
+use Rattle.stun_types.specs.Writing.{empty_message, signing_refusal, with_attribute}
+use Rattle.stun_types.specs.Writing.{with_integrity}
 use Rattle.stun_extra.specs.AttributeTypes.{ICE_CONTROLLED, ICE_CONTROLLING, PRIORITY}
 use Rattle.stun_extra.specs.AttributeTypes.{USE_CANDIDATE}
-use Rattle.stun_extra.specs.Fingerprint.{with_fingerprint}
+use Rattle.stun_extra.specs.Fingerprint.{fingerprint_refusal, with_fingerprint}
 use Rattle.stun_ice.specs.declared.checker.BuildError.{BuildError}
 use Rattle.stun_ice.specs.declared.checker.BuildError.TheVariants.{ColonInName, NameLength}
 use Rattle.stun_ice.specs.declared.checker.BuildError.TheVariants.{PasswordLength}
@@ -137,6 +140,28 @@ check_page a peer id priority nominates =
 unfoldable pub check_bytes : Agent → Peer → ℕ → ℕ → Bool → List ℕ
 check_bytes a peer id priority nominates =
     with_fingerprint (with_integrity (check_page a peer id priority nominates) Sha1 peer.password)
+
+-- a check with its end: it is signed under a password, and ends with FINGERPRINT
+abbrev pub ended_page : List ℕ → List ℕ → List ℕ
+ended_page password page = with_fingerprint (with_integrity page Sha1 password)
+
+-- why a check cannot be ended: the first of the integrity attribute and FINGERPRINT that it does not
+-- take
+abbrev pub ending_refusal : List ℕ → List ℕ → Option StunWriteError
+ending_refusal password page =
+    let signed = with_integrity page Sha1 password in
+    option_or (signing_refusal page (LENGTH_LIMIT - length page) Sha1)
+    (fingerprint_refusal signed (LENGTH_LIMIT - length signed))
+
+-- the check to a peer whose attributes are these, before its end
+abbrev pub sent_page : Agent → Peer → ℕ → SocketAddr → Bool → List ℕ → SentCheck
+sent_page a peer id to nominate page = record {
+  id = id;
+  to = to;
+  role = a.role;
+  nominates = can_nominate a.role nominate;
+  bytes = ended_page peer.password page;
+}
 
 -- the check that an agent writes to a peer
 abbrev pub sent_check : Agent → Peer → ℕ → SocketAddr → ℕ → Bool → SentCheck

@@ -16,6 +16,8 @@ pub mod Answers
 pub mod Responses
 -- what a datagram comes to
 pub mod Received
+-- what the result of `receive_into` says, with the bytes in the buffer
+pub mod Buffered
 -- when the caller is told that a check is accepted, or that a pair is valid
 pub mod Told
 -- two agents, over a network that loses, repeats and reorders

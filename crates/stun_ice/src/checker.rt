@@ -2,8 +2,8 @@
 
 ghost use Rattle.std.specs.Fmt.{WritesOnOk, WritesStyledOnOk};
 ghost use Rattle.std.specs.List.{list_any};
-ghost use Rattle.std.specs.Prelude.{◌≡◌, ◌≤◌, ◌==◌, ◌&&◌, Err, IfOk, IfSome, IsOkUnless};
-ghost use Rattle.std.specs.Prelude.{MatchOption, None, OnErr, OnOk, Some, codes, length};
+ghost use Rattle.std.specs.Prelude.{◌≡◌, ◌≤◌, ◌==◌, ◌&&◌, ◌⊎◌, Err, IfErr, IfOk, IfSome};
+ghost use Rattle.std.specs.Prelude.{IsOkUnless, MatchOption, None, OnErr, OnOk, Some, codes, length};
 ghost use Rattle.std.specs.Prelude.{option_copied};
 ghost use Rattle.std.specs.String.{string_bytes};
 ghost use Rattle.stun_base.specs.Keys.{with_colon};
@@ -12,7 +12,8 @@ ghost use Rattle.std.specs.Option.{is_some};
 ghost use Rattle.stun_ice.specs.Agent.{are_names, are_passwords, build_refusal, can_nominate};
 ghost use Rattle.stun_ice.specs.Agent.{check_bytes, check_page, has_colon, is_within, remote_peer};
 ghost use Rattle.stun_ice.specs.Agent.{priority_attribute, role_attribute, sent_check};
-ghost use Rattle.stun_ice.specs.Agent.{side_refusal, username_attribute, with_nomination};
+ghost use Rattle.stun_ice.specs.Agent.{ended_page, ending_refusal, sent_page, side_refusal};
+ghost use Rattle.stun_ice.specs.Agent.{username_attribute, with_nomination};
 ghost use Rattle.stun_ice.specs.Checks.{sender_in};
 
 mod answering;
@@ -398,6 +399,73 @@ impl<A: Allocator + Copy> Checker<A> {
         }
     }
 
+    /// Begins a check like `check`, to which you add further attributes, such as NETWORK-COST.
+    /// `finish_check` ends it.
+    ///
+    /// # Errors
+    ///
+    /// - `NoRemote`: the credentials of the peer are not known yet, with which a check is signed.
+    /// - `OutOfMemory`: an allocation failed.
+    pub fn begin_check(
+        &self,
+        id: TransactionId,
+        priority: u32,
+        nominate: bool,
+    ) -> Result<MessageWriteVec<A>, CheckError>
+        ensures refused { MatchOption self.now.peer (result ≡ Err CheckError.NoRemote)
+            (λ peer. IsOkUnless result CheckError.OutOfMemory) }
+        ensures bytes { IfSome self.now.peer (λ peer. IfOk result (λ page. page.bytes
+            ≡ check_page self.now peer id priority (can_nominate self.now.role nominate))) }
+        ensures header { IfOk result (λ page. 20 ≤ length page.bytes) }
+    {
+        let Some(remote) = &self.remote else {
+            return Err(CheckError::NoRemote);
+        };
+        let nominates = self.can_nominate(nominate);
+        match self.check_page(remote, id, priority, nominates) {
+            Ok(page) => Ok(page),
+            // There is room for each attribute, so that an allocation failed.
+            Err(_) => Err(CheckError::OutOfMemory),
+        }
+    }
+
+    /// Ends a check that `begin_check` began with this ID and this `nominate`: signs it, and adds
+    /// FINGERPRINT. The peer must know the attributes that you added, if their types are below
+    /// 0x8000.
+    ///
+    /// # Errors
+    ///
+    /// The first of these that applies:
+    ///
+    /// - `NotAllowed`: the credentials of the peer are not known.
+    /// - `MessageIntegrityExists`: you have signed the check.
+    /// - `AttributeExists`: you have added FINGERPRINT.
+    /// - `TooLarge`: the check would be longer than a message can be.
+    /// - `OutOfMemory`: an allocation failed.
+    pub fn finish_check(
+        &self,
+        page: MessageWriteVec<A>,
+        id: TransactionId,
+        to: SocketAddr,
+        nominate: bool,
+    ) -> Result<Check<A>, StunWriteError>
+        requires { 20 ≤ length page.bytes }
+        ensures unknown { MatchOption self.now.peer (result ≡ Err StunWriteError.NotAllowed)
+            (λ peer. IfErr result (λ why. (why ≡ StunWriteError.OutOfMemory)
+            ⊎ (ending_refusal peer.password page.bytes ≡ Some why))) }
+        ensures check { IfSome self.now.peer (λ peer. IfOk result (λ check. check
+            ≡ sent_page self.now peer id to nominate page.bytes)) }
+    {
+        let Some(remote) = &self.remote else {
+            return Err(StunWriteError::NotAllowed);
+        };
+        let nominates = self.can_nominate(nominate);
+        match ended_page(&remote.password, page) {
+            Ok(bytes) => Ok(Check::new(id, to, self.role, nominates, bytes)),
+            Err(why) => Err(why),
+        }
+    }
+
     /// Whether a check that is to nominate does.
     fn can_nominate(&self, nominate: bool) -> bool
         ensures { result ≡ can_nominate self.now.role nominate }
@@ -420,9 +488,8 @@ impl<A: Allocator + Copy> Checker<A> {
         ensures { IfOk result (λ bytes. bytes.items
             ≡ check_bytes self.now remote.now id priority nominates) }
     {
-        let mut page = self.check_page(remote, id, priority, nominates)?;
-        page.add_message_integrity_with_prepared_key(&remote.password, IntegrityAlgorithm::Sha1)?;
-        let bytes = finish_with_fingerprint(page)?;
+        let page = self.check_page(remote, id, priority, nominates)?;
+        let bytes = ended_page(&remote.password, page)?;
         Ok(bytes)
     }
 
@@ -446,6 +513,22 @@ impl<A: Allocator + Copy> Checker<A> {
         add_nomination(&mut page, nominates)?;
         Ok(page)
     }
+}
+
+/// Signs a check under a password, and adds FINGERPRINT.
+fn ended_page<A: Allocator>(
+    password: &PreparedKey<A>,
+    page: MessageWriteVec<A>,
+) -> Result<Vec<u8, A>, StunWriteError>
+    requires { 20 ≤ length page.bytes }
+    ensures bytes { IfOk result (λ bytes. bytes.items ≡ ended_page password.now page.bytes) }
+    ensures refused { IfErr result (λ why. (why ≡ StunWriteError.OutOfMemory)
+        ⊎ (ending_refusal password.now page.bytes ≡ Some why)) }
+{
+    let mut page = page;
+    page.add_message_integrity_with_prepared_key(password, IntegrityAlgorithm::Sha1)?;
+    let bytes = finish_with_fingerprint(page)?;
+    Ok(bytes)
 }
 
 /// Adds the role and the tie-breaker.

@@ -3,6 +3,8 @@
 ghost use Rattle.std.specs.Net.Socket.{IsPlainSocket, socket_ip};
 ghost use Rattle.std.specs.Prelude.{◌≡◌};
 ghost use Rattle.stun_types.specs.XorMappedAddress.{IsHidden, xor_port};
+ghost use Rattle.stun_ice.specs.Buffered.{LeavesNoAnswer, given_in};
+ghost use Rattle.stun_ice.specs.Received.{given_of};
 ghost use Rattle.stun_ice.specs.Refusals.{code_of};
 
 use std::alloc::{Allocator, Global};
@@ -32,6 +34,57 @@ pub enum Received<'a, A: Allocator = Global> {
     Indication(Message<'a>),
     /// The datagram is dropped, for this reason. A check of yours that it may belong to goes on.
     Dropped(DropReason),
+}
+
+/// What a datagram comes to, if the answer to a check is written into a buffer of the caller.
+#[derive(Debug, Drop)]
+#[non_exhaustive]
+pub enum ReceivedInto<'a> {
+    /// A check of the peer. Send the answer in the buffer to the address that the check came from.
+    Check {
+        /// The check. `Checker::sender` returns the username fragment of the peer in it.
+        message: Message<'a>,
+        /// What the check comes to.
+        judged: Judged,
+    },
+    /// The answer to a check of yours, which ends it.
+    Response(Outcome),
+    /// A Binding indication, as peers send to keep a path open (RFC 8445, section 11). It is not
+    /// signed, and needs no answer.
+    Indication(Message<'a>),
+    /// The datagram is dropped, for this reason. A check of yours that it may belong to goes on.
+    Dropped(DropReason),
+}
+
+impl<'a, A: Allocator> Received<'a, A> {
+    /// Puts the bytes of an answer into a buffer, which is empty if there is no answer.
+    pub(crate) fn into_buffer(self, buffer: &mut Vec<u8, A>) -> ReceivedInto<'a>
+        ensures given { given_in result buffer.new.items ≡ given_of self.entry }
+        ensures rest { LeavesNoAnswer result buffer.new.items }
+    {
+        match self {
+            Received::Check {
+                message,
+                answer,
+                judged,
+            } => {
+                *buffer = answer;
+                ReceivedInto::Check { message, judged }
+            }
+            Received::Response(outcome) => {
+                buffer.clear();
+                ReceivedInto::Response(outcome)
+            }
+            Received::Indication(message) => {
+                buffer.clear();
+                ReceivedInto::Indication(message)
+            }
+            Received::Dropped(reason) => {
+                buffer.clear();
+                ReceivedInto::Dropped(reason)
+            }
+        }
+    }
 }
 
 /// What a check of the peer comes to.

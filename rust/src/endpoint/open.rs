@@ -1,15 +1,15 @@
 //! Servers without a realm: one without credentials, and one with short-term credentials.
 
 use super::given::{Given, text_of};
-use super::server::{Request, answer_of, request_of, shared};
+use super::server::{Request, answer_of, lent, request_of, shared};
 use super::{Answer, BuildError, DropReason, Refusal, Reply, UserError};
 use crate::copies::{granted, text};
 use crate::credentials::ShortTermCredentials;
 use crate::exported::stun_base::attribute_type::AttributeType;
-use crate::exported::stun_endpoint::{open, responder, short_term};
+use crate::exported::stun_endpoint::{buffered, open, responder, short_term};
 use crate::exported::stun_extra::canonical_address::canonical;
 use crate::exported::stun_types::message::{IntegrityAlgorithm, Method};
-use crate::kit::alloc::Global;
+use crate::kit::alloc::{AllocError, Global};
 use crate::kit::prelude::{String as KitString, Vec as KitVec};
 use crate::message::Message;
 use crate::trace::record;
@@ -152,31 +152,75 @@ impl OpenServer {
     /// - An indication with an attribute that is not understood is dropped. Other indications, and
     ///   responses, are for you.
     pub fn receive<'a>(&self, bytes: &'a [u8], from: SocketAddr) -> OpenReceived<'a> {
-        let received = match self.0.receive(bytes, from) {
-            Ok(open::OpenReceived::Answer(answer)) => OpenReceived::Answer(answer_of(answer)),
-            Ok(open::OpenReceived::Request(request)) => {
-                let message = Message(crate::copies::copy(request.message()));
-                match shared(request.into_reply()) {
-                    Some(reply) => OpenReceived::Request(OpenRequest {
-                        message,
-                        reply: Reply(reply),
-                    }),
-                    None => OpenReceived::Dropped(DropReason::OutOfMemory),
-                }
-            }
-            Ok(open::OpenReceived::Indication(message)) => {
-                OpenReceived::Indication(Message(message))
-            }
-            Ok(open::OpenReceived::Response(message)) => OpenReceived::Response(Message(message)),
-            Ok(open::OpenReceived::Dropped(why)) => OpenReceived::Dropped(why.into()),
-            Err(_) => OpenReceived::Dropped(DropReason::OutOfMemory),
-        };
+        let mut buffer = KitVec::new(Global);
+        let received = self.0.receive_into(bytes, from, &mut buffer);
+        let received = open_of_core(received, buffer.into_std());
+        record!(bytes, from, received, || None);
+        received
+    }
+
+    /// Judges a datagram like [`receive`](Self::receive), and writes the response into a buffer that
+    /// you keep between datagrams, in place of what it has. The buffer is empty afterwards if there
+    /// is no response. A Binding request is then answered without an allocation.
+    ///
+    /// # Examples
+    ///
+    /// ```no_run
+    /// use seatcrane_stun::endpoint::{OpenReceived, OpenServer};
+    /// use std::net::UdpSocket;
+    ///
+    /// fn serve(server: &OpenServer, socket: &UdpSocket) -> std::io::Result<()> {
+    ///     let (mut datagram, mut buffer) = ([0; 2048], Vec::with_capacity(128));
+    ///     loop {
+    ///         let (length, from) = socket.recv_from(&mut datagram)?;
+    ///         let received = server.receive_into(&datagram[..length], from, &mut buffer);
+    ///         if let OpenReceived::Answer(answer) = received {
+    ///             socket.send_to(answer.bytes(), answer.to())?;
+    ///         }
+    ///     }
+    /// }
+    /// ```
+    pub fn receive_into<'a, 'b>(
+        &self,
+        bytes: &'a [u8],
+        from: SocketAddr,
+        buffer: &'b mut Vec<u8>,
+    ) -> OpenReceived<'a, &'b [u8]> {
+        let received = lent(buffer, |buffer| self.0.receive_into(bytes, from, buffer));
+        let received = open_of_core(received, buffer.as_slice());
         record!(bytes, from, received, || None);
         received
     }
 }
 
-/// What a datagram comes to at an [`OpenServer`].
+/// What the core returns, with the bytes of the response.
+fn open_of_core<B>(
+    received: Result<buffered::OpenReceivedInto<'_, Global>, AllocError>,
+    bytes: B,
+) -> OpenReceived<'_, B> {
+    use buffered::OpenReceivedInto as Core;
+
+    match received {
+        Ok(Core::Answer(answer)) => OpenReceived::Answer(answer_of(answer, bytes)),
+        Ok(Core::Request(request)) => {
+            let message = Message(crate::copies::copy(request.message()));
+            match shared(request.into_reply()) {
+                Some(reply) => OpenReceived::Request(OpenRequest {
+                    message,
+                    reply: Reply(reply),
+                }),
+                None => OpenReceived::Dropped(DropReason::OutOfMemory),
+            }
+        }
+        Ok(Core::Indication(message)) => OpenReceived::Indication(Message(message)),
+        Ok(Core::Response(message)) => OpenReceived::Response(Message(message)),
+        Ok(Core::Dropped(why)) => OpenReceived::Dropped(why.into()),
+        Err(_) => OpenReceived::Dropped(DropReason::OutOfMemory),
+    }
+}
+
+/// What a datagram comes to at an [`OpenServer`]. The bytes of a response are a `Vec`, or a slice of
+/// the buffer that was passed to [`receive_into`](OpenServer::receive_into).
 ///
 /// # Examples
 ///
@@ -195,9 +239,9 @@ impl OpenServer {
 #[must_use = "it may be a response to send, or a request to respond to"]
 #[derive(Debug)]
 #[non_exhaustive]
-pub enum OpenReceived<'a> {
+pub enum OpenReceived<'a, B = Vec<u8>> {
     /// Send this response.
-    Answer(Answer),
+    Answer(Answer<B>),
     /// A request whose attributes are understood. Respond to it, now or later.
     Request(OpenRequest<'a>),
     /// An indication whose attributes are understood. Anybody may have sent it.
@@ -326,32 +370,59 @@ impl ShortTermServer {
         from: SocketAddr,
         users: &'a ShortTermUsers,
     ) -> ShortTermReceived<'a> {
-        use short_term::ShortTermReceived as Core;
+        let mut buffer = KitVec::new(Global);
+        let received = self.0.receive_into(bytes, from, &users.core, &mut buffer);
+        let received = signed_of_core(received, buffer.into_std());
+        record!(bytes, from, received, || None);
+        received
+    }
 
-        let received = match self.0.receive(bytes, from, &users.core) {
-            Ok(Core::Answer(answer)) => ShortTermReceived::Answer(answer_of(answer)),
-            Ok(Core::Request(request)) => match request_of(request) {
-                Some(request) => ShortTermReceived::Request(request),
-                None => ShortTermReceived::Dropped(DropReason::OutOfMemory),
-            },
-            Ok(Core::Indication(indication)) => {
-                ShortTermReceived::Indication(ShortTermIndication {
-                    message: Message(crate::copies::copy(indication.message())),
-                    user: indication.user(),
-                    algorithm: indication.algorithm(),
-                })
-            }
-            Ok(Core::Response(message)) => ShortTermReceived::Response(Message(message)),
-            Ok(Core::NotSigned(refusal)) => ShortTermReceived::NotSigned(refusal),
-            Ok(Core::Dropped(why)) => ShortTermReceived::Dropped(why.into()),
-            Err(_) => ShortTermReceived::Dropped(DropReason::OutOfMemory),
-        };
+    /// Judges a datagram like [`receive`](Self::receive), and writes the response into a buffer that
+    /// you keep between datagrams, in place of what it has. The buffer is empty afterwards if there
+    /// is no response.
+    pub fn receive_into<'a, 'b>(
+        &self,
+        bytes: &'a [u8],
+        from: SocketAddr,
+        users: &'a ShortTermUsers,
+        buffer: &'b mut Vec<u8>,
+    ) -> ShortTermReceived<'a, &'b [u8]> {
+        let received = lent(buffer, |buffer| {
+            self.0.receive_into(bytes, from, &users.core, buffer)
+        });
+        let received = signed_of_core(received, buffer.as_slice());
         record!(bytes, from, received, || None);
         received
     }
 }
 
-/// What a datagram comes to at a [`ShortTermServer`].
+/// What the core returns, with the bytes of the response.
+fn signed_of_core<B>(
+    received: Result<buffered::ShortTermReceivedInto<'_, Global>, AllocError>,
+    bytes: B,
+) -> ShortTermReceived<'_, B> {
+    use buffered::ShortTermReceivedInto as Core;
+
+    match received {
+        Ok(Core::Answer(answer)) => ShortTermReceived::Answer(answer_of(answer, bytes)),
+        Ok(Core::Request(request)) => match request_of(request) {
+            Some(request) => ShortTermReceived::Request(request),
+            None => ShortTermReceived::Dropped(DropReason::OutOfMemory),
+        },
+        Ok(Core::Indication(indication)) => ShortTermReceived::Indication(ShortTermIndication {
+            message: Message(crate::copies::copy(indication.message())),
+            user: indication.user(),
+            algorithm: indication.algorithm(),
+        }),
+        Ok(Core::Response(message)) => ShortTermReceived::Response(Message(message)),
+        Ok(Core::NotSigned(refusal)) => ShortTermReceived::NotSigned(refusal),
+        Ok(Core::Dropped(why)) => ShortTermReceived::Dropped(why.into()),
+        Err(_) => ShortTermReceived::Dropped(DropReason::OutOfMemory),
+    }
+}
+
+/// What a datagram comes to at a [`ShortTermServer`]. The bytes of a response are a `Vec`, or a slice
+/// of the buffer that was passed to [`receive_into`](ShortTermServer::receive_into).
 ///
 /// # Examples
 ///
@@ -369,9 +440,9 @@ impl ShortTermServer {
 #[must_use = "it may be a response to send, or a request to respond to"]
 #[derive(Debug)]
 #[non_exhaustive]
-pub enum ShortTermReceived<'a> {
+pub enum ShortTermReceived<'a, B = Vec<u8>> {
     /// Send this response.
-    Answer(Answer),
+    Answer(Answer<B>),
     /// The request is accepted. Respond to it, now or later.
     Request(Request<'a>),
     /// An indication that a user has signed, and whose attributes are understood.

@@ -9,7 +9,7 @@ use crate::exported::stun_auth::auth::{
     LongTermServerAuth, LongTermServerUser, NamedUser, StoredKeys,
 };
 use crate::exported::stun_base::attribute_type::AttributeType;
-use crate::exported::stun_endpoint::{lookup, received, reply, server, users};
+use crate::exported::stun_endpoint::{buffered, lookup, received, reply, server, users};
 use crate::exported::stun_extra::attribute as further;
 use crate::exported::stun_extra::canonical_address::canonical;
 use crate::exported::stun_types::attribute::{Attribute, XorMappedAddress};
@@ -311,7 +311,48 @@ impl Server {
         now: UnixTime,
         users: &'a Users,
     ) -> Received<'a> {
-        let received = of_core(self.core.receive(bytes, from, now, &users.core));
+        let received = of_received(self.core.receive(bytes, from, now, &users.core));
+        record!(bytes, from, received, || self.cause(bytes, from, now, users));
+        received
+    }
+
+    /// Judges a datagram like [`receive`](Self::receive), and writes the response into a buffer that
+    /// you keep between datagrams, in place of what it has. The buffer is empty afterwards if there
+    /// is no response. A Binding request is then answered with one allocation, for its nonce.
+    ///
+    /// # Examples
+    ///
+    /// ```no_run
+    /// use seatcrane_stun::endpoint::{Received, Server, UnixTime, Users};
+    /// use std::net::UdpSocket;
+    ///
+    /// fn serve(server: &Server, users: &Users, socket: &UdpSocket) -> std::io::Result<()> {
+    ///     let (mut datagram, mut buffer) = ([0; 2048], Vec::new());
+    ///     loop {
+    ///         let (length, from) = socket.recv_from(&mut datagram)?;
+    ///         let (bytes, now) = (&datagram[..length], UnixTime::now());
+    ///         match server.receive_into(bytes, from, now, users, &mut buffer) {
+    ///             Received::Answer(answer) => {
+    ///                 socket.send_to(answer.bytes(), answer.to())?;
+    ///             }
+    ///             Received::Dropped(why) => eprintln!("dropped: {why}"),
+    ///             _ => {} // a request with another method than Binding, or no request
+    ///         }
+    ///     }
+    /// }
+    /// ```
+    pub fn receive_into<'a, 'b>(
+        &self,
+        bytes: &'a [u8],
+        from: SocketAddr,
+        now: UnixTime,
+        users: &'a Users,
+        buffer: &'b mut Vec<u8>,
+    ) -> Received<'a, &'b [u8]> {
+        let received = lent(buffer, |buffer| {
+            self.core.receive_into(bytes, from, now, &users.core, buffer)
+        });
+        let received = of_core(received, buffer.as_slice());
         record!(bytes, from, received, || self.cause(bytes, from, now, users));
         received
     }
@@ -341,7 +382,27 @@ impl Server {
         user: Option<&'a User>,
     ) -> Received<'a> {
         let core = user.map(|user| &*user.0);
-        let received = of_core(self.core.receive_for(bytes, from, now, core));
+        let received = of_received(self.core.receive_for(bytes, from, now, core));
+        record!(bytes, from, received, || self.cause_for(bytes, from, now, user));
+        received
+    }
+
+    /// Judges a datagram like [`receive_for`](Self::receive_for), and writes the response into a
+    /// buffer that you keep between datagrams, in place of what it has. The buffer is empty
+    /// afterwards if there is no response.
+    pub fn receive_for_into<'a, 'b>(
+        &'a self,
+        bytes: &'a [u8],
+        from: SocketAddr,
+        now: UnixTime,
+        user: Option<&'a User>,
+        buffer: &'b mut Vec<u8>,
+    ) -> Received<'a, &'b [u8]> {
+        let core = user.map(|user| &*user.0);
+        let received = lent(buffer, |buffer| {
+            self.core.receive_for_into(bytes, from, now, core, buffer)
+        });
+        let received = of_core(received, buffer.as_slice());
         record!(bytes, from, received, || self.cause_for(bytes, from, now, user));
         received
     }
@@ -438,7 +499,7 @@ impl Server {
         now: UnixTime,
     ) -> Identified<'a> {
         let received = match self.core.identify(bytes, from, now) {
-            Ok(lookup::Identified::Done(received)) => of_core(Ok(received)),
+            Ok(lookup::Identified::Done(received)) => of_received(Ok(received)),
             Ok(lookup::Identified::Lookup(lookup)) => {
                 #[cfg(feature = "tracing")]
                 super::verdict::record_look_up(bytes, from);
@@ -447,7 +508,7 @@ impl Server {
                     lookup,
                 });
             }
-            Err(error) => of_core(Err(error)),
+            Err(error) => of_received(Err(error)),
         };
         record!(bytes, from, received, || self.cause_for(bytes, from, now, None));
         Identified::Done(received)
@@ -470,7 +531,7 @@ impl Server {
         let lookup = lookup.into();
         #[cfg(feature = "tracing")]
         let (bytes, from, now) = (lookup.message.as_bytes(), lookup.from(), lookup.arrived());
-        let received = of_core(self.core.resume(lookup.lookup, user.map(|user| &*user.0)));
+        let received = of_received(self.core.resume(lookup.lookup, user.map(|user| &*user.0)));
         record!(bytes, from, received, || self.cause_for(bytes, from, now, user));
         received
     }
@@ -672,27 +733,47 @@ impl<'a> From<&'a OwnedLookup> for Lookup<'a> {
     }
 }
 
+/// Calls the core with a buffer of the caller.
+pub(super) fn lent<R>(buffer: &mut Vec<u8>, call: impl FnOnce(&mut KitVec<u8>) -> R) -> R {
+    let mut core = KitVec::from_std(core::mem::take(buffer));
+    let result = call(&mut core);
+    *buffer = core.into_std();
+    result
+}
+
 /// What the core returns, as this module says it.
-fn of_core(received: Result<received::Received<'_, Global>, AllocError>) -> Received<'_> {
+fn of_received(received: Result<received::Received<'_, Global>, AllocError>) -> Received<'_> {
+    let mut buffer = KitVec::new(Global);
+    let received = received.map(|received| received.into_buffer(&mut buffer));
+    of_core(received, buffer.into_std())
+}
+
+/// What the core returns, with the bytes of the response.
+fn of_core<B>(
+    received: Result<buffered::ReceivedInto<'_, Global>, AllocError>,
+    bytes: B,
+) -> Received<'_, B> {
+    use buffered::ReceivedInto;
+
     match received {
-        Ok(received::Received::Answer(answer)) => Received::Answer(answer_of(answer)),
-        Ok(received::Received::Request(request)) => match request_of(request) {
+        Ok(ReceivedInto::Answer(answer)) => Received::Answer(answer_of(answer, bytes)),
+        Ok(ReceivedInto::Request(request)) => match request_of(request) {
             Some(request) => Received::Request(request),
             None => Received::Dropped(DropReason::OutOfMemory),
         },
-        Ok(received::Received::Indication(message)) => Received::Indication(Message(message)),
-        Ok(received::Received::Response(message)) => Received::Response(Message(message)),
-        Ok(received::Received::Dropped(why)) => Received::Dropped(why.into()),
+        Ok(ReceivedInto::Indication(message)) => Received::Indication(Message(message)),
+        Ok(ReceivedInto::Response(message)) => Received::Response(Message(message)),
+        Ok(ReceivedInto::Dropped(why)) => Received::Dropped(why.into()),
         Err(_) => Received::Dropped(DropReason::OutOfMemory),
     }
 }
 
 /// A response of the core, as this module says it.
-pub(super) fn answer_of(answer: received::Answer<Global>) -> Answer {
+pub(super) fn answer_of<B>(answer: buffered::BufferedAnswer, bytes: B) -> Answer<B> {
     Answer {
-        to: answer.to(),
-        refusal: answer.refusal(),
-        bytes: answer.into_bytes().into_std(),
+        to: answer.to,
+        refusal: answer.refusal,
+        bytes,
     }
 }
 
@@ -933,7 +1014,8 @@ impl Users {
     }
 }
 
-/// What a datagram comes to.
+/// What a datagram comes to. The bytes of a response are a `Vec`, or a slice of the buffer that was
+/// passed to [`receive_into`](Server::receive_into).
 ///
 /// # Examples
 ///
@@ -956,9 +1038,9 @@ impl Users {
 #[must_use = "it may be a response to send, or a request to respond to"]
 #[derive(Debug)]
 #[non_exhaustive]
-pub enum Received<'a> {
+pub enum Received<'a, B = Vec<u8>> {
     /// Send this response.
-    Answer(Answer),
+    Answer(Answer<B>),
     /// The request is accepted. Respond to it, now or later.
     Request(Request<'a>),
     /// An indication whose attributes are understood. Long-term credentials do not protect it (RFC
@@ -970,7 +1052,8 @@ pub enum Received<'a> {
     Dropped(DropReason),
 }
 
-/// A response to send.
+/// A response to send. Its bytes are a `Vec`, or a slice of the buffer that was passed to
+/// [`receive_into`](Server::receive_into).
 ///
 /// # Examples
 ///
@@ -987,13 +1070,13 @@ pub enum Received<'a> {
 /// ```
 #[must_use = "the response is to be sent"]
 #[derive(Clone, Debug)]
-pub struct Answer {
+pub struct Answer<B = Vec<u8>> {
     to: SocketAddr,
     refusal: Option<Refusal>,
-    bytes: Vec<u8>,
+    bytes: B,
 }
 
-impl Answer {
+impl<B> Answer<B> {
     /// Returns the address to send the response to: `from` as it was passed to
     /// [`receive`](Server::receive).
     pub fn to(&self) -> SocketAddr {
@@ -1006,12 +1089,15 @@ impl Answer {
     }
 
     /// Returns the bytes to send.
-    pub fn bytes(&self) -> &[u8] {
-        &self.bytes
+    pub fn bytes(&self) -> &[u8]
+    where
+        B: AsRef<[u8]>,
+    {
+        self.bytes.as_ref()
     }
 
     /// Returns the bytes to send.
-    pub fn into_bytes(self) -> Vec<u8> {
+    pub fn into_bytes(self) -> B {
         self.bytes
     }
 }

@@ -40,7 +40,7 @@ impl Verdict {
         }
     }
 
-    fn answered(answer: &Answer, cause: impl FnOnce() -> Option<Cause>) -> Verdict {
+    fn answered<B>(answer: &Answer<B>, cause: impl FnOnce() -> Option<Cause>) -> Verdict {
         match answer.refusal() {
             Some(refusal) => {
                 let reason = cause().map_or(refusal.phrase(), Cause::name);
@@ -57,7 +57,7 @@ pub(crate) trait Judged {
     fn verdict(&self, bytes: &[u8], cause: impl FnOnce() -> Option<Cause>) -> Verdict;
 }
 
-impl Judged for Received<'_> {
+impl<B> Judged for Received<'_, B> {
     fn verdict(&self, _: &[u8], cause: impl FnOnce() -> Option<Cause>) -> Verdict {
         match self {
             Received::Answer(answer) => Verdict::answered(answer, cause),
@@ -69,7 +69,7 @@ impl Judged for Received<'_> {
     }
 }
 
-impl Judged for OpenReceived<'_> {
+impl<B> Judged for OpenReceived<'_, B> {
     fn verdict(&self, _: &[u8], cause: impl FnOnce() -> Option<Cause>) -> Verdict {
         match self {
             OpenReceived::Answer(answer) => Verdict::answered(answer, cause),
@@ -81,7 +81,7 @@ impl Judged for OpenReceived<'_> {
     }
 }
 
-impl Judged for ShortTermReceived<'_> {
+impl<B> Judged for ShortTermReceived<'_, B> {
     fn verdict(&self, _: &[u8], cause: impl FnOnce() -> Option<Cause>) -> Verdict {
         match self {
             ShortTermReceived::Answer(answer) => Verdict::answered(answer, cause),
@@ -113,7 +113,7 @@ impl Judged for Input<'_> {
     }
 }
 
-impl Judged for ice::Received<'_> {
+impl<B> Judged for ice::Received<'_, B> {
     fn verdict(&self, _: &[u8], _: impl FnOnce() -> Option<Cause>) -> Verdict {
         match self {
             ice::Received::Check { judged, .. } => match judged {

@@ -1,7 +1,7 @@
 //! What a datagram comes to (RFC 8489, sections 6.3 and 9.2.4).
 
 ghost use Rattle.std.specs.Option.{option_copied};
-ghost use Rattle.std.specs.Prelude.{◌≡◌, IfErr, IfOk, IsOk, None, Some, false};
+ghost use Rattle.std.specs.Prelude.{◌≡◌, [], IfErr, IfOk, IsOk, None, OnErr, Some, false};
 ghost use Rattle.std.specs.Prelude.{if◌then◌else◌};
 ghost use Rattle.stun_auth.specs.Algorithms.{contains};
 ghost use Rattle.stun_auth.specs.Nonces.{asks_for_algorithms};
@@ -9,6 +9,7 @@ ghost use Rattle.stun_auth.specs.Reading.{reading_of};
 ghost use Rattle.stun_base.specs.MessageType.{class_in, is_request};
 ghost use Rattle.stun_base.specs.declared.keys.algorithm.IntegrityAlgorithm.TheVariants.{Sha256};
 ghost use Rattle.stun_endpoint.specs.Answers.{is_fingerprinted};
+ghost use Rattle.stun_endpoint.specs.Buffered.{LeavesNothing, outcome_in};
 ghost use Rattle.stun_endpoint.specs.Judged.{judged, realm_of_table, realm_of_user};
 ghost use Rattle.stun_endpoint.specs.Nonces.{epoch_of};
 ghost use Rattle.stun_endpoint.specs.Outcomes.{outcome_of};
@@ -21,6 +22,7 @@ ghost use Rattle.stun_endpoint.specs.code.Judgements.{by_judgement};
 ghost use Rattle.stun_endpoint.specs.code.Judges.{realm_of};
 ghost use Rattle.stun_extra.specs.Unknown.{unknown_types};
 
+use crate::buffered::ReceivedInto;
 use crate::received::{Answer, DropReason, Received, Request};
 use crate::reply::{Reply, Signature};
 use crate::server::Server;
@@ -63,7 +65,8 @@ impl<A: Allocator + Copy> Server<A> {
         ensures no_memory { is_undropped_request self.now.requires_fingerprint bytes.now
             ≡ false → IsOk result }
     {
-        self.received(bytes, from, now, &Judges::Table(&users.auth))
+        let mut buffer = Vec::new(self.alloc);
+        self.received(bytes, from, now, &Judges::Table(&users.auth), &mut buffer)
     }
 
     /// Judges a datagram like `receive`, by the one user that you looked up, or by nobody if there is
@@ -85,7 +88,84 @@ impl<A: Allocator + Copy> Server<A> {
         ensures no_memory { is_undropped_request self.now.requires_fingerprint bytes.now
             ≡ false → IsOk result }
     {
-        self.received(bytes, from, now, &self.judges(user))
+        let mut buffer = Vec::new(self.alloc);
+        self.received(bytes, from, now, &self.judges(user), &mut buffer)
+    }
+
+    /// Judges a datagram like `receive`, and writes the response into a buffer, in place of what it
+    /// has. The buffer is empty afterwards if there is no response, or if the call fails. Its memory
+    /// is used again, so that a response that it has the capacity for needs no other.
+    ///
+    /// Fails if an allocation fails. Nothing is lost then, because the client sends again. Memory is
+    /// allocated for requests alone.
+    pub fn receive_into<'a>(
+        &self,
+        bytes: &'a [u8],
+        from: SocketAddr,
+        now: UnixTime,
+        users: &'a Users<A>,
+        buffer: &mut Vec<u8, A>,
+    ) -> Result<ReceivedInto<'a, A>, AllocError>
+        // With the bytes in the buffer, the result is that of `receive`.
+        ensures received { IfOk result (λ received. outcome_in received buffer.new.items
+            ≡ received_by self.now (realm_of_table users.now) from now bytes.now) }
+        ensures rest { IfOk result (λ received. LeavesNothing received buffer.new.items) }
+        ensures no_memory { is_undropped_request self.now.requires_fingerprint bytes.now
+            ≡ false → IsOk result }
+        ensures err { OnErr result (buffer.new.items ≡ []) }
+    {
+        self.received_into(bytes, from, now, &Judges::Table(&users.auth), buffer)
+    }
+
+    /// Judges a datagram like `receive_for`, and writes the response into a buffer, in place of what
+    /// it has. The buffer is empty afterwards if there is no response, or if the call fails. Its
+    /// memory is used again, so that a response that it has the capacity for needs no other.
+    ///
+    /// Fails if an allocation fails. Nothing is lost then, because the client sends again. Memory is
+    /// allocated for requests alone.
+    pub fn receive_for_into<'a>(
+        &'a self,
+        bytes: &'a [u8],
+        from: SocketAddr,
+        now: UnixTime,
+        user: Option<&'a LongTermServerUser<A>>,
+        buffer: &mut Vec<u8, A>,
+    ) -> Result<ReceivedInto<'a, A>, AllocError>
+        // With the bytes in the buffer, the result is that of `receive_for`.
+        ensures received { IfOk result (λ received. outcome_in received buffer.new.items
+            ≡ received_by self.now (realm_of_user self.now (option_copied user.entry)) from now
+            bytes.now) }
+        ensures rest { IfOk result (λ received. LeavesNothing received buffer.new.items) }
+        ensures no_memory { is_undropped_request self.now.requires_fingerprint bytes.now
+            ≡ false → IsOk result }
+        ensures err { OnErr result (buffer.new.items ≡ []) }
+    {
+        self.received_into(bytes, from, now, &self.judges(user), buffer)
+    }
+
+    /// What a datagram comes to, with the bytes of a response in the buffer.
+    fn received_into<'a>(
+        &self,
+        bytes: &'a [u8],
+        from: SocketAddr,
+        now: UnixTime,
+        judges: &Judges<'a, A>,
+        buffer: &mut Vec<u8, A>,
+    ) -> Result<ReceivedInto<'a, A>, AllocError>
+        ensures received { IfOk result (λ received. outcome_in received buffer.new.items
+            ≡ received_by self.now (realm_of judges.now) from now bytes.now) }
+        ensures rest { IfOk result (λ received. LeavesNothing received buffer.new.items) }
+        ensures no_memory { is_undropped_request self.now.requires_fingerprint bytes.now
+            ≡ false → IsOk result }
+        ensures err { OnErr result (buffer.new.items ≡ []) }
+    {
+        match self.received(bytes, from, now, judges, buffer) {
+            Ok(received) => Ok(received.into_buffer(buffer)),
+            Err(_) => {
+                buffer.clear();
+                Err(AllocError)
+            }
+        }
     }
 
     /// Reads a datagram. Returns the message and whether it has a right FINGERPRINT, or why the
@@ -100,13 +180,14 @@ impl<A: Allocator + Copy> Server<A> {
         self.responder.read(bytes)
     }
 
-    /// What a datagram comes to.
+    /// What a datagram comes to. A response has the memory of the buffer.
     fn received<'a>(
         &self,
         bytes: &'a [u8],
         from: SocketAddr,
         now: UnixTime,
         judges: &Judges<'a, A>,
+        buffer: &mut Vec<u8, A>,
     ) -> Result<Received<'a, A>, AllocError>
         ensures received { IfOk result (λ received. outcome_of received
             ≡ received_by self.now (realm_of judges.now) from now bytes.now) }
@@ -115,7 +196,7 @@ impl<A: Allocator + Copy> Server<A> {
     {
         match self.read(bytes) {
             Ok((message, has_fingerprint)) => {
-                self.by_class(message, from, now, judges, has_fingerprint)
+                self.by_class(message, from, now, judges, has_fingerprint, buffer)
             }
             Err(reason) => Ok(Received::Dropped(reason)),
         }
@@ -129,6 +210,7 @@ impl<A: Allocator + Copy> Server<A> {
         now: UnixTime,
         judges: &Judges<'a, A>,
         has_fingerprint: bool,
+        buffer: &mut Vec<u8, A>,
     ) -> Result<Received<'a, A>, AllocError>
         requires { has_fingerprint ≡ is_fingerprinted message }
         ensures received { IfOk result (λ received. outcome_of received
@@ -136,7 +218,9 @@ impl<A: Allocator + Copy> Server<A> {
         ensures no_memory { is_request (class_in message.entry) ≡ false → IsOk result }
     {
         match message.class() {
-            MessageClass::Request => self.request(message, from, now, judges, has_fingerprint),
+            MessageClass::Request => {
+                self.request_into(message, from, now, judges, has_fingerprint, buffer)
+            }
             MessageClass::Indication => Ok(self.indication(message)),
             MessageClass::Success => Ok(Received::Response(message)),
             MessageClass::Error => Ok(Received::Response(message)),
@@ -170,10 +254,29 @@ impl<A: Allocator + Copy> Server<A> {
             ≡ by_verdict self.now (realm_of judges.now) from now message.entry
             (judged self.now (realm_of judges.now) from now (reading_of message.entry))) }
     {
+        let mut buffer = Vec::new(self.alloc);
+        self.request_into(message, from, now, judges, has_fingerprint, &mut buffer)
+    }
+
+    /// What a request comes to. A response has the memory of the buffer.
+    fn request_into<'a>(
+        &self,
+        message: Message<'a>,
+        from: SocketAddr,
+        now: UnixTime,
+        judges: &Judges<'a, A>,
+        has_fingerprint: bool,
+        buffer: &mut Vec<u8, A>,
+    ) -> Result<Received<'a, A>, AllocError>
+        requires { has_fingerprint ≡ is_fingerprinted message }
+        ensures { IfOk result (λ received. outcome_of received
+            ≡ by_verdict self.now (realm_of judges.now) from now message.entry
+            (judged self.now (realm_of judges.now) from now (reading_of message.entry))) }
+    {
         let epoch = self.epoch(now);
         let nonce = self.nonce_in(&self.secret, from, epoch)?;
         let verdict = self.judged_in(judges, &message, from, epoch, &nonce)?;
-        self.judged(message, from, &nonce, verdict, has_fingerprint)
+        self.judged_into(message, from, &nonce, verdict, has_fingerprint, buffer)
     }
 
     /// What a judged request comes to. The nonce is the one to send with a refusal.
@@ -190,9 +293,29 @@ impl<A: Allocator + Copy> Server<A> {
         ensures { IfOk result (λ received. outcome_of received
             ≡ by_judgement self.now nonce.now from message.entry verdict.entry) }
     {
+        let mut buffer = Vec::new(self.alloc);
+        self.judged_into(message, from, nonce, verdict, has_fingerprint, &mut buffer)
+    }
+
+    /// What a judged request comes to. The nonce is the one to send with a refusal. A response has
+    /// the memory of the buffer.
+    fn judged_into<'a>(
+        &self,
+        message: Message<'a>,
+        from: SocketAddr,
+        nonce: &str,
+        verdict: Result<Accepted<'a, A>, VerdictRefusal>,
+        has_fingerprint: bool,
+        buffer: &mut Vec<u8, A>,
+    ) -> Result<Received<'a, A>, AllocError>
+        requires fingerprint { has_fingerprint ≡ is_fingerprinted message }
+        requires offer { asks_for_algorithms nonce.now ≡ contains Sha256 self.now.algorithms }
+        ensures { IfOk result (λ received. outcome_of received
+            ≡ by_judgement self.now nonce.now from message.entry verdict.entry) }
+    {
         match verdict {
-            Ok(accepted) => self.accepted(message, from, accepted, has_fingerprint),
-            Err(refusal) => self.refused(&message, from, nonce, refusal, has_fingerprint),
+            Ok(accepted) => self.accepted(message, from, accepted, has_fingerprint, buffer),
+            Err(refusal) => self.refused(&message, from, nonce, refusal, has_fingerprint, buffer),
         }
     }
 
@@ -210,6 +333,7 @@ impl<A: Allocator + Copy> Server<A> {
         from: SocketAddr,
         accepted: Accepted<'a, A>,
         has_fingerprint: bool,
+        buffer: &mut Vec<u8, A>,
     ) -> Result<Received<'a, A>, AllocError>
         requires { has_fingerprint ≡ is_fingerprinted message }
         ensures { IfOk result (λ received. outcome_of received
@@ -217,7 +341,7 @@ impl<A: Allocator + Copy> Server<A> {
             accepted.entry.client) }
     {
         let signature = signature_for(&message, accepted.key())?;
-        match self.own_answer(&message, from, &signature, has_fingerprint)? {
+        match self.own_answer(&message, from, &signature, has_fingerprint, buffer)? {
             Some(answer) => Ok(Received::Answer(answer)),
             None => {
                 let reply = self.reply(&message, from, signature, has_fingerprint)?;
@@ -234,13 +358,14 @@ impl<A: Allocator + Copy> Server<A> {
         from: SocketAddr,
         signature: &Option<Signature<A>>,
         has_fingerprint: bool,
+        buffer: &mut Vec<u8, A>,
     ) -> Result<Option<Answer<A>>, AllocError>
         requires { has_fingerprint ≡ is_fingerprinted request.now }
         ensures { IfOk result (λ answer. answer
             ≡ own_answer (responding_of self.now) signature.now from request.now) }
     {
         self.responder
-            .own_answer(request, from, signature, has_fingerprint)
+            .own_answer(request, from, signature, has_fingerprint, buffer)
     }
 
     /// The means to respond to an accepted request.

@@ -20,7 +20,8 @@ use crate::server::Server;
 use std::alloc::{AllocError, Allocator};
 use std::net::SocketAddr;
 use stun_auth::auth::{VerdictRefusal, told_refusal};
-use stun_types::message::{Message, MessageWriteVec, StunWriteError};
+use stun_buffer::writer::BufferWriter;
+use stun_types::message::{Message, StunWriteError};
 
 impl<A: Allocator + Copy> Server<A> {
     /// What a refused request comes to.
@@ -31,6 +32,7 @@ impl<A: Allocator + Copy> Server<A> {
         nonce: &str,
         refusal: VerdictRefusal,
         has_fingerprint: bool,
+        buffer: &mut Vec<u8, A>,
     ) -> Result<Received<'a, A>, AllocError>
         requires fingerprint { has_fingerprint ≡ is_fingerprinted request.now }
         requires offer { asks_for_algorithms nonce.now ≡ contains Sha256 self.now.algorithms }
@@ -38,7 +40,7 @@ impl<A: Allocator + Copy> Server<A> {
             ≡ refused_with self.now nonce.now from request.now refusal) }
     {
         let told = told_refusal(refusal, request, nonce);
-        let answer = self.answer_to_refused(request, from, nonce, told, has_fingerprint)?;
+        let answer = self.answer_to_refused(request, from, nonce, told, has_fingerprint, buffer)?;
         Ok(Received::Answer(answer))
     }
 
@@ -50,6 +52,7 @@ impl<A: Allocator + Copy> Server<A> {
         nonce: &str,
         told: VerdictRefusal,
         has_fingerprint: bool,
+        buffer: &mut Vec<u8, A>,
     ) -> Result<Answer<A>, AllocError>
         requires fingerprint { has_fingerprint ≡ is_fingerprinted request.now }
         requires offer { asks_for_algorithms nonce.now ≡ contains Sha256 self.now.algorithms }
@@ -63,11 +66,17 @@ impl<A: Allocator + Copy> Server<A> {
                 Refusal::Unauthenticated,
                 nonce,
                 has_fingerprint,
+                buffer,
             ),
-            VerdictRefusal::StaleNonce => {
-                self.challenge_answer(request, from, Refusal::StaleNonce, nonce, has_fingerprint)
-            }
-            VerdictRefusal::BadRequest => self.bad_answer(request, from, has_fingerprint),
+            VerdictRefusal::StaleNonce => self.challenge_answer(
+                request,
+                from,
+                Refusal::StaleNonce,
+                nonce,
+                has_fingerprint,
+                buffer,
+            ),
+            VerdictRefusal::BadRequest => self.bad_answer(request, from, has_fingerprint, buffer),
         }
     }
 
@@ -77,13 +86,13 @@ impl<A: Allocator + Copy> Server<A> {
         request: &Message<'_>,
         from: SocketAddr,
         has_fingerprint: bool,
+        buffer: &mut Vec<u8, A>,
     ) -> Result<Answer<A>, AllocError>
         requires { has_fingerprint ≡ is_fingerprinted request.now }
         ensures { IfOk result (λ answer. answer
             ≡ refusal_by (responding_of self.now) Refusal.BadRequest from request.now) }
     {
-        self.responder
-            .refusal(request, from, Refusal::BadRequest, has_fingerprint)
+        self.responder.refusal(request, from, Refusal::BadRequest, has_fingerprint, buffer)
     }
 
     /// Writes a 401 or a 438.
@@ -95,13 +104,14 @@ impl<A: Allocator + Copy> Server<A> {
         refusal: Refusal,
         nonce: &str,
         has_fingerprint: bool,
+        buffer: &mut Vec<u8, A>,
     ) -> Result<Answer<A>, AllocError>
         requires fingerprint { has_fingerprint ≡ is_fingerprinted request.now }
         requires offer { asks_for_algorithms nonce.now ≡ contains Sha256 self.now.algorithms }
         ensures { IfOk result (λ answer. answer
             ≡ challenge_answer self.now refusal nonce.now from request.now) }
     {
-        let page = self.challenge(request, nonce, refusal)?;
+        let page = self.challenge(request, nonce, refusal, buffer)?;
         let bytes = self.responder.end(page, &None, has_fingerprint)?;
         Ok(Answer::new(from, Some(refusal), bytes))
     }
@@ -112,13 +122,14 @@ impl<A: Allocator + Copy> Server<A> {
         request: &Message<'_>,
         nonce: &str,
         refusal: Refusal,
-    ) -> Result<MessageWriteVec<A>, AllocError>
+        buffer: &mut Vec<u8, A>,
+    ) -> Result<BufferWriter<A>, AllocError>
         requires { asks_for_algorithms nonce.now ≡ contains Sha256 self.now.algorithms }
         ensures bytes { IfOk result (λ page. page.bytes
             ≡ challenge_page self.now nonce.now request.now (code_of refusal) (phrase_of refusal)) }
         ensures header { IfOk result (λ page. 20 ≤ length page.bytes) }
     {
-        let page = error_page(self.alloc, request, refusal.code(), refusal.phrase())?;
+        let page = error_page(buffer, request, refusal.code(), refusal.phrase())?;
         match self.challenged(page, nonce) {
             Ok(page) => Ok(page),
             // The settings leave room in each response, so that an allocation failed.
@@ -130,9 +141,9 @@ impl<A: Allocator + Copy> Server<A> {
     /// supported.
     fn challenged(
         &self,
-        page: MessageWriteVec<A>,
+        page: BufferWriter<A>,
         nonce: &str,
-    ) -> Result<MessageWriteVec<A>, StunWriteError>
+    ) -> Result<BufferWriter<A>, StunWriteError>
         requires page { IsOpen page.bytes }
         requires offer { asks_for_algorithms nonce.now ≡ contains Sha256 self.now.algorithms }
         ensures bytes { IfOk result (λ challenged. challenged.bytes

@@ -1,8 +1,9 @@
 //! What a datagram comes to (RFC 8445, sections 7.2.5, 7.3 and 11).
 
 ghost use Rattle.std.specs.Option.{option_copied};
-ghost use Rattle.std.specs.Prelude.{◌≡◌, ◌↔◌, IfOk, IsOk, OnErr, OnOk, false};
+ghost use Rattle.std.specs.Prelude.{◌≡◌, ◌↔◌, [], IfOk, IsOk, OnErr, OnOk, false};
 ghost use Rattle.stun_base.specs.MessageType.{class_in};
+ghost use Rattle.stun_ice.specs.Buffered.{LeavesNoAnswer, given_in};
 ghost use Rattle.stun_ice.specs.Checks.{verdict_of};
 ghost use Rattle.stun_ice.specs.Received.{by_class, by_fingerprint, by_response, given, given_of};
 ghost use Rattle.stun_ice.specs.Received.{is_check, judgement_of, no_message, of_indication};
@@ -14,13 +15,14 @@ use crate::checker::Checker;
 use crate::checker::judging::Verdict;
 use crate::checker::responses::is_answered;
 use crate::parts::{is_binding, is_understood};
-use crate::received::{DropReason, Outcome, Received};
+use crate::received::{DropReason, Outcome, Received, ReceivedInto};
 use crate::role::Role;
 use std::alloc::{AllocError, Allocator};
 use std::net::SocketAddr;
 use stun_base::header::MessageHeader;
+use stun_buffer::writer::BufferWriter;
 use stun_extra::fingerprint::{Fingerprint, check_fingerprint};
-use stun_types::message::{Message, MessageClass, MessageWriteVec};
+use stun_types::message::{Message, MessageClass};
 
 /// What a datagram comes to, before an answer is written.
 #[derive(Drop)]
@@ -177,15 +179,51 @@ impl<A: Allocator + Copy> Checker<A> {
         }) }
         ensures err { OnErr result (self.new ≡ self.old) }
     {
-        self.received(bytes, from, check)
+        let mut buffer = Vec::new(self.alloc);
+        self.received(bytes, from, check, &mut buffer)
     }
 
-    /// What a datagram comes to.
+    /// Judges a datagram like `receive`, and writes the answer to a check into a buffer, in place
+    /// of what it has. The buffer is empty afterwards if there is no answer, or if the call fails.
+    /// Its memory is used again, so that an answer that it has the capacity for needs no other.
+    ///
+    /// Fails if an allocation fails. The role is then unchanged, and the peer sends its check again.
+    pub fn receive_into<'a>(
+        &mut self,
+        bytes: &'a [u8],
+        from: SocketAddr,
+        check: Option<&Check<A>>,
+        buffer: &mut Vec<u8, A>,
+    ) -> Result<ReceivedInto<'a>, AllocError>
+        // With the bytes in the buffer, the result is that of `receive`, and so is the role.
+        ensures received { IfOk result (λ received. given_in received buffer.new.items
+            ≡ given self.old from (judgement_of self.old (option_copied check.entry) from
+            bytes.now)) }
+        ensures rest { IfOk result (λ received. LeavesNoAnswer received buffer.new.items) }
+        ensures no_memory { is_check (judgement_of self.old (option_copied check.entry) from
+            bytes.now) ≡ false → IsOk result }
+        ensures role { OnOk result (self.new ≡ record self.old {
+          role = role_left self.old.role
+              (judgement_of self.old (option_copied check.entry) from bytes.now);
+        }) }
+        ensures err { OnErr result ((self.new ≡ self.old) × (buffer.new.items ≡ [])) }
+    {
+        match self.received(bytes, from, check, buffer) {
+            Ok(received) => Ok(received.into_buffer(buffer)),
+            Err(_) => {
+                buffer.clear();
+                Err(AllocError)
+            }
+        }
+    }
+
+    /// What a datagram comes to. An answer has the memory of the buffer.
     fn received<'a>(
         &mut self,
         bytes: &'a [u8],
         from: SocketAddr,
         check: Option<&Check<A>>,
+        buffer: &mut Vec<u8, A>,
     ) -> Result<Received<'a, A>, AllocError>
         ensures received { IfOk result (λ received. given_of received
             ≡ given self.old from (judgement_of self.old (option_copied check.entry) from
@@ -199,7 +237,7 @@ impl<A: Allocator + Copy> Checker<A> {
         ensures err { OnErr result (self.new ≡ self.old) }
     {
         match self.judge(bytes, from, check) {
-            Judgement::Check(message, verdict) => self.answered(message, from, verdict),
+            Judgement::Check(message, verdict) => self.answered(message, from, verdict, buffer),
             Judgement::Response(outcome) => {
                 self.role = role_after_outcome(self.role, &outcome);
                 Ok(Received::Response(outcome))
@@ -209,12 +247,14 @@ impl<A: Allocator + Copy> Checker<A> {
         }
     }
 
-    /// Writes the answer to a check, and takes the role that the check leaves.
+    /// Writes the answer to a check into the memory of the buffer, and takes the role that the
+    /// check leaves.
     fn answered<'a>(
         &mut self,
         message: Message<'a>,
         from: SocketAddr,
         verdict: Verdict,
+        buffer: &mut Vec<u8, A>,
     ) -> Result<Received<'a, A>, AllocError>
         ensures received { IfOk result (λ received. given_of received
             ≡ given self.old from (Judgement.Check message.entry verdict)) }
@@ -223,7 +263,7 @@ impl<A: Allocator + Copy> Checker<A> {
         }) }
         ensures err { OnErr result (self.new ≡ self.old) }
     {
-        let writer = MessageWriteVec::new(self.alloc);
+        let writer = BufferWriter::over(buffer);
         let Ok(answer) = self.answer(&message, from, verdict, writer) else {
             return Err(AllocError);
         };

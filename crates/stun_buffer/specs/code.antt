@@ -1,0 +1,4 @@
+-- What no clause of a public call cites.
+
+-- the room of a writer
+pub mod Room

@@ -414,6 +414,16 @@ impl MessageWriteVec {
         let _ = writer.reserve(CAPACITY);
         MessageWriteVec(writer)
     }
+
+    /// Goes on with a writer of the core.
+    pub(crate) fn of_core(writer: proved::MessageWriteVec<Global>) -> MessageWriteVec {
+        MessageWriteVec(writer)
+    }
+
+    /// Returns the writer of the core.
+    pub(crate) fn into_core(self) -> proved::MessageWriteVec<Global> {
+        self.0
+    }
 }
 
 impl Default for MessageWriteVec {

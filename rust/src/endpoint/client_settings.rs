@@ -145,6 +145,11 @@ impl Retransmission {
             last,
         }
     }
+
+    /// Returns the arguments of [`new`](Self::new).
+    pub(super) fn parts(self) -> (Duration, Duration, u32, Duration) {
+        (self.first, self.most, self.sends, self.last)
+    }
 }
 
 impl Default for Retransmission {

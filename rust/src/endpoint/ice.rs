@@ -3,9 +3,9 @@
 //!
 //! A [`Checker`] has the credentials of one agent, those of its peer once they are known, the
 //! tie-breaker and the role. It writes checks, judges those of the peer and writes their answers,
-//! and judges the answers to its own. Candidates, pairs, their order and pacing, and
-//! retransmissions are yours. For them there are [`priority`], [`pair_priority`], [`Candidate`]
-//! with its line in SDP, and [`Consent`].
+//! and judges the answers to its own. [`Checks`] is a `Checker` with the timers of its checks.
+//! Candidates, pairs, their order and pacing are yours. For them there are [`priority`],
+//! [`pair_priority`], [`Candidate`] with its line in SDP, and [`Consent`].
 //!
 //! # Examples
 //!
@@ -84,48 +84,77 @@
 //!
 //! # In a program
 //!
-//! The checks are stored with their pairs, and a `StunAgent` says when to send them again until
-//! they end:
+//! [`Checks`] sends each check again until it ends, and ends each exactly once:
 //!
-//! ```ignore
-//! let check = checker.check(TransactionId::generate(), pair.remote, priority, nominate)?;
-//! let sent = agent.send_request(check.bytes(), check.to(), now)?;
-//! socket.send_to(&sent.data, sent.to)?;
-//! pairs.store(check); // then send what `poll_transmit` returns, and call `poll`
-//! // .. later, a datagram arrives. `check` is the stored check that has its transaction ID:
-//! let id = MessageHeader::from_bytes(&bytes)?.transaction_id();
-//! match checker.receive(&bytes, from, pairs.check(id)) {
-//!     Received::Check { answer, judged, .. } => {
-//!         socket.send_to(&answer, from)?;
-//!         pairs.triggered(from, judged);
+//! ```no_run
+//! use seatcrane_stun::Instant;
+//! use seatcrane_stun::endpoint::ice::{Checks, ChecksInput, ChecksOutput, Judged};
+//! use std::io;
+//! use std::net::{SocketAddr, UdpSocket};
+//!
+//! /// Sends the checks that are due, and returns when there is more to do.
+//! fn send(checks: &mut Checks, socket: &UdpSocket, now: Instant) -> io::Result<Option<Instant>> {
+//!     loop {
+//!         match checks.poll(now) {
+//!             ChecksOutput::Transmit { to, bytes, .. } => drop(socket.send_to(bytes, to)?),
+//!             ChecksOutput::TimedOut { check, .. } => println!("{} fails", check.to()),
+//!             ChecksOutput::Wait(until) => return Ok(until),
+//!         }
 //!     }
-//!     Received::Response(outcome) => pairs.ended(outcome), // also end the request in `agent`
-//!     Received::Dropped(why) => dropped[why.index()] += 1,
-//!     _ => {} // an indication, which keeps the path open
+//! }
+//!
+//! /// Reads a datagram that arrived at an address of this agent.
+//! fn read(
+//!     checks: &mut Checks,
+//!     (socket, at): (&UdpSocket, SocketAddr),
+//!     now: Instant,
+//! ) -> io::Result<()> {
+//!     let mut datagram = [0; 1500];
+//!     let (length, from) = socket.recv_from(&mut datagram)?;
+//!     match checks.receive(&datagram[..length], at, from, now) {
+//!         ChecksInput::Check { answer, judged, .. } => {
+//!             socket.send_to(&answer, from)?;
+//!             if let Judged::Accepted { .. } = judged {
+//!                 // have the pair checked next, by `checks.start` (RFC 8445, section 7.3.1.4)
+//!             }
+//!         }
+//!         ChecksInput::Ended(ended) => println!("{}: {}", ended.check.to(), ended.outcome),
+//!         _ => {} // an indication, or dropped
+//!     }
+//!     Ok(())
 //! }
 //! ```
+//!
+//! A program with timers of its own uses a `Checker`: it stores each check with its pair, sends it
+//! again until it ends, and passes each datagram to [`Checker::receive`] with the stored check that
+//! has its transaction ID, if that check was sent from the address that the datagram arrived at.
 
+use super::server::lent;
 use crate::copies::copy;
 use crate::exported::stun_base::attribute_type::AttributeType;
 use crate::exported::stun_ice::{check, checker, received};
 use crate::extra::finish_with_fingerprint;
-use crate::kit::alloc::Global;
+use crate::kit::alloc::{AllocError, Global};
+use crate::kit::prelude::Vec as KitVec;
 use crate::message::Message;
 use crate::trace::{event, record};
 use crate::transaction::TransactionId;
 use crate::types::message::BINDING;
-use crate::write::MessageWriteVec;
+use crate::types::attribute::RawAttribute;
+use crate::write::{MessageWriteExt, MessageWriteVec};
 use alloc::vec::Vec;
 use core::fmt;
 use core::net::SocketAddr;
 
 mod candidate;
+mod checks;
 mod consent;
 
 pub use crate::exported::stun_ice::checker::{BuildError, CheckError};
 pub use crate::exported::stun_ice::received::{Judged, Refusal};
 pub use crate::exported::stun_ice::role::Role;
 pub use candidate::{Candidate, CandidateError, CandidateKind, pair_priority, priority};
+pub use checks::{Checks, ChecksInput, ChecksOutput, EndedCheck, NewCheck, NewCheckError};
 pub use consent::{Consent, ConsentStep};
 
 /// The username fragment and the password of one side (RFC 8445, section 5.3). It is also made of a
@@ -303,6 +332,57 @@ impl Checker {
         Ok(check)
     }
 
+    /// Writes a check like [`check`](Self::check), with further attributes before its signature. The
+    /// peer refuses the check if it does not know the type of one that is below 0x8000.
+    ///
+    /// # Errors
+    ///
+    /// The first of these that applies:
+    ///
+    /// - [`NewCheckError::NoRemote`]: the credentials of the peer are not known yet.
+    /// - [`NewCheckError::Attribute`]: one of the attributes cannot be added, such as one of a type
+    ///   that the check has already.
+    /// - [`NewCheckError::OutOfMemory`]: an allocation failed.
+    ///
+    /// # Examples
+    ///
+    /// The cost of the network, as libwebrtc sends it:
+    ///
+    /// ```
+    /// use seatcrane_stun::endpoint::ice::{Check, Checker, NewCheckError};
+    /// use seatcrane_stun::types::attribute::{AttributeType, RawAttribute};
+    /// use seatcrane_stun::types::message::TransactionId;
+    /// use std::net::SocketAddr;
+    ///
+    /// fn check(
+    ///     checker: &Checker,
+    ///     id: TransactionId,
+    ///     to: SocketAddr,
+    ///     (network, cost): (u16, u16),
+    /// ) -> Result<Check, NewCheckError> {
+    ///     let value = [network.to_be_bytes(), cost.to_be_bytes()].concat();
+    ///     let network_cost = RawAttribute::new(AttributeType(0xc057), &value);
+    ///     checker.check_with(id, to, 0x6e00_01ff, false, &[network_cost])
+    /// }
+    /// ```
+    pub fn check_with(
+        &self,
+        id: TransactionId,
+        to: SocketAddr,
+        priority: u32,
+        nominate: bool,
+        attributes: &[RawAttribute<'_>],
+    ) -> Result<Check, NewCheckError> {
+        let page = self.0.begin_check(id.0, priority, nominate)?;
+        let mut page = MessageWriteVec::of_core(page);
+        for attribute in attributes {
+            page.add_attribute(attribute)?;
+        }
+        let check = Check(self.0.finish_check(page.into_core(), id.0, to, nominate)?);
+        event!(%id, %to, nominates = check.nominates(), "wrote a check");
+        Ok(check)
+    }
+
     /// Writes a Binding indication with FINGERPRINT, which keeps the path of a selected pair open
     /// (RFC 8445, section 11). It is not signed, and the peer does not answer it. An agent that
     /// asks for [`Consent`] needs none, because its checks keep the path open.
@@ -349,24 +429,72 @@ impl Checker {
         from: SocketAddr,
         check: Option<&Check>,
     ) -> Received<'a> {
-        let received = match self.0.receive(bytes, from, check.map(|check| &check.0)) {
-            Ok(received::Received::Check {
-                message,
-                answer,
-                judged,
-            }) => Received::Check {
-                fragment: self.0.sender(&message),
-                message: Message(message),
-                answer: answer.into_std(),
-                judged,
-            },
-            Ok(received::Received::Response(outcome)) => Received::Response(outcome.into()),
-            Ok(received::Received::Indication(message)) => Received::Indication(Message(message)),
-            Ok(received::Received::Dropped(why)) => Received::Dropped(why.into()),
-            Err(_) => Received::Dropped(DropReason::OutOfMemory),
-        };
+        let mut buffer = KitVec::new(Global);
+        let check = check.map(|check| &check.0);
+        let received = self.0.receive_into(bytes, from, check, &mut buffer);
+        let received = self.of_core(received, buffer.into_std());
         record!(bytes, from, received, || None);
         received
+    }
+
+    /// Judges a datagram like [`receive`](Self::receive), and writes the answer to a check into a
+    /// buffer that you keep between datagrams, in place of what it has. The buffer is empty
+    /// afterwards if there is no answer. A check is then judged and answered without an allocation.
+    ///
+    /// # Examples
+    ///
+    /// ```
+    /// use seatcrane_stun::endpoint::ice::{Checker, Received};
+    /// use std::net::UdpSocket;
+    ///
+    /// /// Answers the checks of the peer that are waiting.
+    /// fn answer(checker: &mut Checker, socket: &UdpSocket) -> std::io::Result<()> {
+    ///     let (mut datagram, mut buffer) = ([0; 2048], Vec::with_capacity(128));
+    ///     while let Ok((length, from)) = socket.recv_from(&mut datagram) {
+    ///         let received = checker.receive_into(&datagram[..length], from, None, &mut buffer);
+    ///         if let Received::Check { answer, .. } = received {
+    ///             socket.send_to(answer, from)?;
+    ///         }
+    ///     }
+    ///     Ok(())
+    /// }
+    /// ```
+    pub fn receive_into<'a, 'b>(
+        &mut self,
+        bytes: &'a [u8],
+        from: SocketAddr,
+        check: Option<&Check>,
+        buffer: &'b mut Vec<u8>,
+    ) -> Received<'a, &'b [u8]> {
+        let check = check.map(|check| &check.0);
+        let received = lent(buffer, |buffer| {
+            self.0.receive_into(bytes, from, check, buffer)
+        });
+        let received = self.of_core(received, buffer.as_slice());
+        record!(bytes, from, received, || None);
+        received
+    }
+
+    /// What the core returns, with the bytes of the answer.
+    fn of_core<'a, B>(
+        &self,
+        received: Result<received::ReceivedInto<'a>, AllocError>,
+        answer: B,
+    ) -> Received<'a, B> {
+        use received::ReceivedInto;
+
+        match received {
+            Ok(ReceivedInto::Check { message, judged }) => Received::Check {
+                fragment: self.0.sender(&message),
+                message: Message(message),
+                answer,
+                judged,
+            },
+            Ok(ReceivedInto::Response(outcome)) => Received::Response(outcome.into()),
+            Ok(ReceivedInto::Indication(message)) => Received::Indication(Message(message)),
+            Ok(ReceivedInto::Dropped(why)) => Received::Dropped(why.into()),
+            Err(_) => Received::Dropped(DropReason::OutOfMemory),
+        }
     }
 }
 
@@ -434,11 +562,12 @@ impl Check {
     }
 }
 
-/// The result of [`Checker::receive`].
+/// The result of [`Checker::receive`]. The bytes of an answer are a `Vec`, or a slice of the buffer
+/// that was passed to [`Checker::receive_into`].
 #[must_use = "it may be an answer to send"]
 #[derive(Debug)]
 #[non_exhaustive]
-pub enum Received<'a> {
+pub enum Received<'a, B = Vec<u8>> {
     /// A check of the peer. Send the answer to the address that the check came from.
     Check {
         /// The check, for its other attributes.
@@ -448,7 +577,7 @@ pub enum Received<'a> {
         /// which of them the check belongs to.
         fragment: Option<&'a [u8]>,
         /// The bytes to send.
-        answer: Vec<u8>,
+        answer: B,
         /// What the check comes to.
         judged: Judged,
     },

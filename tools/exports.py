@@ -28,8 +28,6 @@ PASSED = {
     "u8": "uint8_t", "u16": "uint16_t", "u32": "uint32_t", "u64": "uint64_t", "usize": "size_t",
     "i64": "int64_t", "bool": "bool", "&[u32; 16]": "const uint32_t *",
     "&[u16]": "const uint16_t *, size_t", "&mut [u16]": "uint16_t *, size_t",
-    "AgentHandle": "stunp_agent", "ServerHandle": "stunp_server", "ClientHandle": "stunp_client",
-    "UserHandle": "stunp_user",
     "Address": "stunp_address", "Timeouts": "stunp_timeouts", "Statistics": "stunp_statistics",
     "Header": "stunp_header", "Cursor": "stunp_cursor", "&[u8; 32]": "const uint8_t *",
     "Received": "stunp_received", "Reply": "stunp_reply",
@@ -157,18 +155,21 @@ def enums_of_header(text):
     return {name: [int(number, 0) for number in re.findall(r"= (-?\w+)", body)]
             for body, name in re.findall(r"typedef enum \w+ \{([^}]*)\} (\w+);", text)}
 
+def handle_in_c(kind, label, function):
+    """The C type of a handle: of `StateHandle` the one that the function's name begins with, if the
+    parameter is called `handle`, and else, as of `EndpointHandle`, that of the parameter's name."""
+    if kind == "StateHandle":
+        return "_".join(function.split("_")[:2]) if label == "handle" else f"stunp_{label}"
+    return "stunp_ice_checker" if label == "checker" else f"stunp_endpoint_{label}"
+
 def in_c(kind, label, function, enums):
-    """The C types of a type. `Handle` is the handle that the function's name begins with, and
-    `EndpointHandle` that of the parameter's name."""
+    """The C types of a type."""
     if kind == "u32" and ENUMS.get(label) in enums:
         return [ENUMS[label]]
     if kind in PASSED:
         return PASSED[kind].split(", ") if PASSED[kind] else []
     pointer, name = re.fullmatch(r"(&mut |&|\*mut |\*const )(\w+)", kind).groups()
-    if name == "EndpointHandle":
-        name = "stunp_ice_checker" if label == "checker" else f"stunp_endpoint_{label}"
-    else:
-        name = "_".join(function.split("_")[:2]) if name == "Handle" else PASSED[name]
+    name = handle_in_c(name, label, function) if name.endswith("Handle") else PASSED[name]
     return [("const " if pointer in ("&", "*const ") else "") + name + " *"]
 
 def functions_of_rust(text, before, enums):
@@ -185,7 +186,8 @@ def with_constants(text, functions):
     for name, listed, clauses in found:
         for label in re.findall(r"ensures same \{ (?:KeepsHandle )?(\w+)\.new", clauses):
             kind = re.search(rf"\b{label}: &mut (\w+)", listed)[1]
-            left[name] = PASSED.get(kind, "") + " *"
+            if kind == "StateHandle":
+                left[name] = handle_in_c(kind, label, name) + " *"
     return {name: [f"const {kind}" if kind in HANDLES and kind == left.get(name) else kind
                    for kind in kinds] for name, kinds in functions.items()}
 

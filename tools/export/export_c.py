@@ -62,15 +62,14 @@ def write(out, exported, places, root):
               "use super::stun_handles::address::Address;\n"
               "use super::stun_state::agent::{Statistics, Timeouts};\n"
               "use super::{stun_c, stun_c_endpoint, stun_state};\n"
-              "use crate::handle::agent::AgentHandle;\nuse crate::handle::client::ClientHandle;\n"
               "use crate::handle::endpoint::EndpointHandle;\n"
-              "use crate::handle::server::ServerHandle;\nuse crate::handle::user::UserHandle;\n"
+              "use crate::handle::state::StateHandle;\n"
               "use crate::kit::alloc::Global;\nuse crate::passed::{read, written};\n\n")
     for crate in CRATES:
         source = root / "crates" / crate / "src"
         for path in sorted(source.rglob("*.rt")):
             name = path.relative_to(source).with_suffix(".rs")
-            if name.parts[0] in ("laws.rs", "handle.rs", "handle", "slot.rs"):
+            if name.parts[0] in ("laws.rs", "handle.rs", "handle"):
                 continue
             text = exported(path.read_text(), crate, {**places, **PLACES})
             for old, new in SIZES:
@@ -81,7 +80,6 @@ def write(out, exported, places, root):
                             + f"pub fn {found.group(2)}({found.group(3)})"
                             + (f" -> {found.group(4)}" if found.group(4) else ""), text)
             text = re.sub(r"^(pub )?mod handle;\n", "use crate::handle;\n", text, flags=re.M)
-            text = re.sub(r"^pub mod slot;\n", "", text, flags=re.M)
             text = re.sub(r"^mod (\w+);\n", r"pub mod \1;\n", text, flags=re.M)
             if str(name) == "lib.rs":
                 name = Path("mod.rs")

@@ -1,4 +1,3 @@
 pub mod AsBox
-pub mod SlotWords
 pub mod Steps
 pub mod Words

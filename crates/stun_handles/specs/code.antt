@@ -3,7 +3,3 @@
 
 -- what a handle owns
 pub mod Handle
--- what a slot owns
-pub mod Slot
--- the kinds of handles that have a value
-pub mod Tags

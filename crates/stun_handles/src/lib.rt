@@ -7,5 +7,4 @@ pub mod answers;
 pub mod handle;
 pub mod keys;
 pub mod kind;
-pub mod slot;
 pub mod text;

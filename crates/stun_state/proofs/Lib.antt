@@ -2,3 +2,4 @@ mod Enough
 mod Errors
 mod Exports
 mod Reasons
+mod SlotWords

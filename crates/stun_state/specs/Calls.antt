@@ -18,123 +18,124 @@ use Rattle.stun_state.specs.Answers.{CallUnlessMemory}
 use Rattle.stun_state.specs.Handed.{IsUserOf, just_given, handed_signing, handed_validation_number}
 use Rattle.stun_state.specs.Handed.{kept_after_handed_signing, kept_after_handed_validation}
 use Rattle.stun_state.specs.Numbers.{IsOrOutOfMemory, left_by}
-use Rattle.stun_state.specs.declared.handle.agent.AgentHandle.{AgentHandle}
-use Rattle.stun_state.specs.declared.handle.client.ClientHandle.{ClientHandle}
-use Rattle.stun_state.specs.declared.handle.server.Server.{Server as Kept}
-use Rattle.stun_state.specs.declared.handle.server.ServerHandle.{ServerHandle}
-use Rattle.stun_state.specs.declared.handle.user.UserHandle.{UserHandle}
+use Rattle.stun_state.specs.Kept.{agent_in, client_in, server_in, user_in}
+use Rattle.stun_state.specs.declared.handle.state.Kept.TheVariants as kind
+use Rattle.stun_state.specs.declared.handle.state.Server.{Server}
+use Rattle.stun_state.specs.declared.handle.state.StateHandle.{StateHandle}
 
 -- ---- a handle without the value that a call needs
 
 -- if the handle has no agent, the call returns the number of the refusal for its kind, and `Left`
 -- holds
-abbrev pub WithoutAgent : AgentHandle → ℤ → Type 0 → Type 0
-WithoutAgent handle result Left = IfNone handle.slot.agent ((result ≡ missing handle.kind) × Left)
+abbrev pub WithoutAgent : StateHandle → ℤ → Type 0 → Type 0
+WithoutAgent handle result Left =
+    IfNone (agent_in handle.slot.kept) ((result ≡ missing handle.kind) × Left)
 
 -- the same if it has no server
-abbrev pub WithoutServer : ServerHandle → ℤ → Type 0 → Type 0
-WithoutServer handle result Left = IfNone handle.slot.server ((result ≡ missing handle.kind) × Left)
+abbrev pub WithoutServer : StateHandle → ℤ → Type 0 → Type 0
+WithoutServer handle result Left =
+    IfNone (server_in handle.slot.kept) ((result ≡ missing handle.kind) × Left)
 
 -- the same if it has no client
-abbrev pub WithoutClient : ClientHandle → ℤ → Type 0 → Type 0
-WithoutClient handle result Left = IfNone handle.slot.client ((result ≡ missing handle.kind) × Left)
+abbrev pub WithoutClient : StateHandle → ℤ → Type 0 → Type 0
+WithoutClient handle result Left =
+    IfNone (client_in handle.slot.kept) ((result ≡ missing handle.kind) × Left)
 
 -- the same if it has no prepared user
-abbrev pub WithoutUser : UserHandle → ℤ → Type 0 → Type 0
-WithoutUser handle result Left = IfNone handle.slot.user ((result ≡ missing handle.kind) × Left)
+abbrev pub WithoutUser : StateHandle → ℤ → Type 0 → Type 0
+WithoutUser handle result Left =
+    IfNone (user_in handle.slot.kept) ((result ≡ missing handle.kind) × Left)
 
 -- ---- a handle that is filled, freed or kept
 
--- a call that fills an empty handle, for which `Made` holds. `kind` is the kind of the handle
--- before the call, and `now` its value after it
-pub record FillsHandle {H K : Type 0} (kind : ℕ) (old new : H) (now : Option K) (result : ℤ)
-    (Made : Type 0) : Type 0 where
-  pub full : kind ≢ EMPTY → (result ≡ refusal_number FullHandle) × (new ≡ old)
-  pub made : kind ≡ EMPTY → Made
+-- a call that fills an empty handle, for which `Made` holds
+pub record FillsHandle (old new : StateHandle) (result : ℤ) (Made : Type 0) : Type 0 where
+  pub full : old.kind ≢ EMPTY → (result ≡ refusal_number FullHandle) × (new ≡ old)
+  pub made : old.kind ≡ EMPTY → Made
   -- a handle that gets no value is left as it was
-  pub left : IfNone now (new ≡ old)
+  pub left : IfNone new.slot.kept (new ≡ old)
 
--- a call that frees the value of a handle, if the handle has one. `kind` is the kind of the handle
--- after the call
-pub record FreesHandle {H K : Type 0} (value : Option K) (kind : ℕ) (old new : H) : Type 0 where
-  pub freed : IfSome value (λ _. kind ≡ EMPTY)
+-- a call that frees this value of a handle, if the handle has it
+pub record FreesHandle {K : Type 0} (value : Option K) (old new : StateHandle) : Type 0 where
+  pub freed : IfSome value (λ _. new.kind ≡ EMPTY)
   pub left : IfNone value (new ≡ old)
 
--- a call that leaves the value of a handle, and leaves a handle without a value as it was
-pub record KeepsHandle {H K : Type 0} (new old : H) (now before : Option K) : Type 0 where
-  pub value : now ≡ before
-  pub other : IfNone before (new ≡ old)
+-- a call that leaves the value of a handle, and leaves a handle without this value as it was
+pub record KeepsHandle {K : Type 0} (new old : StateHandle) (value : Option K) : Type 0 where
+  pub kept : new.slot.kept ≡ old.slot.kept
+  pub other : IfNone value (new ≡ old)
 
 -- ---- an agent
 
 -- a call that puts this agent into an empty handle, unless the agent is refused or an allocation
 -- failed
-abbrev pub FillsWithAgent : AgentHandle → AgentHandle → ℤ → Result Agent Refusal → Type 0
+abbrev pub FillsWithAgent : StateHandle → StateHandle → ℤ → Result Agent Refusal → Type 0
 FillsWithAgent old new result made =
-    FillsHandle old.kind old new new.slot.agent result
+    FillsHandle old new result
     (MatchResult made
-    (λ agent. OrOutOfMemory result None new.slot.agent (pos 0) (Some (record { agent = agent })))
-    (λ refusal. (result ≡ refusal_number refusal) × (new.slot.agent ≡ None)))
+    (λ agent. OrOutOfMemory result None new.slot.kept (pos 0) (Some (kind.Agent agent)))
+    (λ refusal. (result ≡ refusal_number refusal) × (new.slot.kept ≡ None)))
 
 -- the agent of a handle, if the handle has one, becomes what `after` makes of it
-abbrev pub AgentBecomes : AgentHandle → AgentHandle → (Agent → Agent) → Type 0
+abbrev pub AgentBecomes : StateHandle → StateHandle → (Agent → Agent) → Type 0
 AgentBecomes old new after =
-    IfSome old.slot.agent (λ kept. new.slot.agent ≡ Some (record { agent = after kept.agent }))
+    IfSome (agent_in old.slot.kept) (λ agent. new.slot.kept ≡ Some (kind.Agent (after agent)))
 
 -- a call that returns what `number` makes of the agent of a handle, and changes the agent
-pub record ChangesAgent (old new : AgentHandle) (result : ℤ) (number : Agent → ℤ)
+pub record ChangesAgent (old new : StateHandle) (result : ℤ) (number : Agent → ℤ)
     (after : Agent → Agent) : Type 0 where
   pub missing : WithoutAgent old result (new ≡ old)
-  pub answer : IfSome old.slot.agent (λ kept. result ≡ number kept.agent)
+  pub answer : IfSome (agent_in old.slot.kept) (λ agent. result ≡ number agent)
   pub state : AgentBecomes old new after
 
 -- the same of a call that may return the number of a failed allocation instead
-pub record ChangesAgentOr (old new : AgentHandle) (result : ℤ) (number : Agent → ℤ)
+pub record ChangesAgentOr (old new : StateHandle) (result : ℤ) (number : Agent → ℤ)
     (after : Agent → Agent) : Type 0 where
   pub missing : WithoutAgent old result (new ≡ old)
-  pub answer : IfSome old.slot.agent (λ kept. IsOrOutOfMemory result (number kept.agent))
+  pub answer : IfSome (agent_in old.slot.kept) (λ agent.
+      IsOrOutOfMemory result (number agent))
   pub state : AgentBecomes old new after
 
 -- ---- a server
 
 -- the server of a handle, if the handle has one, becomes what `after` makes of it
-abbrev pub ServerBecomes : ServerHandle → ServerHandle → (ServerSeen → ServerSeen) → Type 0
+abbrev pub ServerBecomes : StateHandle → StateHandle → (ServerSeen → ServerSeen) → Type 0
 ServerBecomes old new after =
-    IfSome old.slot.server
-    (λ kept. new.slot.server ≡ Some (record kept { server = after kept.server }))
+    IfSome (server_in old.slot.kept)
+    (λ s. new.slot.kept ≡ Some (kind.Server (record s { server = after s.server })))
 
 -- a call that returns this number if the handle has a server, and changes the server
-pub record ChangesServer (old new : ServerHandle) (result number : ℤ)
+pub record ChangesServer (old new : StateHandle) (result number : ℤ)
     (after : ServerSeen → ServerSeen) : Type 0 where
   pub missing : WithoutServer old result (new ≡ old)
-  pub answer : IfSome old.slot.server (λ _. result ≡ number)
+  pub answer : IfSome (server_in old.slot.kept) (λ _. result ≡ number)
   pub state : ServerBecomes old new after
 
 -- a call that returns what `number` makes of the server of a handle, and leaves what `after` makes
 -- of it, unless an allocation failed
-pub record Judges (old new : ServerHandle) (result : ℤ) (number : Kept → ℤ)
-    (after : Kept → ServerSeen) : Type 0 where
+pub record Judges (old new : StateHandle) (result : ℤ) (number : Server → ℤ)
+    (after : Server → ServerSeen) : Type 0 where
   pub missing : WithoutServer old result (new ≡ old)
-  pub answer : IfSome old.slot.server (λ kept. OrOutOfMemory result old.slot.server new.slot.server
-      (number kept) (Some (record kept { server = after kept })))
+  pub answer : IfSome (server_in old.slot.kept) (λ s. OrOutOfMemory result old.slot.kept
+      new.slot.kept (number s) (Some (kind.Server (record s { server = after s }))))
 
 -- ---- a user whom the caller hands in
 
 -- a call that validates bytes from an address by the server that has just this user
-abbrev pub ValidatesWith : ServerHandle → ServerHandle → ℤ → List ℕ → Address → ℕ → List ℕ
+abbrev pub ValidatesWith : StateHandle → StateHandle → ℤ → List ℕ → Address → ℕ → List ℕ
     → Result RegisteredUser Refusal → Type 0
 ValidatesWith old new result bytes from now words user =
-    Judges old new result (λ kept. handed_validation_number kept bytes from now words user)
-    (λ kept. kept_after_handed_validation kept bytes from now words user)
+    Judges old new result (λ s. handed_validation_number s bytes from now words user)
+    (λ s. kept_after_handed_validation s bytes from now words user)
 
 -- a call that signs a message in the first bytes of a buffer by the server that has just this user
-pub record SignsWith (old new : ServerHandle) (result : ℤ) (buffer buffer' : List ℕ) (count : ℕ)
+pub record SignsWith (old new : StateHandle) (result : ℤ) (buffer buffer' : List ℕ) (count : ℕ)
     (to : Address) (user : Result RegisteredUser Refusal) : Type 0 where
   pub missing : WithoutServer old result ((new ≡ old) × (buffer' ≡ buffer))
-  pub answer : IfSome old.slot.server (λ kept. IsOrOutOfMemory result
-      (length_answer (length_of (handed_signing kept.server buffer count to user))))
-  pub written : IfSome old.slot.server (λ kept. buffer' ≡ left_by result buffer
-      (buffer_after (handed_signing kept.server buffer count to user) buffer))
+  pub answer : IfSome (server_in old.slot.kept) (λ s. IsOrOutOfMemory result
+      (length_answer (length_of (handed_signing s.server buffer count to user))))
+  pub written : IfSome (server_in old.slot.kept) (λ s. buffer' ≡ left_by result buffer
+      (buffer_after (handed_signing s.server buffer count to user) buffer))
   pub state : ServerBecomes old new (λ server. left_by result server
       (kept_after_handed_signing server buffer count to user))
 
@@ -142,20 +143,20 @@ pub record SignsWith (old new : ServerHandle) (result : ℤ) (buffer buffer' : L
 
 -- a call that prepares this user for the server in a handle, and puts the user into an empty
 -- handle, unless the user is refused or an allocation failed
-pub record Prepares (old new : UserHandle) (result : ℤ) (server : ServerHandle)
+pub record Prepares (old new : StateHandle) (result : ℤ) (server : StateHandle)
     (user : Result RegisteredUser Refusal) : Type 0 where
   pub missing : old.kind ≡ EMPTY → WithoutServer server result (new ≡ old)
-  pub filled : FillsHandle old.kind old new new.slot.user result
-      (IfSome server.slot.server (λ kept. MatchResult (just_given kept.server.registered user)
-      (λ made. OrOutOfMemory result None new.slot.user (pos 0) (Some (record { user = made })))
-      (λ refusal. (result ≡ refusal_number refusal) × (new.slot.user ≡ None))))
+  pub filled : FillsHandle old new result
+      (IfSome (server_in server.slot.kept) (λ s. MatchResult (just_given s.server.registered user)
+      (λ made. OrOutOfMemory result None new.slot.kept (pos 0) (Some (kind.User made)))
+      (λ refusal. (result ≡ refusal_number refusal) × (new.slot.kept ≡ None))))
 
 -- `Holds` is true of the server in a handle and the prepared user in another, if the user belongs
 -- to the server
-abbrev pub IfUserOf : ServerHandle → UserHandle → (Kept → Registered → Type 0) → Type 0
+abbrev pub IfUserOf : StateHandle → StateHandle → (Server → Registered → Type 0) → Type 0
 IfUserOf server user Holds =
-    IfSome server.slot.server (λ kept. IfSome user.slot.user (λ one.
-    IsUserOf kept.server one.user → Holds kept one.user))
+    IfSome (server_in server.slot.kept) (λ s. IfSome (user_in user.slot.kept) (λ one.
+    IsUserOf s.server one → Holds s one))
 
 -- ---- calls without handles
 

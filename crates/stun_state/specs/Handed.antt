@@ -20,7 +20,7 @@ use Rattle.stun_state.specs.Answers.{after_address, kept_if_refused}
 use Rattle.stun_state.specs.Numbers.{algorithm_answer}
 use Rattle.stun_state.specs.Server.{kept_after_validating, room_refusal, server_validation_answer}
 use Rattle.stun_state.specs.Signing.{kept_after_signing, signed_for}
-use Rattle.stun_state.specs.declared.handle.server.Server.{Server as Kept}
+use Rattle.stun_state.specs.declared.handle.state.Server.{Server as Kept}
 
 -- ---- who asks
 

@@ -1,5 +1,7 @@
 -- What the contracts of this crate say, in the order to read it.
 
+-- what a handle has
+pub mod Kept
 -- the refusals for the reasons of authenticators, and the numbers that callers give
 pub mod Codes
 -- the numbers that calls return

@@ -14,7 +14,7 @@ use Rattle.stun_handles.specs.Answers.{at_address}
 use Rattle.stun_state.specs.Agent.{request_answer}
 use Rattle.stun_state.specs.Client.{step}
 use Rattle.stun_state.specs.Server.{room_refusal}
-use Rattle.stun_state.specs.declared.handle.server.Server.{Server as Kept}
+use Rattle.stun_state.specs.declared.handle.state.Server.{Server as Kept}
 
 -- whether naming an address adds none to those that an agent keeps: it is none, or is kept already
 abbrev pub naming_adds_none : Agent → Option SocketAddr → Bool

@@ -28,7 +28,7 @@ use Rattle.stun_handles.specs.declared.address.Address.{Address}
 use Rattle.stun_state.specs.Answers.{after_address, kept_if_refused}
 use Rattle.stun_state.specs.Codes.{refusal_of_server}
 use Rattle.stun_state.specs.Numbers.{algorithm_answer}
-use Rattle.stun_state.specs.declared.handle.server.Server.{Server as Kept}
+use Rattle.stun_state.specs.declared.handle.state.Server.{Server as Kept}
 
 -- ---- settings
 

@@ -18,7 +18,7 @@ ghost use Rattle.stun_state.specs.Handed.{handed_signing, handed_validation};
 ghost use Rattle.stun_state.specs.code.Given.{user_given};
 ghost use Rattle.stun_state.specs.Signing.{signed_for};
 
-use crate::handle::server::Server;
+use crate::handle::state::Server;
 use crate::server::{check_room, measure};
 use crate::signing::SHORT;
 use crate::users::{sign_within, validate_message};

@@ -1,49 +1,24 @@
 //! What the exports do with a user who is prepared once, and passed along with many messages (RFC
 //! 8489, section 9.2.4).
 
-ghost use Rattle.std.specs.Prelude.{◌≡◌, ⊤, IsOk, IfOk, IfErr, Ok, Err};
+ghost use Rattle.std.specs.Prelude.{◌≡◌, ⊤};
 ghost use Rattle.stun_handles.specs.Addresses.{socket_address};
 ghost use Rattle.stun_handles.specs.Answers.{at_address};
-ghost use Rattle.stun_state.specs.Answers.{CallUnlessMemory};
 ghost use Rattle.stun_state.specs.Calls.{Returns};
-ghost use Rattle.stun_state.specs.Handed.{just_given, kept_after_prepared_validation, with_only};
+ghost use Rattle.stun_state.specs.Handed.{kept_after_prepared_validation, with_only};
 ghost use Rattle.stun_state.specs.Memory.{LeavesServer};
 ghost use Rattle.stun_state.specs.Server.{server_validation};
-ghost use Rattle.stun_state.specs.code.Given.{user_given};
 
-use crate::handed::{Given, prepared};
-use crate::handle::server::Server;
-use crate::handle::user::User;
+use crate::handle::state::Server;
 use crate::server::check_room;
 use crate::users::validate_message;
 use std::alloc::Global;
-use stun_auth::auth::{LongTermServerAuth, LongTermServerUser};
+use stun_auth::auth::LongTermServerUser;
 use stun_base::algorithm::IntegrityAlgorithm;
 use stun_base::instant::Instant;
 use stun_handles::address::Address;
 use stun_numbers::refusal::Refusal;
 use stun_types::message::Message;
-
-/// The user of a name who is known by what a caller gives, with keys for the server, on the heap.
-pub(crate) fn boxed(
-    alloc: Global,
-    server: &LongTermServerAuth<Global>,
-    name: &[u8],
-    given: Given<'_>,
-) -> Result<Box<User, Global>, Refusal>
-    ensures ok { IfOk result (λ kept. just_given server.now.registered
-        (user_given name.now given.entry)
-        ≡ Ok kept.value.user) }
-    ensures err { IfErr result (λ refusal. CallUnlessMemory result
-        (just_given server.now.registered (user_given name.now given.entry) ≡ Err refusal)
-        (IsOk (just_given server.now.registered (user_given name.now given.entry)))) }
-{
-    let user = prepared(alloc, server, name, given)?;
-    match Box::new(alloc, User { user }) {
-        Ok(kept) => Ok(kept),
-        Err(_) => Err(Refusal::OutOfMemory),
-    }
-}
 
 /// Validates a message. The server has just this user.
 pub(crate) fn validate(

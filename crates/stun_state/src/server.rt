@@ -24,7 +24,7 @@ ghost use Rattle.stun_state.specs.Server.{server_with_algorithms, with_expiry, s
 ghost use Rattle.stun_state.specs.Server.{without_client, without_named};
 
 use crate::codes::{algorithms_numbered, feature_numbered};
-use crate::handle::server::Server;
+use crate::handle::state::Server;
 use crate::signing::{SHORT, is_response, is_too_long};
 use crate::users::{OwnUsers, sign_within, validate_message};
 use std::alloc::Global;

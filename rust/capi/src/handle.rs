@@ -35,90 +35,124 @@ impl<T> Handle<T> {
     }
 }
 
-/// All zero where it is empty, and else what `put` wrote, or a handle of another kind.
-#[repr(C)]
-pub struct Tagged<T, const KIND: u32> {
-    pub kind: u32,
-    at: *mut T,
-}
+pub mod state {
+    //! The handle of an agent, of a server or a client with long-term credentials, or of a prepared
+    //! user.
 
-impl<T, const KIND: u32> Tagged<T, KIND> {
-    /// Takes the value out, if there is one, and leaves the handle empty. A handle of another kind
-    /// is left as it is.
-    pub fn take(&mut self, _alloc: Global) -> Option<Box<T>> {
-        if self.kind != KIND {
-            return None;
-        }
-        self.kind = kind::EMPTY;
-        let at = mem::replace(&mut self.at, ptr::null_mut());
-        // SAFETY: a handle of this kind has what `put` wrote, and no call leaves two that do.
-        let taken = unsafe { boxed::Box::from_raw(ptr::slice_from_raw_parts_mut(at, 1)) };
-        Some(Box::from_std(taken))
-    }
-
-    /// Puts a value into an empty handle.
-    pub fn put(&mut self, value: Box<T>) {
-        self.at = boxed::Box::into_raw(value.into_std()).cast();
-        self.kind = KIND;
-    }
-}
-
-pub mod agent {
-    //! The handle of an agent.
-
+    use super::kind::{AGENT, CLIENT, EMPTY, SERVER, USER};
+    use crate::calls::stun_numbers::refusal::Refusal;
     use crate::exported::stun_agent::agent::StunAgent;
+    use crate::exported::stun_auth::auth::{
+        LongTermClientAuth, LongTermServerAuth, LongTermServerUser,
+    };
+    use crate::kit::alloc::Global;
+    use crate::kit::prelude::Box;
+    use alloc::boxed;
+    use core::mem;
+    use core::ptr;
 
-    /// An agent of the heap.
-    pub struct Agent {
-        pub agent: StunAgent,
-    }
-
-    /// What a caller keeps of an agent.
-    pub type AgentHandle = super::Tagged<Agent, { super::kind::AGENT }>;
-}
-
-pub mod server {
-    //! The handle of a server.
-
-    use crate::exported::stun_auth::auth::LongTermServerAuth;
-
-    /// A server of the heap.
+    /// A server, and of how many addresses something may be kept.
     pub struct Server {
         pub server: LongTermServerAuth,
-        /// Of how many addresses something may be kept.
         pub most_addresses: usize,
     }
 
-    /// What a caller keeps of a server.
-    pub type ServerHandle = super::Tagged<Server, { super::kind::SERVER }>;
-}
-
-pub mod client {
-    //! The handle of a client.
-
-    use crate::exported::stun_auth::auth::LongTermClientAuth;
-
-    /// A client of the heap.
-    pub struct Client {
-        pub client: LongTermClientAuth,
+    /// A value of the heap: an agent, a server, a client, or a prepared user.
+    #[allow(clippy::large_enum_variant, reason = "a handle keeps it on the heap")]
+    pub enum Kept {
+        Agent(StunAgent),
+        Server(Server),
+        Client(LongTermClientAuth),
+        User(LongTermServerUser),
     }
 
-    /// What a caller keeps of a client.
-    pub type ClientHandle = super::Tagged<Client, { super::kind::CLIENT }>;
-}
+    impl Kept {
+        fn kind(&self) -> u32 {
+            match self {
+                Kept::Agent(_) => AGENT,
+                Kept::Server(_) => SERVER,
+                Kept::Client(_) => CLIENT,
+                Kept::User(_) => USER,
+            }
+        }
 
-pub mod user {
-    //! The handle of a prepared user.
+        /// Borrows the agent.
+        pub fn agent(&mut self) -> &mut StunAgent {
+            match self {
+                Kept::Agent(agent) => agent,
+                _ => other_kind(),
+            }
+        }
 
-    use crate::exported::stun_auth::auth::LongTermServerUser;
+        /// Borrows the server.
+        pub fn server(&mut self) -> &mut Server {
+            match self {
+                Kept::Server(server) => server,
+                _ => other_kind(),
+            }
+        }
 
-    /// A prepared user of the heap.
-    pub struct User {
-        pub user: LongTermServerUser,
+        /// Borrows the client.
+        pub fn client(&mut self) -> &mut LongTermClientAuth {
+            match self {
+                Kept::Client(client) => client,
+                _ => other_kind(),
+            }
+        }
+
+        /// Borrows the prepared user.
+        pub fn user(&mut self) -> &mut LongTermServerUser {
+            match self {
+                Kept::User(user) => user,
+                _ => other_kind(),
+            }
+        }
     }
 
-    /// What a caller keeps of a prepared user.
-    pub type UserHandle = super::Tagged<User, { super::kind::USER }>;
+    #[cold]
+    fn other_kind() -> ! {
+        unreachable!("a call takes a value of the kind that it borrows")
+    }
+
+    /// All zero where it is empty, and else what `put` wrote. Memory that no call wrote to is a handle
+    /// without a value, unless it begins with one of the kinds.
+    #[repr(C)]
+    pub struct StateHandle {
+        pub kind: u32,
+        at: *mut Kept,
+    }
+
+    impl StateHandle {
+        /// Takes the value out, if there is one of this kind, and leaves the handle empty. A handle
+        /// without one is left as it is.
+        pub fn take(&mut self, _alloc: Global, kind: u32) -> Option<Box<Kept>> {
+            if self.kind != kind {
+                return None;
+            }
+            self.kind = EMPTY;
+            let at = mem::replace(&mut self.at, ptr::null_mut());
+            // SAFETY: a handle of a kind has what `put` wrote, and no call leaves two that do.
+            let taken = unsafe { boxed::Box::from_raw(ptr::slice_from_raw_parts_mut(at, 1)) };
+            Some(Box::from_std(taken))
+        }
+
+        /// Puts a value into a handle that has none.
+        pub fn put(&mut self, value: Box<Kept>) {
+            self.kind = value.kind();
+            self.at = boxed::Box::into_raw(value.into_std()).cast();
+        }
+
+        /// Moves a value to the heap and puts it into an empty handle.
+        pub fn fill(&mut self, alloc: Global, value: Kept) -> i64 {
+            match Box::new(alloc, value) {
+                Ok(value) => {
+                    self.put(value);
+                    0
+                }
+                Err(_) => Refusal::OutOfMemory.code(),
+            }
+        }
+    }
 }
 
 pub mod endpoint {

@@ -26,15 +26,16 @@ ghost use Rattle.stun_state.specs.Agent.{unless_untimed, with_changed};
 ghost use Rattle.stun_state.specs.Answers.{done_if_given};
 ghost use Rattle.stun_state.specs.Calls.{AgentBecomes, ChangesAgent, ChangesAgentOr, FreesHandle};
 ghost use Rattle.stun_state.specs.Calls.{FillsWithAgent, WithoutAgent};
+ghost use Rattle.stun_state.specs.Kept.{agent_in};
 ghost use Rattle.stun_state.specs.Memory.{IsRequestTaken, message_adds_none, naming_adds_none};
 ghost use Rattle.stun_state.specs.Numbers.{left_by};
 
 use crate::agent::{Statistics, Timeouts};
-use crate::handle::agent::{Agent, AgentHandle};
+use crate::handle::state::{Kept, StateHandle};
 use crate::{agent, answers};
 use std::alloc::Global;
 use stun_handles::address::Address;
-use stun_handles::kind::{EMPTY, missing};
+use stun_handles::kind::{AGENT, EMPTY, missing};
 use stun_numbers::refusal::Refusal;
 
 /// Creates an agent that sends over a transport, 0 for UDP and 1 for TCP, from a local address.
@@ -43,7 +44,7 @@ use stun_numbers::refusal::Refusal;
 #[unsafe(no_mangle)]
 pub extern "C" fn stunp_agent_new(
     alloc: Global,
-    handle: &mut AgentHandle,
+    handle: &mut StateHandle,
     transport: u32,
     local: &Address,
 ) -> i64
@@ -57,13 +58,7 @@ pub extern "C" fn stunp_agent_new(
         Ok(agent) => agent,
         Err(refusal) => return refusal.code(),
     };
-    match Box::new(alloc, Agent { agent }) {
-        Ok(kept) => {
-            handle.put(kept);
-            0
-        }
-        Err(_) => Refusal::OutOfMemory.code(),
-    }
+    handle.fill(alloc, Kept::Agent(agent))
 }
 
 /// Creates an agent like `stunp_agent_new`, with timeouts of the caller's, and with the only remote
@@ -74,7 +69,7 @@ pub extern "C" fn stunp_agent_new(
 #[unsafe(no_mangle)]
 pub extern "C" fn stunp_agent_new_with(
     alloc: Global,
-    handle: &mut AgentHandle,
+    handle: &mut StateHandle,
     transport: u32,
     local: &Address,
     remote: &Address,
@@ -91,13 +86,7 @@ pub extern "C" fn stunp_agent_new_with(
         Ok(agent) => agent,
         Err(refusal) => return refusal.code(),
     };
-    match Box::new(alloc, Agent { agent }) {
-        Ok(kept) => {
-            handle.put(kept);
-            0
-        }
-        Err(_) => Refusal::OutOfMemory.code(),
-    }
+    handle.fill(alloc, Kept::Agent(agent))
 }
 
 /// Writes what the agent has counted. Fails with `BadArgument` if the caller's struct has another
@@ -105,32 +94,32 @@ pub extern "C" fn stunp_agent_new_with(
 #[unsafe(no_mangle)]
 pub extern "C" fn stunp_agent_statistics(
     alloc: Global,
-    handle: &mut AgentHandle,
+    handle: &mut StateHandle,
     statistics: &mut Statistics,
 ) -> i64
     ensures missing { WithoutAgent handle.old result ((handle.new ≡ handle.old)
         × (statistics.new ≡ statistics.old)) }
-    ensures answer { IfSome handle.old.slot.agent (λ _. result
+    ensures answer { IfSome (agent_in handle.old.slot.kept) (λ _. result
         ≡ done_answer (statistics_answer statistics.old)) }
-    ensures told { IfSome handle.old.slot.agent (λ kept. statistics.new
+    ensures told { IfSome (agent_in handle.old.slot.kept) (λ agent. statistics.new
         ≡ left_by result statistics.old
-        (caller_statistics_after kept.agent.statistics statistics.old)) }
-    ensures same { handle.new.slot.agent ≡ handle.old.slot.agent }
+        (caller_statistics_after agent.statistics statistics.old)) }
+    ensures same { handle.new.slot.kept ≡ handle.old.slot.kept }
 {
-    let Some(mut kept) = handle.take(alloc) else {
+    let Some(mut kept) = handle.take(alloc, AGENT) else {
         return missing(handle.kind);
     };
-    let answer = answers::done(agent::tell_statistics(&kept.agent, statistics));
+    let answer = answers::done(agent::tell_statistics(kept.agent(), statistics));
     handle.put(kept);
     answer
 }
 
 /// Frees the agent, and makes the handle empty. Does nothing if the handle has no agent.
 #[unsafe(no_mangle)]
-pub extern "C" fn stunp_agent_clear(alloc: Global, handle: &mut AgentHandle)
-    ensures { FreesHandle handle.old.slot.agent handle.new.kind handle.old handle.new }
+pub extern "C" fn stunp_agent_clear(alloc: Global, handle: &mut StateHandle)
+    ensures { FreesHandle (agent_in handle.old.slot.kept) handle.old handle.new }
 {
-    let _agent = handle.take(alloc);
+    let _agent = handle.take(alloc, AGENT);
 }
 
 /// Stores a request to an address, starts its retransmission timer, and counts it.
@@ -142,7 +131,7 @@ pub extern "C" fn stunp_agent_clear(alloc: Global, handle: &mut AgentHandle)
 #[unsafe(no_mangle)]
 pub extern "C" fn stunp_agent_send_request(
     alloc: Global,
-    handle: &mut AgentHandle,
+    handle: &mut StateHandle,
     message: &[u8],
     to: &Address,
     now: u64,
@@ -153,14 +142,14 @@ pub extern "C" fn stunp_agent_send_request(
         (λ agent. left_by result agent (kept_after_request agent message.now to.now now)) }
 
     // A failed allocation is returned only if the request would be taken.
-    ensures taken { IfSome handle.old.slot.agent (λ kept. (result ≡ done_answer
-        (at_address (socket_address to.now) (request_answer kept.agent message.now)))
-        ⊎ IsRequestTaken kept.agent message.now (socket_address to.now)) }
+    ensures taken { IfSome (agent_in handle.old.slot.kept) (λ agent. (result ≡ done_answer
+        (at_address (socket_address to.now) (request_answer agent message.now)))
+        ⊎ IsRequestTaken agent message.now (socket_address to.now)) }
 {
-    let Some(mut kept) = handle.take(alloc) else {
+    let Some(mut kept) = handle.take(alloc, AGENT) else {
         return missing(handle.kind);
     };
-    let answer = answers::done(agent::send_request(&mut kept.agent, message, to, now));
+    let answer = answers::done(agent::send_request(kept.agent(), message, to, now));
     handle.put(kept);
     answer
 }
@@ -171,7 +160,7 @@ pub extern "C" fn stunp_agent_send_request(
 #[unsafe(no_mangle)]
 pub extern "C" fn stunp_agent_send(
     alloc: Global,
-    handle: &mut AgentHandle,
+    handle: &mut StateHandle,
     message: &[u8],
     to: &Address,
 ) -> i64
@@ -180,10 +169,10 @@ pub extern "C" fn stunp_agent_send(
         (at_address (socket_address to.now) (sending_answer agent message.now)))
         (λ agent. left_by result agent (after_send message.now agent)) }
 {
-    let Some(mut kept) = handle.take(alloc) else {
+    let Some(mut kept) = handle.take(alloc, AGENT) else {
         return missing(handle.kind);
     };
-    let answer = answers::done(agent::send(&mut kept.agent, message, to));
+    let answer = answers::done(agent::send(kept.agent(), message, to));
     handle.put(kept);
     answer
 }
@@ -194,7 +183,7 @@ pub extern "C" fn stunp_agent_send(
 #[unsafe(no_mangle)]
 pub extern "C" fn stunp_agent_handle(
     alloc: Global,
-    handle: &mut AgentHandle,
+    handle: &mut StateHandle,
     message: &[u8],
     from: &Address,
     now: u64,
@@ -205,15 +194,15 @@ pub extern "C" fn stunp_agent_handle(
         (λ agent. left_by result agent (kept_after_message agent message.now from.now now)) }
 
     // If no address is added to those that are kept, no failed allocation is returned.
-    ensures no_memory { IfSome handle.old.slot.agent (λ kept.
-        IsTrue (message_adds_none kept.agent message.now (socket_address from.now)) →
+    ensures no_memory { IfSome (agent_in handle.old.slot.kept) (λ agent.
+        IsTrue (message_adds_none agent message.now (socket_address from.now)) →
         result ≡ number_answer
-        (at_address (socket_address from.now) (receiving_answer kept.agent message.now))) }
+        (at_address (socket_address from.now) (receiving_answer agent message.now))) }
 {
-    let Some(mut kept) = handle.take(alloc) else {
+    let Some(mut kept) = handle.take(alloc, AGENT) else {
         return missing(handle.kind);
     };
-    let answer = answers::number(agent::handle(&mut kept.agent, message, from, now));
+    let answer = answers::number(agent::handle(kept.agent(), message, from, now));
     handle.put(kept);
     answer
 }
@@ -223,28 +212,28 @@ pub extern "C" fn stunp_agent_handle(
 #[unsafe(no_mangle)]
 pub extern "C" fn stunp_agent_poll_transmit(
     alloc: Global,
-    handle: &mut AgentHandle,
+    handle: &mut StateHandle,
     now: u64,
     out: &mut [u8],
     to: &mut Address,
 ) -> i64
     ensures missing { WithoutAgent handle.old result ((handle.new ≡ handle.old)
         × (out.new ≡ out.old) × (to.new ≡ to.old)) }
-    ensures answer { IfSome handle.old.slot.agent (λ kept. result ≡ length_answer
-        (sent_again (length out.old) (sent_by_poll now kept.agent))) }
+    ensures answer { IfSome (agent_in handle.old.slot.kept) (λ agent. result ≡ length_answer
+        (sent_again (length out.old) (sent_by_poll now agent))) }
 
     // Too small a buffer leaves the agent, so no transmission is lost.
     ensures state { AgentBecomes handle.old handle.new (λ agent. left_by result agent
         (after_poll_transmit now agent)) }
-    ensures out { IfSome handle.old.slot.agent (λ kept. out.new ≡ left_by result out.old
-        (bytes_told (sent_by_poll now kept.agent) out.old)) }
-    ensures to { IfSome handle.old.slot.agent (λ kept. to.new ≡ left_by result to.old
-        (sent_to (sent_by_poll now kept.agent) to.old)) }
+    ensures out { IfSome (agent_in handle.old.slot.kept) (λ agent. out.new ≡ left_by result out.old
+        (bytes_told (sent_by_poll now agent) out.old)) }
+    ensures to { IfSome (agent_in handle.old.slot.kept) (λ agent. to.new ≡ left_by result to.old
+        (sent_to (sent_by_poll now agent) to.old)) }
 {
-    let Some(mut kept) = handle.take(alloc) else {
+    let Some(mut kept) = handle.take(alloc, AGENT) else {
         return missing(handle.kind);
     };
-    let answer = answers::length(agent::poll_transmit(&mut kept.agent, now, out, to));
+    let answer = answers::length(agent::poll_transmit(kept.agent(), now, out, to));
     handle.put(kept);
     answer
 }
@@ -255,26 +244,26 @@ pub extern "C" fn stunp_agent_poll_transmit(
 #[unsafe(no_mangle)]
 pub extern "C" fn stunp_agent_poll(
     alloc: Global,
-    handle: &mut AgentHandle,
+    handle: &mut StateHandle,
     now: u64,
     until: &mut u64,
     id: &mut [u8],
 ) -> i64
     ensures missing { WithoutAgent handle.old result ((handle.new ≡ handle.old)
         × (until.new ≡ until.old) × (id.new ≡ id.old)) }
-    ensures answer { IfSome handle.old.slot.agent (λ kept. result ≡ number_answer
-        (polling_answer (length id.old) (poll_answer now kept.agent))) }
+    ensures answer { IfSome (agent_in handle.old.slot.kept) (λ agent. result ≡ number_answer
+        (polling_answer (length id.old) (poll_answer now agent))) }
     ensures state { AgentBecomes handle.old handle.new (λ agent. left_by result agent
         (after_poll now agent)) }
-    ensures until { IfSome handle.old.slot.agent (λ kept. until.new ≡ left_by result until.old
-        (moment_told (poll_answer now kept.agent) until.old)) }
-    ensures id { IfSome handle.old.slot.agent (λ kept. id.new ≡ left_by result id.old
-        (id_told (poll_answer now kept.agent) id.old)) }
+    ensures until { IfSome (agent_in handle.old.slot.kept) (λ agent. until.new
+        ≡ left_by result until.old (moment_told (poll_answer now agent) until.old)) }
+    ensures id { IfSome (agent_in handle.old.slot.kept) (λ agent. id.new ≡ left_by result id.old
+        (id_told (poll_answer now agent) id.old)) }
 {
-    let Some(mut kept) = handle.take(alloc) else {
+    let Some(mut kept) = handle.take(alloc, AGENT) else {
         return missing(handle.kind);
     };
-    let answer = answers::number(agent::poll(&mut kept.agent, now, until, id));
+    let answer = answers::number(agent::poll(kept.agent(), now, until, id));
     handle.put(kept);
     answer
 }
@@ -284,37 +273,37 @@ pub extern "C" fn stunp_agent_poll(
 #[unsafe(no_mangle)]
 pub extern "C" fn stunp_agent_is_outstanding(
     alloc: Global,
-    handle: &mut AgentHandle,
+    handle: &mut StateHandle,
     id: &[u8],
     peer: &mut Address,
 ) -> i64
     ensures missing { WithoutAgent handle.old result ((handle.new ≡ handle.old)
         × (peer.new ≡ peer.old)) }
-    ensures answer { IfSome handle.old.slot.agent (λ kept. result ≡ number_answer
-        (outstanding_answer (id_in id.now) kept.agent)) }
-    ensures peer { IfSome handle.old.slot.agent (λ kept. peer.new
-        ≡ peer_found (id_in id.now) kept.agent peer.old) }
-    ensures same { handle.new.slot.agent ≡ handle.old.slot.agent }
+    ensures answer { IfSome (agent_in handle.old.slot.kept) (λ agent. result ≡ number_answer
+        (outstanding_answer (id_in id.now) agent)) }
+    ensures peer { IfSome (agent_in handle.old.slot.kept) (λ agent. peer.new
+        ≡ peer_found (id_in id.now) agent peer.old) }
+    ensures same { handle.new.slot.kept ≡ handle.old.slot.kept }
 {
-    let Some(mut kept) = handle.take(alloc) else {
+    let Some(mut kept) = handle.take(alloc, AGENT) else {
         return missing(handle.kind);
     };
-    let answer = answers::number(agent::is_outstanding(&kept.agent, id, peer));
+    let answer = answers::number(agent::is_outstanding(kept.agent(), id, peer));
     handle.put(kept);
     answer
 }
 
 /// Cancels the request with this ID. Returns 1, or 0 if none is outstanding.
 #[unsafe(no_mangle)]
-pub extern "C" fn stunp_agent_cancel(alloc: Global, handle: &mut AgentHandle, id: &[u8]) -> i64
+pub extern "C" fn stunp_agent_cancel(alloc: Global, handle: &mut StateHandle, id: &[u8]) -> i64
     ensures { ChangesAgent handle.old handle.new result
         (λ agent. number_answer (outstanding_answer (id_in id.now) agent))
         (with_changed with_cancellation (id_in id.now)) }
 {
-    let Some(mut kept) = handle.take(alloc) else {
+    let Some(mut kept) = handle.take(alloc, AGENT) else {
         return missing(handle.kind);
     };
-    let answer = answers::number(agent::cancel(&mut kept.agent, id));
+    let answer = answers::number(agent::cancel(kept.agent(), id));
     handle.put(kept);
     answer
 }
@@ -323,17 +312,17 @@ pub extern "C" fn stunp_agent_cancel(alloc: Global, handle: &mut AgentHandle, id
 #[unsafe(no_mangle)]
 pub extern "C" fn stunp_agent_cancel_retransmissions(
     alloc: Global,
-    handle: &mut AgentHandle,
+    handle: &mut StateHandle,
     id: &[u8],
 ) -> i64
     ensures { ChangesAgent handle.old handle.new result
         (λ agent. number_answer (outstanding_answer (id_in id.now) agent))
         (with_changed without_retransmissions (id_in id.now)) }
 {
-    let Some(mut kept) = handle.take(alloc) else {
+    let Some(mut kept) = handle.take(alloc, AGENT) else {
         return missing(handle.kind);
     };
-    let answer = answers::number(agent::cancel_retransmissions(&mut kept.agent, id));
+    let answer = answers::number(agent::cancel_retransmissions(kept.agent(), id));
     handle.put(kept);
     answer
 }
@@ -344,7 +333,7 @@ pub extern "C" fn stunp_agent_cancel_retransmissions(
 #[unsafe(no_mangle)]
 pub extern "C" fn stunp_agent_configure(
     alloc: Global,
-    handle: &mut AgentHandle,
+    handle: &mut StateHandle,
     id: &[u8],
     timeouts: &Timeouts,
 ) -> i64
@@ -353,10 +342,10 @@ pub extern "C" fn stunp_agent_configure(
         (unless_untimed timeouts.now (outstanding_answer (id_in id.now) agent)))
         (kept_after_configuring timeouts.now (id_in id.now)) }
 {
-    let Some(mut kept) = handle.take(alloc) else {
+    let Some(mut kept) = handle.take(alloc, AGENT) else {
         return missing(handle.kind);
     };
-    let answer = answers::number(agent::configure(&mut kept.agent, id, timeouts));
+    let answer = answers::number(agent::configure(kept.agent(), id, timeouts));
     handle.put(kept);
     answer
 }
@@ -366,7 +355,7 @@ pub extern "C" fn stunp_agent_configure(
 #[unsafe(no_mangle)]
 pub extern "C" fn stunp_agent_validated_peer(
     alloc: Global,
-    handle: &mut AgentHandle,
+    handle: &mut StateHandle,
     peer: &Address,
 ) -> i64
     ensures added { ChangesAgentOr handle.old handle.new result
@@ -374,14 +363,14 @@ pub extern "C" fn stunp_agent_validated_peer(
         (λ agent. left_by result agent (kept_after_naming agent peer.now)) }
 
     // If the address is kept already, no failed allocation is returned.
-    ensures there { IfSome handle.old.slot.agent (λ kept.
-        IsTrue (naming_adds_none kept.agent (socket_address peer.now)) →
+    ensures there { IfSome (agent_in handle.old.slot.kept) (λ agent.
+        IsTrue (naming_adds_none agent (socket_address peer.now)) →
         result ≡ done_answer (done_if_given (socket_address peer.now))) }
 {
-    let Some(mut kept) = handle.take(alloc) else {
+    let Some(mut kept) = handle.take(alloc, AGENT) else {
         return missing(handle.kind);
     };
-    let answer = answers::done(agent::validated_peer(&mut kept.agent, peer));
+    let answer = answers::done(agent::validated_peer(kept.agent(), peer));
     handle.put(kept);
     answer
 }
@@ -391,34 +380,34 @@ pub extern "C" fn stunp_agent_validated_peer(
 #[unsafe(no_mangle)]
 pub extern "C" fn stunp_agent_is_validated_peer(
     alloc: Global,
-    handle: &mut AgentHandle,
+    handle: &mut StateHandle,
     peer: &Address,
 ) -> i64
     ensures missing { WithoutAgent handle.old result (handle.new ≡ handle.old) }
-    ensures answer { IfSome handle.old.slot.agent (λ kept. result ≡ number_answer
-        (at_address (socket_address peer.now) (peer_answer kept.agent))) }
-    ensures same { handle.new.slot.agent ≡ handle.old.slot.agent }
+    ensures answer { IfSome (agent_in handle.old.slot.kept) (λ agent. result ≡ number_answer
+        (at_address (socket_address peer.now) (peer_answer agent))) }
+    ensures same { handle.new.slot.kept ≡ handle.old.slot.kept }
 {
-    let Some(mut kept) = handle.take(alloc) else {
+    let Some(mut kept) = handle.take(alloc, AGENT) else {
         return missing(handle.kind);
     };
-    let answer = answers::number(agent::is_validated_peer(&kept.agent, peer));
+    let answer = answers::number(agent::is_validated_peer(kept.agent(), peer));
     handle.put(kept);
     answer
 }
 
 /// Returns the number of validated peers.
 #[unsafe(no_mangle)]
-pub extern "C" fn stunp_agent_peer_count(alloc: Global, handle: &mut AgentHandle) -> i64
+pub extern "C" fn stunp_agent_peer_count(alloc: Global, handle: &mut StateHandle) -> i64
     ensures missing { WithoutAgent handle.old result (handle.new ≡ handle.old) }
-    ensures answer { IfSome handle.old.slot.agent (λ kept. result
-        ≡ length_answer (Ok (length kept.agent.peers))) }
-    ensures same { handle.new.slot.agent ≡ handle.old.slot.agent }
+    ensures answer { IfSome (agent_in handle.old.slot.kept) (λ agent. result
+        ≡ length_answer (Ok (length agent.peers))) }
+    ensures same { handle.new.slot.kept ≡ handle.old.slot.kept }
 {
-    let Some(kept) = handle.take(alloc) else {
+    let Some(mut kept) = handle.take(alloc, AGENT) else {
         return missing(handle.kind);
     };
-    let answer = answers::length(Ok(kept.agent.validated_peer_count()));
+    let answer = answers::length(Ok(kept.agent().validated_peer_count()));
     handle.put(kept);
     answer
 }
@@ -428,17 +417,17 @@ pub extern "C" fn stunp_agent_peer_count(alloc: Global, handle: &mut AgentHandle
 #[unsafe(no_mangle)]
 pub extern "C" fn stunp_agent_forget_peer(
     alloc: Global,
-    handle: &mut AgentHandle,
+    handle: &mut StateHandle,
     peer: &Address,
 ) -> i64
     ensures { ChangesAgent handle.old handle.new result
         (λ _. done_answer (done_if_given (socket_address peer.now)))
         (λ agent. kept_after_forgetting agent peer.now) }
 {
-    let Some(mut kept) = handle.take(alloc) else {
+    let Some(mut kept) = handle.take(alloc, AGENT) else {
         return missing(handle.kind);
     };
-    let answer = answers::done(agent::forget_peer(&mut kept.agent, peer));
+    let answer = answers::done(agent::forget_peer(kept.agent(), peer));
     handle.put(kept);
     answer
 }

@@ -18,56 +18,51 @@ ghost use Rattle.stun_state.specs.Client as on_client;
 ghost use Rattle.stun_state.specs.Client.{client_after_validation, client_validation};
 ghost use Rattle.stun_state.specs.Client.{with_credentials};
 ghost use Rattle.stun_state.specs.Codes.{algorithm_or_none, algorithms_numbered, feature_numbered};
+ghost use Rattle.stun_state.specs.Kept.{client_in};
 ghost use Rattle.stun_state.specs.Memory.{AsksAgain};
 ghost use Rattle.stun_state.specs.Numbers.{reading_answer};
 ghost use Rattle.stun_state.specs.Signing.{signed_by_client};
+ghost use Rattle.stun_state.specs.declared.handle.state.Kept.TheVariants as kind;
 
-use crate::handle::client::{Client, ClientHandle};
+use crate::handle::state::{Kept, StateHandle};
 use crate::{answers, client};
 use std::alloc::Global;
-use stun_handles::kind::{EMPTY, missing};
+use stun_handles::kind::{CLIENT, EMPTY, missing};
 use stun_numbers::refusal::Refusal;
 
 /// Creates a client without credentials. Fails with `FullHandle`, then `OutOfMemory`.
 #[unsafe(no_mangle)]
-pub extern "C" fn stunp_client_new(alloc: Global, handle: &mut ClientHandle) -> i64
-    ensures { FillsHandle handle.old.kind handle.old handle.new handle.new.slot.client result
-        (OrOutOfMemory result None handle.new.slot.client (pos 0)
-        (Some (record { client = new_client }))) }
+pub extern "C" fn stunp_client_new(alloc: Global, handle: &mut StateHandle) -> i64
+    ensures { FillsHandle handle.old handle.new result
+        (OrOutOfMemory result None handle.new.slot.kept (pos 0)
+        (Some (kind.Client new_client))) }
 {
     if handle.kind != EMPTY {
         return Refusal::FullHandle.code();
     }
-    let client = client::new(alloc);
-    match Box::new(alloc, Client { client }) {
-        Ok(kept) => {
-            handle.put(kept);
-            0
-        }
-        Err(_) => Refusal::OutOfMemory.code(),
-    }
+    handle.fill(alloc, Kept::Client(client::new(alloc)))
 }
 
 /// Sets the user name and the password. Fails with `NotText`, then `OutOfMemory`.
 #[unsafe(no_mangle)]
 pub extern "C" fn stunp_client_set_credentials(
     alloc: Global,
-    handle: &mut ClientHandle,
+    handle: &mut StateHandle,
     name: &[u8],
     password: &[u8],
 ) -> i64
     ensures missing { WithoutClient handle.old result (handle.new ≡ handle.old) }
-    ensures answer { IfSome handle.old.slot.client (λ kept. MatchOption
+    ensures answer { IfSome (client_in handle.old.slot.kept) (λ client. MatchOption
         (texts_refusal name.now password.now)
-        (OrOutOfMemory result handle.old.slot.client handle.new.slot.client (pos 0)
-        (Some (record { client = with_credentials name.now password.now kept.client })))
+        (OrOutOfMemory result handle.old.slot.kept handle.new.slot.kept (pos 0)
+        (Some (kind.Client (with_credentials name.now password.now client))))
         (λ refusal. (result ≡ refusal_number refusal)
-        × (handle.new.slot.client ≡ handle.old.slot.client))) }
+        × (handle.new.slot.kept ≡ handle.old.slot.kept))) }
 {
-    let Some(mut kept) = handle.take(alloc) else {
+    let Some(mut kept) = handle.take(alloc, CLIENT) else {
         return missing(handle.kind);
     };
-    let answer = answers::done(client::set_credentials(alloc, &mut kept.client, name, password));
+    let answer = answers::done(client::set_credentials(alloc, kept.client(), name, password));
     handle.put(kept);
     answer
 }
@@ -77,20 +72,20 @@ pub extern "C" fn stunp_client_set_credentials(
 #[unsafe(no_mangle)]
 pub extern "C" fn stunp_client_set_algorithms(
     alloc: Global,
-    handle: &mut ClientHandle,
+    handle: &mut StateHandle,
     algorithms: u32,
 ) -> i64
     ensures missing { WithoutClient handle.old result (handle.new ≡ handle.old) }
-    ensures answer { IfSome handle.old.slot.client (λ _. result ≡ done_answer
+    ensures answer { IfSome (client_in handle.old.slot.kept) (λ _. result ≡ done_answer
         (done_if_given (algorithms_numbered algorithms))) }
-    ensures state { IfSome handle.old.slot.client (λ kept. handle.new.slot.client ≡ Some (record {
-      client = on_client.client_with_algorithms (algorithms_numbered algorithms) kept.client;
-    })) }
+    ensures state { IfSome (client_in handle.old.slot.kept) (λ client. handle.new.slot.kept
+        ≡ Some (kind.Client
+        (on_client.client_with_algorithms (algorithms_numbered algorithms) client))) }
 {
-    let Some(mut kept) = handle.take(alloc) else {
+    let Some(mut kept) = handle.take(alloc, CLIENT) else {
         return missing(handle.kind);
     };
-    let answer = answers::done(client::set_algorithms(&mut kept.client, algorithms));
+    let answer = answers::done(client::set_algorithms(kept.client(), algorithms));
     handle.put(kept);
     answer
 }
@@ -100,30 +95,29 @@ pub extern "C" fn stunp_client_set_algorithms(
 #[unsafe(no_mangle)]
 pub extern "C" fn stunp_client_set_anonymous_username(
     alloc: Global,
-    handle: &mut ClientHandle,
+    handle: &mut StateHandle,
     feature: u32,
 ) -> i64
     ensures missing { WithoutClient handle.old result (handle.new ≡ handle.old) }
-    ensures answer { IfSome handle.old.slot.client (λ _. result ≡ done_answer
+    ensures answer { IfSome (client_in handle.old.slot.kept) (λ _. result ≡ done_answer
         (done_if_given (feature_numbered feature))) }
-    ensures state { IfSome handle.old.slot.client (λ kept. handle.new.slot.client ≡ Some (record {
-      client = on_client.client_with_feature (feature_numbered feature) kept.client;
-    })) }
+    ensures state { IfSome (client_in handle.old.slot.kept) (λ client. handle.new.slot.kept
+        ≡ Some (kind.Client (on_client.client_with_feature (feature_numbered feature) client))) }
 {
-    let Some(mut kept) = handle.take(alloc) else {
+    let Some(mut kept) = handle.take(alloc, CLIENT) else {
         return missing(handle.kind);
     };
-    let answer = answers::done(client::set_anonymous_username(&mut kept.client, feature));
+    let answer = answers::done(client::set_anonymous_username(kept.client(), feature));
     handle.put(kept);
     answer
 }
 
 /// Frees the client, and makes the handle empty. Does nothing if the handle has no client.
 #[unsafe(no_mangle)]
-pub extern "C" fn stunp_client_clear(alloc: Global, handle: &mut ClientHandle)
-    ensures { FreesHandle handle.old.slot.client handle.new.kind handle.old handle.new }
+pub extern "C" fn stunp_client_clear(alloc: Global, handle: &mut StateHandle)
+    ensures { FreesHandle (client_in handle.old.slot.kept) handle.old handle.new }
 {
-    let _client = handle.take(alloc);
+    let _client = handle.take(alloc, CLIENT);
 }
 
 /// Signs the message in the first `length` bytes of a buffer, and returns its new length in bytes.
@@ -134,22 +128,22 @@ pub extern "C" fn stunp_client_clear(alloc: Global, handle: &mut ClientHandle)
 #[unsafe(no_mangle)]
 pub extern "C" fn stunp_client_sign(
     alloc: Global,
-    handle: &mut ClientHandle,
+    handle: &mut StateHandle,
     buffer: &mut [u8],
     length: usize,
 ) -> i64
     ensures missing { WithoutClient handle.old result ((handle.new ≡ handle.old)
         × (buffer.new ≡ buffer.old)) }
-    ensures answer { IfSome handle.old.slot.client (λ kept. result
-        ≡ length_answer (length_of (signed_by_client kept.client.state buffer.old length))) }
-    ensures written { IfSome handle.old.slot.client (λ kept. buffer.new
-        ≡ buffer_after (signed_by_client kept.client.state buffer.old length) buffer.old) }
-    ensures same { handle.new.slot.client ≡ handle.old.slot.client }
+    ensures answer { IfSome (client_in handle.old.slot.kept) (λ client. result
+        ≡ length_answer (length_of (signed_by_client client.state buffer.old length))) }
+    ensures written { IfSome (client_in handle.old.slot.kept) (λ client. buffer.new
+        ≡ buffer_after (signed_by_client client.state buffer.old length) buffer.old) }
+    ensures same { handle.new.slot.kept ≡ handle.old.slot.kept }
 {
-    let Some(mut kept) = handle.take(alloc) else {
+    let Some(mut kept) = handle.take(alloc, CLIENT) else {
         return missing(handle.kind);
     };
-    let answer = answers::length(client::sign(&mut kept.client, buffer, length));
+    let answer = answers::length(client::sign(kept.client(), buffer, length));
     handle.put(kept);
     answer
 }
@@ -157,16 +151,16 @@ pub extern "C" fn stunp_client_sign(
 /// Returns the algorithm with which a message would be signed now: 1 is HMAC-SHA1, 2 HMAC-SHA256, 0
 /// none.
 #[unsafe(no_mangle)]
-pub extern "C" fn stunp_client_signing_algorithm(alloc: Global, handle: &mut ClientHandle) -> i64
+pub extern "C" fn stunp_client_signing_algorithm(alloc: Global, handle: &mut StateHandle) -> i64
     ensures missing { WithoutClient handle.old result (handle.new ≡ handle.old) }
-    ensures answer { IfSome handle.old.slot.client (λ kept. result
-        ≡ pos (algorithm_or_none (signing_algorithm kept.client.state))) }
-    ensures same { handle.new.slot.client ≡ handle.old.slot.client }
+    ensures answer { IfSome (client_in handle.old.slot.kept) (λ client. result
+        ≡ pos (algorithm_or_none (signing_algorithm client.state))) }
+    ensures same { handle.new.slot.kept ≡ handle.old.slot.kept }
 {
-    let Some(mut kept) = handle.take(alloc) else {
+    let Some(mut kept) = handle.take(alloc, CLIENT) else {
         return missing(handle.kind);
     };
-    let answer = i64::from(client::signing_algorithm(&kept.client));
+    let answer = i64::from(client::signing_algorithm(kept.client()));
     handle.put(kept);
     answer
 }
@@ -180,24 +174,24 @@ pub extern "C" fn stunp_client_signing_algorithm(alloc: Global, handle: &mut Cli
 #[unsafe(no_mangle)]
 pub extern "C" fn stunp_client_validate(
     alloc: Global,
-    handle: &mut ClientHandle,
+    handle: &mut StateHandle,
     message: &[u8],
 ) -> i64
     ensures missing { WithoutClient handle.old result (handle.new ≡ handle.old) }
-    ensures answer { IfSome handle.old.slot.client (λ kept. OrOutOfMemory result
-        handle.old.slot.client handle.new.slot.client
-        (reading_answer (client_validation kept.client message.now))
-        (Some (record { client = client_after_validation kept.client message.now }))) }
+    ensures answer { IfSome (client_in handle.old.slot.kept) (λ client. OrOutOfMemory result
+        handle.old.slot.kept handle.new.slot.kept
+        (reading_answer (client_validation client message.now))
+        (Some (kind.Client (client_after_validation client message.now)))) }
 
     // A failed allocation is returned only if another request is asked for.
-    ensures resend { IfSome handle.old.slot.client (λ kept.
-        (result ≡ reading_answer (client_validation kept.client message.now))
-        ⊎ AsksAgain kept.client message.now) }
+    ensures resend { IfSome (client_in handle.old.slot.kept) (λ client.
+        (result ≡ reading_answer (client_validation client message.now))
+        ⊎ AsksAgain client message.now) }
 {
-    let Some(mut kept) = handle.take(alloc) else {
+    let Some(mut kept) = handle.take(alloc, CLIENT) else {
         return missing(handle.kind);
     };
-    let answer = answers::reading(client::validate(&mut kept.client, message));
+    let answer = answers::reading(client::validate(kept.client(), message));
     handle.put(kept);
     answer
 }

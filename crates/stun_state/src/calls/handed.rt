@@ -14,13 +14,14 @@ ghost use Rattle.stun_state.specs.Answers.{after_address};
 ghost use Rattle.stun_state.specs.Calls.{SignsWith, ValidatesWith, WithoutServer};
 ghost use Rattle.stun_state.specs.Handed.{named_in_bytes, naming_answer, naming_length};
 ghost use Rattle.stun_state.specs.Handed.{naming_written, user_of_keys, user_of_password};
+ghost use Rattle.stun_state.specs.Kept.{server_in};
 
 use crate::handed::Given;
-use crate::handle::server::ServerHandle;
+use crate::handle::state::StateHandle;
 use crate::{answers, handed};
 use std::alloc::Global;
 use stun_handles::address::Address;
-use stun_handles::kind::missing;
+use stun_handles::kind::{SERVER, missing};
 
 /// Determines with which user's key a message that arrived from an address will be verified.
 /// Returns 1 and writes the name, or 2 and writes its hash of 32 bytes, and writes the length of
@@ -31,7 +32,7 @@ use stun_handles::kind::missing;
 #[unsafe(no_mangle)]
 pub extern "C" fn stunp_server_named_user(
     alloc: Global,
-    handle: &mut ServerHandle,
+    handle: &mut StateHandle,
     message: &[u8],
     from: &Address,
     name: &mut [u8],
@@ -39,23 +40,23 @@ pub extern "C" fn stunp_server_named_user(
 ) -> i64
     ensures missing { WithoutServer handle.old result ((handle.new ≡ handle.old)
         × (name.new ≡ name.old) × (name_length.new ≡ name_length.old)) }
-    ensures answer { IfSome handle.old.slot.server (λ kept. result ≡ number_answer
+    ensures answer { IfSome (server_in handle.old.slot.kept) (λ kept. result ≡ number_answer
         (at_address (socket_address from.now)
         (naming_answer kept.server message.now (length name.old)))) }
-    ensures name { IfSome handle.old.slot.server (λ kept. name.new
+    ensures name { IfSome (server_in handle.old.slot.kept) (λ kept. name.new
         ≡ after_address (socket_address from.now) name.old
         (λ from. naming_written name.old (named_in_bytes kept.server message.now from))) }
 
     // Also where the buffer has no room for it.
-    ensures name_length { IfSome handle.old.slot.server (λ kept. name_length.new
+    ensures name_length { IfSome (server_in handle.old.slot.kept) (λ kept. name_length.new
         ≡ after_address (socket_address from.now) name_length.old
         (λ from. naming_length (named_in_bytes kept.server message.now from) name_length.old)) }
-    ensures same { handle.new.slot.server ≡ handle.old.slot.server }
+    ensures same { handle.new.slot.kept ≡ handle.old.slot.kept }
 {
-    let Some(kept) = handle.take(alloc) else {
+    let Some(mut kept) = handle.take(alloc, SERVER) else {
         return missing(handle.kind);
     };
-    let named = handed::named_user(&kept.server, message, from, name, name_length);
+    let named = handed::named_user(&kept.server().server, message, from, name, name_length);
     let answer = answers::number(named);
     handle.put(kept);
     answer
@@ -67,7 +68,7 @@ pub extern "C" fn stunp_server_named_user(
 #[unsafe(no_mangle)]
 pub extern "C" fn stunp_server_validate_of(
     alloc: Global,
-    handle: &mut ServerHandle,
+    handle: &mut StateHandle,
     message: &[u8],
     from: &Address,
     now: u64,
@@ -78,11 +79,11 @@ pub extern "C" fn stunp_server_validate_of(
     ensures { ValidatesWith handle.old handle.new result message.now from.now now words.now
         (user_of_password name.now password.now) }
 {
-    let Some(mut kept) = handle.take(alloc) else {
+    let Some(mut kept) = handle.take(alloc, SERVER) else {
         return missing(handle.kind);
     };
     let given = Given::Password(password);
-    let verdict = handed::validate(alloc, &mut kept, message, from, now, words, name, given);
+    let verdict = handed::validate(alloc, kept.server(), message, from, now, words, name, given);
     let answer = answers::algorithm(verdict);
     handle.put(kept);
     answer
@@ -94,7 +95,7 @@ pub extern "C" fn stunp_server_validate_of(
 #[unsafe(no_mangle)]
 pub extern "C" fn stunp_server_sign_of(
     alloc: Global,
-    handle: &mut ServerHandle,
+    handle: &mut StateHandle,
     buffer: &mut [u8],
     length: usize,
     to: &Address,
@@ -104,11 +105,19 @@ pub extern "C" fn stunp_server_sign_of(
     ensures { SignsWith handle.old handle.new result buffer.old buffer.new length to.now
         (user_of_password name.now password.now) }
 {
-    let Some(mut kept) = handle.take(alloc) else {
+    let Some(mut kept) = handle.take(alloc, SERVER) else {
         return missing(handle.kind);
     };
     let given = Given::Password(password);
-    let signed = handed::sign(alloc, &mut kept.server, buffer, length, to, name, given);
+    let signed = handed::sign(
+        alloc,
+        &mut kept.server().server,
+        buffer,
+        length,
+        to,
+        name,
+        given,
+    );
     let answer = answers::length(signed);
     handle.put(kept);
     answer
@@ -120,7 +129,7 @@ pub extern "C" fn stunp_server_sign_of(
 #[unsafe(no_mangle)]
 pub extern "C" fn stunp_server_validate_of_keys(
     alloc: Global,
-    handle: &mut ServerHandle,
+    handle: &mut StateHandle,
     message: &[u8],
     from: &Address,
     now: u64,
@@ -132,11 +141,11 @@ pub extern "C" fn stunp_server_validate_of_keys(
     ensures { ValidatesWith handle.old handle.new result message.now from.now now words.now
         (user_of_keys name.now sha1.now sha256.now) }
 {
-    let Some(mut kept) = handle.take(alloc) else {
+    let Some(mut kept) = handle.take(alloc, SERVER) else {
         return missing(handle.kind);
     };
     let given = Given::Keys(sha1, sha256);
-    let verdict = handed::validate(alloc, &mut kept, message, from, now, words, name, given);
+    let verdict = handed::validate(alloc, kept.server(), message, from, now, words, name, given);
     let answer = answers::algorithm(verdict);
     handle.put(kept);
     answer
@@ -148,7 +157,7 @@ pub extern "C" fn stunp_server_validate_of_keys(
 #[unsafe(no_mangle)]
 pub extern "C" fn stunp_server_sign_of_keys(
     alloc: Global,
-    handle: &mut ServerHandle,
+    handle: &mut StateHandle,
     buffer: &mut [u8],
     length: usize,
     to: &Address,
@@ -159,11 +168,19 @@ pub extern "C" fn stunp_server_sign_of_keys(
     ensures { SignsWith handle.old handle.new result buffer.old buffer.new length to.now
         (user_of_keys name.now sha1.now sha256.now) }
 {
-    let Some(mut kept) = handle.take(alloc) else {
+    let Some(mut kept) = handle.take(alloc, SERVER) else {
         return missing(handle.kind);
     };
     let given = Given::Keys(sha1, sha256);
-    let signed = handed::sign(alloc, &mut kept.server, buffer, length, to, name, given);
+    let signed = handed::sign(
+        alloc,
+        &mut kept.server().server,
+        buffer,
+        length,
+        to,
+        name,
+        given,
+    );
     let answer = answers::length(signed);
     handle.put(kept);
     answer

@@ -22,6 +22,7 @@ ghost use Rattle.stun_state.specs.Answers.{after_address, after_start, at_start,
 ghost use Rattle.stun_state.specs.Calls.{ChangesServer, FillsHandle, FreesHandle, Judges};
 ghost use Rattle.stun_state.specs.Calls.{ServerBecomes, WithoutServer};
 ghost use Rattle.stun_state.specs.Codes.{algorithms_numbered, feature_numbered};
+ghost use Rattle.stun_state.specs.Kept.{server_in};
 ghost use Rattle.stun_state.specs.Memory.{LeavesServer};
 ghost use Rattle.stun_state.specs.Numbers.{found_answer, left_by};
 ghost use Rattle.stun_state.specs.Server as on_server;
@@ -30,23 +31,27 @@ ghost use Rattle.stun_state.specs.Server.{name_length_of, name_written, nonce_at
 ghost use Rattle.stun_state.specs.Server.{nonce_written, step_answer, validation_number};
 ghost use Rattle.stun_state.specs.Server.{with_expiry, without_client, without_named};
 ghost use Rattle.stun_state.specs.Signing.{kept_after_signing, signed_for};
+ghost use Rattle.stun_state.specs.declared.handle.state.Kept.TheVariants as kind;
 
-use crate::handle::server::{Server, ServerHandle};
+use crate::handle::state::{Kept, Server, StateHandle};
 use crate::{answers, server};
 use std::alloc::Global;
 use stun_handles::address::Address;
-use stun_handles::kind::{EMPTY, missing};
+use stun_handles::kind::{EMPTY, SERVER, missing};
 use stun_numbers::refusal::Refusal;
 
 /// Creates a server for a realm, without users and without a limit on addresses. Fails with
 /// `FullHandle`, then `NotText`, then `OutOfMemory`.
 #[unsafe(no_mangle)]
-pub extern "C" fn stunp_server_new(alloc: Global, handle: &mut ServerHandle, realm: &[u8]) -> i64
-    ensures { FillsHandle handle.old.kind handle.old handle.new handle.new.slot.server result
+pub extern "C" fn stunp_server_new(alloc: Global, handle: &mut StateHandle, realm: &[u8]) -> i64
+    ensures { FillsHandle handle.old handle.new result
         (MatchOption (text_refusal realm.now)
-        (OrOutOfMemory result None handle.new.slot.server (pos 0)
-        (Some (record { server = new_server realm.now; most_addresses = UNBOUNDED })))
-        (λ refusal. (result ≡ refusal_number refusal) × (handle.new.slot.server ≡ None))) }
+        (OrOutOfMemory result None handle.new.slot.kept (pos 0)
+        (Some (kind.Server (record {
+          server = new_server realm.now;
+          most_addresses = UNBOUNDED;
+        }))))
+        (λ refusal. (result ≡ refusal_number refusal) × (handle.new.slot.kept ≡ None))) }
 {
     if handle.kind != EMPTY {
         return Refusal::FullHandle.code();
@@ -59,13 +64,7 @@ pub extern "C" fn stunp_server_new(alloc: Global, handle: &mut ServerHandle, rea
         server,
         most_addresses: usize::MAX,
     };
-    match Box::new(alloc, kept) {
-        Ok(kept) => {
-            handle.put(kept);
-            0
-        }
-        Err(_) => Refusal::OutOfMemory.code(),
-    }
+    handle.fill(alloc, Kept::Server(kept))
 }
 
 /// Sets the algorithms that the server supports: 1 is HMAC-SHA1, 2 HMAC-SHA256, 3 both. Fails with
@@ -73,17 +72,17 @@ pub extern "C" fn stunp_server_new(alloc: Global, handle: &mut ServerHandle, rea
 #[unsafe(no_mangle)]
 pub extern "C" fn stunp_server_set_algorithms(
     alloc: Global,
-    handle: &mut ServerHandle,
+    handle: &mut StateHandle,
     algorithms: u32,
 ) -> i64
     ensures { ChangesServer handle.old handle.new result
         (done_answer (done_if_given (algorithms_numbered algorithms)))
         (on_server.server_with_algorithms (algorithms_numbered algorithms)) }
 {
-    let Some(mut kept) = handle.take(alloc) else {
+    let Some(mut kept) = handle.take(alloc, SERVER) else {
         return missing(handle.kind);
     };
-    let answer = answers::done(server::set_algorithms(&mut kept.server, algorithms));
+    let answer = answers::done(server::set_algorithms(&mut kept.server().server, algorithms));
     handle.put(kept);
     answer
 }
@@ -93,17 +92,17 @@ pub extern "C" fn stunp_server_set_algorithms(
 #[unsafe(no_mangle)]
 pub extern "C" fn stunp_server_set_anonymous_username(
     alloc: Global,
-    handle: &mut ServerHandle,
+    handle: &mut StateHandle,
     feature: u32,
 ) -> i64
     ensures { ChangesServer handle.old handle.new result
         (done_answer (done_if_given (feature_numbered feature)))
         (on_server.server_with_feature (feature_numbered feature)) }
 {
-    let Some(mut kept) = handle.take(alloc) else {
+    let Some(mut kept) = handle.take(alloc, SERVER) else {
         return missing(handle.kind);
     };
-    let answer = answers::done(server::set_anonymous_username(&mut kept.server, feature));
+    let answer = answers::done(server::set_anonymous_username(&mut kept.server().server, feature));
     handle.put(kept);
     answer
 }
@@ -112,15 +111,15 @@ pub extern "C" fn stunp_server_set_anonymous_username(
 #[unsafe(no_mangle)]
 pub extern "C" fn stunp_server_set_nonce_expiry(
     alloc: Global,
-    handle: &mut ServerHandle,
+    handle: &mut StateHandle,
     nanoseconds: u64,
 ) -> i64
     ensures { ChangesServer handle.old handle.new result (pos 0) (with_expiry nanoseconds) }
 {
-    let Some(mut kept) = handle.take(alloc) else {
+    let Some(mut kept) = handle.take(alloc, SERVER) else {
         return missing(handle.kind);
     };
-    server::set_nonce_expiry(&mut kept.server, nanoseconds);
+    server::set_nonce_expiry(&mut kept.server().server, nanoseconds);
     handle.put(kept);
     0
 }
@@ -129,30 +128,30 @@ pub extern "C" fn stunp_server_set_nonce_expiry(
 #[unsafe(no_mangle)]
 pub extern "C" fn stunp_server_set_most_addresses(
     alloc: Global,
-    handle: &mut ServerHandle,
+    handle: &mut StateHandle,
     most: usize,
 ) -> i64
     ensures missing { WithoutServer handle.old result (handle.new ≡ handle.old) }
-    ensures answer { IfSome handle.old.slot.server (λ _. result ≡ pos 0) }
-    ensures state { IfSome handle.old.slot.server (λ kept.
-        handle.new.slot.server ≡ Some (record kept {
+    ensures answer { IfSome (server_in handle.old.slot.kept) (λ _. result ≡ pos 0) }
+    ensures state { IfSome (server_in handle.old.slot.kept) (λ kept.
+        handle.new.slot.kept ≡ Some (kind.Server (record kept {
           most_addresses = most;
-        })) }
+        }))) }
 {
-    let Some(mut kept) = handle.take(alloc) else {
+    let Some(mut kept) = handle.take(alloc, SERVER) else {
         return missing(handle.kind);
     };
-    kept.most_addresses = most;
+    kept.server().most_addresses = most;
     handle.put(kept);
     0
 }
 
 /// Frees the server, and makes the handle empty. Does nothing if the handle has no server.
 #[unsafe(no_mangle)]
-pub extern "C" fn stunp_server_clear(alloc: Global, handle: &mut ServerHandle)
-    ensures { FreesHandle handle.old.slot.server handle.new.kind handle.old handle.new }
+pub extern "C" fn stunp_server_clear(alloc: Global, handle: &mut StateHandle)
+    ensures { FreesHandle (server_in handle.old.slot.kept) handle.old handle.new }
 {
-    let _server = handle.take(alloc);
+    let _server = handle.take(alloc, SERVER);
 }
 
 /// Adds a user, or replaces the password of an existing one. Fails with `NotText`, then
@@ -160,27 +159,27 @@ pub extern "C" fn stunp_server_clear(alloc: Global, handle: &mut ServerHandle)
 #[unsafe(no_mangle)]
 pub extern "C" fn stunp_server_add_user(
     alloc: Global,
-    handle: &mut ServerHandle,
+    handle: &mut StateHandle,
     name: &[u8],
     password: &[u8],
 ) -> i64
     ensures missing { WithoutServer handle.old result (handle.new ≡ handle.old) }
-    ensures answer { IfSome handle.old.slot.server (λ kept. MatchOption
+    ensures answer { IfSome (server_in handle.old.slot.kept) (λ kept. MatchOption
         (texts_refusal name.now password.now)
-        (OrOutOfMemory result handle.old.slot.server handle.new.slot.server (pos 0)
-        (Some (record kept {
+        (OrOutOfMemory result handle.old.slot.kept handle.new.slot.kept (pos 0)
+        (Some (kind.Server (record kept {
           server = record kept.server {
             registered = with_user kept.server.registered
                 (record { username = name.now; password = password.now });
           };
-        })))
+        }))))
         (λ refusal. (result ≡ refusal_number refusal)
-        × (handle.new.slot.server ≡ handle.old.slot.server))) }
+        × (handle.new.slot.kept ≡ handle.old.slot.kept))) }
 {
-    let Some(mut kept) = handle.take(alloc) else {
+    let Some(mut kept) = handle.take(alloc, SERVER) else {
         return missing(handle.kind);
     };
-    let answer = answers::done(server::add_user(alloc, &mut kept.server, name, password));
+    let answer = answers::done(server::add_user(alloc, &mut kept.server().server, name, password));
     handle.put(kept);
     answer
 }
@@ -189,17 +188,17 @@ pub extern "C" fn stunp_server_add_user(
 #[unsafe(no_mangle)]
 pub extern "C" fn stunp_server_remove_user(
     alloc: Global,
-    handle: &mut ServerHandle,
+    handle: &mut StateHandle,
     name: &[u8],
 ) -> i64
     ensures { ChangesServer handle.old handle.new result
         (done_answer (refusal_or (text_refusal name.now) (Ok tt)))
         (λ server. without_named (text_refusal name.now) server name.now) }
 {
-    let Some(mut kept) = handle.take(alloc) else {
+    let Some(mut kept) = handle.take(alloc, SERVER) else {
         return missing(handle.kind);
     };
-    let answer = answers::done(server::remove_user(&mut kept.server, name));
+    let answer = answers::done(server::remove_user(&mut kept.server().server, name));
     handle.put(kept);
     answer
 }
@@ -214,7 +213,7 @@ pub extern "C" fn stunp_server_remove_user(
 #[unsafe(no_mangle)]
 pub extern "C" fn stunp_server_validate(
     alloc: Global,
-    handle: &mut ServerHandle,
+    handle: &mut StateHandle,
     message: &[u8],
     from: &Address,
     now: u64,
@@ -227,14 +226,14 @@ pub extern "C" fn stunp_server_validate(
 
     // If nothing of the server changes, as if the same client is accepted again, no failed
     // allocation is returned.
-    ensures unchanged { IfSome handle.old.slot.server (λ kept.
+    ensures unchanged { IfSome (server_in handle.old.slot.kept) (λ kept.
         LeavesServer kept message.now now words.now (socket_address from.now) →
         result ≡ validation_number kept message.now from.now now words.now) }
 {
-    let Some(mut kept) = handle.take(alloc) else {
+    let Some(mut kept) = handle.take(alloc, SERVER) else {
         return missing(handle.kind);
     };
-    let answer = answers::algorithm(server::validate(&mut kept, message, from, now, words));
+    let answer = answers::algorithm(server::validate(kept.server(), message, from, now, words));
     handle.put(kept);
     answer
 }
@@ -245,29 +244,29 @@ pub extern "C" fn stunp_server_validate(
 #[unsafe(no_mangle)]
 pub extern "C" fn stunp_server_client(
     alloc: Global,
-    handle: &mut ServerHandle,
+    handle: &mut StateHandle,
     at: &Address,
     name: &mut [u8],
     name_length: &mut usize,
 ) -> i64
     ensures missing { WithoutServer handle.old result ((handle.new ≡ handle.old)
         × (name.new ≡ name.old) × (name_length.new ≡ name_length.old)) }
-    ensures answer { IfSome handle.old.slot.server (λ kept. result ≡ found_answer
+    ensures answer { IfSome (server_in handle.old.slot.kept) (λ kept. result ≡ found_answer
         (client_found kept.server at.now (length name.old))) }
-    ensures name { IfSome handle.old.slot.server (λ kept. name.new
+    ensures name { IfSome (server_in handle.old.slot.kept) (λ kept. name.new
         ≡ after_address (socket_address at.now) name.old
         (λ at. name_written name.old (client_at kept.server at))) }
 
     // Also where the buffer has no room for the name.
-    ensures name_length { IfSome handle.old.slot.server (λ kept. name_length.new
+    ensures name_length { IfSome (server_in handle.old.slot.kept) (λ kept. name_length.new
         ≡ after_address (socket_address at.now) name_length.old
         (λ at. name_length_of (client_at kept.server at) name_length.old)) }
-    ensures same { handle.new.slot.server ≡ handle.old.slot.server }
+    ensures same { handle.new.slot.kept ≡ handle.old.slot.kept }
 {
-    let Some(mut kept) = handle.take(alloc) else {
+    let Some(mut kept) = handle.take(alloc, SERVER) else {
         return missing(handle.kind);
     };
-    let answer = answers::found(server::client(&kept.server, at, name, name_length));
+    let answer = answers::found(server::client(&kept.server().server, at, name, name_length));
     handle.put(kept);
     answer
 }
@@ -281,40 +280,40 @@ pub extern "C" fn stunp_server_client(
 #[unsafe(no_mangle)]
 pub extern "C" fn stunp_server_sign(
     alloc: Global,
-    handle: &mut ServerHandle,
+    handle: &mut StateHandle,
     buffer: &mut [u8],
     length: usize,
     to: &Address,
 ) -> i64
     ensures missing { WithoutServer handle.old result ((handle.new ≡ handle.old)
         × (buffer.new ≡ buffer.old)) }
-    ensures answer { IfSome handle.old.slot.server (λ kept. result
+    ensures answer { IfSome (server_in handle.old.slot.kept) (λ kept. result
         ≡ length_answer (length_of (signed_for kept.server buffer.old length to.now))) }
-    ensures written { IfSome handle.old.slot.server (λ kept. buffer.new
+    ensures written { IfSome (server_in handle.old.slot.kept) (λ kept. buffer.new
         ≡ buffer_after (signed_for kept.server buffer.old length to.now) buffer.old) }
     ensures state { ServerBecomes handle.old handle.new (λ server. left_by result server
         (kept_after_signing server buffer.old length to.now)) }
 {
-    let Some(mut kept) = handle.take(alloc) else {
+    let Some(mut kept) = handle.take(alloc, SERVER) else {
         return missing(handle.kind);
     };
-    let answer = answers::length(server::sign(&mut kept.server, buffer, length, to));
+    let answer = answers::length(server::sign(&mut kept.server().server, buffer, length, to));
     handle.put(kept);
     answer
 }
 
 /// Returns the number of addresses that have a record.
 #[unsafe(no_mangle)]
-pub extern "C" fn stunp_server_address_count(alloc: Global, handle: &mut ServerHandle) -> i64
+pub extern "C" fn stunp_server_address_count(alloc: Global, handle: &mut StateHandle) -> i64
     ensures missing { WithoutServer handle.old result (handle.new ≡ handle.old) }
-    ensures answer { IfSome handle.old.slot.server (λ kept. result
+    ensures answer { IfSome (server_in handle.old.slot.kept) (λ kept. result
         ≡ length_answer (Ok (map.len kept.server.places))) }
-    ensures same { handle.new.slot.server ≡ handle.old.slot.server }
+    ensures same { handle.new.slot.kept ≡ handle.old.slot.kept }
 {
-    let Some(kept) = handle.take(alloc) else {
+    let Some(mut kept) = handle.take(alloc, SERVER) else {
         return missing(handle.kind);
     };
-    let answer = answers::length(Ok(kept.server.address_count()));
+    let answer = answers::length(Ok(kept.server().server.address_count()));
     handle.put(kept);
     answer
 }
@@ -324,23 +323,23 @@ pub extern "C" fn stunp_server_address_count(alloc: Global, handle: &mut ServerH
 #[unsafe(no_mangle)]
 pub extern "C" fn stunp_server_nonce(
     alloc: Global,
-    handle: &mut ServerHandle,
+    handle: &mut StateHandle,
     at: &Address,
     nonce: &mut [u8],
 ) -> i64
     ensures missing { WithoutServer handle.old result ((handle.new ≡ handle.old)
         × (nonce.new ≡ nonce.old)) }
-    ensures answer { IfSome handle.old.slot.server (λ kept. result ≡ length_answer
+    ensures answer { IfSome (server_in handle.old.slot.kept) (λ kept. result ≡ length_answer
         (nonce_found kept.server at.now (length nonce.old))) }
-    ensures nonce { IfSome handle.old.slot.server (λ kept. nonce.new
+    ensures nonce { IfSome (server_in handle.old.slot.kept) (λ kept. nonce.new
         ≡ after_address (socket_address at.now) nonce.old
         (λ at. nonce_written nonce.old (nonce_at kept.server at))) }
-    ensures same { handle.new.slot.server ≡ handle.old.slot.server }
+    ensures same { handle.new.slot.kept ≡ handle.old.slot.kept }
 {
-    let Some(mut kept) = handle.take(alloc) else {
+    let Some(mut kept) = handle.take(alloc, SERVER) else {
         return missing(handle.kind);
     };
-    let answer = answers::length(server::nonce(&kept.server, at, nonce));
+    let answer = answers::length(server::nonce(&kept.server().server, at, nonce));
     handle.put(kept);
     answer
 }
@@ -349,32 +348,32 @@ pub extern "C" fn stunp_server_nonce(
 #[unsafe(no_mangle)]
 pub extern "C" fn stunp_server_remove_client(
     alloc: Global,
-    handle: &mut ServerHandle,
+    handle: &mut StateHandle,
     at: &Address,
 ) -> i64
     ensures { ChangesServer handle.old handle.new result
         (done_answer (done_if_given (socket_address at.now)))
         (λ server. after_address (socket_address at.now) server (without_client server)) }
 {
-    let Some(mut kept) = handle.take(alloc) else {
+    let Some(mut kept) = handle.take(alloc, SERVER) else {
         return missing(handle.kind);
     };
-    let answer = answers::done(server::remove_client(&mut kept.server, at));
+    let answer = answers::done(server::remove_client(&mut kept.server().server, at));
     handle.put(kept);
     answer
 }
 
 /// Removes the record of an address. Fails with `BadArgument` for the address.
 #[unsafe(no_mangle)]
-pub extern "C" fn stunp_server_forget(alloc: Global, handle: &mut ServerHandle, at: &Address) -> i64
+pub extern "C" fn stunp_server_forget(alloc: Global, handle: &mut StateHandle, at: &Address) -> i64
     ensures { ChangesServer handle.old handle.new result
         (done_answer (done_if_given (socket_address at.now)))
         (λ server. after_address (socket_address at.now) server (without_place server)) }
 {
-    let Some(mut kept) = handle.take(alloc) else {
+    let Some(mut kept) = handle.take(alloc, SERVER) else {
         return missing(handle.kind);
     };
-    let answer = answers::done(server::forget(&mut kept.server, at));
+    let answer = answers::done(server::forget(&mut kept.server().server, at));
     handle.put(kept);
     answer
 }
@@ -384,17 +383,17 @@ pub extern "C" fn stunp_server_forget(alloc: Global, handle: &mut ServerHandle, 
 #[unsafe(no_mangle)]
 pub extern "C" fn stunp_server_forget_expired(
     alloc: Global,
-    handle: &mut ServerHandle,
+    handle: &mut StateHandle,
     now: u64,
     age: u64,
 ) -> i64
     ensures { ChangesServer handle.old handle.new result (pos 0)
         (λ server. after_forgetting server (now - age)) }
 {
-    let Some(mut kept) = handle.take(alloc) else {
+    let Some(mut kept) = handle.take(alloc, SERVER) else {
         return missing(handle.kind);
     };
-    server::forget_expired(&mut kept.server, now, age);
+    server::forget_expired(&mut kept.server().server, now, age);
     handle.put(kept);
     0
 }
@@ -406,7 +405,7 @@ pub extern "C" fn stunp_server_forget_expired(
 #[unsafe(no_mangle)]
 pub extern "C" fn stunp_server_forget_expired_within(
     alloc: Global,
-    handle: &mut ServerHandle,
+    handle: &mut StateHandle,
     now: u64,
     age: u64,
     from: &mut Address,
@@ -414,19 +413,19 @@ pub extern "C" fn stunp_server_forget_expired_within(
 ) -> i64
     ensures missing { WithoutServer handle.old result ((handle.new ≡ handle.old)
         × (from.new ≡ from.old)) }
-    ensures answer { IfSome handle.old.slot.server (λ kept. result ≡ number_answer
+    ensures answer { IfSome (server_in handle.old.slot.kept) (λ kept. result ≡ number_answer
         (at_start (start_told from.old) (step_answer kept.server most))) }
     ensures state { ServerBecomes handle.old handle.new (λ server.
         after_start (start_told from.old) server
         (λ start. after_step server (now - age) start most)) }
-    ensures from { IfSome handle.old.slot.server (λ kept. from.new
+    ensures from { IfSome (server_in handle.old.slot.kept) (λ kept. from.new
         ≡ after_start (start_told from.old) from.old
         (λ start. start_for (next_address kept.server start most))) }
 {
-    let Some(mut kept) = handle.take(alloc) else {
+    let Some(mut kept) = handle.take(alloc, SERVER) else {
         return missing(handle.kind);
     };
-    let more = server::forget_expired_within(&mut kept.server, now, age, from, most);
+    let more = server::forget_expired_within(&mut kept.server().server, now, age, from, most);
     let answer = answers::number(more);
     handle.put(kept);
     answer

@@ -15,18 +15,19 @@ ghost use Rattle.stun_state.specs.Calls.{WithoutServer, WithoutUser};
 ghost use Rattle.stun_state.specs.Handed.{IsUserOf, kept_after_prepared_signing};
 ghost use Rattle.stun_state.specs.Handed.{kept_after_prepared_validation, user_of_keys};
 ghost use Rattle.stun_state.specs.Handed.{user_of_password, with_only};
+ghost use Rattle.stun_state.specs.Kept.{server_in, user_in};
 ghost use Rattle.stun_state.specs.Memory.{LeavesServer};
 ghost use Rattle.stun_state.specs.Numbers.{left_by};
 ghost use Rattle.stun_state.specs.Server.{validation_number};
 ghost use Rattle.stun_state.specs.Signing.{signed_for};
+ghost use Rattle.stun_state.specs.declared.handle.state.Kept.TheVariants as kind;
 
 use crate::handed::{Given, sign_with};
-use crate::handle::server::ServerHandle;
-use crate::handle::user::UserHandle;
-use crate::{answers, prepared};
+use crate::handle::state::{Kept, StateHandle};
+use crate::{answers, handed, prepared};
 use std::alloc::Global;
 use stun_handles::address::Address;
-use stun_handles::kind::{EMPTY, missing};
+use stun_handles::kind::{EMPTY, SERVER, USER, missing};
 use stun_numbers::refusal::Refusal;
 
 /// Prepares a user of a server from a name and a password: makes the keys at the server's realm for
@@ -38,28 +39,26 @@ use stun_numbers::refusal::Refusal;
 #[unsafe(no_mangle)]
 pub extern "C" fn stunp_user_new(
     alloc: Global,
-    handle: &mut UserHandle,
-    server: &mut ServerHandle,
+    handle: &mut StateHandle,
+    server: &mut StateHandle,
     name: &[u8],
     password: &[u8],
 ) -> i64
     ensures filled { Prepares handle.old handle.new result server.old
         (user_of_password name.now password.now) }
-    ensures same { KeepsHandle server.new server.old server.new.slot.server server.old.slot.server }
+    ensures same { KeepsHandle server.new server.old (server_in server.old.slot.kept) }
 {
     if handle.kind != EMPTY {
         return Refusal::FullHandle.code();
     }
-    let Some(kept) = server.take(alloc) else {
+    let Some(mut kept) = server.take(alloc, SERVER) else {
         return missing(server.kind);
     };
-    let made = prepared::boxed(alloc, &kept.server, name, Given::Password(password));
+    let at = kept.server();
+    let made = handed::prepared(alloc, &at.server, name, Given::Password(password));
     server.put(kept);
     match made {
-        Ok(user) => {
-            handle.put(user);
-            0
-        }
+        Ok(user) => handle.fill(alloc, Kept::User(user)),
         Err(refusal) => refusal.code(),
     }
 }
@@ -69,39 +68,37 @@ pub extern "C" fn stunp_user_new(
 #[unsafe(no_mangle)]
 pub extern "C" fn stunp_user_new_of_keys(
     alloc: Global,
-    handle: &mut UserHandle,
-    server: &mut ServerHandle,
+    handle: &mut StateHandle,
+    server: &mut StateHandle,
     name: &[u8],
     sha1: &[u8],
     sha256: &[u8],
 ) -> i64
     ensures filled { Prepares handle.old handle.new result server.old
         (user_of_keys name.now sha1.now sha256.now) }
-    ensures same { KeepsHandle server.new server.old server.new.slot.server server.old.slot.server }
+    ensures same { KeepsHandle server.new server.old (server_in server.old.slot.kept) }
 {
     if handle.kind != EMPTY {
         return Refusal::FullHandle.code();
     }
-    let Some(kept) = server.take(alloc) else {
+    let Some(mut kept) = server.take(alloc, SERVER) else {
         return missing(server.kind);
     };
-    let made = prepared::boxed(alloc, &kept.server, name, Given::Keys(sha1, sha256));
+    let at = kept.server();
+    let made = handed::prepared(alloc, &at.server, name, Given::Keys(sha1, sha256));
     server.put(kept);
     match made {
-        Ok(user) => {
-            handle.put(user);
-            0
-        }
+        Ok(user) => handle.fill(alloc, Kept::User(user)),
         Err(refusal) => refusal.code(),
     }
 }
 
 /// Frees the user, and makes the handle empty. Does nothing if the handle has no user.
 #[unsafe(no_mangle)]
-pub extern "C" fn stunp_user_clear(alloc: Global, handle: &mut UserHandle)
-    ensures { FreesHandle handle.old.slot.user handle.new.kind handle.old handle.new }
+pub extern "C" fn stunp_user_clear(alloc: Global, handle: &mut StateHandle)
+    ensures { FreesHandle (user_in handle.old.slot.kept) handle.old handle.new }
 {
-    let _user = handle.take(alloc);
+    let _user = handle.take(alloc, USER);
 }
 
 /// Authenticates a message like `stunp_server_validate`, as a server whose only user is this one.
@@ -113,42 +110,45 @@ pub extern "C" fn stunp_user_clear(alloc: Global, handle: &mut UserHandle)
 #[unsafe(no_mangle)]
 pub extern "C" fn stunp_server_validate_user(
     alloc: Global,
-    handle: &mut ServerHandle,
+    handle: &mut StateHandle,
     message: &[u8],
     from: &Address,
     now: u64,
     words: &[u32; 16],
-    user: &mut UserHandle,
+    user: &mut StateHandle,
 ) -> i64
     ensures missing { WithoutServer handle.old result (handle.new ≡ handle.old) }
-    ensures nobody { IfSome handle.old.slot.server (λ _. WithoutUser user.old result
-        (handle.new.slot.server ≡ handle.old.slot.server)) }
-    ensures foreign { IfSome handle.old.slot.server (λ kept. IfSome user.old.slot.user (λ one.
-        ¬ (IsUserOf kept.server one.user) → (result ≡ refusal_number Refusal.WrongHandle)
-        × (handle.new.slot.server ≡ handle.old.slot.server))) }
+    ensures nobody { IfSome (server_in handle.old.slot.kept) (λ _. WithoutUser user.old result
+        (handle.new.slot.kept ≡ handle.old.slot.kept)) }
+    ensures foreign { IfSome (server_in handle.old.slot.kept) (λ kept.
+        IfSome (user_in user.old.slot.kept) (λ one. ¬ (IsUserOf kept.server one) →
+        (result ≡ refusal_number Refusal.WrongHandle)
+        × (handle.new.slot.kept ≡ handle.old.slot.kept))) }
     ensures answer { IfUserOf handle.old user.old (λ kept one. OrOutOfMemory result
-        handle.old.slot.server handle.new.slot.server
+        handle.old.slot.kept handle.new.slot.kept
         (validation_number (with_only kept one) message.now from.now now words.now)
-        (Some (record kept {
+        (Some (kind.Server (record kept {
           server = kept_after_prepared_validation kept message.now from.now now words.now one;
-        }))) }
+        })))) }
 
     // If nothing of the server changes, as if the same client is accepted again, no failed
     // allocation is returned.
     ensures unchanged { IfUserOf handle.old user.old (λ kept one.
         LeavesServer (with_only kept one) message.now now words.now (socket_address from.now) →
         result ≡ validation_number (with_only kept one) message.now from.now now words.now) }
-    ensures same { KeepsHandle user.new user.old user.new.slot.user user.old.slot.user }
+    ensures same { KeepsHandle user.new user.old (user_in user.old.slot.kept) }
 {
-    let Some(mut kept) = handle.take(alloc) else {
+    let Some(mut kept) = handle.take(alloc, SERVER) else {
         return missing(handle.kind);
     };
-    let Some(mut one) = user.take(alloc) else {
+    let Some(mut one) = user.take(alloc, USER) else {
         handle.put(kept);
         return missing(user.kind);
     };
-    let answer = if one.user.belongs_to(&kept.server) {
-        let verdict = prepared::validate(&mut kept, message, from, now, words, &mut one.user);
+    let at = kept.server();
+    let client = one.user();
+    let answer = if client.belongs_to(&at.server) {
+        let verdict = prepared::validate(at, message, from, now, words, client);
         answers::algorithm(verdict)
     } else {
         Refusal::WrongHandle.code()
@@ -168,41 +168,44 @@ pub extern "C" fn stunp_server_validate_user(
 #[unsafe(no_mangle)]
 pub extern "C" fn stunp_server_sign_user(
     alloc: Global,
-    handle: &mut ServerHandle,
+    handle: &mut StateHandle,
     buffer: &mut [u8],
     length: usize,
     to: &Address,
-    user: &mut UserHandle,
+    user: &mut StateHandle,
 ) -> i64
     ensures missing { WithoutServer handle.old result ((handle.new ≡ handle.old)
         × (buffer.new ≡ buffer.old)) }
-    ensures nobody { IfSome handle.old.slot.server (λ _. WithoutUser user.old result
-        ((handle.new.slot.server ≡ handle.old.slot.server)
+    ensures nobody { IfSome (server_in handle.old.slot.kept) (λ _. WithoutUser user.old result
+        ((handle.new.slot.kept ≡ handle.old.slot.kept)
         × (buffer.new ≡ buffer.old))) }
-    ensures foreign { IfSome handle.old.slot.server (λ kept. IfSome user.old.slot.user (λ one.
-        ¬ (IsUserOf kept.server one.user) → (result ≡ refusal_number Refusal.WrongHandle)
-        × (handle.new.slot.server ≡ handle.old.slot.server)
+    ensures foreign { IfSome (server_in handle.old.slot.kept) (λ kept.
+        IfSome (user_in user.old.slot.kept) (λ one. ¬ (IsUserOf kept.server one) →
+        (result ≡ refusal_number Refusal.WrongHandle)
+        × (handle.new.slot.kept ≡ handle.old.slot.kept)
         × (buffer.new ≡ buffer.old))) }
     ensures answer { IfUserOf handle.old user.old (λ kept one. result ≡ length_answer
         (length_of (signed_for (with_users kept.server one) buffer.old length to.now))) }
     ensures written { IfUserOf handle.old user.old (λ kept one. buffer.new ≡ buffer_after
         (signed_for (with_users kept.server one) buffer.old length to.now) buffer.old) }
     ensures state { IfUserOf handle.old user.old (λ kept one.
-        handle.new.slot.server ≡ Some (record kept {
+        handle.new.slot.kept ≡ Some (kind.Server (record kept {
           server = left_by result kept.server
               (kept_after_prepared_signing kept.server buffer.old length to.now one);
-        })) }
-    ensures same { KeepsHandle user.new user.old user.new.slot.user user.old.slot.user }
+        }))) }
+    ensures same { KeepsHandle user.new user.old (user_in user.old.slot.kept) }
 {
-    let Some(mut kept) = handle.take(alloc) else {
+    let Some(mut kept) = handle.take(alloc, SERVER) else {
         return missing(handle.kind);
     };
-    let Some(mut one) = user.take(alloc) else {
+    let Some(mut one) = user.take(alloc, USER) else {
         handle.put(kept);
         return missing(user.kind);
     };
-    let answer = if one.user.belongs_to(&kept.server) {
-        let signed = sign_with(&mut kept.server, buffer, length, to, &mut one.user);
+    let at = kept.server();
+    let client = one.user();
+    let answer = if client.belongs_to(&at.server) {
+        let signed = sign_with(&mut at.server, buffer, length, to, client);
         answers::length(signed)
     } else {
         Refusal::WrongHandle.code()

@@ -2,13 +2,14 @@
 use Rattle.std.proofs.Common.{rules, ◌≡◌, Some, to_z, of_z, w64}
 use Rattle.stun_handles.specs.Numbers.{length_answer}
 use Rattle.stun_state.specs.Handed.{handed_signing, user_of_password}
+use Rattle.stun_state.specs.Kept.{server_in}
 use Rattle.stun_state.proofs.Exports.{left_buffer, some_is}
 use Rattle.stun_state.proofs.calls.handed.stunp_server_sign_of.Goals as goal
 
 pub returns : goal.returns
 returns c =
-    let before = c.deref_mut.result.now in
-    let kept : c.args.handle.now.slot.server ≡ Some before = search rules in
+    let before = c.server.result.now in
+    let kept : server_in c.args.handle.now.slot.kept ≡ Some before = search rules in
     let told : to_z w64 (of_z w64 c.length-answer.result) ≡ length_answer c.sign-signed.result =
     search rules in
     let user = user_of_password c.args.name.now c.args.password.now in

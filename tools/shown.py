@@ -22,6 +22,16 @@ FUNCTION = re.compile(
 CLAUSE = re.compile(r"\b(?:ensures|requires)\*?(?:\s+\w+)?\s*$")
 IMPL = re.compile(r"(?m)^(?:unsafe )?impl\b(?:<[^{]*?>)? (?:[^{]*\bfor )?&?([\w:]+)[^{]*\{")
 DECLARED = re.compile(r"(?m)^(pub(?:\([^)]*\))? )?(?:struct|enum|trait|type) (\w+)")
+ITEM = re.compile(r"(?m)^(?:#\[.*\]\n)*(?P<shown>pub(?:\([^)]*\))? )?"
+                  r"(?:(?:final|const|unsafe|extern|extern \"\0*\") (?=fn|impl|extern|unsafe))*"
+                  r"(?P<kind>struct|enum|trait|type|const|static|fn|impl|mod|use)\b"
+                  r"(?: (?P<name>\w+))?")
+FIELD = re.compile(r"(?m)^    (?:pub\([^)]*\) )?\w+: [^\n]*,\n")
+STRUCT = re.compile(r"(?m)^pub struct\b[^{;]*\{\n")
+BEGIN = re.compile(r"(?m)^(?=(?:(?:pub|abbrev|unfoldable|record|data) )+)")
+NAMED = re.compile(r"(?:(?:pub|abbrev|unfoldable|record|data) )+(?P<name>[^\s({:]+)")
+CONSTRUCTOR = re.compile(r"(?m)^\s+(?:pub\s+)?([^\s:|]+)\s*(?::|\()")
+BARE = re.compile(r"(?m)^(?:impl\b(?![^{]*\bfor\b)[^{]*\{|\})$")
 TRAIT = re.compile(r"(?m)^pub trait\b[^{]*\{")
 OF_TRAIT = re.compile(r"^impl(?:<[^{]*?>)?\s+[^{]*?\bfor\b")
 HIDDEN = re.compile(r"(?m)^(?:#\[.*\]\n)*(?:pub\([^)]*\) )?"
@@ -111,6 +121,11 @@ def public(text, hidden, is_own=False):
     masked = mask(text)
     text = without(text, [(one.start(), closing(masked, one.end() - 1) if one[0][-1] == "{"
                            else one.end()) for one in HIDDEN.finditer(masked) if not is_own])
+    if not is_own:
+        masked = mask(text)
+        text = without(text, [(field.start(), field.end()) for one in STRUCT.finditer(masked)
+                              for field in FIELD.finditer(
+                                  masked, one.end(), closing(masked, one.end() - 2))])
     imports = IMPORT.findall(text)
     return imports, re.sub(r"(?m)^ *(?:ghost use .*|;?)\n", "", text)
 
@@ -123,9 +138,9 @@ def names_of(text):
     return frozenset(re.findall(r"\w+", text))
 
 
-def of_functions(text):
-    """A text that is shown, in pieces: each function that is no trait's, with its name, and the
-    rest, with none."""
+def of_functions(text, names):
+    """An item that is shown, in pieces: each function in it that is no trait's, by its name, and
+    the rest, by the names of the item."""
     masked, pieces, at = mask(text), [], 0
     of_traits = [(one.start(), closing(masked, one.end() - 1))
                  for one in [*IMPL.finditer(masked), *TRAIT.finditer(masked)]
@@ -134,34 +149,63 @@ def of_functions(text):
         if any(first < found.start() < last for first, last in of_traits):
             continue
         end = body_of(masked, found)[1]
-        pieces += [("", text[at:found.start()]), (found[0].split()[-1], text[found.start():end])]
+        pieces += [(names, text[at:found.start()]),
+                   (frozenset({found[0].split()[-1]}), text[found.start():end])]
         at = end
-    return [(name, piece.strip()) for name, piece in [*pieces, ("", text[at:])] if piece.strip()]
+    return [(by, piece.strip()) for by, piece in [*pieces, (names, text[at:])]
+            if BARE.sub("", piece).strip()]
+
+
+def pieces_of(text):
+    """A text that is shown, in pieces, each with the names by which it is read: a type, a trait or
+    a constant by its own, an impl by that of its type, a re-export by those that it has."""
+    masked, pieces = mask(text), []
+    starts = [one.start() for one in ITEM.finditer(masked)]
+    for start, end in zip(starts, [*starts[1:], len(text)]):
+        item = text[start:end]
+        head = ITEM.match(masked, start)
+        if head["kind"] == "mod" or head["kind"] == "use" and head["shown"] != "pub ":
+            continue
+        of_impl = IMPL.search(mask(item))
+        names = (names_of(of_impl[1].split("::")[-1]) if of_impl
+                 else names_of(item) if head["kind"] == "use"
+                 else frozenset({head["name"]}))
+        pieces += of_functions(item, names)
+    return pieces
 
 
 @functools.lru_cache(None)
 def sources(crate, is_own=False):
     """What the sources of a crate show to the crates above or to itself: of each file, by its path,
     its imports of definitions, each module with the words that name it, and its text in pieces,
-    each with the name of its function, if it has one, and with its words."""
+    each with the names by which it is read, and with its words."""
     shown, folder = {}, TOP / "crates" / crate
     for path in sorted((folder / "src").rglob("*.rt")):
         imports, text = public(path.read_text(), hidden_types(crate), is_own)
         named = [((of, module), words_of(name.split(" as ")[-1]) - {""})
                  for of, module, names in imports for name in names.split(",")]
         shown[str(path.relative_to(folder))] = (named, [
-            (name, piece, words_of(piece), names_of(piece)) for name, piece in of_functions(text)])
+            (by, piece, words_of(piece), names_of(piece)) for by, piece in pieces_of(text)])
     return shown
 
 
 @functools.lru_cache(None)
 def definitions(crate, module):
-    """A module of definitions without its comments, and the modules that it names."""
+    """The definitions of a module, each with the names that it gives, without its comment and with
+    its words; and the modules that the module names."""
     path = TOP / "crates" / crate / "specs" / (module.replace(".", "/") + ".antt")
     if not path.is_file():
-        return "", frozenset(), frozenset()
+        return (), frozenset()
     text = code_of(path)
-    return text, frozenset((of, name) for of, name, _ in IMPORT.findall(text)), names_of(text)
+    named = frozenset((of, name) for of, name, _ in IMPORT.findall(text))
+    pieces = []
+    for piece in BEGIN.split(IMPORT.sub("", text).strip() + "\n"):
+        head = NAMED.match(piece)
+        given = names_of(head["name"]) if head else frozenset()
+        if head and "data " in head[0]:
+            given |= names_of(" ".join(CONSTRUCTOR.findall(piece)))
+        pieces.append((given, piece, names_of(piece)))
+    return tuple(pieces), named
 
 
 def reached(open_ones, below):
@@ -182,21 +226,22 @@ def read_with(texts, modules, files, known):
     while names != before:
         before, read = names, []
         for imports, pieces in files:
-            pieces = [piece for piece in pieces if not piece[0] or piece[0] in before]
+            pieces = [piece for piece in pieces if piece[0] & before]
             words = frozenset().union(*(piece[2] for piece in pieces))
             modules |= {module for module, named in imports if named & words}
             names = names.union(*(piece[3] for piece in pieces))
             read += [piece[1] for piece in pieces]
-        every = sorted(reached(modules, known))
-        names = names.union(*(definitions(*module)[2] for module in every))
-    return read + [f"{of}.{module}\n{definitions(of, module)[0]}" for of, module in every]
+        every = [(module, piece) for module in sorted(reached(modules, known))
+                 for piece in definitions(*module)[0] if not piece[0] or piece[0] & before]
+        names = names.union(*(piece[2] for _, piece in every))
+    return read + [f"{of}.{module}\n{piece[1]}" for (of, module), piece in every]
 
 
 def law_at(crate, path):
     """The contract of a law, and the modules of definitions that it names."""
     module, _, name = path.rpartition("::")
     imports, pieces = sources(crate, True)[f"src/{module.replace('::', '/')}.rt"]
-    found = [piece for piece in pieces if piece[0] == name]
+    found = [piece for piece in pieces if piece[0] == {name}]
     words = frozenset().union(*(piece[2] for piece in found))
     return [piece[1] for piece in found], {named for named, by in imports if by & words}
 

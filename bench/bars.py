@@ -133,6 +133,14 @@ def of_endpoint():
         if number(cells[-1]) != bar:
             yield f"endpoint.py, {title}: at most {bar}, README.md has `{cells[-1]}`"
         yield from told("endpoint.py", title, number(cells[0]), bar)
+    rows = table("A request whose user is looked up, through C", "instructions")
+    looking = value("endpoint.py", "LOOK_UPS")
+    yield from same_rows("endpoint.py", [title for title, _, _ in looking], rows)
+    for title, _, bar in looking:
+        cells = rows.get(title, ["", ""])
+        if number(cells[-1]) != bar:
+            yield f"endpoint.py, {title}: at most {bar}, README.md has `{cells[-1]}`"
+        yield from told("endpoint.py", title, number(cells[0]), bar)
 
 
 def main():

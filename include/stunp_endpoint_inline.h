@@ -12,13 +12,16 @@
      && (size) <= sizeof(type) && (size) % sizeof(size_t) == 0)
 
 /* Returns where a call writes its result: to the caller's struct, or to `whole`, which has the size
- * of this release, if the caller's is null or ends earlier (`is_earlier`). */
+ * of this release, if the caller's is null or ends earlier (`is_earlier`). Only then is `whole`
+ * written, because it is hundreds of bytes. */
 static inline void *stunp_result_place(void *theirs, bool is_earlier, void *whole, size_t size) {
-    size_t given;
-    if (theirs == NULL) return whole;
-    if (!is_earlier) return theirs;
-    memcpy(&given, theirs, sizeof given);
-    memcpy(whole, theirs, given);
+    size_t given = 0;
+    if (theirs != NULL && !is_earlier) return theirs;
+    memset(whole, 0, size);
+    if (theirs != NULL) {
+        memcpy(&given, theirs, sizeof given);
+        memcpy(whole, theirs, given);
+    }
     memcpy(whole, &size, sizeof size);
     return whole;
 }
@@ -119,7 +122,7 @@ stunp_endpoint_server_receive(const stunp_endpoint_server *server,
     stunp_endpoint_users own_users = {false, NULL};
     if (server != NULL) own = *server;
     if (users != NULL) own_users = *users;
-    stunp_received whole = STUNP_INIT(stunp_received);
+    stunp_received whole;
     stunp_received *into = (stunp_received *)stunp_result_place(
         received, STUNP_IS_EARLIER(stunp_received, is_hash, received), &whole, sizeof whole);
     int64_t kind = stunp_endpoint_server_receive_own(&own, &own_users, bytes, length, from,
@@ -185,7 +188,7 @@ stunp_endpoint_server_identify(const stunp_endpoint_server *server,
                                uint8_t *STUNP_RESTRICT out, size_t room, stunp_received *received) {
     stunp_endpoint_server own = {false, NULL};
     if (server != NULL) own = *server;
-    stunp_received whole = STUNP_INIT(stunp_received);
+    stunp_received whole;
     stunp_received *into = (stunp_received *)stunp_result_place(
         received, STUNP_IS_EARLIER(stunp_received, is_hash, received), &whole, sizeof whole);
     int64_t kind = stunp_endpoint_server_identify_own(&own, bytes, length, from, unix_seconds, out,
@@ -305,7 +308,7 @@ STUNP_INLINED int64_t stunp_ice_checker_receive(stunp_ice_checker *checker,
                                                 uint8_t *STUNP_RESTRICT out, size_t room,
                                                 stunp_ice_received *received) {
     stunp_ice_check none = {{0}, {{0}, 0, 0}, false, false};
-    stunp_ice_received whole = STUNP_INIT(stunp_ice_received);
+    stunp_ice_received whole;
     stunp_ice_received *into = (stunp_ice_received *)stunp_result_place(
         received, STUNP_IS_EARLIER(stunp_ice_received, mapped, received), &whole, sizeof whole);
     int64_t kind = stunp_ice_checker_receive_with(checker, bytes, length, from, check != NULL,

@@ -3,6 +3,7 @@ pub mod AdditionLemmas
 pub mod BoundedAddresses
 pub mod Drawn
 pub mod Forgotten
+pub mod FoundLemmas
 pub mod Growth
 pub mod HashedNames
 pub mod JoinedLemmas

@@ -44,7 +44,7 @@ nothing : {X : Type 0} (es : List X) → length es ≡ 0 → es ≡ []
 nothing [] e = refl
 nothing (x ∷ es) e = absurd (omega arith)
 
-nobody : fin.entries (fin.empty {X = UserSecret} {R = name_cmp}) ≡ []
+pub nobody : fin.entries (fin.empty {X = UserSecret} {R = name_cmp}) ≡ []
 nobody = nothing _ (sym (fin.len-entries fin.empty) ∙ fin.len-empty name_cmp UserSecret)
 
 pub one : (name : List ℕ) (secret : UserSecret)
@@ -52,7 +52,7 @@ pub one : (name : List ℕ) (secret : UserSecret)
 one name secret = fin.entries-insert nat_list_cmp_total fin.empty name secret
     ∙ ap (fin.put name_cmp name secret) nobody
 
-found : (name : List ℕ) (secret : UserSecret)
+pub found : (name : List ℕ) (secret : UserSecret)
     → fin.get (fin.insert (fin.empty {R = name_cmp}) name secret) name ≡ Some secret
 found name secret =
     fin.get-insert nat_list_cmp_total fin.empty name secret name

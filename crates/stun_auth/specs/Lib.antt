@@ -24,6 +24,8 @@ pub mod Epochs
 pub mod Datagrams
 -- a user who is handed in with a message
 pub mod Handed
+-- a user who was found elsewhere, and the one key that a message needs
+pub mod Found
 -- a change of one user, and the messages that mean another
 pub mod OtherUsers
 -- the places of all addresses

@@ -9,6 +9,7 @@ pub mod Client
 pub mod ClientKept
 pub mod ClientStep
 pub mod Feature
+pub mod Found
 pub mod Judging
 pub mod LastAttributes
 pub mod NameIndex

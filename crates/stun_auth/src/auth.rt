@@ -7,6 +7,7 @@ pub use crate::client::answer::{
 pub use crate::feature::Feature;
 pub use crate::message::nonce::{LONG_TERM_RFC8489_NONCE_COOKIE, NonceSecurityBits};
 pub use crate::server::accepted::Accepted;
+pub use crate::server::found::{FoundUser, UserClaim};
 pub use crate::server::named_user::NamedUser;
 pub use crate::server::reason::{
     LongTermServerAuthError, LongTermServerAuthErrorReason, LongTermServerValidation,

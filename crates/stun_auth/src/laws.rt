@@ -32,6 +32,7 @@ ghost use Rattle.stun_auth.specs.Datagrams.{TimedDatagram, Derivation, JudgesEac
 ghost use Rattle.stun_auth.specs.Datagrams.{judged_datagram};
 ghost use Rattle.stun_auth.specs.Epochs.{IsAcceptedIn, judged_in};
 ghost use Rattle.stun_auth.specs.Feature.{is_possible};
+ghost use Rattle.stun_auth.specs.Found.{ClaimSeen, claim_of, found_key, found_verdict};
 ghost use Rattle.stun_auth.specs.Forgetting.{after_forgetting, place_kept, without_place};
 ghost use Rattle.stun_auth.specs.ForgettingSteps.{after_steps};
 ghost use Rattle.stun_auth.specs.Handed.{AreKeysOf, judged_by, just, meant_user, named_at};
@@ -44,13 +45,13 @@ ghost use Rattle.stun_auth.specs.Nonces.{begins_with_cookie, letter};
 ghost use Rattle.stun_auth.specs.Nonces.{nonce_of, security_bits, spelled_bits};
 ghost use Rattle.stun_auth.specs.OtherUsers.{MeansAnother, VerifiesUnderNone, with_secret_for};
 ghost use Rattle.stun_auth.specs.Places.{with_change, with_client};
-ghost use Rattle.stun_auth.specs.Reading.{Reading, error_code, reading_of};
+ghost use Rattle.stun_auth.specs.Reading.{Reading, error_code, reading_of, verified_under};
 ghost use Rattle.stun_auth.specs.Reasons.{ServerRefusal};
-ghost use Rattle.stun_auth.specs.Registered.{Registered, key_at, user_by_keys};
+ghost use Rattle.stun_auth.specs.Registered.{Registered, RegisteredUser, key_at, user_by_keys};
 ghost use Rattle.stun_auth.specs.Registered.{UserSecret, stored_key, user_by_password, with_user};
 ghost use Rattle.stun_auth.specs.Registered.{with_user_by_keys, without_user};
 ghost use Rattle.stun_auth.specs.Seen.{ClientSeen, PlaceSeen};
-ghost use Rattle.stun_auth.specs.Server.{Sight, has_current_nonce, verdict};
+ghost use Rattle.stun_auth.specs.Server.{Sight, has_current_nonce, their_nonce, verdict};
 ghost use Rattle.stun_auth.specs.ServerSigning.{after_signing, server_additions, server_signed};
 ghost use Rattle.stun_auth.specs.ShortTerm.{Secret, short_term_answer};
 ghost use Rattle.stun_auth.specs.Signed.{Added, IsSignableAtClient, HasRoomFor, IsBuilt};
@@ -195,6 +196,24 @@ pub fn the_named_user_is_enough_to_judge()
         → verdict (just users (option_and_then (user_of users)
         (named_in r.userhash r.username feature))) feature nonce offered r
         ≡ verdict users feature nonce offered r }
+{}
+
+/// A user who was found is judged as one who was prepared. What a message claims is judged under its
+/// own nonce as at a server whose only user this is (`verdict`). So a key that is found accepts the
+/// message from that user: it is the one that the user has there for the agreed algorithm (`key`), and
+/// the signature of that algorithm verifies under it (`verifies`).
+pub fn found_users_are_judged_as_prepared_ones()
+    ensures verdict { (users : Registered) (user : RegisteredUser) (feature : TheFeature)
+        (bytes : List ℕ) (claim : ClaimSeen) → claim_of users.algorithms feature bytes ≡ Some claim
+        → verdict (just users (Some user)) feature (their_nonce (reading_of bytes))
+        (Some users.algorithms) (reading_of bytes)
+        ≡ found_verdict claim user (found_key users claim user) }
+    ensures key { (users : Registered) (user : RegisteredUser) (claim : ClaimSeen)
+        (found : IntegrityAlgorithm × List ℕ) → found_key users claim user ≡ Some found
+        → key_at (just users (Some user)) user.username claim.algorithm ≡ Some found.1 }
+    ensures verifies { (users : Registered) (user : RegisteredUser) (claim : ClaimSeen)
+        (found : IntegrityAlgorithm × List ℕ) → found_key users claim user ≡ Some found
+        → verified_under (reading_of claim.message) found.1 ≡ Some found.0 }
 {}
 
 /// A message is judged by the one user whom it means. A server that has just that user gives it the

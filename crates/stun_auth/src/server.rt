@@ -37,6 +37,7 @@ use stun_base::instant::Instant;
 
 pub(crate) mod accepted;
 mod claim;
+pub(crate) mod found;
 mod handed;
 mod judged;
 pub(crate) mod name_index;

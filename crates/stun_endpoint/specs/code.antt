@@ -2,6 +2,7 @@
 pub mod Bits
 pub mod Judges
 pub mod Waiting
+pub mod Found
 pub mod Judgements
 pub mod Keys
 pub mod Refusing

@@ -45,7 +45,10 @@ use stun_types::message::{Message, StunWriteError};
 use stun_types::prelude::*;
 
 /// The user whom a request or an indication names, by a hash or by name.
-fn named_in<'a>(reading: &MessageReading<'a, '_>, feature: Feature) -> Option<NamedUser<'a>>
+pub(crate) fn named_in<'a>(
+    reading: &MessageReading<'a, '_>,
+    feature: Feature,
+) -> Option<NamedUser<'a>>
     ensures { option_map named_seen result ≡ named_in (reading_seen reading.now).userhash
         (reading_seen reading.now).username feature }
 {

@@ -53,7 +53,7 @@ fn is_offered(algorithm: IntegrityAlgorithm, offered: Option<AlgorithmSet>) -> b
 }
 
 /// The algorithm that both sides agree on.
-fn agreed(
+pub(crate) fn agreed(
     reading: &MessageReading<'_, '_>,
     nonce: &str,
     offered: Option<AlgorithmSet>,

@@ -1,18 +1,17 @@
 //! The two steps of a server whose users are looked up elsewhere (RFC 8489, section 9.2.4).
 
 ghost use Rattle.std.specs.Option.{is_some, option_copied, option_map};
-ghost use Rattle.std.specs.Prelude.{◌≡◌, ◌&&◌, [], IfOk, IsOk, None, Some, false, not};
-ghost use Rattle.std.specs.Str.{bytes_eq};
+ghost use Rattle.std.specs.Prelude.{◌≡◌, ◌&&◌, IfOk, IsOk, None, Some, false, not};
 ghost use Rattle.stun_auth.specs.Handed.{named_seen};
 ghost use Rattle.stun_auth.specs.Judged.{client_judged};
 ghost use Rattle.stun_auth.specs.Reading.{reading_of};
-ghost use Rattle.stun_auth.specs.Server.{their_nonce, verdict};
+ghost use Rattle.stun_auth.specs.Server.{verdict};
 ghost use Rattle.stun_base.specs.MessageType.{class_in, is_request};
 ghost use Rattle.stun_endpoint.specs.Answers.{is_fingerprinted};
 ghost use Rattle.stun_endpoint.specs.Identified.{identification_of};
 ghost use Rattle.stun_endpoint.specs.Judged.{realm_of_user};
 ghost use Rattle.stun_endpoint.specs.Lookups.{accepted_nonces, has_one_of, identified_as};
-ghost use Rattle.stun_endpoint.specs.Lookups.{identified_by, is_ready, nonces_of, previous_nonces};
+ghost use Rattle.stun_endpoint.specs.Lookups.{identified_by, nonces_of, previous_nonces};
 ghost use Rattle.stun_endpoint.specs.Lookups.{waiting_by_class, waits_for};
 ghost use Rattle.stun_endpoint.specs.Nonces.{epoch_of, nonce_in};
 ghost use Rattle.stun_endpoint.specs.Outcomes.{outcome_of};
@@ -20,7 +19,8 @@ ghost use Rattle.stun_endpoint.specs.Received.{received_by};
 ghost use Rattle.stun_endpoint.specs.Responding.{drop_reason, is_undropped_request};
 ghost use Rattle.stun_endpoint.specs.Settings.{registered_of};
 ghost use Rattle.stun_endpoint.specs.code.Judges.{realm_of};
-ghost use Rattle.stun_endpoint.specs.code.Waiting.{IsWaiting, is_stale};
+ghost use Rattle.stun_endpoint.specs.code.Found.{waiting_claim};
+ghost use Rattle.stun_endpoint.specs.code.Waiting.{IsWaiting};
 
 use crate::lookup::{Identified, Lookup};
 use crate::received::{DropReason, Received};
@@ -29,21 +29,9 @@ use crate::server::judges::Judges;
 use crate::unix_time::UnixTime;
 use std::alloc::{AllocError, Allocator};
 use std::net::SocketAddr;
-use stun_auth::auth::{Accepted, LongTermServerUser, NamedUser, VerdictRefusal, has_nonce};
+use stun_auth::auth::{Accepted, LongTermServerUser, NamedUser, UserClaim, VerdictRefusal};
 use stun_base::prepared_key::PreparedKey;
 use stun_types::message::{Message, MessageClass};
-
-/// Whether a verdict says that the nonce is stale.
-fn is_stale<A: Allocator>(verdict: &Result<Accepted<'_, A>, VerdictRefusal>) -> bool
-    ensures { result ≡ is_stale (client_judged verdict.now) }
-{
-    match verdict {
-        Ok(_) => false,
-        Err(VerdictRefusal::Unauthorized) => false,
-        Err(VerdictRefusal::BadRequest) => false,
-        Err(VerdictRefusal::StaleNonce) => true,
-    }
-}
 
 impl<A: Allocator + Copy> Server<A> {
     /// Judges a datagram as far as that is possible without its user, for a server that looks its
@@ -157,9 +145,9 @@ impl<A: Allocator + Copy> Server<A> {
     }
 
     /// Whom a request waits for, if it does.
-    #[tactic(auto, using(crate::proofs::ReadyLemmas::unready_waits_not, crate::proofs::ReadyLemmas::unaccepted_waits_not, crate::proofs::ReadyLemmas::ready_waits))]
+    #[tactic(auto, using(crate::proofs::ReadyLemmas::claim_is_awaited, crate::proofs::ReadyLemmas::nobody_is_awaited))]
     fn awaited<'a>(
-        &'a self,
+        &self,
         message: &Message<'a>,
         from: SocketAddr,
         epoch: u64,
@@ -169,22 +157,33 @@ impl<A: Allocator + Copy> Server<A> {
         ensures { IfOk result (λ user. option_map named_seen user
             ≡ waits_for self.now from epoch (reading_of message.now)) }
     {
-        if !self.is_ready(message) {
-            return Ok(None);
+        match self.waiting(message, from, epoch, nonce)? {
+            Some(claim) => Ok(Some(claim.user())),
+            None => Ok(None),
         }
-        if !self.has_accepted_nonce(message, from, epoch, nonce)? {
-            return Ok(None);
-        }
-        Ok(self.auth.named_in(message))
     }
 
-    /// Whether only nonce and user of a request are left to look at, and it has a nonce. Under a
-    /// nonce that no request has, such a request is the one that is stale.
-    fn is_ready<'a>(&'a self, message: &Message<'a>) -> bool
-        ensures { result ≡ (is_ready self.now (reading_of message.now)
-            && not (bytes_eq (their_nonce (reading_of message.now)) [])) }
+    /// What a request claims that waits for its user: only nonce, user and signature are left to look
+    /// at, and it has a nonce that is accepted. The message is read once for all of it.
+    #[tactic(auto, using(crate::proofs::ReadyLemmas::no_claim_waits_not, crate::proofs::ReadyLemmas::unaccepted_waits_not, crate::proofs::ReadyLemmas::claim_waits))]
+    fn waiting<'a, 'm>(
+        &self,
+        message: &'m Message<'a>,
+        from: SocketAddr,
+        epoch: u64,
+        nonce: &str,
+    ) -> Result<Option<UserClaim<'a, 'm>>, AllocError>
+        requires { nonce.now ≡ nonce_in self.now self.now.secret from epoch }
+        ensures { IfOk result (λ claim. claim
+            ≡ waiting_claim self.now from epoch message.now) }
     {
-        is_stale(&self.judged_by_nobody(message, ""))
+        let Some(claim) = self.auth.claim_in(message) else {
+            return Ok(None);
+        };
+        if !self.has_accepted_nonce(&claim, from, epoch, nonce)? {
+            return Ok(None);
+        }
+        Ok(Some(claim))
     }
 
     /// Judges a request under a nonce, at a realm without users.
@@ -204,37 +203,37 @@ impl<A: Allocator + Copy> Server<A> {
     #[tactic(auto, using(crate::proofs::ReadyLemmas::accepted_parts))]
     fn has_accepted_nonce(
         &self,
-        message: &Message<'_>,
+        claim: &UserClaim<'_, '_>,
         from: SocketAddr,
         epoch: u64,
         nonce: &str,
     ) -> Result<bool, AllocError>
         requires { nonce.now ≡ nonce_in self.now self.now.secret from epoch }
         ensures { IfOk result (λ has. has
-            ≡ has_one_of (reading_of message.now) (accepted_nonces self.now from epoch)) }
+            ≡ has_one_of (reading_of claim.now.message) (accepted_nonces self.now from epoch)) }
     {
-        if self.has_nonce_of(message, &self.secret, from, epoch, nonce)? {
+        if self.has_nonce_of(claim, &self.secret, from, epoch, nonce)? {
             return Ok(true);
         }
-        self.has_previous_nonce(message, from, epoch)
+        self.has_previous_nonce(claim, from, epoch)
     }
 
     /// Whether a request has a nonce of the previous secret that is accepted.
     fn has_previous_nonce(
         &self,
-        message: &Message<'_>,
+        claim: &UserClaim<'_, '_>,
         from: SocketAddr,
         epoch: u64,
     ) -> Result<bool, AllocError>
         ensures { IfOk result (λ has. has
-            ≡ has_one_of (reading_of message.now)
+            ≡ has_one_of (reading_of claim.now.message)
             (previous_nonces self.now self.now.previous from epoch)) }
     {
         let Some(secret) = &self.previous else {
             return Ok(false);
         };
         let nonce = self.nonce_in(secret, from, epoch)?;
-        let has = self.has_nonce_of(message, secret, from, epoch, &nonce)?;
+        let has = self.has_nonce_of(claim, secret, from, epoch, &nonce)?;
         Ok(has)
     }
 
@@ -243,7 +242,7 @@ impl<A: Allocator + Copy> Server<A> {
     #[tactic(auto, using(crate::proofs::ReadyLemmas::has_current, crate::proofs::ReadyLemmas::has_only_current, crate::proofs::ReadyLemmas::has_before))]
     fn has_nonce_of(
         &self,
-        message: &Message<'_>,
+        claim: &UserClaim<'_, '_>,
         secret: &PreparedKey<A>,
         from: SocketAddr,
         epoch: u64,
@@ -251,17 +250,17 @@ impl<A: Allocator + Copy> Server<A> {
     ) -> Result<bool, AllocError>
         requires { nonce.now ≡ nonce_in self.now secret.now from epoch }
         ensures { IfOk result (λ has. has
-            ≡ has_one_of (reading_of message.now)
+            ≡ has_one_of (reading_of claim.now.message)
             (nonces_of self.now secret.now from epoch)) }
     {
-        if has_nonce(message, nonce) {
+        if claim.has_nonce(nonce) {
             return Ok(true);
         }
         if epoch == 0 {
             return Ok(false);
         }
         let before = self.nonce_in(secret, from, epoch - 1)?;
-        Ok(has_nonce(message, &before))
+        Ok(claim.has_nonce(&before))
     }
 
     /// What the request of a look-up comes to.

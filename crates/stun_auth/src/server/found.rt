@@ -1,0 +1,282 @@
+//! A user whom the caller found, and whose keys are made as a message needs them, for a server that
+//! looks its users up elsewhere and keeps none of them (RFC 8489, section 9.2.4).
+//!
+//! ```text
+//! let Some(claim) = server.claim_in(&message) else { .. judge .. };
+//! if !claim.has_nonce(&nonce) { .. judge .. }
+//! match server.verify_found(&claim, &look_up(claim.user())?) {
+//!     Some((algorithm, key)) => .. accepted: sign the response by both ..,
+//!     None => .. refused ..,
+//! }
+//! ```
+
+ghost use Rattle.std.specs.Fmt.{WritesOnOk, WritesStyledOnOk};
+ghost use Rattle.std.specs.Prelude.{◌≡◌, Some, codes};
+ghost use Rattle.std.specs.Str.{bytes_eq};
+ghost use Rattle.stun_auth.specs.Algorithms.{contains};
+ghost use Rattle.stun_auth.specs.Found.{claim_of, found_key, is_claimed};
+ghost use Rattle.stun_auth.specs.Handed.{named_seen};
+ghost use Rattle.stun_auth.specs.Reading.{reading_of};
+ghost use Rattle.stun_auth.specs.Registered.{key_from, key_if, user_by_keys, user_by_password};
+ghost use Rattle.stun_auth.specs.Server.{their_nonce};
+
+use crate::algorithm_set::AlgorithmSet;
+use crate::message::reading::MessageReading;
+use crate::server::LongTermServerAuth;
+use crate::server::handed::named_in;
+use crate::server::named_user::NamedUser;
+use crate::server::stored_keys::StoredKeys;
+use crate::server::verdict::{agreed, is_same_nonce};
+use std::alloc::Allocator;
+use std::fmt;
+use std::marker::Model;
+use stun_base::algorithm::IntegrityAlgorithm;
+use stun_base::compare::is_same_text;
+use stun_base::key::{IntegrityKey, long_term_key, userhash};
+use stun_base::prepared_key::PreparedKey;
+use stun_types::message::Message;
+
+/// What a signed message claims: the user whom it names, under which nonce, and the algorithm that
+/// both sides agree on. Whether that nonce is current, whether there is such a user, and whether the
+/// signature is that user's, is left to look at.
+///
+/// `LongTermServerAuth::claim_in` makes one, and reads the message once for all of it.
+///
+/// Contracts: they see the message, the user and the algorithm.
+#[derive(Drop)]
+pub struct UserClaim<'a, 'm> {
+    message: &'m Message<'a>,
+    reading: MessageReading<'a, 'm>,
+    nonce: &'a str,
+    user: NamedUser<'a>,
+    algorithm: IntegrityAlgorithm,
+}
+
+impl<'a, 'm> Model for UserClaim<'a, 'm> {
+    ghost use Rattle.std.specs.Prelude.{◌≡◌, Some};
+    ghost use Rattle.stun_auth.specs.Found.{ClaimSeen};
+    ghost use Rattle.stun_auth.specs.Handed.{named_seen};
+    ghost use Rattle.stun_auth.specs.Reading.{reading_of};
+    ghost use Rattle.stun_auth.specs.code.ReadingSeen.{reading_seen};
+
+    ghost Value = { ClaimSeen };
+
+    ghost view = { λ claim. record {
+      message = claim.message.now;
+      user = named_seen claim.user;
+      algorithm = claim.algorithm;
+    } };
+
+    ghost invariant = { λ claim. (reading_seen claim.reading ≡ reading_of claim.message.now)
+        × ((reading_of claim.message.now).nonce ≡ Some claim.nonce.now) };
+}
+
+impl<'a, 'm> UserClaim<'a, 'm> {
+    /// Returns the user whom the message names. Anybody can name anybody, because the signature is
+    /// not checked yet.
+    pub fn user(&self) -> NamedUser<'a>
+        ensures { named_seen result ≡ self.now.user }
+    {
+        self.user
+    }
+
+    /// Returns the algorithm that both sides agree on. The user's key for it decides.
+    pub fn algorithm(&self) -> IntegrityAlgorithm
+        ensures { result ≡ self.now.algorithm }
+    {
+        self.algorithm
+    }
+
+    /// Returns whether the message has this nonce. It looks at each byte, wherever they differ.
+    pub fn has_nonce(&self, nonce: &str) -> bool
+        ensures { result ≡ bytes_eq (their_nonce (reading_of self.now.message)) nonce.now }
+    {
+        is_same_nonce(self.nonce, nonce)
+    }
+}
+
+/// What a user who was found is known by.
+#[derive(Clone, Copy)]
+enum FoundSecret<'u> {
+    Password(&'u str),
+    Keys(StoredKeys),
+}
+
+impl FoundSecret<'_> {
+    ghost use Rattle.stun_auth.specs.code.Found.{found_secret};
+
+    /// The key for an algorithm of the user of this name at this realm. It does not allocate.
+    fn key<A: Allocator>(
+        &self,
+        alloc: A,
+        algorithm: IntegrityAlgorithm,
+        name: &str,
+        realm: &str,
+    ) -> Option<IntegrityKey<A>>
+        ensures { result ≡ key_from algorithm name.now realm.now (found_secret self.now) }
+    {
+        match self {
+            FoundSecret::Password(password) => {
+                Some(long_term_key(alloc, algorithm, name, realm, password))
+            }
+            FoundSecret::Keys(keys) => keys.key(alloc, algorithm),
+        }
+    }
+}
+
+/// A user whom the caller found: a name, and a password or stored keys, all of them the caller's. No
+/// key is made before a message needs it, and then only that one.
+///
+/// A user who sends many messages is cheaper to prepare once, by `prepare_user`.
+///
+/// `Debug` shows nothing of the contents.
+///
+/// Contracts: they see the name, and the password or the keys.
+#[derive(Drop)]
+pub struct FoundUser<'u> {
+    name: &'u str,
+    secret: FoundSecret<'u>,
+}
+
+impl<'u> Model for FoundUser<'u> {
+    ghost use Rattle.stun_auth.specs.Registered.{RegisteredUser};
+    ghost use Rattle.stun_auth.specs.code.Found.{found_secret};
+
+    ghost Value = { RegisteredUser };
+
+    ghost view = { λ user. record {
+      username = user.name.now;
+      secret = found_secret user.secret;
+    } };
+}
+
+impl<'u> FoundUser<'u> {
+    /// A user with a password.
+    pub fn with_password(name: &'u str, password: &'u str) -> Self
+        ensures { result ≡ user_by_password
+            (record { username = name.entry.now; password = password.entry.now }) }
+    {
+        FoundUser {
+            name,
+            secret: FoundSecret::Password(password),
+        }
+    }
+
+    /// A user with stored keys in place of a password. They must have been made for the realm of the
+    /// server.
+    pub fn with_keys(name: &'u str, keys: StoredKeys) -> Self
+        ensures { result ≡ user_by_keys name.entry.now keys }
+    {
+        FoundUser {
+            name,
+            secret: FoundSecret::Keys(keys),
+        }
+    }
+
+    /// Returns the name.
+    pub fn name(&self) -> &'u str
+        ensures { result.now ≡ self.now.username }
+    {
+        self.name
+    }
+
+    /// The user's key for an algorithm at a realm, if that is supported. It does not allocate.
+    fn key<A: Allocator>(
+        &self,
+        alloc: A,
+        supported: AlgorithmSet,
+        algorithm: IntegrityAlgorithm,
+        realm: &str,
+    ) -> Option<PreparedKey<A>>
+        ensures { result ≡ key_if (contains algorithm supported) algorithm self.now.username
+            realm.now self.now.secret }
+    {
+        if !supported.contains(algorithm) {
+            return None;
+        }
+        let key = self.secret.key(alloc, algorithm, self.name, realm)?;
+        Some(PreparedKey::new(key, algorithm))
+    }
+}
+
+impl fmt::Debug for FoundUser<'_> {
+    ghost debug_output = { λ _. Some (codes "FoundUser { .. }") };
+
+    fn fmt<W: fmt::Write>(&self, f: &mut fmt::Formatter<W>) -> fmt::Result
+        ensures writes { WritesOnOk W.write_str_gives f.old result
+            (codes "FoundUser { .. }") f.new }
+
+        // It writes the same with every width, precision and other option.
+        ensures styled { WritesStyledOnOk W.write_str_gives f.old result
+            (codes "FoundUser { .. }") f.new }
+    {
+        f.write_str("FoundUser { .. }")
+    }
+}
+
+/// Whether a message names the user of this name at a realm.
+fn is_claimed(user: NamedUser<'_>, name: &str, realm: &str) -> bool
+    ensures { result ≡ is_claimed (named_seen user.entry) name.now realm.now }
+{
+    match user {
+        NamedUser::ByName(claimed) => is_same_text(claimed.as_bytes(), name.as_bytes()),
+        NamedUser::ByHash(hash) => is_same_text(&userhash(name, realm), &hash),
+    }
+}
+
+impl<A: Allocator + Copy> LongTermServerAuth<A> {
+    /// Returns what a message claims, if only nonce, user and signature are left to look at: it has a
+    /// well-formed integrity attribute, REALM, NONCE and a user name, or its hash if the server
+    /// accepts hashes, and its algorithms agree with those that the server supports.
+    ///
+    /// Otherwise `judge` refuses the message, whoever the users are. Look at the class first, because
+    /// a response is read like a request. It does not allocate.
+    pub fn claim_in<'a, 'm>(&self, message: &'m Message<'a>) -> Option<UserClaim<'a, 'm>>
+        ensures { result ≡ claim_of self.now.registered.algorithms self.now.feature
+            message.now }
+    {
+        let reading = MessageReading::of(message);
+        if !reading.has_integrity {
+            return None;
+        }
+        reading.realm?;
+        let nonce = reading.nonce?;
+        let user = named_in(&reading, self.feature)?;
+        let algorithm = agreed(&reading, nonce, Some(self.registry.supported()))?;
+        Some(UserClaim {
+            message,
+            reading,
+            nonce,
+            user,
+            algorithm,
+        })
+    }
+
+    /// Returns the algorithm of a message's signature and the key of a user whom you found, if the
+    /// message is that user's: it names the user, who has a key for the agreed algorithm, and the
+    /// signature verifies under that key. Sign the response by both.
+    ///
+    /// The message is then accepted from this user under its own nonce, and so by `judge_of` with the
+    /// user whom `prepare_user` makes. Whether that nonce is current is for you to look at:
+    /// `UserClaim::has_nonce`. Only the one key is made. It does not allocate.
+    ///
+    /// Contracts: law `found_users_are_judged_as_prepared_ones`.
+    pub fn verify_found(
+        &self,
+        claim: &UserClaim<'_, '_>,
+        user: &FoundUser<'_>,
+    ) -> Option<(IntegrityAlgorithm, PreparedKey<A>)>
+        ensures { result ≡ found_key self.now.registered claim.now user.now }
+    {
+        let realm = self.registry.realm();
+        if !is_claimed(claim.user, user.name, realm) {
+            return None;
+        }
+        let supported = self.registry.supported();
+        let key = user.key(self.alloc, supported, claim.algorithm, realm)?;
+        match claim.reading.verified_under(&key) {
+            Some(by) => Some((by, key)),
+            None => None,
+        }
+    }
+}

@@ -109,10 +109,10 @@ or_memory Q number (Err refusal) expected told before now after memory is p q =
     unless_memory Q number refusal expected told before now after memory is p q
 
 -- no length is below zero, and each refusal's number is
-not_below : (n : ℕ) → int_lt (pos n) (pos 0) ≡ false
+pub not_below : (n : ℕ) → int_lt (pos n) (pos 0) ≡ false
 not_below n = leb-suc-zero n
 
-below : (refusal : Refusal) → int_lt (refusal_number refusal) (pos 0) ≡ true
+pub below : (refusal : Refusal) → int_lt (refusal_number refusal) (pos 0) ≡ true
 below Truncated = refl
 below NotStun = refl
 below TooLarge = refl

@@ -22,5 +22,7 @@ pub mod Client
 pub mod Memory
 -- the clauses that several calls share
 pub mod Calls
+-- what the laws of this crate say
+pub mod Laws
 -- what no clause of a public call cites: what private functions alone use
 pub mod code

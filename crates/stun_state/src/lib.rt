@@ -13,6 +13,7 @@ mod codes;
 mod desk;
 mod handed;
 mod handle;
+pub mod laws;
 mod prepared;
 mod server;
 mod signing;

@@ -26,6 +26,8 @@ ITEM = re.compile(r"(?m)^(?:#\[.*\]\n)*(?P<shown>pub(?:\([^)]*\))? )?"
                   r"(?:(?:final|const|unsafe|extern|extern \"\0*\") (?=fn|impl|extern|unsafe))*"
                   r"(?P<kind>struct|enum|trait|type|const|static|fn|impl|mod|use)\b"
                   r"(?: (?P<name>\w+))?")
+MEMBER = re.compile(r"(?m)^    ghost (?:view|invariant|also_owns) = \{")
+EXPORTED = re.compile(r"(\w+)\s*(?=[,;}])")
 FIELD = re.compile(r"(?m)^    (?:pub\([^)]*\) )?\w+: [^\n]*,\n")
 STRUCT = re.compile(r"(?m)^pub struct\b[^{;]*\{\n")
 BEGIN = re.compile(r"(?m)^(?=(?:(?:pub|abbrev|unfoldable|record|data) )+)")
@@ -95,6 +97,20 @@ def without(text, ranges):
     return "".join([*kept, text[at:]])
 
 
+def without_models(text):
+    """A text without what the models of types with private fields alone say of these: a crate above
+    cannot name them, and reads a value of the type that the model names."""
+    masked, ranges = mask(text), []
+    closed = set(re.findall(r"(?m)^pub struct (\w+)[^{;]*\{\n\}", masked))
+    for one in IMPL.finditer(masked):
+        if one[1] in closed and "Model for" in one[0]:
+            end = closing(masked, one.end() - 1)
+            for member in MEMBER.finditer(masked, one.end(), end):
+                ended = closing(masked, member.end() - 1)
+                ranges.append((member.start(), masked.index("\n", ended) + 1))
+    return without(text, ranges)
+
+
 def public(text, hidden, is_own=False):
     """What a source file shows to the crates above, or to its own crate: its imports of
     definitions, and the rest."""
@@ -126,6 +142,7 @@ def public(text, hidden, is_own=False):
         text = without(text, [(field.start(), field.end()) for one in STRUCT.finditer(masked)
                               for field in FIELD.finditer(
                                   masked, one.end(), closing(masked, one.end() - 2))])
+        text = without_models(text)
     imports = IMPORT.findall(text)
     return imports, re.sub(r"(?m)^ *(?:ghost use .*|;?)\n", "", text)
 
@@ -139,8 +156,8 @@ def names_of(text):
 
 
 def of_functions(text, names):
-    """An item that is shown, in pieces: each function in it that is no trait's, by its name, and
-    the rest, by the names of the item."""
+    """An item that is shown, in pieces: each function in it that is no trait's, by its name beside
+    those of the item, and the rest, by the names of the item."""
     masked, pieces, at = mask(text), [], 0
     of_traits = [(one.start(), closing(masked, one.end() - 1))
                  for one in [*IMPL.finditer(masked), *TRAIT.finditer(masked)]
@@ -150,15 +167,15 @@ def of_functions(text, names):
             continue
         end = body_of(masked, found)[1]
         pieces += [(names, text[at:found.start()]),
-                   (frozenset({found[0].split()[-1]}), text[found.start():end])]
+                   (names | {found[0].split()[-1]}, text[found.start():end])]
         at = end
     return [(by, piece.strip()) for by, piece in [*pieces, (names, text[at:])]
             if BARE.sub("", piece).strip()]
 
 
 def pieces_of(text):
-    """A text that is shown, in pieces, each with the names by which it is read: a type, a trait or
-    a constant by its own, an impl by that of its type, a re-export by those that it has."""
+    """A text that is shown, in pieces, each with the names without which it is not read: those of
+    an item, or of the type of an impl, and of a function in it."""
     masked, pieces = mask(text), []
     starts = [one.start() for one in ITEM.finditer(masked)]
     for start, end in zip(starts, [*starts[1:], len(text)]):
@@ -166,10 +183,11 @@ def pieces_of(text):
         head = ITEM.match(masked, start)
         if head["kind"] == "mod" or head["kind"] == "use" and head["shown"] != "pub ":
             continue
+        if head["kind"] == "use":
+            pieces += [(frozenset({name}), f"pub use {name};") for name in EXPORTED.findall(item)]
+            continue
         of_impl = IMPL.search(mask(item))
-        names = (names_of(of_impl[1].split("::")[-1]) if of_impl
-                 else names_of(item) if head["kind"] == "use"
-                 else frozenset({head["name"]}))
+        names = names_of(of_impl[1].split("::")[-1]) if of_impl else frozenset({head["name"]})
         pieces += of_functions(item, names)
     return pieces
 
@@ -199,7 +217,7 @@ def definitions(crate, module):
     text = code_of(path)
     named = frozenset((of, name) for of, name, _ in IMPORT.findall(text))
     pieces = []
-    for piece in BEGIN.split(IMPORT.sub("", text).strip() + "\n"):
+    for piece in filter(str.strip, BEGIN.split(IMPORT.sub("", text).strip() + "\n")):
         head = NAMED.match(piece)
         given = names_of(head["name"]) if head else frozenset()
         if head and "data " in head[0]:
@@ -226,7 +244,7 @@ def read_with(texts, modules, files, known):
     while names != before:
         before, read = names, []
         for imports, pieces in files:
-            pieces = [piece for piece in pieces if piece[0] & before]
+            pieces = [piece for piece in pieces if piece[0] <= before]
             words = frozenset().union(*(piece[2] for piece in pieces))
             modules |= {module for module, named in imports if named & words}
             names = names.union(*(piece[3] for piece in pieces))

@@ -380,6 +380,16 @@ table! {
 
     /// DONT-FRAGMENT (RFC 8656, section 18.9): asks the server to set the DF bit in the datagrams
     /// that it sends to the peer. It has no value.
+    ///
+    /// # Examples
+    ///
+    /// ```
+    /// use seatcrane_stun::endpoint::{AddError, Body};
+    /// use seatcrane_stun::extra::attribute::DontFragment;
+    ///
+    /// let body = Body::new().add(&DontFragment::new())?; // for Allocate or Send
+    /// # Ok::<(), AddError>(())
+    /// ```
     DONT_FRAGMENT, "DONT-FRAGMENT (RFC 8656, section 18.9)":
         flag_attribute(DontFragment);
 
@@ -391,6 +401,16 @@ table! {
     ///
     /// Only IPv6 is allowed. A server answers IPv4 with the error 400 (section 7.2), so IPv4 can be
     /// parsed here.
+    ///
+    /// # Examples
+    ///
+    /// ```
+    /// use seatcrane_stun::endpoint::{AddError, Body};
+    /// use seatcrane_stun::extra::attribute::{AdditionalAddressFamily, AddressFamily};
+    ///
+    /// let body = Body::new().add(&AdditionalAddressFamily::new(AddressFamily::Ipv6))?;
+    /// # Ok::<(), AddError>(())
+    /// ```
     ADDITIONAL_ADDRESS_FAMILY, "ADDITIONAL-ADDRESS-FAMILY (RFC 8656, section 18.11)":
         family_attribute(AdditionalAddressFamily);
 

@@ -88,6 +88,14 @@ pub mod types {
     use super::AttributeType;
 
     /// The attributes of ICE that a receiver must understand (RFC 8445, section 16.1).
+    ///
+    /// # Examples
+    ///
+    /// ```
+    /// use seatcrane_stun::endpoint::{ResponseSettings, types};
+    ///
+    /// let settings = ResponseSettings::new().understands(types::ICE);
+    /// ```
     pub const ICE: &[AttributeType] = &[AttributeType(0x0024), AttributeType(0x0025)];
 
     /// The attributes of TURN that a receiver must understand (RFC 8656, section 18).
@@ -104,6 +112,17 @@ pub mod types {
     ///
     /// Leave those out that yours does not do, by
     /// [`ServerBuilder::does_not_understand`](super::ServerBuilder::does_not_understand).
+    ///
+    /// # Examples
+    ///
+    /// ```
+    /// use seatcrane_stun::endpoint::{ResponseSettings, types};
+    /// use seatcrane_stun::types::attribute::AttributeType;
+    ///
+    /// let settings = ResponseSettings::new()
+    ///     .understands(types::TURN)
+    ///     .does_not_understand(&[AttributeType::DONT_FRAGMENT]);
+    /// ```
     pub const TURN: &[AttributeType] = &[
         AttributeType(0x000C),
         AttributeType(0x000D),

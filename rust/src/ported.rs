@@ -18,6 +18,17 @@ use alloc::vec::Vec;
 use core::cmp::Ordering;
 
 /// The magic cookie: bytes 4 to 7 of every message, in network order (RFC 8489, section 5).
+///
+/// # Examples
+///
+/// ```
+/// use seatcrane_stun::types::message::MAGIC_COOKIE;
+///
+/// fn has_cookie(datagram: &[u8]) -> bool {
+///     datagram.get(4..8) == Some(&MAGIC_COOKIE.to_be_bytes())
+/// }
+/// # assert!(has_cookie(b"\0\x01\0\0\x21\x12\xa4\x42 any 12 byte"));
+/// ```
 pub const MAGIC_COOKIE: u32 = 0x2112_A442;
 
 /// The attribute types that a STUN client or server must understand: those below 0x8000 of RFC 8489
@@ -52,6 +63,15 @@ pub const STUN: &[AttributeType] = &[
 
 /// The attribute types that an ICE agent must understand: those of [`STUN`], and those below 0x8000
 /// of RFC 8445 (section 16.1).
+///
+/// # Examples
+///
+/// ```
+/// use seatcrane_stun::types::ICE;
+/// use seatcrane_stun::types::attribute::AttributeType;
+///
+/// assert!(ICE.contains(&AttributeType::PRIORITY));
+/// ```
 pub const ICE: &[AttributeType] = &joined::<13>(
     STUN,
     &[AttributeType::PRIORITY, AttributeType::USE_CANDIDATE],
@@ -59,6 +79,15 @@ pub const ICE: &[AttributeType] = &joined::<13>(
 
 /// The attribute types that a TURN client or server must understand: those of [`STUN`], and those
 /// below 0x8000 of RFC 8656 (section 18).
+///
+/// # Examples
+///
+/// ```
+/// use seatcrane_stun::types::TURN;
+/// use seatcrane_stun::types::attribute::AttributeType;
+///
+/// assert!(TURN.contains(&AttributeType::LIFETIME));
+/// ```
 pub const TURN: &[AttributeType] = &joined::<21>(
     STUN,
     &[

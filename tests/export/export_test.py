@@ -493,6 +493,31 @@ REFUSED = [
 ]
 
 
+# An example is put behind the comment of its item, and is left where there is no such item.
+PAGES = """
+/// A role.
+#[derive(Clone)]
+pub enum Role {}
+
+/// Not this one.
+pub enum Roles {}
+""", {"Role": "```\n\nuse a::Role;\n```", "Lost": "```\n```"}, """
+/// A role.
+///
+/// # Examples
+///
+/// ```
+///
+/// use a::Role;
+/// ```
+#[derive(Clone)]
+pub enum Role {}
+
+/// Not this one.
+pub enum Roles {}
+"""
+
+
 def plain(text):
     """The text without blanks, but for those that part words."""
     return re.sub(r" ?(\W) ?", r"\1", re.sub(r"\s+", " ", text)).strip()
@@ -512,7 +537,18 @@ def main():
             continue
         wrong += 1
         print(f"{name}: was not refused, but became\n{made}")
-    print(f"{len(CASES) + len(REFUSED)} odd forms, {wrong} wrong")
+    source, examples, wanted = PAGES
+    made = export.with_examples(source, examples)
+    if made != wanted or list(examples) != ["Lost"]:
+        wrong += 1
+        print(f"examples of {list(examples)} are left, and made was\n{made}")
+    try:
+        export.with_examples(wanted, {"Role": "```\n```"})
+        wrong += 1
+        print("a second example was not refused")
+    except export.Unknown:
+        pass
+    print(f"{len(CASES) + len(REFUSED) + 2} odd forms, {wrong} wrong")
     return 1 if wrong else 0
 
 

@@ -305,8 +305,32 @@ def with_used(uses, wanted):
     return wanted
 
 
+def examples_of(crate):
+    """The examples of a crate's items by the names of the items: each crate has a file in rust/pages,
+    with a heading of the first level for each item."""
+    path = ROOT / "rust/pages" / f"{crate}.md"
+    parts = re.split(r"(?m)^# (\w+)\n\n?", path.read_text()) if path.is_file() else [""]
+    return dict(zip(parts[1::2], (part.strip("\n") for part in parts[2::2])))
+
+
+def with_examples(text, examples):
+    """A source with these examples at the end of the comments of its items. Those that it has are
+    taken out of the dictionary."""
+    for name in list(examples):
+        item = re.search(rf"(?m)^((?:///.*\n)+)(?:#\[.*\]\n)*pub (?:const |unsafe )?"
+                         rf"(?:struct|enum|trait|fn|const|type) {name}\b", text)
+        if item:
+            if "# Examples" in item[1]:
+                raise Unknown(f"{name} has an example in the sources, and one in rust/pages")
+            lines = ["", "# Examples", "", *examples.pop(name).split("\n")]
+            comment = "".join(f"/// {line}".rstrip() + "\n" for line in lines)
+            text = text[:item.end(1)] + comment + text[item.end(1):]
+    return text
+
+
 def export_crate(crate, places, folder, commit):
     source = ROOT / "crates" / crate / "src"
+    examples = examples_of(crate)
     for path in sorted(source.rglob("*.rt")):
         if path.name in ("laws.rt", "derives.rt"):
             continue
@@ -316,10 +340,12 @@ def export_crate(crate, places, folder, commit):
         try:
             text, of = path.read_text(), path.relative_to(ROOT)
             text = export_argued.argued(text, of) if crate in LIBRARY else text
-            text = export_argued.closed(exported(text, crate, places))
+            text = export_argued.closed(with_examples(exported(text, crate, places), examples))
             target.write_text(export_argued.head(of, commit) + text)
         except Unknown as unknown:
             sys.exit(f"{path}: {unknown}")
+    if examples:
+        sys.exit(f"rust/pages/{crate}.md: the crate has no such items: {', '.join(examples)}")
 
 
 def main():
@@ -328,7 +354,7 @@ def main():
     out = Path(sys.argv[1])
     for folder in ("src", "checks", "examples", "bench", "tests"):
         shutil.rmtree(out / folder, ignore_errors=True)
-    shutil.copytree(ROOT / "rust", out, dirs_exist_ok=True)
+    shutil.copytree(ROOT / "rust", out, dirs_exist_ok=True, ignore=shutil.ignore_patterns("pages"))
     shutil.copytree(ROOT / "tests/transcripts/endpoints", out / "tests/transcripts/data")
     for name in ("LICENSE-APACHE", "LICENSE-MIT"):
         shutil.copy(ROOT / name, out / name)

@@ -564,6 +564,27 @@ impl Check {
 
 /// The result of [`Checker::receive`]. The bytes of an answer are a `Vec`, or a slice of the buffer
 /// that was passed to [`Checker::receive_into`].
+///
+/// # Examples
+///
+/// ```
+/// use seatcrane_stun::endpoint::ice::Received;
+///
+/// /// The answer to send to where the datagram came from, if it was a check.
+/// fn answer(received: Received<'_>) -> Option<Vec<u8>> {
+///     match received {
+///         Received::Check { answer, judged, .. } => {
+///             println!("{judged}");
+///             Some(answer)
+///         }
+///         Received::Response(outcome) => {
+///             println!("a check of this agent has ended: {outcome}");
+///             None
+///         }
+///         _ => None, // an indication, or dropped
+///     }
+/// }
+/// ```
 #[must_use = "it may be an answer to send"]
 #[derive(Debug)]
 #[non_exhaustive]

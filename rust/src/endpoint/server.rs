@@ -829,6 +829,17 @@ impl fmt::Debug for User {
 }
 
 /// Why a user was not added.
+///
+/// # Examples
+///
+/// ```
+/// use seatcrane_stun::endpoint::{UserError, Users};
+/// use seatcrane_stun::types::message::LongTermCredentials;
+///
+/// fn add(users: &mut Users, name: &str, password: &str) -> Result<(), UserError> {
+///     users.add(LongTermCredentials::new(name.to_string(), password.to_string()))
+/// }
+/// ```
 #[derive(Clone, Copy, Debug, PartialEq, Eq, Hash)]
 #[non_exhaustive]
 pub enum UserError {

@@ -256,7 +256,8 @@
  *   datagrams: stunp_endpoint_server_receive_own, stunp_endpoint_server_receive, stunp_drop_text,
  *    stunp_endpoint_server_cause_own, stunp_endpoint_server_cause, stunp_cause_text
  *   look-ups: stunp_endpoint_server_identify_own, stunp_endpoint_server_identify,
- *    stunp_endpoint_server_resume, stunp_endpoint_server_cause_for
+ *    stunp_endpoint_server_resume_own, stunp_endpoint_server_resume,
+ *    stunp_endpoint_server_cause_for
  *   replies: stunp_reply_success, stunp_reply_error, stunp_reply_finish, stunp_reply_wipe
  *   ICE: stunp_ice_checker_new_with, stunp_ice_checker_offer_with, stunp_ice_checker_new,
  *    stunp_ice_checker_set_peer_with, stunp_ice_checker_set_peer, stunp_ice_checker_is_controlling,
@@ -854,7 +855,8 @@ void stunp_endpoint_users_clear(stunp_endpoint_users *users);
 STUNP_INLINED void stunp_endpoint_users_free(stunp_endpoint_users *users);
 
 /* Creates a table with the user that you found, or with nobody if `found` is null.
- * stunp_endpoint_server_resume and stunp_endpoint_server_cause_for call it.
+ * stunp_endpoint_server_cause_for calls it, and stunp_endpoint_server_resume for a server with
+ * short-term credentials.
  *
  * Returns 0. Errors:
  *   STUNP_BAD_ARGUMENT   `found->size` is wrong, its name is null, its password is empty, or it has
@@ -1010,12 +1012,36 @@ stunp_endpoint_server_identify(const stunp_endpoint_server *server,
                                const stunp_address *from, uint64_t unix_seconds,
                                uint8_t *STUNP_RESTRICT out, size_t room, stunp_received *received);
 
+/* Judges the request of a STUNP_LOOKUP, like stunp_endpoint_server_resume, with a handle that nothing
+ * else uses during the call. It stays as it is. `received` must not be null. The user has a password,
+ * if `has_password` is true, or else stored keys: 16 bytes for HMAC-SHA1 and 32 for HMAC-SHA256, or
+ * none, but one of both. It is for servers with long-term credentials.
+ *
+ * Returns a stunp_kind. Errors:
+ *   STUNP_EMPTY_HANDLE   the handle is empty
+ *   STUNP_WRONG_HANDLE   it has no server with long-term credentials
+ *   STUNP_NOT_TEXT       the name or the password is not UTF-8
+ *   STUNP_TEXT_TOO_LONG  the name has more than STUNP_NAME_MAX bytes
+ *   STUNP_BAD_ARGUMENT   the password is empty, or a key has another length
+ * and then those of stunp_endpoint_server_receive. */
+STUNP_USE_RESULT STUNP_READS(2, 3) STUNP_READS(4, 5) STUNP_READS(7, 8) STUNP_READS(9, 10)
+STUNP_READS(11, 12) STUNP_WRITES(15, 16) STUNP_NOT_NULL(1, 13, 17)
+int64_t stunp_endpoint_server_resume_own(stunp_endpoint_server *server, const char *name,
+                                         size_t name_length, const char *password,
+                                         size_t password_length, bool has_password,
+                                         const uint8_t *sha1, size_t sha1_length,
+                                         const uint8_t *sha256, size_t sha256_length,
+                                         const uint8_t *STUNP_RESTRICT message,
+                                         size_t message_length, const stunp_address *from,
+                                         uint64_t unix_seconds, uint8_t *STUNP_RESTRICT out,
+                                         size_t room, stunp_received *received);
+
 /* Judges the request of a STUNP_LOOKUP by the user that you found, or by nobody if `found` is null.
  * The other arguments are those of stunp_endpoint_server_identify, with the time at which the
  * datagram arrived. It is stunp_endpoint_server_receive with a table of this one user.
  *
- * It prepares the keys of the user each time. If a user sends many requests, as a TURN client does,
- * keep the table that stunp_endpoint_users_new_found makes, and pass it to
+ * It makes a key of the user each time: the one that the request needs. If a user sends many requests,
+ * as a TURN client does, keep the table that stunp_endpoint_users_new_found makes, and pass it to
  * stunp_endpoint_server_receive in place of this call, until the password changes or the account
  * ends.
  *

@@ -86,22 +86,24 @@ STUNP_INLINED void stunp_endpoint_users_free(stunp_endpoint_users *users) {
     if (users != NULL) stunp_endpoint_users_clear(users);
 }
 
+/* Returns whether a user was found: a name, with a password or with a key. Copies the caller's struct
+ * to one that has the size of this release. */
+static inline bool stunp_is_found(const stunp_found_user *found, stunp_found_user *all) {
+    if (!STUNP_HAS_SIZE(stunp_found_user, sha256_key, found->size)) return false;
+    memcpy(all, found, found->size);
+    if (all->name == NULL) return false;
+    return all->password != NULL ? all->password[0] != 0
+                                 : all->sha1_key != NULL || all->sha256_key != NULL;
+}
+
 STUNP_INLINED int64_t stunp_endpoint_users_new_found(stunp_endpoint_users *users,
                                                      const stunp_endpoint_server *server,
                                                      const stunp_found_user *found) {
     stunp_found_user all = STUNP_INIT(stunp_found_user);
-    if (found != NULL) {
-        if (!STUNP_HAS_SIZE(stunp_found_user, sha256_key, found->size)) return STUNP_BAD_ARGUMENT;
-        memcpy(&all, found, found->size);
-        found = &all;
-    }
-    if (found != NULL
-        && (found->name == NULL
-            || (found->password != NULL ? found->password[0] == 0
-                                        : found->sha1_key == NULL && found->sha256_key == NULL)))
-        return STUNP_BAD_ARGUMENT;
+    if (found != NULL && !stunp_is_found(found, &all)) return STUNP_BAD_ARGUMENT;
     int64_t made = stunp_endpoint_users_new(users, server);
     if (made < 0 || found == NULL) return made;
+    found = &all;
     made = found->password != NULL
                ? stunp_endpoint_users_add(users, found->name, found->name_length, found->password,
                                           strlen(found->password))
@@ -203,6 +205,23 @@ stunp_endpoint_server_resume(const stunp_endpoint_server *server, const stunp_fo
                              const uint8_t *STUNP_RESTRICT bytes, size_t length,
                              const stunp_address *from, uint64_t unix_seconds,
                              uint8_t *STUNP_RESTRICT out, size_t room, stunp_received *received) {
+    stunp_found_user all = STUNP_INIT(stunp_found_user);
+    if (server != NULL && found != NULL && stunp_is_found(found, &all)) {
+        stunp_endpoint_server own = *server;
+        stunp_received whole;
+        stunp_received *into = (stunp_received *)stunp_result_place(
+            received, STUNP_IS_EARLIER(stunp_received, is_hash, received), &whole, sizeof whole);
+        bool has_password = all.password != NULL;
+        int64_t found_kind = stunp_endpoint_server_resume_own(
+            &own, all.name, all.name_length, all.password,
+            has_password ? strlen(all.password) : 0, has_password, all.sha1_key,
+            all.sha1_key != NULL ? 16 : 0, all.sha256_key, all.sha256_key != NULL ? 32 : 0, bytes,
+            length, from, unix_seconds, out, room, into);
+        stunp_result_back(received, into);
+        if (into == &whole) stunp_reply_wipe(&whole.reply);
+        if (found_kind != STUNP_WRONG_HANDLE) return found_kind;
+    }
+    /* For nobody, and for other credentials, it takes a table. */
     stunp_endpoint_users users = {false, NULL};
     int64_t kind = stunp_endpoint_users_new_found(&users, server, found);
     if (kind >= 0)

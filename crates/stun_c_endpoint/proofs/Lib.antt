@@ -1,4 +1,5 @@
 -- Lemmas of the crate.
 pub mod BodyLemmas
+pub mod FoundLemmas
 mod KeyLemmas
 mod ReplyLemmas

@@ -12,6 +12,8 @@ pub mod Told
 pub mod Replies
 -- what one comes to before its user is looked up
 pub mod Lookups
+-- what one comes to by a user who was found
+pub mod Found
 -- why one is refused, as a caller gets it
 pub mod Causes
 -- the agent of ICE that a caller makes

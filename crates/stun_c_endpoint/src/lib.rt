@@ -6,6 +6,7 @@
 
 mod calls;
 mod client;
+mod found;
 mod handle;
 mod ice;
 pub mod laws;

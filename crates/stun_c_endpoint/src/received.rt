@@ -6,7 +6,8 @@ ghost use Rattle.sha1.specs.Sha1.{sha1};
 ghost use Rattle.sha2.specs.Sha256.{sha256};
 ghost use Rattle.stun_base.specs.Hmac.{block_of, key_block, short_key};
 ghost use Rattle.stun_endpoint.specs.Refusals.{code_of};
-ghost use Rattle.stun_c_endpoint.specs.Told.{NOT_SIGNED, at_front, blank, signer_told, drop_number};
+ghost use Rattle.stun_c_endpoint.specs.Told.{NAME_PLACE, NAME_ROOM as most_name, NOT_SIGNED};
+ghost use Rattle.stun_c_endpoint.specs.Told.{at_front, blank, drop_number, signer_told};
 ghost use Rattle.stun_c_endpoint.specs.Told.{dropped, failed, indicated, integrity_number};
 ghost use Rattle.stun_c_endpoint.specs.Told.{requested};
 ghost use Rattle.stun_c_endpoint.specs.Lookups.{lookup_told, named_told};
@@ -283,8 +284,18 @@ impl Received {
             self.old }
     {
         self.algorithm = u16::from(integrity_number(Some(algorithm)));
+        self.set_name(name.as_bytes());
+    }
+
+    /// Sets the name, or the hash of one.
+    fn set_name(&mut self, name: &[u8])
+        ensures { self.new ≡ record self.old {
+          name_length = length name.now;
+          name = at_front NAME_PLACE most_name name.now;
+        } }
+    {
         self.name_length = name.len();
-        self.name = front(name.as_bytes(), NAME_ROOM);
+        self.name = front(name, NAME_ROOM);
     }
 
     /// Sets that no user is known to have signed the message.
@@ -330,13 +341,9 @@ impl Received {
         ensures { self.new ≡ named_told (named_seen user.entry) self.old }
     {
         match user {
-            NamedUser::ByName(name) => {
-                self.name_length = name.len();
-                self.name = front(name.as_bytes(), NAME_ROOM);
-            }
+            NamedUser::ByName(name) => self.set_name(name.as_bytes()),
             NamedUser::ByHash(hash) => {
-                self.name_length = hash.len();
-                self.name = front(&hash, NAME_ROOM);
+                self.set_name(&hash);
                 self.is_hash = true;
             }
         }

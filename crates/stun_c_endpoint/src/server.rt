@@ -27,7 +27,7 @@ use stun_numbers::buffer::put;
 use stun_numbers::refusal::Refusal;
 
 /// The greatest time, in seconds. A greater number must be one of nanoseconds.
-const LAST_SECOND: u64 = 1_099_511_627_776;
+pub const LAST_SECOND: u64 = 1_099_511_627_776;
 
 /// Returns the code of a response, or 0 for a success.
 fn code(refusal: Option<Refused>) -> u16
@@ -60,7 +60,7 @@ fn answered(
 }
 
 /// Writes the result of a server with long-term credentials.
-fn tell(
+pub fn tell(
     outcome: &Outcome<'_, Global>,
     out: &mut [u8],
     received: &mut Received,

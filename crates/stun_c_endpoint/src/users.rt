@@ -20,7 +20,7 @@ use stun_numbers::text::text;
 use stun_types::limits::USERNAME_LIMIT;
 
 /// Fails with `TextTooLong` if the name is too long for a USERNAME.
-fn check_name(name: &str) -> Result<(), Refusal>
+pub fn check_name(name: &str) -> Result<(), Refusal>
     ensures { result ≡ refusal_or (name_refusal name.now) (Ok tt) }
 {
     if name.len() > USERNAME_LIMIT {
@@ -30,7 +30,7 @@ fn check_name(name: &str) -> Result<(), Refusal>
 }
 
 /// Fails with `BadArgument` if the password has no bytes.
-fn check_password(password: &str) -> Result<(), Refusal>
+pub fn check_password(password: &str) -> Result<(), Refusal>
     ensures { result ≡ refusal_or (password_refusal password.now) (Ok tt) }
 {
     if password.is_empty() {

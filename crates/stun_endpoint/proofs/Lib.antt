@@ -16,6 +16,7 @@ pub mod PreviousLemmas
 pub mod UnderstoodLemmas
 pub mod UnnamedLemmas
 pub mod ReadyLemmas
+pub mod FoundLemmas
 pub mod IdentifiedLemmas
 pub mod CauseLemmas
 pub mod CausedLemmas

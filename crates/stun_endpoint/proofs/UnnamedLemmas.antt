@@ -39,7 +39,7 @@ refusal_under s r nonce =
     (cond (not (bytes_eq (their_nonce r) nonce)) (nonce_refusal nonce (their_nonce r))
     Unauthorized))))
 
-refused_rows : (a b c d e f : Bool) (n : VerdictRefusal) (client : ClientSeen)
+pub refused_rows : (a b c d e f : Bool) (n : VerdictRefusal) (client : ClientSeen)
     → (not a && not b && not c && not d && not e && not f) ≡ false
     → by_rows a b c d e f n client
     ≡ Err (cond a Unauthorized (cond b BadRequest (cond c BadRequest (cond d BadRequest
@@ -76,7 +76,7 @@ other_nonce false false false true q f h = refl
 other_nonce false false false false true f h = cc
 other_nonce false false false false false f h = refl
 
-unproven : (a b c d e f : Bool) → f ≡ true
+pub unproven : (a b c d e f : Bool) → f ≡ true
     → (not a && not b && not c && not d && not e && not f) ≡ false
 unproven true b c d e f h = refl
 unproven false true c d e f h = refl
@@ -97,7 +97,7 @@ nobody_named users feature (Some hash) name h = by (is_possible feature) h
     by true e = cc
     by false e = refl
 
-none_verified : (users : Registered) (r : Reading) (user : Option RegisteredUser)
+pub none_verified : (users : Registered) (r : Reading) (user : Option RegisteredUser)
     (chosen : Option IntegrityAlgorithm) → user ≡ None
     → is_none
     (option_and_then (λ a. option_and_then (verified_for users r a) user) chosen) ≡ true
@@ -172,7 +172,7 @@ module _ (s : Settings) (r : Reading) (users : Registered) where
       (nobody_named users s.feature r.userhash r.username h)))
 
   -- the verdict under each of these nonces is the same for all users
-  abbrev AllRefused : List (List ℕ) → Type 0
+  abbrev pub AllRefused : List (List ℕ) → Type 0
   AllRefused [] = Unit {0}
   AllRefused (nonce ∷ nonces) =
       (verdict users s.feature nonce (Some s.algorithms) r ≡ Err (refusal_under s r nonce))
@@ -189,7 +189,7 @@ module _ (s : Settings) (r : Reading) (users : Registered) where
   all_refused (nonce ∷ nonces) (inr h) =
       (refused_alike nonce (inr h), all_refused nonces (inr h))
 
-  both_refused : (xs ys : List (List ℕ)) → AllRefused (xs ++ ys) → AllRefused xs × AllRefused ys
+  pub both_refused : (xs ys : List (List ℕ)) → AllRefused (xs ++ ys) → AllRefused xs × AllRefused ys
   both_refused [] ys h = (tt, h)
   both_refused (x ∷ xs) ys h =
       let rest = both_refused xs ys h.1 in ((h.0, rest.0), rest.1)
@@ -207,7 +207,7 @@ module _ (s : Settings) (r : Reading) (users : Registered) where
       ∙ refused_first (refusal_under s r (nonce_in s secret from (suc e)))
       (refusal_under s r (nonce_in s secret from e))
 
-  both_secrets : (previous : Option (List ℕ)) (from : SocketAddr) (e : ℕ)
+  pub both_secrets : (previous : Option (List ℕ)) (from : SocketAddr) (e : ℕ)
       → AllRefused (nonces_of s s.secret from e) → AllRefused (previous_nonces s previous from e)
       → or_previous s (record { users = users; feature = s.feature; offered = s.algorithms })
       previous from e r

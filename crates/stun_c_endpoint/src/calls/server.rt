@@ -2,11 +2,13 @@
 
 ghost use Rattle.std.specs.Prelude.{◌≡◌, Some, None, if◌then◌else◌};
 ghost use Rattle.stun_c_endpoint.specs.Causes.{CausedAs, caused_at, long_term_and_users};
+ghost use Rattle.stun_c_endpoint.specs.Found.{judge_of_found};
 ghost use Rattle.stun_c_endpoint.specs.Given.{Fills, MakesOpen, MakesServer, MakesShortTerm};
 ghost use Rattle.stun_c_endpoint.specs.Kept.{judge_of};
 ghost use Rattle.stun_c_endpoint.specs.Lookups.{IdentifiesAs, identified_at, long_term_in};
 ghost use Rattle.stun_c_endpoint.specs.Told.{ReceivesAs, failed, outcome_at};
 
+use crate::found::{self, Found};
 use crate::handle::endpoint::EndpointHandle;
 use crate::received::Received;
 use crate::server;
@@ -226,6 +228,53 @@ pub extern "C" fn stunp_endpoint_server_identify_own(
         return Refusal::EmptyHandle.code();
     };
     let told = server::identify(&kept, message, from, unix_seconds, out, received);
+    let answer = answers::number(told);
+    server.put(alloc, kept);
+    answer
+}
+
+/// Judges the request of a look-up by the user who was found, with a password or with stored keys, and
+/// returns the number of the result. It is that of a table of this one user, and only the key that the
+/// request needs is made. A key without bytes is missing.
+///
+/// Fails with `EmptyHandle`, or with `WrongHandle` for anything but a server with long-term
+/// credentials. Then come `NotText` for the name or the password, `TextTooLong` for a name of more
+/// than 513 bytes, and `BadArgument` for a password without bytes, for the length of a key, for the
+/// size of the caller's struct, for the time or for the address. The last are `OutOfMemory`, and
+/// `BufferTooSmall`, which writes how much room the response needs. A result of a call that fails has
+/// the kind 7 and the length 0.
+#[unsafe(no_mangle)]
+pub extern "C" fn stunp_endpoint_server_resume_own(
+    alloc: Global,
+    server: &mut EndpointHandle,
+    name: &[u8],
+    password: &[u8],
+    has_password: bool,
+    sha1: &[u8],
+    sha256: &[u8],
+    message: &[u8],
+    from: &Address,
+    unix_seconds: u64,
+    out: &mut [u8],
+    received: &mut Received,
+) -> i64
+    ensures answer { ReceivesAs (outcome_at (judge_of_found name.now password.now has_password
+        sha1.now sha256.now server.old.kept) from.now unix_seconds message.now
+        (failed received.old)) result out.old out.new (failed received.old) received.new }
+    ensures server { server.new.kept ≡ server.old.kept }
+{
+    received.fails();
+    let Some(kept) = server.take(alloc) else {
+        return Refusal::EmptyHandle.code();
+    };
+    let user = Found {
+        name,
+        password,
+        has_password,
+        sha1,
+        sha256,
+    };
+    let told = found::resume(&kept, &user, message, from, unix_seconds, out, received);
     let answer = answers::number(told);
     server.put(alloc, kept);
     answer

@@ -33,6 +33,8 @@ use stun_auth::auth::{Accepted, LongTermServerUser, NamedUser, UserClaim, Verdic
 use stun_base::prepared_key::PreparedKey;
 use stun_types::message::{Message, MessageClass};
 
+mod found;
+
 impl<A: Allocator + Copy> Server<A> {
     /// Judges a datagram as far as that is possible without its user, for a server that looks its
     /// users up in a database.

@@ -1,0 +1,301 @@
+-- A request of a user who was found: by the user's key it is accepted under its own nonce, which is one
+-- that the server accepts, and without a key it is refused for the reason of the current nonce.
+use Rattle.std.proofs.Common.{◌≡◌, ◌⊎◌, inl, inr, ℕ, zero, suc, List, [], ◌∷◌, ◌++◌, map}
+use Rattle.std.proofs.Common.{Option, Some, None, Bool, true, false, refl, sym, subst, ◌∙◌, ap}
+use Rattle.std.proofs.Common.{Ok, Err}
+use Rattle.std.specs.Prelude.{cond, not, ◌||◌, ◌&&◌}
+use Rattle.std.specs.FinMap as fin
+use Rattle.std.specs.List.{find}
+use Rattle.std.specs.Option.{is_none, option_and_then, option_map, unwrap_or}
+use Rattle.std.specs.Str.{bytes_eq}
+use Rattle.std.proofs.lemmas.Slice.Eq.{bytes_eq-Decides}
+use Rattle.std.specs.declared.net.socket_addr.SocketAddr.{SocketAddr}
+use Rattle.std.specs.declared.result.Result.{Result}
+use Rattle.stun_base.specs.declared.keys.algorithm.IntegrityAlgorithm.{IntegrityAlgorithm}
+use Rattle.stun_types.specs.Integrity.{deciding, deciding_algorithm, integrity_algorithm, is_digest}
+use Rattle.stun_types.specs.Integrity.{verified_algorithm, verified_at}
+use Rattle.stun_types.specs.Walk.{Member}
+use Rattle.stun_auth.specs.Feature.{is_possible}
+use Rattle.stun_auth.specs.Found.{ClaimSeen, claim_of, found_key, found_verdict}
+use Rattle.stun_auth.specs.Judged.{AcceptedSeen, client_judged}
+use Rattle.stun_auth.specs.Reading.{Reading, has_visible_integrity, reading_of, verified_under}
+use Rattle.stun_auth.specs.Registered.{Registered, RegisteredUser, UserSecret, name_cmp}
+use Rattle.stun_auth.specs.Registered.{user_named, user_with_hash}
+use Rattle.stun_auth.specs.Seen.{ClientSeen}
+use Rattle.stun_auth.specs.Server.{agreement, client_of, named_by, named_user, nonce_refusal}
+use Rattle.stun_auth.specs.Server.{their_nonce, verdict, verified_named}
+use Rattle.stun_auth.specs.declared.server.reason.VerdictRefusal.{VerdictRefusal}
+use Rattle.stun_auth.proofs.Accepting.{accepted_from_verdict}
+use Rattle.stun_auth.proofs.FoundLemmas.{claim_message, found_judged, found_key_of_user}
+use Rattle.stun_auth.proofs.FoundLemmas.{found_unproven}
+use Rattle.stun_auth.proofs.MeantUser.{has_hash, nobody, with_secret}
+use Rattle.stun_auth.proofs.VerdictLemmas.{verdict-rows}
+use Rattle.stun_endpoint.specs.Answers.{Signature}
+use Rattle.stun_endpoint.specs.Judged.{IsAcceptedBy, IsAcceptedByPrevious, IsAcceptedUnder, Realm}
+use Rattle.stun_endpoint.specs.Judged.{judged, judged_in, key_of_client}
+use Rattle.stun_endpoint.specs.Lookups.{accepted_nonces, has_one_of, nonces_of, previous_nonces}
+use Rattle.stun_endpoint.specs.Nonces.{epoch_of, nonce_in}
+use Rattle.stun_endpoint.specs.Received.{by_verdict, outcome_of_accepted, refused_with}
+use Rattle.stun_endpoint.specs.Received.{signature_for}
+use Rattle.stun_endpoint.specs.Settings.{Settings, registered_of}
+use Rattle.stun_endpoint.specs.code.Found.{IsAcceptedBySignature, IsRefusedAsNobody}
+use Rattle.stun_endpoint.specs.code.Found.{realm_of_found, waiting_claim}
+use Rattle.stun_endpoint.specs.code.Judgements.{by_judgement}
+use Rattle.stun_endpoint.proofs.AcceptedLemmas.{accepted_at}
+use Rattle.stun_endpoint.proofs.ReadyLemmas.{accepted_parts, nobody_is_awaited}
+use Rattle.stun_endpoint.proofs.UnnamedLemmas.{AllRefused, both_refused, both_secrets}
+use Rattle.stun_endpoint.proofs.UnnamedLemmas.{none_verified, refusal_under, refused_rows}
+use Rattle.stun_endpoint.proofs.UnnamedLemmas.{unnamed_by_current, unnamed_is_refused, unproven}
+
+-- ---- what a request claims that waits
+
+waits_with : (one : Bool) (o : Option ClaimSeen) (claim : ClaimSeen)
+    → cond one o None ≡ Some claim → (one ≡ true) × (o ≡ Some claim)
+waits_with true o claim h = (refl, h)
+waits_with false o claim h = cc
+
+-- ---- the signature
+
+by_member : (bytes key : List ℕ) (a : IntegrityAlgorithm) (o : Option Member)
+    → option_and_then (verified_at (λ _. key) bytes) o ≡ Some a
+    → option_map (λ (m : Member). integrity_algorithm m.1) o ≡ Some a
+by_member bytes key a None h = cc
+by_member bytes key a (Some m) h = by (is_digest bytes key m) h
+  where
+    by : (b : Bool) → cond b (Some (integrity_algorithm m.1)) None ≡ Some a
+        → Some (integrity_algorithm m.1) ≡ Some a
+    by true e = e
+    by false e = cc
+
+by_integrity : (bytes key : List ℕ) (a : IntegrityAlgorithm) (b : Bool)
+    → option_and_then (λ (verify : List ℕ → Option IntegrityAlgorithm). verify key)
+    (cond b (Some (verified_algorithm bytes)) None) ≡ Some a
+    → verified_algorithm bytes key ≡ Some a
+by_integrity bytes key a true h = h
+by_integrity bytes key a false h = cc
+
+-- the digest that verifies is the one that decides
+verified_decides : (bytes key : List ℕ) (a : IntegrityAlgorithm)
+    → verified_under (reading_of bytes) key ≡ Some a → deciding_algorithm bytes ≡ Some a
+unfolding reading_of
+verified_decides bytes key a h =
+    by_member bytes key a (deciding bytes)
+    (by_integrity bytes key a (has_visible_integrity bytes) h)
+
+-- what is signed by an algorithm under a key
+abbrev signature_with : List ℕ → IntegrityAlgorithm → Signature
+signature_with key a = record { algorithm = a; key = key }
+
+-- ---- acceptance
+
+one_or_other : (a b : Bool) → (a || b) ≡ true → (a ≡ true) ⊎ (b ≡ true)
+one_or_other true b h = inl refl
+one_or_other false b h = inr h
+
+unless_other : (a : Bool) → (a || false) ≡ true → a ≡ true
+unless_other true h = refl
+unless_other false h = cc
+
+module _ (s : Settings) (realm : Realm) (from : SocketAddr) (r : Reading) (client : ClientSeen)
+    (theirs : IsAcceptedBy realm (their_nonce r) r client) where
+  under_this : (nonce : List ℕ) → bytes_eq (their_nonce r) nonce ≡ true
+      → IsAcceptedBy realm nonce r client
+  under_this nonce h =
+      subst (λ (n : List ℕ). IsAcceptedBy realm n r client)
+      ((bytes_eq-Decides (their_nonce r) nonce).0 h) theirs
+
+  under_secret : (secret : List ℕ) (e : ℕ) → has_one_of r (nonces_of s secret from e) ≡ true
+      → IsAcceptedUnder s realm secret from e r client
+  under_secret secret zero h =
+      under_this (nonce_in s secret from 0)
+      (unless_other (bytes_eq (their_nonce r) (nonce_in s secret from 0)) h)
+  under_secret secret (suc e) h =
+      by (one_or_other (bytes_eq (their_nonce r) (nonce_in s secret from (suc e))) _ h)
+    where
+      by : (bytes_eq (their_nonce r) (nonce_in s secret from (suc e)) ≡ true)
+          ⊎ ((bytes_eq (their_nonce r) (nonce_in s secret from e) || false) ≡ true)
+          → IsAcceptedUnder s realm secret from (suc e) r client
+      by (inl k) = inl (under_this (nonce_in s secret from (suc e)) k)
+      by (inr k) =
+          inr (under_this (nonce_in s secret from e)
+          (unless_other (bytes_eq (their_nonce r) (nonce_in s secret from e)) k))
+
+  under_previous : (previous : Option (List ℕ)) (e : ℕ)
+      → has_one_of r (previous_nonces s previous from e) ≡ true
+      → IsAcceptedByPrevious s realm previous from e r client
+  under_previous None e h = cc
+  under_previous (Some secret) e h = under_secret secret e h
+
+  -- who is accepted under the nonce of a request is accepted, if the server accepts the nonce
+  under_accepted : (e : ℕ) → has_one_of r (accepted_nonces s from e) ≡ true
+      → judged_in s realm from e r ≡ Ok client
+  under_accepted e h =
+      (accepted_at s realm from r client e).1
+      (by (one_or_other (has_one_of r (nonces_of s s.secret from e))
+      (has_one_of r (previous_nonces s s.previous from e))
+      (sym (accepted_parts s r from e) ∙ h)))
+    where
+      by : (has_one_of r (nonces_of s s.secret from e) ≡ true)
+          ⊎ (has_one_of r (previous_nonces s s.previous from e) ≡ true)
+          → IsAcceptedUnder s realm s.secret from e r client
+          ⊎ IsAcceptedByPrevious s realm s.previous from e r client
+      by (inl k) = inl (under_secret s.secret e k)
+      by (inr k) = inr (under_previous s.previous e k)
+
+-- a request of the user who was found is accepted
+pub found_accepted : (s : Settings) (user : RegisteredUser) (from : SocketAddr) (e : ℕ)
+    (bytes : List ℕ) (claim : ClaimSeen) (key : IntegrityAlgorithm × List ℕ)
+    → waiting_claim s from e bytes ≡ Some claim
+    → found_key (registered_of s) claim user ≡ Some key
+    → IsAcceptedBySignature s user from e bytes claim.algorithm
+    (record { algorithm = key.0; key = key.1 })
+found_accepted s user from e bytes claim key waits is =
+    let r = reading_of bytes in
+    let realm = realm_of_found s user in
+    let client : ClientSeen = record { name = user.username; algorithm = claim.algorithm } in
+    let parts =
+    waits_with (has_one_of r (accepted_nonces s from e)) (claim_of s.algorithms s.feature bytes)
+    claim waits in
+    let of_user = found_key_of_user (registered_of s) user claim key is in
+    let same = claim_message s.algorithms s.feature bytes claim parts.1 in
+    let theirs =
+    accepted_from_verdict realm.users realm.feature (their_nonce r) (Some realm.offered) r client
+    (found_judged (registered_of s) user s.feature bytes claim parts.1
+    ∙ ap (found_verdict claim user) is) in
+    let verified : verified_under r key.1 ≡ Some key.0 =
+    sym (ap (λ m. verified_under (reading_of m) key.1) same) ∙ of_user.1 in
+    record {
+      judged = under_accepted s realm from r client theirs e parts.0;
+      key = of_user.0;
+      signs = ap (option_map (signature_with key.1))
+          (verified_decides bytes key.1 key.0 verified);
+    }
+
+-- ---- refusal
+
+module _ (s : Settings) (r : Reading) (users : Registered) where
+  -- where no digest verifies of the user who is named, each nonce gives the reason
+  all_unproven : (nonces : List (List ℕ))
+      → is_none (verified_named users s.feature r
+      (agreement r (their_nonce r) (Some s.algorithms))) ≡ true
+      → AllRefused s r users nonces
+  all_unproven [] h = tt
+  all_unproven (nonce ∷ nonces) h =
+      let a = is_none r.integrity in
+      let b = is_none r.realm || is_none r.nonce in
+      let c = is_none r.userhash && is_none r.username in
+      let d = is_none (agreement r (their_nonce r) (Some s.algorithms)) in
+      let e = not (bytes_eq (their_nonce r) nonce) in
+      let f =
+      is_none
+      (verified_named users s.feature r (agreement r (their_nonce r) (Some s.algorithms))) in (
+        verdict-rows users s.feature nonce (Some s.algorithms) r
+            ∙ refused_rows a b c d e f (nonce_refusal nonce (their_nonce r))
+            (client_of users s.feature nonce (Some s.algorithms) r)
+            (unproven a b c d e f h),
+        all_unproven nonces h,
+      )
+
+  unproven_is_refused : (from : SocketAddr) (e : ℕ)
+      → is_none (verified_named users s.feature r
+      (agreement r (their_nonce r) (Some s.algorithms))) ≡ true
+      → judged_in s (record { users = users; feature = s.feature; offered = s.algorithms }) from e r
+      ≡ Err (refusal_under s r (nonce_in s s.secret from e))
+  unproven_is_refused from e h =
+      let both =
+      both_refused s r users (nonces_of s s.secret from e) (previous_nonces s s.previous from e)
+      (all_unproven (accepted_nonces s from e) h) in
+      both_secrets s r users s.previous from e both.0 both.1
+
+-- a server without users has none who is named
+named_by_nobody : (s : Settings) (hash name : Option (List ℕ))
+    → named_by hash name (registered_of s) s.feature ≡ None
+named_by_nobody s None None = refl
+named_by_nobody s None (Some name) = ap (with_secret name) (fin.get-empty name_cmp name)
+named_by_nobody s (Some hash) name = by (is_possible s.feature)
+  where
+    by : (b : Bool) → cond b (user_with_hash (registered_of s) hash) None ≡ None
+    by true =
+        ap (λ (es : List (List ℕ × UserSecret)). option_and_then (user_named (registered_of s))
+        (find (has_hash (registered_of s) hash) (map (λ e. e.0) es))) nobody
+    by false = refl
+
+-- a request that claims nothing is refused
+pub found_unclaimed : (s : Settings) (user : RegisteredUser) (from : SocketAddr) (e : ℕ)
+    (bytes : List ℕ) → waiting_claim s from e bytes ≡ None
+    → IsRefusedAsNobody s user from e (reading_of bytes)
+found_unclaimed s user from e bytes none =
+    let r = reading_of bytes in
+    let waits = nobody_is_awaited s from e bytes none in
+    record {
+      why = refusal_under s r (nonce_in s s.secret from e);
+      judged = unnamed_is_refused s r (realm_of_found s user).users from e waits;
+      nobody = unnamed_by_current s r (registered_of s) from e waits;
+    }
+
+-- so is one that is not the user's
+pub found_refused : (s : Settings) (user : RegisteredUser) (from : SocketAddr) (e : ℕ)
+    (bytes : List ℕ) (claim : ClaimSeen)
+    → waiting_claim s from e bytes ≡ Some claim
+    → found_key (registered_of s) claim user ≡ None
+    → IsRefusedAsNobody s user from e (reading_of bytes)
+found_refused s user from e bytes claim waits none =
+    let r = reading_of bytes in
+    let users = (realm_of_found s user).users in
+    let parts =
+    waits_with (has_one_of r (accepted_nonces s from e)) (claim_of s.algorithms s.feature bytes)
+    claim waits in
+    let chosen = agreement r (their_nonce r) (Some s.algorithms) in
+    let ours = nonce_in s s.secret from e in
+    let nobody_there =
+    none_verified (registered_of s) r (named_user (registered_of s) s.feature r) chosen
+    (named_by_nobody s r.userhash r.username) in
+    record {
+      why = refusal_under s r ours;
+      judged = unproven_is_refused s r users from e
+          (found_unproven (registered_of s) user s.feature bytes claim parts.1 none);
+      nobody = (all_unproven s r (registered_of s) (ours ∷ []) nobody_there).0;
+    }
+
+-- ---- what the request comes to
+
+module _ (s : Settings) (user : RegisteredUser) (from : SocketAddr) (now : ℕ) (bytes : List ℕ)
+  where
+    -- one that is accepted
+    pub accepted_comes : (algorithm : IntegrityAlgorithm) (signature : Signature)
+        → IsAcceptedBySignature s user from (epoch_of s now) bytes algorithm signature
+        → outcome_of_accepted s signature.key from bytes
+        (record { name = user.username; algorithm = algorithm })
+        ≡ by_verdict s (realm_of_found s user) from now bytes
+        (judged s (realm_of_found s user) from now (reading_of bytes))
+    accepted_comes algorithm signature is =
+        let client : ClientSeen = record { name = user.username; algorithm = algorithm } in
+        let same : key_of_client (realm_of_found s user) client ≡ signature.key =
+        ap (λ o. unwrap_or o []) is.key in
+        ap (λ k. outcome_of_accepted s k from bytes client) (sym same)
+        ∙ sym (ap (by_verdict s (realm_of_found s user) from now bytes) is.judged)
+
+    -- one that is refused
+    pub refused_comes : (nonce : List ℕ) (v : Result AcceptedSeen VerdictRefusal)
+        → IsRefusedAsNobody s user from (epoch_of s now) (reading_of bytes)
+        → nonce ≡ nonce_in s s.secret from (epoch_of s now)
+        → client_judged v
+        ≡ verdict (registered_of s) s.feature nonce (Some s.algorithms) (reading_of bytes)
+        → by_judgement s nonce from bytes v
+        ≡ by_verdict s (realm_of_found s user) from now bytes
+        (judged s (realm_of_found s user) from now (reading_of bytes))
+    refused_comes nonce v is made judges =
+        by v (judges
+        ∙ ap (λ n. verdict (registered_of s) s.feature n (Some s.algorithms) (reading_of bytes)) made
+        ∙ is.nobody)
+      where
+        by : (v : Result AcceptedSeen VerdictRefusal) → client_judged v ≡ Err is.why
+            → by_judgement s nonce from bytes v
+            ≡ by_verdict s (realm_of_found s user) from now bytes
+            (judged s (realm_of_found s user) from now (reading_of bytes))
+        by (Ok accepted) h = cc
+        by (Err refusal) h =
+            let same : refusal ≡ is.why = cc in
+            ap (λ n. refused_with s n from bytes refusal) made
+            ∙ ap (refused_with s (nonce_in s s.secret from (epoch_of s now)) from bytes) same
+            ∙ sym (ap (by_verdict s (realm_of_found s user) from now bytes) is.judged)

@@ -17,10 +17,12 @@ case ${1-} in
 esac
 mkdir -p "$out"
 rm -f "$out"/libstunp*
-# Fewer functions are copied to where they are called than by default: the shared library is a sixth
-# smaller, and calls take 3 to 9 percent more instructions (bench/README.md).
+# Fewer functions are copied to where they are called than by default, fewer loops are unrolled, and
+# functions begin at multiples of 4 bytes and not of 16: the shared library is a fifth smaller, and
+# calls take 3 to 9 percent more instructions (bench/README.md).
 [ "${1-}" = --link ] || (cd target/export && cargo rustc --quiet --release -p seatcrane-stun-c -- \
-    -C llvm-args=-inline-threshold=70)
+    -C llvm-args='-inline-threshold=70 -unroll-threshold=30 -unroll-runtime=0
+    -unroll-allow-partial=0 -align-all-functions=2')
 built=${CARGO_TARGET_DIR:-target/export/target}
 built=$built/${CARGO_BUILD_TARGET:+$CARGO_BUILD_TARGET/}release/libstunp.a
 # What programs in C have from the headers is here for others: small, and without tables to unwind.

@@ -1,72 +1,75 @@
 //! Ordered maps and sets whose growth can fail.
 //!
 //! The standard `BTreeMap` aborts the program if an allocation fails. So this is a B-tree of its
-//! own, which allocates the memory of a node before any entry moves.
+//! own, which allocates memory before any entry moves. Its nodes have no entries, but their rows in
+//! a list, and the first bits of their keys. So one tree is enough for maps of all types, and most
+//! keys are compared without a look at them.
 
 mod entries;
+mod key;
 mod node;
+mod rows;
 #[cfg(test)]
 mod tests;
+mod tree;
 
 use super::alloc::{AllocError, AllocFailed, Allocator, Global};
 use core::borrow::Borrow;
 use core::ops::{Bound, RangeBounds, RangeFrom};
-use core::sync::atomic::{AtomicUsize, Ordering};
 use core::{fmt, mem};
 use entries::Entries;
-use node::{MOST, Node, Spot, Way};
-
-/// A node, and the index of a key in it, or else the index where the key can be inserted.
-type Place<'a, K, V> = (&'a mut Node<K, V>, Result<usize, usize>);
+use key::Key;
+use node::{Sought, Spot};
+use rows::Rows;
+use tree::Tree;
 
 /// Like the standard `BTreeMap`, but with an allocator that is asked before the map grows.
-pub struct BTreeMap<K: Ord, V, A: Allocator = Global> {
-    // It has no memory until the first entry is inserted.
-    root: Node<K, V>,
+pub struct BTreeMap<K: Key, V, A: Allocator = Global> {
+    tree: Tree,
+    rows: Rows<K, V>,
     alloc: A,
-    len: usize,
-    // The path to the entry that was last inserted, replaced or borrowed mutably, or with which a
-    // range with an excluded start began. Successive calls are often about one key, or about a key
-    // and the next one.
-    recent: AtomicUsize,
 }
 
-impl<K: Ord, V, A: Allocator> BTreeMap<K, V, A> {
+impl<K: Key, V, A: Allocator> BTreeMap<K, V, A> {
     /// Creates an empty map. This does not allocate.
     pub const fn new(alloc: A) -> Self {
         BTreeMap {
-            root: Node::none(),
+            tree: Tree::new(),
+            rows: Rows::new(),
             alloc,
-            len: 0,
-            recent: AtomicUsize::new(0),
         }
     }
 
     /// Returns the number of entries.
     pub fn len(&self) -> usize {
-        self.len
+        self.rows.len()
     }
 
     /// Returns `true` if the map has no entries.
     pub fn is_empty(&self) -> bool {
-        self.len == 0
+        self.len() == 0
     }
 
     /// Returns a reference to the value of a key.
-    pub fn get<Q: Ord + ?Sized>(&self, key: &Q) -> Option<&V>
+    pub fn get<Q: Key + ?Sized>(&self, key: &Q) -> Option<&V>
     where
         K: Borrow<Q>,
     {
-        if let Some((node, at)) = self.find_recent(key) {
-            return Some(node.value(at));
+        if let Some((_, value)) = self.recent(key) {
+            return Some(value);
         }
-        let mut node = &self.root;
-        loop {
-            match node.search(key) {
-                Ok(at) => return Some(node.value(at)),
-                Err(at) => node = node.children.get(at)?,
-            }
-        }
+        let order = |row| Ord::cmp(self.rows.get(row).0.borrow(), key);
+        let row = self.tree.find(&Sought::new(key, &order))?;
+        Some(&self.rows.get(row).1)
+    }
+
+    /// Returns the recent entry, if it has this key.
+    fn recent<Q: Key + ?Sized>(&self, key: &Q) -> Option<&(K, V)>
+    where
+        K: Borrow<Q>,
+    {
+        let recent = self.rows.find(self.tree.recent())?;
+        (recent.0.borrow() == key).then_some(recent)
     }
 
     /// Returns the entry with the least key.
@@ -74,40 +77,22 @@ impl<K: Ord, V, A: Allocator> BTreeMap<K, V, A> {
         self.iter().next()
     }
 
-    /// Returns the entry of a key if it is the one at the end of the path `recent`.
-    fn find_recent<Q: Ord + ?Sized>(&self, key: &Q) -> Option<Spot<'_, K, V>>
-    where
-        K: Borrow<Q>,
-    {
-        let ((node, at), _) = self.root.follow(self.recent.load(Ordering::Relaxed))?;
-        (node.keys.get(at)?.borrow() == key).then_some((node, at))
-    }
-
     /// Returns a mutable reference to the value of a key.
-    pub fn get_mut<Q: Ord + ?Sized>(&mut self, key: &Q) -> Option<&mut V>
+    pub fn get_mut<Q: Key + ?Sized>(&mut self, key: &Q) -> Option<&mut V>
     where
         K: Borrow<Q>,
     {
-        if self.find_recent(key).is_some() {
-            return self.root.follow_mut(*self.recent.get_mut());
-        }
-        let mut way = Way::ROOT;
-        let mut node = &mut self.root;
-        loop {
-            let place = node.search(key);
-            way.push(place.unwrap_or_else(|at| at));
-            match place {
-                Ok(at) => {
-                    *self.recent.get_mut() = way.indices;
-                    return Some(node.value_mut(at));
-                }
-                Err(at) => node = node.children.get_mut(at)?,
-            }
-        }
+        let row = if self.recent(key).is_some() {
+            self.tree.recent()
+        } else {
+            let order = |row| Ord::cmp(self.rows.get(row).0.borrow(), key);
+            self.tree.visit(&Sought::new(key, &order))?
+        };
+        Some(&mut self.rows.get_mut(row).1)
     }
 
     /// Returns `true` if the map has this key.
-    pub fn contains_key<Q: Ord + ?Sized>(&self, key: &Q) -> bool
+    pub fn contains_key<Q: Key + ?Sized>(&self, key: &Q) -> bool
     where
         K: Borrow<Q>,
     {
@@ -117,11 +102,10 @@ impl<K: Ord, V, A: Allocator> BTreeMap<K, V, A> {
     /// Inserts a value and returns the previous value of the key, if there was one. The stored key
     /// is not replaced. If an allocation fails, the error returns the key and the value.
     pub fn insert(&mut self, key: K, value: V) -> Result<Option<V>, AllocFailed<(K, V)>> {
-        match self.place(&key) {
-            Ok((node, Ok(at))) => Ok(Some(mem::replace(node.value_mut(at), value))),
-            Ok((node, Err(at))) => {
-                node.put(at, key, value);
-                self.len += 1;
+        match self.enter(&key) {
+            Ok(Some(row)) => Ok(Some(mem::replace(&mut self.rows.get_mut(row).1, value))),
+            Ok(None) => {
+                self.rows.push(key, value);
                 Ok(None)
             }
             Err(AllocError) => Err(AllocFailed {
@@ -130,97 +114,84 @@ impl<K: Ord, V, A: Allocator> BTreeMap<K, V, A> {
         }
     }
 
-    /// Finds the node and the index of a key, or those where it can be inserted. If the leaf for a
-    /// new key is full, each full node on the path to it is split, so that there is room in each. A
-    /// full leaf whose neighbor has room moves entries to it instead.
-    fn place(&mut self, key: &K) -> Result<Place<'_, K, V>, AllocError> {
-        if self.root.keys.capacity() == 0 {
-            self.root = Node::new(true, &self.alloc)?;
+    /// Returns the row of a key, if the map has it. If not, inserts the key in the tree with the
+    /// next row, for which there is memory.
+    fn enter(&mut self, key: &K) -> Result<Option<usize>, AllocError> {
+        let order = |row| self.rows.get(row).0.cmp(key);
+        let sought = Sought::new(key, &order);
+        if self.rows.is_full() && self.tree.find(&sought).is_none() {
+            self.rows.grow(&self.alloc)?;
         }
-        let mut has_room = self.root.len() == MOST && self.root.has_room(key);
-        if self.root.len() == MOST && !has_room {
-            let root = Node::new(false, &self.alloc)?;
-            let child = mem::replace(&mut self.root, root);
-            self.root.children.push(child);
-        }
-        let mut node = &mut self.root;
-        let mut way = Way::ROOT;
-        loop {
-            let place = node.search(key);
-            let (Err(at), false) = (place, node.is_leaf()) else {
-                way.push(place.unwrap_or_else(|at| at));
-                *self.recent.get_mut() = way.indices;
-                return Ok((node, place));
-            };
-            let is_full = node.children[at].len() == MOST;
-            has_room = has_room || (is_full && node.children[at].has_room(key));
-            if !is_full || has_room {
-                way.push(at);
-                node = &mut node.children[at];
-            } else if !node.share(at) {
-                node.split(at, key, &self.alloc)?;
-            }
-        }
+        let order = |row| self.rows.get(row).0.cmp(key);
+        let sought = Sought::new(key, &order);
+        self.tree.enter(&sought, self.rows.len(), &self.alloc)
     }
 
     /// Removes a key and returns its entry. This does not allocate.
-    pub fn remove_entry<Q: Ord + ?Sized>(&mut self, key: &Q) -> Option<(K, V)>
+    pub fn remove_entry<Q: Key + ?Sized>(&mut self, key: &Q) -> Option<(K, V)>
     where
         K: Borrow<Q>,
     {
-        let entry = self.root.remove(key, &self.alloc)?;
-        self.len -= 1;
-        self.lower();
-        Some(entry)
-    }
-
-    /// Removes nodes at the root that have a single child.
-    fn lower(&mut self) {
-        while self.root.len() == 0 {
-            let Some(child) = self.root.children.pop() else {
-                return;
-            };
-            mem::replace(&mut self.root, child).leave(&self.alloc);
+        let order = |row| Ord::cmp(self.rows.get(row).0.borrow(), key);
+        let row = self.tree.remove(&Sought::new(key, &order), &self.alloc)?;
+        let last = self.rows.len() - 1;
+        if row != last {
+            // The last entry is moved to the row that is free now.
+            let moved = &self.rows.get(last).0;
+            let order = |row| self.rows.get(row).0.cmp(moved);
+            self.tree.renumber(&Sought::new(moved, &order), row);
         }
+        Some(self.rows.swap_remove(row, &self.alloc))
     }
 
     /// Removes a key and returns its value. This does not allocate.
-    pub fn remove<Q: Ord + ?Sized>(&mut self, key: &Q) -> Option<V>
+    pub fn remove<Q: Key + ?Sized>(&mut self, key: &Q) -> Option<V>
     where
         K: Borrow<Q>,
     {
-        if self.root.is_leaf() {
-            // A large value is moved once, and not through the levels of a tree.
-            let at = self.root.search(key).ok()?;
-            self.len -= 1;
-            return Some(self.root.remove_value(at));
-        }
         self.remove_entry(key).map(|(_, value)| value)
     }
 
     /// Retains only the entries for which `condition` returns `true`. It is called in the order of
     /// the keys. This does not allocate.
     pub fn retain(&mut self, mut condition: impl FnMut(&K, &mut V) -> bool) {
-        let mut len = 0;
-        let mut counted = |key: &K, value: &mut V| {
+        let (rows, mut len) = (&mut self.rows, 0);
+        let mut is_kept = |row| {
+            let (key, value) = rows.get_mut(row);
             let is_kept = condition(key, value);
-            len += usize::from(is_kept);
+            if is_kept {
+                len += 1;
+            } else {
+                rows.dismiss(row);
+            }
             is_kept
         };
-        self.root.retain(&mut counted, &self.alloc);
-        self.len = len;
-        self.lower();
+        self.tree.retain(&mut is_kept, &self.alloc);
+        if len == self.rows.len() {
+            return;
+        }
+        let mut free = 0;
+        self.tree.renumber_all(&mut |row| {
+            if row < len {
+                return row;
+            }
+            let settled = self.rows.settle(row, free);
+            free = settled + 1;
+            settled
+        });
+        self.rows.cut(len, &self.alloc);
     }
 
     /// Returns an iterator over the entries, in the order of their keys.
     pub fn iter(&self) -> impl Iterator<Item = (&K, &V)> {
-        Entries::new(&self.root, self.root.seek(Bound::Unbounded).0)
+        let first = self.tree.seek(Bound::Unbounded).0;
+        Entries::new(&self.tree, &self.rows, first)
     }
 
     /// Returns an iterator over the entries whose keys are in a range, in the order of their keys.
     pub fn range<R: RangeBounds<K>>(&self, range: R) -> impl Iterator<Item = (&K, &V)> {
         let has_end = !matches!(range.end_bound(), Bound::Unbounded);
-        let entries = Entries::new(&self.root, self.seek(range.start_bound()));
+        let entries = Entries::new(&self.tree, &self.rows, self.seek(range.start_bound()));
         // The entries begin at the start of the range. So a range without an end is not needed
         // again, and moving it into the iterator would take longer than a step of a walk.
         let range = has_end.then_some(range);
@@ -232,64 +203,41 @@ impl<K: Ord, V, A: Allocator> BTreeMap<K, V, A> {
     }
 
     /// Returns the first entry whose key is not before `start`.
-    fn seek(&self, start: Bound<&K>) -> Option<Spot<'_, K, V>> {
-        self.seek_recent(start).or_else(|| self.seek_far(start))
-    }
-
-    /// Like [`Self::seek`], but looks only at the entry at the end of the path `recent`, and at the
-    /// next entry in its leaf.
-    #[inline]
-    fn seek_recent(&self, start: Bound<&K>) -> Option<Spot<'_, K, V>> {
-        let (key, is_past) = match start {
-            Bound::Included(key) => (key, false),
-            Bound::Excluded(key) => (key, true),
-            Bound::Unbounded => return None,
+    fn seek(&self, start: Bound<&K>) -> Option<Spot<'_>> {
+        let (Bound::Included(key) | Bound::Excluded(key)) = start else {
+            return self.tree.seek(Bound::Unbounded).0;
         };
-        let ((node, at), next) = self.root.follow(self.recent.load(Ordering::Relaxed))?;
-        if node.keys.get(at)? != key {
-            return None;
+        if matches!(start, Bound::Excluded(_)) && self.recent(key).is_some() {
+            let next = self.tree.next_recent(self.tree.recent());
+            if next.is_some() {
+                return next;
+            }
         }
-        if !is_past {
-            return Some((node, at));
-        }
-        if !node.is_leaf() || at + 1 == node.len() {
-            return None;
-        }
-        // The caller walks over the map key by key, and will continue at this entry.
-        self.recent.store(next, Ordering::Relaxed);
-        Some((node, at + 1))
-    }
-
-    /// Like [`Self::seek`], but searches the tree from its root. It is not inlined, so that a step
-    /// of a walk is short.
-    #[inline(never)]
-    fn seek_far(&self, start: Bound<&K>) -> Option<Spot<'_, K, V>> {
-        let (spot, way) = self.root.seek(start);
-        if matches!(start, Bound::Excluded(_)) {
-            self.recent.store(way.indices, Ordering::Relaxed);
-        }
-        spot
+        let order = |row| self.rows.get(row).0.cmp(key);
+        let sought = Sought::new(key, &order);
+        self.tree.walk(start.map(|_| &sought))
     }
 }
 
-impl<K: Ord, V, A: Allocator> Drop for BTreeMap<K, V, A> {
+impl<K: Key, V, A: Allocator> Drop for BTreeMap<K, V, A> {
     fn drop(&mut self) {
-        self.root.leave(&self.alloc);
+        self.tree.leave(&self.alloc);
+        self.rows.leave(&self.alloc);
     }
 }
 
-impl<K: Ord + fmt::Debug, V: fmt::Debug, A: Allocator> fmt::Debug for BTreeMap<K, V, A> {
+impl<K: Key + fmt::Debug, V: fmt::Debug, A: Allocator> fmt::Debug for BTreeMap<K, V, A> {
     fn fmt(&self, f: &mut fmt::Formatter<'_>) -> fmt::Result {
         f.debug_map().entries(self.iter()).finish()
     }
 }
 
 /// Like the standard `BTreeSet`, but with an allocator that is asked before the set grows.
-pub struct BTreeSet<K: Ord, A: Allocator = Global> {
+pub struct BTreeSet<K: Key, A: Allocator = Global> {
     map: BTreeMap<K, (), A>,
 }
 
-impl<K: Ord, A: Allocator> BTreeSet<K, A> {
+impl<K: Key, A: Allocator> BTreeSet<K, A> {
     /// Creates an empty set. This does not allocate.
     pub const fn new(alloc: A) -> Self {
         BTreeSet {
@@ -338,7 +286,7 @@ impl<K: Ord, A: Allocator> BTreeSet<K, A> {
     }
 }
 
-impl<K: Ord + fmt::Debug, A: Allocator> fmt::Debug for BTreeSet<K, A> {
+impl<K: Key + fmt::Debug, A: Allocator> fmt::Debug for BTreeSet<K, A> {
     fn fmt(&self, f: &mut fmt::Formatter<'_>) -> fmt::Result {
         f.debug_set().entries(self.iter()).finish()
     }

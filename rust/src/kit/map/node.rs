@@ -1,8 +1,8 @@
 //! The nodes of a B-tree, and the paths to their entries.
 
+use super::key::Key;
 use crate::kit::alloc::{AllocError, Allocator};
 use ::alloc::vec::Vec;
-use core::borrow::Borrow;
 use core::cmp::Ordering;
 use core::mem;
 use core::ops::{Bound, Range};
@@ -10,7 +10,7 @@ use core::ops::{Bound, Range};
 /// The maximum number of entries of a node. Each node has the capacity for that many.
 pub(super) const MOST: usize = 32;
 
-/// The number of keys that a search in a node skips with one comparison.
+/// The number of heads that a search in a node skips with one comparison.
 const STEP: usize = 4;
 
 /// The number of bits of an index in a path.
@@ -18,7 +18,7 @@ const INDEX_BITS: u32 = 6;
 
 /// The path from the root to an entry. It holds the index of the child to follow in each node, then
 /// the index of the entry. Each index is stored plus one in six bits, beginning with the lowest.
-/// Indices that no longer fit are dropped, so the caller must compare the key at the end of the
+/// Indices that no longer fit are dropped, so the caller must compare the row at the end of the
 /// path.
 #[derive(Clone, Copy)]
 pub(super) struct Way {
@@ -45,8 +45,56 @@ impl Way {
     }
 }
 
-/// An entry: its node, and its index in it.
-pub(super) type Spot<'a, K, V> = (&'a Node<K, V>, usize);
+/// What a search looks for: the head of a key, and the order of the key of a row and that key.
+pub(super) struct Sought<'a> {
+    head: u64,
+    order: &'a dyn Fn(usize) -> Ordering,
+}
+
+impl<'a> Sought<'a> {
+    pub(super) fn new<Q: Key + ?Sized>(key: &Q, order: &'a dyn Fn(usize) -> Ordering) -> Self {
+        let head = key.head();
+        Sought { head, order }
+    }
+
+    /// Returns the order of the key of an entry and the key that is sought.
+    fn order(&self, entry: Entry) -> Ordering {
+        let order = entry.head.cmp(&self.head);
+        order.then_with(|| (self.order)(entry.row))
+    }
+}
+
+/// An entry: the head of its key, and its row.
+#[derive(Clone, Copy)]
+struct Entry {
+    head: u64,
+    row: usize,
+}
+
+impl Entry {
+    const NONE: Entry = Entry { head: 0, row: 0 };
+}
+
+/// Where an entry is: its node, and its index in it.
+#[derive(Clone, Copy)]
+pub(super) struct Spot<'a> {
+    node: &'a Node,
+    at: usize,
+}
+
+impl Spot<'_> {
+    /// Returns the row of the entry.
+    pub(super) fn row(self) -> usize {
+        self.node.entries[self.at].row
+    }
+
+    /// Returns the next entry, if it is in the same leaf.
+    pub(super) fn next_in_leaf(self) -> Option<Self> {
+        let Spot { node, at } = self;
+        let at = at + 1;
+        (node.is_leaf() && at < node.len()).then_some(Spot { node, at })
+    }
+}
 
 /// A node of the tree: a leaf, or a node with a child before, between and after its entries. All
 /// leaves have the same number of nodes above them.
@@ -54,50 +102,31 @@ pub(super) type Spot<'a, K, V> = (&'a Node<K, V>, usize);
 /// When an entry below a child is removed, the child is merged with a neighbor if both together
 /// fill at most half a node. A node can still be empty if its neighbors are full.
 ///
-/// The keys are sorted. The values are not sorted, because they may be large: a new value is
-/// appended, and when a value is removed the last one is moved into its slot.
-pub(super) struct Node<K, V> {
-    pub(super) keys: Vec<K>,
-    values: Vec<V>,
-    // The index in `values` of the value of each key.
-    places: [u8; MOST],
-    pub(super) children: Vec<Node<K, V>>,
+/// A node has no type parameter. So maps of all types share its code.
+pub(super) struct Node {
+    entries: Vec<Entry>,
+    children: Vec<Node>,
 }
 
-/// The index for a key whose value was removed, until the key is removed too.
-const NOWHERE: u8 = u8::MAX;
-
-/// Converts the index of a value to the type of `places`.
-#[allow(
-    clippy::cast_possible_truncation,
-    reason = "a node has few values"
-)]
-const fn place(at: usize) -> u8 {
-    at as u8
-}
-
-impl<K: Ord, V> Node<K, V> {
+impl Node {
     /// Creates a leaf without memory.
     pub(super) const fn none() -> Self {
         Node {
-            keys: Vec::new(),
-            values: Vec::new(),
-            places: [NOWHERE; MOST],
+            entries: Vec::new(),
             children: Vec::new(),
         }
     }
 
     /// Allocates the memory of an empty node.
-    pub(super) fn new<A: Allocator>(is_leaf: bool, alloc: &A) -> Result<Self, AllocError> {
+    pub(super) fn new(is_leaf: bool, alloc: &dyn Allocator) -> Result<Self, AllocError> {
         let mut node = Node::none();
-        alloc.allocate(Self::bytes(is_leaf), align_of::<(K, V)>())?;
-        let mut reserved = node.keys.try_reserve_exact(MOST);
-        reserved = reserved.and_then(|()| node.values.try_reserve_exact(MOST));
+        alloc.allocate(Self::bytes(is_leaf), align_of::<Entry>())?;
+        let mut reserved = node.entries.try_reserve_exact(MOST);
         if !is_leaf {
             reserved = reserved.and_then(|()| node.children.try_reserve_exact(MOST + 1));
         }
         if reserved.is_err() {
-            alloc.deallocate(Self::bytes(is_leaf), align_of::<(K, V)>());
+            alloc.deallocate(Self::bytes(is_leaf), align_of::<Entry>());
             return Err(AllocError);
         }
         Ok(node)
@@ -106,21 +135,29 @@ impl<K: Ord, V> Node<K, V> {
     /// Returns the number of bytes that a node requests from its allocator.
     const fn bytes(is_leaf: bool) -> usize {
         let children = if is_leaf { 0 } else { MOST + 1 };
-        MOST * (size_of::<K>() + size_of::<V>()) + children * size_of::<Self>()
+        MOST * size_of::<Entry>() + children * size_of::<Self>()
     }
 
     /// Tells the allocator that the memory of this node and of all nodes below it is no longer
     /// used.
-    pub(super) fn leave<A: Allocator>(&self, alloc: &A) {
+    pub(super) fn leave(&self, alloc: &dyn Allocator) {
         self.children.iter().for_each(|child| child.leave(alloc));
-        if self.keys.capacity() > 0 {
+        if self.has_memory() {
             let is_leaf = self.children.capacity() == 0;
-            alloc.deallocate(Self::bytes(is_leaf), align_of::<(K, V)>());
+            alloc.deallocate(Self::bytes(is_leaf), align_of::<Entry>());
         }
     }
 
+    pub(super) fn has_memory(&self) -> bool {
+        self.entries.capacity() > 0
+    }
+
     pub(super) fn len(&self) -> usize {
-        self.keys.len()
+        self.entries.len()
+    }
+
+    pub(super) fn is_full(&self) -> bool {
+        self.len() == MOST
     }
 
     pub(super) fn is_leaf(&self) -> bool {
@@ -129,33 +166,47 @@ impl<K: Ord, V> Node<K, V> {
 
     /// Returns the index of a key, or else the index of the first entry after it, which is also the
     /// index of the child in which the key would be.
-    pub(super) fn search<Q: Ord + ?Sized>(&self, key: &Q) -> Result<usize, usize>
-    where
-        K: Borrow<Q>,
-    {
-        // A processor can load the next keys of these loops ahead of time. In a binary search each
-        // step waits for the one before, which takes longer with so few keys.
+    pub(super) fn search(&self, sought: &Sought<'_>) -> Result<usize, usize> {
+        let (entries, head) = (self.entries.as_slice(), sought.head);
+        // A processor can load the next heads of these loops ahead of time. In a binary search each
+        // step waits for the one before, which takes longer with so few heads.
         let mut at = 0;
-        while self
-            .keys
-            .get(at + STEP - 1)
-            .is_some_and(|k| k.borrow() < key)
-        {
+        while entries.get(at + STEP - 1).is_some_and(|e| e.head < head) {
             at += STEP;
         }
-        for k in &self.keys[at..] {
-            match k.borrow().cmp(key) {
-                Ordering::Less => at += 1,
-                Ordering::Equal => return Ok(at),
-                Ordering::Greater => break,
-            }
+        while entries.get(at).is_some_and(|e| e.head < head) {
+            at += 1;
         }
-        Err(at)
+        let alike = entries[at..].iter().take_while(|e| e.head == head).count();
+        if alike == 0 {
+            return Err(at);
+        }
+        // Only keys with this head are looked at, and there are seldom two.
+        let alike = &entries[at..at + alike];
+        let found = alike.binary_search_by(|e| (sought.order)(e.row));
+        found.map(|more| at + more).map_err(|more| at + more)
     }
 
-    /// Follows a path. Returns the node at its end, the index of an entry that this node may have,
-    /// and, if the node is a leaf, the path to the entry after that one.
-    pub(super) fn follow(&self, way: usize) -> Option<(Spot<'_, K, V>, usize)> {
+    /// Returns the row of a key, and the path to it.
+    pub(super) fn find(&self, sought: &Sought<'_>) -> Option<(usize, Way)> {
+        let (mut node, mut way) = (self, Way::ROOT);
+        loop {
+            match node.search(sought) {
+                Ok(at) => {
+                    way.push(at);
+                    return Some((node.entries[at].row, way));
+                }
+                Err(at) => {
+                    way.push(at);
+                    node = node.children.get(at)?;
+                }
+            }
+        }
+    }
+
+    /// Follows a path to an entry, if it has this row. Also returns, if the node at its end is a
+    /// leaf, the path to the entry after that one.
+    pub(super) fn follow(&self, way: usize, row: usize) -> Option<(Spot<'_>, usize)> {
         let (mut node, mut step) = (self, 1_usize);
         let (mut at, mut rest) = Way::first(way);
         while rest > 0 {
@@ -163,22 +214,12 @@ impl<K: Ord, V> Node<K, V> {
             (at, rest) = Way::first(rest);
             step <<= INDEX_BITS;
         }
-        Some(((node, at), way.wrapping_add(step)))
-    }
-
-    /// Returns the value of the entry at the end of a path.
-    pub(super) fn follow_mut(&mut self, way: usize) -> Option<&mut V> {
-        let mut node = self;
-        let (mut at, mut rest) = Way::first(way);
-        while rest > 0 {
-            node = node.children.get_mut(at)?;
-            (at, rest) = Way::first(rest);
-        }
-        Some(node.value_mut(at))
+        let is_found = node.entries.get(at)?.row == row;
+        is_found.then_some((Spot { node, at }, way.wrapping_add(step)))
     }
 
     /// Returns the first entry whose key is not before `start`, and the path to it.
-    pub(super) fn seek(&self, start: Bound<&K>) -> (Option<Spot<'_, K, V>>, Way) {
+    pub(super) fn seek(&self, start: Bound<&Sought<'_>>) -> (Option<Spot<'_>>, Way) {
         let (mut node, mut way) = (self, Way::ROOT);
         let (mut found, mut found_way) = (None, way);
         loop {
@@ -190,7 +231,7 @@ impl<K: Ord, V> Node<K, V> {
             way.push(at);
             if at < node.len() {
                 // This is the entry unless the child before it has one.
-                (found, found_way) = (Some((node, at)), way);
+                (found, found_way) = (Some(Spot { node, at }), way);
             }
             let Some(child) = node.children.get(at) else {
                 return (found, found_way);
@@ -201,83 +242,53 @@ impl<K: Ord, V> Node<K, V> {
 
     /// Returns `true` if the key is in this node or below, or if the leaf where it would be has
     /// room. Then no node has to be split for it.
-    pub(super) fn has_room(&self, key: &K) -> bool {
+    pub(super) fn has_room(&self, sought: &Sought<'_>) -> bool {
         let mut node = self;
         loop {
-            match node.search(key) {
+            match node.search(sought) {
                 Ok(_) => return true,
-                Err(_) if node.is_leaf() => return node.len() < MOST,
+                Err(_) if node.is_leaf() => return !node.is_full(),
                 Err(at) => node = &node.children[at],
             }
         }
     }
 
-    /// Returns the value of the key at an index.
-    pub(super) fn value(&self, at: usize) -> &V {
-        &self.values[usize::from(self.places[at])]
-    }
-
-    /// Returns a mutable reference to the value of the key at an index.
-    pub(super) fn value_mut(&mut self, at: usize) -> &mut V {
-        &mut self.values[usize::from(self.places[at])]
-    }
-
-    /// Inserts an entry at an index. The node is not full.
-    #[inline]
-    pub(super) fn put(&mut self, at: usize, key: K, value: V) {
-        self.places.copy_within(at..self.keys.len(), at + 1);
-        self.places[at] = place(self.values.len());
-        self.keys.insert(at, key);
-        self.values.push(value);
-    }
-
-    /// Removes the entry at an index.
-    pub(super) fn take(&mut self, at: usize) -> (K, V) {
-        let value = self.take_value(at);
-        (self.take_key(at), value)
-    }
-
-    /// Removes the entry at an index and returns its value.
-    pub(super) fn remove_value(&mut self, at: usize) -> V {
-        let value = self.take_value(at);
-        self.take_key(at);
-        value
-    }
-
-    /// Removes the key at an index, whose value is removed already.
-    fn take_key(&mut self, at: usize) -> K {
-        self.places.copy_within(at + 1..self.keys.len(), at);
-        self.keys.remove(at)
-    }
-
-    /// Removes and returns the value of the key at an index. The key then has no value.
-    fn take_value(&mut self, at: usize) -> V {
-        let free = mem::replace(&mut self.places[at], NOWHERE);
-        let value = self.values.swap_remove(usize::from(free));
-        let last = place(self.values.len());
-        if free != last {
-            let mut places = self.places[..self.keys.len()].iter_mut();
-            if let Some(moved) = places.find(|place| **place == last) {
-                *moved = free;
+    /// Returns the row at the index of a key, or else inserts the key with a row at the index where
+    /// it can be. The node is not full then.
+    pub(super) fn row_or_put(
+        &mut self,
+        place: Result<usize, usize>,
+        sought: &Sought<'_>,
+        row: usize,
+    ) -> Option<usize> {
+        match place {
+            Ok(at) => Some(self.entries[at].row),
+            Err(at) => {
+                let head = sought.head;
+                self.entries.insert(at, Entry { head, row });
+                None
             }
         }
-        value
+    }
+
+    /// Makes a node the first child of this one, which has none.
+    pub(super) fn adopt(&mut self, child: Node) {
+        self.children.push(child);
     }
 
     /// Moves the entries in a range of indices to another node, before its entry at `at`.
     fn pass(&mut self, range: Range<usize>, other: &mut Self, at: usize) {
-        let (start, count, len) = (range.start, range.len(), self.keys.len());
-        other.places.copy_within(at..other.keys.len(), at + count);
-        for (from, to) in range.clone().zip(at..) {
-            other.places[to] = place(other.values.len());
-            other.values.push(self.take_value(from));
-        }
-        self.places.copy_within(range.end..len, start);
-        if at == other.keys.len() {
-            other.keys.extend(self.keys.drain(range));
-        } else {
-            other.keys.splice(at..at, self.keys.drain(range));
-        }
+        let (count, end) = (range.len(), other.len());
+        other.entries.resize(end + count, Entry::NONE);
+        other.entries.copy_within(at..end, at + count);
+        other.entries[at..at + count].copy_from_slice(&self.entries[range.clone()]);
+        self.entries.copy_within(range.end.., range.start);
+        self.entries.truncate(self.len() - count);
+    }
+
+    /// Returns the child at an index.
+    pub(super) fn child(&mut self, at: usize) -> &mut Node {
+        &mut self.children[at]
     }
 
     /// Moves entries of a full leaf to the neighbor with more room, so that both have about as
@@ -294,51 +305,52 @@ impl<K: Ord, V> Node<K, V> {
             return false;
         }
         let middle = if before < after { at } else { at - 1 };
-        let (key, value) = self.take(middle);
         let (upper, lower) = self.children.split_at_mut(middle + 1);
         let (left, right) = (&mut upper[middle], &mut lower[0]);
-        let (key, value) = if middle == at {
-            right.put(0, key, value);
+        // The entry between the two goes to one of them, and one of the other takes its place.
+        let between = &mut self.entries[middle];
+        if middle == at {
+            right.entries.insert(0, *between);
             let from = left.len() - count;
             left.pass(from + 1..left.len(), right, 0);
-            left.take(from)
+            *between = left.entries.remove(from);
         } else {
+            left.entries.push(*between);
             let end = left.len();
-            left.put(end, key, value);
-            right.pass(0..count - 1, left, end + 1);
-            right.take(0)
-        };
-        self.put(middle, key, value);
+            right.pass(0..count - 1, left, end);
+            *between = right.entries.remove(0);
+        }
         true
     }
 
-    /// Splits a child that is full, so that `key` can be inserted in it. This node is not full. If
-    /// the allocation fails, no entry moves.
-    pub(super) fn split<A: Allocator>(
+    /// Splits a child that is full, so that the key can be inserted in it. This node is not full.
+    /// If the allocation fails, no entry moves.
+    pub(super) fn split(
         &mut self,
         at: usize,
-        key: &K,
-        alloc: &A,
+        sought: &Sought<'_>,
+        alloc: &dyn Allocator,
     ) -> Result<(), AllocError> {
         let is_last = at == self.len();
         let child = &mut self.children[at];
         let mut next = Node::new(child.is_leaf(), alloc)?;
         // If the keys are inserted in ascending order, the nodes are left nearly full.
-        let is_ascending = is_last && child.keys.last().is_some_and(|last| last < key);
+        let last = child.entries.last();
+        let is_ascending = is_last && last.is_some_and(|e| sought.order(*e).is_lt());
         let middle = if is_ascending { MOST - 2 } else { MOST / 2 };
         child.pass(middle + 1..MOST, &mut next, 0);
         if !child.is_leaf() {
             next.children.extend(child.children.drain(middle + 1..));
         }
-        let (key, value) = child.take(middle);
-        self.put(at, key, value);
+        let between = child.entries.remove(middle);
+        self.entries.insert(at, between);
         self.children.insert(at + 1, next);
         Ok(())
     }
 
     /// Merges the children before and after an entry with that entry if together they fill at most
     /// half a node, or if one of them is empty and the other has room for the entry.
-    fn merge<A: Allocator>(&mut self, at: usize, alloc: &A) {
+    fn merge(&mut self, at: usize, alloc: &dyn Allocator) {
         let (before, after) = (self.children[at].len(), self.children[at + 1].len());
         let most = if before.min(after) == 0 {
             MOST
@@ -348,17 +360,17 @@ impl<K: Ord, V> Node<K, V> {
         if before + 1 + after > most {
             return;
         }
-        let (key, value) = self.take(at);
+        let between = self.entries.remove(at);
         let mut next = self.children.remove(at + 1);
         let child = &mut self.children[at];
-        child.put(before, key, value);
+        child.entries.push(between);
         next.pass(0..after, child, before + 1);
         child.children.append(&mut next.children);
         next.leave(alloc);
     }
 
     /// Merges a child with its neighbors if they are small.
-    fn tidy<A: Allocator>(&mut self, at: usize, alloc: &A) {
+    fn tidy(&mut self, at: usize, alloc: &dyn Allocator) {
         if at < self.len() {
             self.merge(at, alloc);
         }
@@ -368,80 +380,93 @@ impl<K: Ord, V> Node<K, V> {
     }
 
     /// Removes the last entry of this node and those below it.
-    fn pop<A: Allocator>(&mut self, alloc: &A) -> Option<(K, V)> {
+    fn pop(&mut self, alloc: &dyn Allocator) -> Option<Entry> {
         if let Some(last) = self.children.last_mut() {
             if let Some(entry) = last.pop(alloc) {
                 self.tidy(self.len(), alloc);
                 return Some(entry);
             }
-            if self.keys.is_empty() {
+            if self.entries.is_empty() {
                 return None;
             }
             self.children.pop()?.leave(alloc);
         }
-        let last = self.len().checked_sub(1)?;
-        Some(self.take(last))
+        self.entries.pop()
+    }
+
+    /// Removes and returns the child of a node that has no entries, if it has one.
+    pub(super) fn only_child(&mut self) -> Option<Node> {
+        if self.entries.is_empty() {
+            self.children.pop()
+        } else {
+            None
+        }
     }
 
     /// Removes the entry at an index of a node that is no leaf. If there are entries below the
     /// child before it, the last of them replaces it.
-    fn take_between<A: Allocator>(&mut self, at: usize, alloc: &A) -> (K, V) {
-        let Some((key, value)) = self.children[at].pop(alloc) else {
-            self.children.remove(at).leave(alloc);
-            return self.take(at);
-        };
-        (
-            mem::replace(&mut self.keys[at], key),
-            mem::replace(self.value_mut(at), value),
-        )
+    fn take_between(&mut self, at: usize, alloc: &dyn Allocator) -> Entry {
+        if let Some(entry) = self.children[at].pop(alloc) {
+            return mem::replace(&mut self.entries[at], entry);
+        }
+        self.children.remove(at).leave(alloc);
+        self.entries.remove(at)
     }
 
-    pub(super) fn remove<Q: Ord + ?Sized, A: Allocator>(
-        &mut self,
-        key: &Q,
-        alloc: &A,
-    ) -> Option<(K, V)>
-    where
-        K: Borrow<Q>,
-    {
-        let (at, entry) = match self.search(key) {
-            Ok(at) if self.is_leaf() => return Some(self.take(at)),
-            Ok(at) => (at, self.take_between(at, alloc)),
-            Err(at) => (at, self.children.get_mut(at)?.remove(key, alloc)?),
+    /// Removes a key and returns its row.
+    pub(super) fn remove(&mut self, sought: &Sought<'_>, alloc: &dyn Allocator) -> Option<usize> {
+        let (at, row) = match self.search(sought) {
+            Ok(at) if self.is_leaf() => return Some(self.entries.remove(at).row),
+            Ok(at) => (at, self.take_between(at, alloc).row),
+            Err(at) => (at, self.children.get_mut(at)?.remove(sought, alloc)?),
         };
         self.tidy(at, alloc);
-        Some(entry)
+        Some(row)
     }
 
-    pub(super) fn retain<A: Allocator>(
+    /// Sets the row of a key that this node or one below it has.
+    pub(super) fn renumber(&mut self, sought: &Sought<'_>, row: usize) {
+        let mut node = self;
+        loop {
+            match node.search(sought) {
+                Ok(at) => {
+                    node.entries[at].row = row;
+                    return;
+                }
+                Err(at) => match node.children.get_mut(at) {
+                    Some(child) => node = child,
+                    None => return,
+                },
+            }
+        }
+    }
+
+    /// Calls `change` with the row of each entry, in no order.
+    pub(super) fn renumber_all(&mut self, change: &mut dyn FnMut(usize) -> usize) {
+        for entry in &mut self.entries {
+            entry.row = change(entry.row);
+        }
+        for child in &mut self.children {
+            child.renumber_all(change);
+        }
+    }
+
+    /// Retains only the entries for whose rows `condition` returns `true`. It is called in the order
+    /// of the keys.
+    pub(super) fn retain(
         &mut self,
-        condition: &mut impl FnMut(&K, &mut V) -> bool,
-        alloc: &A,
+        condition: &mut dyn FnMut(usize) -> bool,
+        alloc: &dyn Allocator,
     ) {
         if self.is_leaf() {
-            let mut kept = 0;
-            for at in 0..self.len() {
-                let value = &mut self.values[usize::from(self.places[at])];
-                if condition(&self.keys[at], value) {
-                    if kept < at {
-                        self.keys.swap(kept, at);
-                        self.places.swap(kept, at);
-                    }
-                    kept += 1;
-                }
-            }
-            for at in kept..self.len() {
-                self.take_value(at);
-            }
-            self.keys.truncate(kept);
+            self.entries.retain(|entry| condition(entry.row));
             return;
         }
         let mut is_kept = [true; MOST];
         for (at, child) in self.children.iter_mut().enumerate() {
             child.retain(condition, alloc);
-            if let Some(key) = self.keys.get(at) {
-                let value = &mut self.values[usize::from(self.places[at])];
-                is_kept[at] = condition(key, value);
+            if let Some(entry) = self.entries.get(at) {
+                is_kept[at] = condition(entry.row);
             }
         }
         for at in (0..self.len()).rev() {

@@ -1,11 +1,16 @@
-//! Walks by single keys, which the map speeds up, and the memory of a map of scattered keys.
+//! Walks by single keys, which the map speeds up, the memory of a map of scattered keys, and the
+//! heads of keys.
 
 extern crate std;
 
 use super::BTreeMap;
-use crate::kit::tests::{Sparse, play};
+use super::key::Key;
+use crate::exported::stun_base::transaction_id::TransactionId;
+use crate::kit::prelude::String;
+use crate::kit::tests::{Dice, Sparse, play};
+use core::net::SocketAddr;
 use core::ops::Bound;
-use std::{collections, vec};
+use std::{collections, format, string, vec};
 
 /// Successive calls are about one key, or about a key and the next one. Their results are those of
 /// the standard map.
@@ -66,4 +71,127 @@ fn a_map_of_scattered_keys_has_full_nodes() {
         assert_eq!(map.insert(scattered, [0_u64; 15]).unwrap(), None);
     }
     assert!(heap.bytes() * 10 < count as usize * size_of::<[u64; 16]>() * 13);
+}
+
+/// Addresses of which many differ in a single byte, and of both families.
+fn address(dice: &mut Dice) -> SocketAddr {
+    let mut octets = [0; 16];
+    for _ in 0..dice.roll(3) {
+        octets[dice.roll(16) as usize] = dice.roll(256) as u8;
+    }
+    let port = dice.roll(3) as u16;
+    if dice.roll(2) == 0 {
+        (octets, port).into()
+    } else {
+        let [a, b, c, d, ..] = octets;
+        ([a, b, c, d], port).into()
+    }
+}
+
+/// Texts of which many begin alike, with zeros too.
+fn text(dice: &mut Dice) -> string::String {
+    let beginnings = ["", "a", "user", "user0000", "user00000000", "\0", "\u{ff}"];
+    let beginning = beginnings[dice.roll(7) as usize];
+    let ends = ["", "\0", "\0\0", "a"];
+    format!(
+        "{beginning}{}{}",
+        dice.roll(40),
+        ends[dice.roll(4) as usize]
+    )
+}
+
+fn ordered<K: Key>(keys: &mut vec::Vec<K>) {
+    keys.sort();
+    assert!(keys.is_sorted_by_key(K::head));
+}
+
+#[test]
+fn the_head_of_a_lesser_key_is_no_greater() {
+    play(20, |heap, dice, turns| {
+        heap.ask();
+        for _ in 0..turns {
+            let texts: vec::Vec<_> = (0..200).map(|_| text(dice)).collect();
+            for one in &texts {
+                let owned = String::from(one.clone());
+                assert_eq!(owned.head(), one.head());
+                texts
+                    .iter()
+                    .filter(|other| one < other)
+                    .for_each(|other| assert!(one.head() <= other.head()));
+            }
+            ordered(&mut (0..200).map(|_| address(dice)).collect());
+            ordered(&mut (0..200).map(|_| dice.roll(1 << 56)).collect());
+            let hash = |dice: &mut Dice| core::array::from_fn(|_| dice.roll(3) as u8);
+            ordered(&mut (0..200).map(|_| (hash(dice), dice.roll(9))).collect());
+            let number = |dice: &mut Dice| u128::from(dice.roll(1 << 56)) << dice.roll(40);
+            let id = |dice: &mut Dice| TransactionId::from_u128(number(dice)).unwrap();
+            ordered(&mut (0..200).map(|_| id(dice)).collect());
+        }
+    });
+}
+
+/// Keys with one head are found by a look at the keys, and in their order.
+#[test]
+fn a_map_of_keys_that_begin_alike_is_as_the_standard_one() {
+    play(6_000, |heap, dice, turns| {
+        let mut ours = BTreeMap::new(heap);
+        let mut other = collections::BTreeMap::new();
+        let mut places = BTreeMap::new(heap);
+        let mut other_places = collections::BTreeMap::new();
+        for turn in 0..turns {
+            let (key, at) = (text(dice), address(dice));
+            if dice.roll(3) > 0 {
+                if ours.insert(String::from(key.clone()), turn).is_ok() {
+                    other.insert(key.clone(), turn);
+                }
+                if places.insert(at, turn).is_ok() {
+                    other_places.insert(at, turn);
+                }
+            } else if dice.roll(200) == 0 {
+                ours.retain(|_, value| *value % 3 == 0);
+                other.retain(|_, value| *value % 3 == 0);
+                places.retain(|_, value| *value % 3 == 0);
+                other_places.retain(|_, value| *value % 3 == 0);
+            } else {
+                assert_eq!(ours.remove(key.as_str()), other.remove(&key));
+                assert_eq!(places.remove(&at), other_places.remove(&at));
+            }
+            let (key, at) = (text(dice), address(dice));
+            assert_eq!(ours.get(key.as_str()), other.get(&key));
+            assert_eq!(places.get_mut(&at), other_places.get_mut(&at));
+            let from = (Bound::Excluded(at), Bound::Unbounded);
+            assert!(
+                places
+                    .range(from)
+                    .take(5)
+                    .eq(other_places.range(from).take(5))
+            );
+            if turn % 100 == 0 {
+                let ours = ours.iter().map(|(key, value)| (key.as_str(), value));
+                assert!(ours.eq(other.iter().map(|(key, value)| (key.as_str(), value))));
+                assert!(places.iter().eq(other_places.iter()));
+            }
+        }
+    });
+}
+
+/// The entries that are left after a retain are moved together, and all memory behind them is given
+/// back.
+#[test]
+fn what_is_retained_is_in_few_blocks() {
+    for rest in 0..70 {
+        let heap = Sparse::new(0);
+        let mut map = BTreeMap::new(&heap);
+        for key in 0..2_000_u64 {
+            map.insert(key * 7 % 2_000, [key; 8]).unwrap();
+        }
+        let full = heap.bytes();
+        map.retain(|key, _| key % 70 <= rest);
+        assert!((0..2_000).all(|key| map.contains_key(&key) == (key % 70 <= rest)));
+        assert!(map.iter().all(|(key, value)| value[0] * 7 % 2_000 == *key));
+        assert!(heap.bytes() * 70 < full * (rest as usize + 1) + full * 10);
+        map.retain(|_, _| false);
+        assert!(map.is_empty() && map.iter().next().is_none());
+        assert!(heap.bytes() < 32 * 100, "that of one node and of one block");
+    }
 }

@@ -100,7 +100,7 @@ fn text(dice: &mut Dice) -> string::String {
     )
 }
 
-fn ordered<K: Key>(keys: &mut vec::Vec<K>) {
+fn ordered<K: Key>(mut keys: vec::Vec<K>) {
     keys.sort();
     assert!(keys.is_sorted_by_key(K::head));
 }
@@ -119,13 +119,13 @@ fn the_head_of_a_lesser_key_is_no_greater() {
                     .filter(|other| one < other)
                     .for_each(|other| assert!(one.head() <= other.head()));
             }
-            ordered(&mut (0..200).map(|_| address(dice)).collect());
-            ordered(&mut (0..200).map(|_| dice.roll(1 << 56)).collect());
+            ordered((0..200).map(|_| address(dice)).collect());
+            ordered((0..200).map(|_| dice.roll(1 << 56)).collect());
             let hash = |dice: &mut Dice| core::array::from_fn(|_| dice.roll(3) as u8);
-            ordered(&mut (0..200).map(|_| (hash(dice), dice.roll(9))).collect());
+            ordered((0..200).map(|_| (hash(dice), dice.roll(9))).collect());
             let number = |dice: &mut Dice| u128::from(dice.roll(1 << 56)) << dice.roll(40);
             let id = |dice: &mut Dice| TransactionId::from_u128(number(dice)).unwrap();
-            ordered(&mut (0..200).map(|_| id(dice)).collect());
+            ordered((0..200).map(|_| id(dice)).collect());
         }
     });
 }

@@ -15,6 +15,7 @@ pub mod JudgedRuns
 pub mod JudgingLemmas
 pub mod KeptPlaces
 pub mod LeastNames
+pub mod LetterLemmas
 pub mod ListSteps
 pub mod Maps
 pub mod MarkedNonces

@@ -1,11 +1,18 @@
 -- A nonce whose letters begin as the cookie does.
-use Rattle.std.proofs.Common.{◌≡◌, ℕ, ◌++◌, List, ◌∷◌, drop, map, true, sym, ap, ◌∙◌}
+use Rattle.std.proofs.Common.{◌≡◌, ◌<◌, ℕ, ◌++◌, List, [], ◌∷◌, drop, map, true, sym, ap, ◌∙◌, refl}
+use Rattle.std.proofs.Common.{length, set, arith}
 use Rattle.std.proofs.lemmas.List.{drop-map}
 use Rattle.std.specs.Prelude.{cond, ◌==◌}
 use Rattle.stun_auth.specs.declared.algorithm_set.AlgorithmSet.{AlgorithmSet}
 use Rattle.stun_auth.specs.declared.feature.Feature.{Feature}
 use Rattle.stun_auth.specs.Nonces.{begins_with_cookie, letter, security_byte}
 use Rattle.stun_auth.specs.Nonces.{front, without_cookie, nonce_of}
+
+-- 41 is a number of the letter p
+pub first_replaced : (words : List ℕ) → 0 < length words
+    → map letter (set words 0 41) ≡ 112 ∷ map letter (drop 1 words)
+first_replaced [] l = grind arith
+first_replaced (w ∷ ws) l = refl
 
 -- the first letter is p, and the others stay
 pub renamed : (algorithms : AlgorithmSet) (feature : Feature) (words : List ℕ)

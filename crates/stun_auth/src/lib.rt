@@ -8,6 +8,7 @@ mod client;
 pub mod derives;
 mod feature;
 pub mod laws;
+pub mod letters;
 mod limited_text;
 mod message;
 mod server;

@@ -1,7 +1,7 @@
 //! The nonce of an address: its security bits, and the sixteen numbers that its letters are made of
 //! (RFC 8489, sections 9.2 and 18.1).
 
-ghost use Rattle.std.specs.Prelude.{◌≡◌, ◌++◌, IfOk, OnOk, map, take};
+ghost use Rattle.std.specs.Prelude.{◌≡◌, ◌++◌, IfOk, map, take};
 ghost use Rattle.std.specs.String.{string_bytes};
 ghost use Rattle.stun_auth.specs.Nonces.{letter};
 ghost use Rattle.stun_endpoint.specs.Nonces.{algorithms_number, front_of, words_of};
@@ -11,6 +11,7 @@ ghost use Rattle.stun_endpoint.specs.code.Bits.{bits_text};
 use std::alloc::{AllocError, Allocator};
 use std::net::SocketAddr;
 use stun_auth::auth::LONG_TERM_RFC8489_NONCE_COOKIE;
+use stun_auth::letters::push_letters;
 use stun_base::prepared_key::PreparedKey;
 use stun_extra::canonical_address::address_octets;
 
@@ -29,31 +30,6 @@ fn spelled_bits(hmac_sha256: bool, user_hashes: bool) -> &'static str
         (false, true) => "QAAA",
         (false, false) => "AAAA",
     }
-}
-
-/// Returns the letter of a number: A to Z, a to z, 0 to 9.
-fn letter(number: u32) -> u8
-    ensures { result ≡ letter number }
-{
-    let n = (number % 62) as u8;
-    if n < 26 {
-        b'A' + n
-    } else if n < 52 {
-        b'a' + (n - 26)
-    } else {
-        b'0' + (n - 52)
-    }
-}
-
-/// Appends the letters of numbers.
-fn push_letters<A: Allocator>(text: &mut String<A>, numbers: &[u32]) -> Result<(), AllocError>
-    ensures { OnOk result (string_bytes text.new
-        ≡ string_bytes text.old ++ map letter numbers.now) }
-{
-    for number in numbers {
-        text.push(char::from(letter(*number)))?;
-    }
-    Ok(())
 }
 
 /// Returns the nonce of an address in an epoch, under a secret, at a server with these settings: the

@@ -1,14 +1,15 @@
 //! The nonces of a server, and the security bits that they carry (RFC 8489, section 9.2).
-ghost use Rattle.std.specs.Prelude.{◌≡◌, ◌++◌, List, ℕ, Some, None, map, IfOk, OnOk};
+ghost use Rattle.std.specs.Prelude.{◌≡◌, ◌++◌, List, ℕ, Some, None, IfOk, OnOk};
 ghost use Rattle.std.specs.String.{string_bytes};
 ghost use Rattle.stun_base.specs.Words.{next_words, after_words};
-ghost use Rattle.stun_auth.specs.Nonces.{begins_with_cookie, security_bits, letter, security_byte};
+ghost use Rattle.stun_auth.specs.Nonces.{begins_with_cookie, security_bits, security_byte};
 ghost use Rattle.stun_auth.specs.Nonces.{nonce_of, asks_for_algorithms, asks_for_userhash};
 ghost use Rattle.stun_auth.specs.Algorithms.{contains};
 ghost use Rattle.stun_auth.specs.Feature.{is_possible};
 
 use crate::algorithm_set::AlgorithmSet;
 use crate::feature::Feature;
+use crate::letters::push_letters;
 use crate::limited_text::LimitedText;
 use base64::engine::general_purpose::STANDARD;
 use rand_core::Rng;
@@ -24,6 +25,9 @@ const FRONT_LENGTH: usize = 13;
 
 /// How many random letters a nonce has.
 const LETTERS: usize = 16;
+
+/// A number whose letter is p.
+const NUMBER_OF_P: u32 = 41;
 
 /// The bit of the first byte that asks for password algorithms (section 18.1).
 const PASSWORD_ALGORITHMS: u8 = 0x80;
@@ -162,20 +166,6 @@ fn begins_with_cookie(text: &[u8]) -> bool
     text.starts_with(LONG_TERM_RFC8489_NONCE_COOKIE.as_bytes())
 }
 
-/// The letter of a random word: A to Z, a to z, 0 to 9.
-fn letter(word: u32) -> u8
-    ensures { result ≡ letter word }
-{
-    let n = (word % 62) as u8;
-    if n < 26 {
-        b'A' + n
-    } else if n < 52 {
-        b'a' + (n - 26)
-    } else {
-        b'0' + (n - 52)
-    }
-}
-
 /// The next sixteen words of a source.
 fn draw_words<R: Rng>(rng: &mut R) -> [u32; 16]
     ensures words { result ≡ next_words 16 (R.stream rng.old) }
@@ -186,15 +176,6 @@ fn draw_words<R: Rng>(rng: &mut R) -> [u32; 16]
         words[i] = rng.next_u32();
     }
     words
-}
-
-fn push_letters<A: Allocator>(text: &mut String<A>, words: &[u32]) -> Result<(), AllocError>
-    ensures { OnOk result (string_bytes text.new ≡ string_bytes text.old ++ map letter words.now) }
-{
-    for word in words {
-        text.push(char::from(letter(*word)))?;
-    }
-    Ok(())
 }
 
 /// The first security byte of a server with these settings.
@@ -237,10 +218,10 @@ pub(crate) fn nonce_of_words<A: Allocator + Copy>(
     }
     // By chance the letters begin with the cookie, and would read as security bits that nobody set.
     // Another first letter prevents that.
-    let (_, others) = words.split_at(1);
+    let mut others = *words;
+    others[0] = NUMBER_OF_P;
     text.clear();
-    text.push('p')?;
-    push_letters(&mut text, others)?;
+    push_letters(&mut text, &others)?;
     Ok(text)
 }
 

@@ -1,19 +1,16 @@
 -- The letters are those of the words, but for the first where they would begin the cookie.
-use Rattle.std.proofs.Common.{◌≡◌, ◌++◌, ◌∷◌, [], drop, map, true, ◌∙◌, ap, lit<, rules}
+use Rattle.std.proofs.Common.{◌≡◌, ◌++◌, ◌∷◌, drop, set, map, true, ◌∙◌, ap, arith, rules}
 use Rattle.std.specs.String.{string_bytes}
 use Rattle.stun_auth.specs.Nonces.{letter, begins_with_cookie, security_byte}
-use Rattle.stun_auth.proofs.Renamed.{renamed}
+use Rattle.stun_auth.proofs.Renamed.{first_replaced, renamed}
 use Rattle.stun_auth.proofs.message.nonce.nonce_of_words.Goals as goal
 
 pub returns : goal.returns
 returns g c =
     let plain : security_byte c.args.algorithms c.args.feature ≡ 0 = search rules in
-    let letter_p : string_bytes c.push.new.self ≡ 112 ∷ [] = c.in_ok-push.ensures.bytes
-    ∙ ap (λ e. string_bytes c.clear.new.self ++ e) (c.in_ok-push.ensures.ascii (lit< tt))
-    ∙ ap (λ t. t ++ 112 ∷ []) c.clear.ensures.bytes in
+    let spelled : begins_with_cookie (map letter c.args.words.now) ≡ true = search rules in
     let written : string_bytes c.push_letters-3.new.text
     ≡ 112 ∷ map letter (drop 1 c.args.words.now) = c.in_ok-push_letters-3.ensures
-    ∙ ap (λ ws. string_bytes c.push.new.self ++ map letter ws) c.split_at.ensures.back
-    ∙ ap (λ t. t ++ map letter (drop 1 c.args.words.now)) letter_p in
-    let spelled : begins_with_cookie (map letter c.args.words.now) ≡ true = search rules in
+    ∙ ap (λ t. t ++ map letter (set c.args.words.now 0 41)) c.clear.ensures.bytes
+    ∙ first_replaced c.args.words.now (omega arith) in
     written ∙ renamed c.args.algorithms c.args.feature c.args.words.now plain spelled

@@ -88,8 +88,12 @@ LENGTHS = {
     "FAILED": ("stun_c_endpoint/src/received.rt", "FAILED"),
     "NO_EVENT": ("stun_c_endpoint/src/received.rt", "FAILED"),
 }
-# The definitions of attribute types, and one of them: its RFC, and the file and line.
-TYPES = ("crates/stun_base/specs/Attributes.antt", "crates/stun_extra/specs/AttributeTypes.antt")
+# The definitions of attribute types, those of STUN's core first, and one of them: its RFC, and the
+# file and line.
+TYPES = ("crates/stun_base/specs/Attributes.antt", "crates/stun_extra/specs/AttributeTypes.antt",
+         "crates/stun_attributes/specs/AttributeTypes.antt")
+# The aliases of the forms of further attributes.
+ALIASES = ("crates/stun_extra/src/attribute.rt", "crates/stun_attributes/src/lib.rt")
 Type = collections.namedtuple("Type", "number rfc place")
 # The registry of stun_inspect, and a name that is longer there, as IANA has it.
 REGISTRY, LONGER = "crates/stun_inspect/src/registry.rt", {"ECN-CHECK": "ECN-CHECK STUN"}
@@ -117,13 +121,12 @@ LOOKED = ("crates/*/src/**/*.rt", "crates/*/specs/**/*.antt", "rust/src/**/*.rs"
 FOUND = re.compile(r"(?m)^ *(?:(?:pub(?:\(crate\))? )?(?:const|static) )?([A-Z_]+)\b[^=\n]*="
                    r"((?:(?!\n\n)(?:\(\w*\)|[^=;\])}]))*)")
 # Paragraphs that list the further attributes by their RFCs: a file, and how the paragraph begins.
-PARAGRAPHS = [(TYPES[1], "-- The types of attributes:"),
-              ("crates/stun_extra/src/attribute.rt", "//! Further attributes:"),
+PARAGRAPHS = [(TYPES[2], "-- The types of attributes:"), (ALIASES[1], "//! Further attributes:"),
               ("rust/src/extra.rs", "/// Further attributes:"),
               ("rust/README.md", "The module `extra` has")]
-# The paragraph that names the forms of further attributes, and those that have no alias in
-# stun_extra/src/attribute.rt. UNKNOWN-ATTRIBUTES is in the paragraph above it, and
-# PASSWORD-ALGORITHMS is in it because stun_extra reads all of its list.
+# The paragraph that names the forms of further attributes, and those that have no alias.
+# UNKNOWN-ATTRIBUTES is in the paragraph above it, and PASSWORD-ALGORITHMS is in it because
+# stun_extra reads all of its list.
 FURTHER = ("docs/DEFINITIONS.md", "**Further attributes**")
 HANDLES = ("stunp_agent *", "stunp_server *", "stunp_client *", "stunp_user *")
 wrong, compared, were_read = [], 0, {}
@@ -265,8 +268,7 @@ def compare_numbers(header):
                 in re.findall(r"\bSTUNP_(\w+) = (0x\w+|\d+)", header)}
     # Attribute types by the definitions that the sources are proved to meet.
     core, further = ({name: number(value) for name, value in re.findall(
-        r"(?m)^([A-Z_0-9]+) = (0x[0-9A-F]{4})$", read(f"crates/{path}.antt"))}
-        for path in ("stun_base/specs/Attributes", "stun_extra/specs/AttributeTypes"))
+        r"(?m)^([A-Z_0-9]+) = (0x[0-9A-F]{4})$", read(*paths))} for paths in (TYPES[:1], TYPES[1:]))
     listed = {name: value for name, value in declared.items() if f"STUNP_{name} = 0x" in header}
     compare("attribute type", listed, core | further)
     compare("definition of an attribute type", core | further, listed)
@@ -403,16 +405,22 @@ def compare_paragraphs(further):
         named = {int(number) for number in re.findall(r"\b\d{4}\b", text)}
         compared += len(named)
         wrong.extend(f"{place}: RFC {rfc} is named there, of which no attribute is defined in "
-                     f"{TYPES[1]}: correct it" for rfc in sorted(named - set(rfcs)))
+                     f"{' or '.join(TYPES[1:])}: correct it" for rfc in sorted(named - set(rfcs)))
         if text and not re.search(r"\bothers\b|\bother RFCs\b", text):
             wrong.extend(f"{place}: RFC {rfc} is not named there, which has {rfcs[rfc]}: add it"
                          for rfc in sorted(set(rfcs) - named))
 
 def compare_further(further):
-    """The page names the forms of the aliases, and the attributes without an alias."""
+    """The page names the forms of the aliases, and the attributes without an alias. The function
+    `types` beside the aliases, whose clause says which type each has, has all of them."""
     global compared
-    source = "crates/stun_extra/src/attribute.rt"
-    aliases = re.findall(r"(?m)^pub type \w+(?:<'a>)? = (\w+)<(?:'a, )?(0x\w{4})", read(source))
+    source, aliases = " or ".join(ALIASES), []
+    for path in ALIASES:
+        text = read(path)
+        found = re.findall(r"(?m)^pub type (\w+)(?:<'a>)? = (\w+)<(?:'a, )?(0x\w{4})", text)
+        wrong.extend(f"{path}: {name} is not in the function `types` there: add it"
+                     for name, *_ in found if f"{name}::static_type()" not in text)
+        aliases += [one[1:] for one in found]
     aliased = {int(number, 16) for _, number in aliases}
     wanted = {name for name, kind in further.items() if kind.number not in aliased}
     wanted = wanted - {"UNKNOWN-ATTRIBUTES"} | {"PASSWORD-ALGORITHMS"}
@@ -487,7 +495,8 @@ def main():
     compare("refusal", refusals, numbers)
     compare("declared refusal", numbers, refusals)
     compare_numbers(header)
-    core, further = map(attribute_types, TYPES)
+    core, *further = map(attribute_types, TYPES)
+    further = {name: kind for types in further for name, kind in types.items()}
     compare_registry({**core, **further})
     compare_lists({**core, **further})
     compare_alike({**core, **further})

@@ -8,7 +8,7 @@
 use crate::address::{hidden_address, plain_address};
 use crate::bytes::bytes_attribute;
 use crate::copies::copy;
-use crate::exported::stun_extra::attribute as further;
+use crate::exported::stun_attributes as further;
 use crate::exported::stun_types::attribute::{
     Attribute, AttributeFromRaw, AttributeStaticType, AttributeType, RawAttribute,
 };
@@ -27,7 +27,7 @@ use core::net::SocketAddr;
 macro_rules! own_attribute {
     (@test $($row:tt)*) => {};
     ($name:ident) => {
-        own_attribute!($name, attribute);
+        pub use crate::exported::stun_attributes::$name;
     };
     ($name:ident, $module:ident) => {
         pub use crate::exported::stun_extra::$module::$name;
@@ -114,7 +114,7 @@ table! {
     /// # Ok::<(), StunWriteError>(())
     /// ```
     SOFTWARE, "SOFTWARE (RFC 8489, section 14.14)":
-        text_attribute(Software, further, software, "763");
+        text_attribute(Software, further, text, software, "763");
 
     /// ALTERNATE-SERVER (RFC 8489, section 14.15): the server that a client should try instead.
     ///
@@ -151,7 +151,7 @@ table! {
     /// assert!(AlternateDomain::new(&"x".repeat(256)).is_err());
     /// ```
     ALTERNATE_DOMAIN, "ALTERNATE-DOMAIN (RFC 8489, section 14.16)":
-        text_attribute(AlternateDomain, further, domain, "255");
+        text_attribute(AlternateDomain, further, text, domain, "255");
 
     // ICE (RFC 8445, section 16.1).
 
@@ -490,7 +490,7 @@ table! {
     /// # Ok::<(), StunWriteError>(())
     /// ```
     THIRD_PARTY_AUTHORIZATION, "THIRD-PARTY-AUTHORIZATION (RFC 7635, section 6.1)":
-        text_attribute(ThirdPartyAuthorization, further, server_name, "65535");
+        text_attribute(ThirdPartyAuthorization, further, text, server_name, "65535");
 
     /// ACCESS-TOKEN (RFC 7635, section 6.2): the token that an authorization server has issued.
     /// Only the STUN server can decrypt it.
@@ -589,8 +589,30 @@ table! {
     OTHER_ADDRESS, "OTHER-ADDRESS (RFC 5780, section 7.4)":
         plain_address(OtherAddress, addr);
 
+    /// RESPONSE-PORT (RFC 5780, section 7.5): the port, at the address of the client, to which a
+    /// server should send its response.
+    ///
+    /// It is written with a length of 2, which leaves the two bytes after the port to the padding
+    /// of the attribute. It is parsed with a length of 2 and of 4, because senders differ in this.
+    ///
+    /// # Examples
+    ///
+    /// ```
+    /// use seatcrane_stun::extra::attribute::ResponsePort;
+    /// use seatcrane_stun::types::message::*;
+    /// use seatcrane_stun::types::prelude::*;
+    ///
+    /// # let id = TransactionId::from(*b"any 12 bytes");
+    /// let mut message = Message::builder_request_with_id(BINDING, id, MessageWriteVec::new());
+    /// message.add_attribute(&ResponsePort::new(40_000))?;
+    /// let bytes = message.finish();
+    ///
+    /// let message = Message::from_bytes(&bytes).unwrap();
+    /// assert_eq!(message.attribute::<ResponsePort>().unwrap().port(), 40_000);
+    /// # Ok::<(), StunWriteError>(())
+    /// ```
     RESPONSE_PORT, "RESPONSE-PORT (RFC 5780, section 7.5)":
-        own_attribute(ResponsePort);
+        number_attribute(ResponsePort, number, port: u16, "the port");
 
     /// PADDING (RFC 5780, section 7.6): bytes without a meaning, which make a message long enough
     /// to be sent in fragments.
@@ -631,6 +653,7 @@ where
     let bytes = request.finish();
     let message = Message::from_bytes(&bytes).unwrap();
     assert_eq!(message.raw_attribute(A::TYPE).unwrap().value(), value);
+    assert_eq!(A::static_type(), A::TYPE);
     let read = A::from_raw(RawAttribute::new(A::TYPE, value));
     assert_eq!(read.as_ref(), Ok(attribute));
     let other = AttributeType(A::TYPE.0 ^ 1);

@@ -1,6 +1,6 @@
 //! Copies of values whose memory the global allocator provides.
 
-use crate::exported::stun_extra::attribute::AddressErrorCode;
+use crate::exported::stun_attributes::AddressErrorCode;
 use crate::exported::stun_types::attribute::{
     ErrorCode, MessageIntegritySha256, Nonce, PasswordAlgorithms, RawAttribute, Realm, Username,
 };

@@ -91,7 +91,7 @@ pub mod turn {
 /// ```
 pub mod attribute {
     pub use crate::attributes::*;
-    pub use crate::exported::stun_extra::attribute::{
+    pub use crate::exported::stun_attributes::{
         AddressFamily, AlgorithmEntries, AlgorithmEntry, AlgorithmList, DOMAIN_LIMIT,
     };
 }

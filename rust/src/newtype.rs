@@ -14,7 +14,7 @@ macro_rules! forward_attribute {
             const TYPE: AttributeType = <$proved>::TYPE;
 
             fn static_type() -> AttributeType {
-                Self::TYPE
+                <$proved>::static_type()
             }
         }
 

@@ -10,7 +10,7 @@ use crate::newtype::forward_attribute;
 use core::fmt;
 
 macro_rules! text_attribute {
-    (@test $name:ident, $proved:ident, $text:ident, $limit:literal) => {
+    (@test $name:ident, $proved:ident, $read:ident, $text:ident, $limit:literal) => {
         let attribute = $name::new("a text").unwrap();
         assert_eq!(attribute.$text(), "a text");
         stands(&attribute, b"a text", &[&[0xFF]]);
@@ -19,7 +19,7 @@ macro_rules! text_attribute {
         assert!($name::new(&text[1..]).is_ok());
         assert_eq!($name::new(&text), Err(StunWriteError::TooLarge));
     };
-    ($(#[doc = $doc:literal])* $name:ident, $proved:ident, $text:ident, $limit:literal) => {
+    ($(#[doc = $doc:literal])* $name:ident, $proved:ident, $read:ident, $text:ident, $limit:literal) => {
         $(#[doc = $doc])*
         #[derive(PartialEq, Eq)]
         pub struct $name<'a>($proved::$name<'a>);
@@ -36,7 +36,7 @@ macro_rules! text_attribute {
 
             /// Returns the text.
             pub fn $text(&self) -> &'a str {
-                self.0.$text()
+                self.0.$read()
             }
         }
 
@@ -101,6 +101,7 @@ text_attribute!(
     Username,
     proved,
     username,
+    username,
     "513"
 );
 
@@ -118,6 +119,7 @@ text_attribute!(
     /// ```
     Realm,
     proved,
+    realm,
     realm,
     "763"
 );
@@ -139,6 +141,7 @@ text_attribute!(
     /// ```
     Nonce,
     proved,
+    nonce,
     nonce,
     "763"
 );

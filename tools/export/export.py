@@ -26,7 +26,7 @@ ROOT = Path(__file__).resolve().parent.parent.parent
 # The crates of the library, which stand alone; what is exported of the others, `crates.txt` tells:
 # these programs, and what they use.
 LIBRARY = ["stun_base", "stun_types", "stun_agent", "stun_auth", "stun_proto", "stun_extra",
-           "stun_buffer", "stun_endpoint", "stun_client", "stun_client_loop",
+           "stun_attributes", "stun_buffer", "stun_endpoint", "stun_client", "stun_client_loop",
            "stun_client_endpoint", "stun_ice"]
 PROGRAMS = ["stun_tool", "stun_inspect"]
 # The style of the sources, and what they could do more simply, is that of another language.

@@ -1,12 +1,6 @@
--- The types of attributes: of STUN (RFC 8489, section 18.3), of ICE (RFC 8445, section 16.1), of
--- TURN (RFC 8656, section 18; RFC 6062; RFC 8016), of third-party authorization (RFC 7635), of ECN
--- (RFC 6679), of the transmissions of a transaction (RFC 7982), and of NAT behavior discovery (RFC
--- 5780, section 7).
+-- The types of attributes that calls of this library read or write: of STUN (RFC 8489, section
+-- 18.3), of ICE (RFC 8445, section 16.1) and of TURN (RFC 8656, section 18).
 use Rattle.std.specs.Prelude.{ℕ}
-
--- MAPPED-ADDRESS (RFC 8489, section 14.1)
-abbrev pub MAPPED_ADDRESS : ℕ
-MAPPED_ADDRESS = 0x0001
 
 -- UNKNOWN-ATTRIBUTES (RFC 8489, section 14.13)
 abbrev pub UNKNOWN_ATTRIBUTES : ℕ
@@ -15,14 +9,6 @@ UNKNOWN_ATTRIBUTES = 0x000A
 -- SOFTWARE (RFC 8489, section 14.14)
 abbrev pub SOFTWARE : ℕ
 SOFTWARE = 0x8022
-
--- ALTERNATE-SERVER (RFC 8489, section 14.15)
-abbrev pub ALTERNATE_SERVER : ℕ
-ALTERNATE_SERVER = 0x8023
-
--- ALTERNATE-DOMAIN (RFC 8489, section 14.16)
-abbrev pub ALTERNATE_DOMAIN : ℕ
-ALTERNATE_DOMAIN = 0x8003
 
 -- PRIORITY (RFC 8445, section 16.1)
 abbrev pub PRIORITY : ℕ
@@ -44,94 +30,10 @@ ICE_CONTROLLING = 0x802A
 abbrev pub CHANNEL_NUMBER : ℕ
 CHANNEL_NUMBER = 0x000C
 
--- LIFETIME (RFC 8656, section 18.2)
-abbrev pub LIFETIME : ℕ
-LIFETIME = 0x000D
-
 -- XOR-PEER-ADDRESS (RFC 8656, section 18.3)
 abbrev pub XOR_PEER_ADDRESS : ℕ
 XOR_PEER_ADDRESS = 0x0012
 
--- DATA (RFC 8656, section 18.4)
-abbrev pub DATA : ℕ
-DATA = 0x0013
-
--- XOR-RELAYED-ADDRESS (RFC 8656, section 18.5)
-abbrev pub XOR_RELAYED_ADDRESS : ℕ
-XOR_RELAYED_ADDRESS = 0x0016
-
--- REQUESTED-ADDRESS-FAMILY (RFC 8656, section 18.6)
-abbrev pub REQUESTED_ADDRESS_FAMILY : ℕ
-REQUESTED_ADDRESS_FAMILY = 0x0017
-
--- EVEN-PORT (RFC 8656, section 18.7)
-abbrev pub EVEN_PORT : ℕ
-EVEN_PORT = 0x0018
-
 -- REQUESTED-TRANSPORT (RFC 8656, section 18.8)
 abbrev pub REQUESTED_TRANSPORT : ℕ
 REQUESTED_TRANSPORT = 0x0019
-
--- DONT-FRAGMENT (RFC 8656, section 18.9)
-abbrev pub DONT_FRAGMENT : ℕ
-DONT_FRAGMENT = 0x001A
-
--- RESERVATION-TOKEN (RFC 8656, section 18.10)
-abbrev pub RESERVATION_TOKEN : ℕ
-RESERVATION_TOKEN = 0x0022
-
--- ADDITIONAL-ADDRESS-FAMILY (RFC 8656, section 18.11)
-abbrev pub ADDITIONAL_ADDRESS_FAMILY : ℕ
-ADDITIONAL_ADDRESS_FAMILY = 0x8000
-
--- ADDRESS-ERROR-CODE (RFC 8656, section 18.12)
-abbrev pub ADDRESS_ERROR_CODE : ℕ
-ADDRESS_ERROR_CODE = 0x8001
-
--- ICMP (RFC 8656, section 18.13)
-abbrev pub ICMP : ℕ
-ICMP = 0x8004
-
--- CONNECTION-ID (RFC 6062, section 6.2.1)
-abbrev pub CONNECTION_ID : ℕ
-CONNECTION_ID = 0x002A
-
--- MOBILITY-TICKET (RFC 8016, section 3.3)
-abbrev pub MOBILITY_TICKET : ℕ
-MOBILITY_TICKET = 0x8030
-
--- ACCESS-TOKEN (RFC 7635, section 6.2)
-abbrev pub ACCESS_TOKEN : ℕ
-ACCESS_TOKEN = 0x001B
-
--- THIRD-PARTY-AUTHORIZATION (RFC 7635, section 6.1)
-abbrev pub THIRD_PARTY_AUTHORIZATION : ℕ
-THIRD_PARTY_AUTHORIZATION = 0x802E
-
--- ECN-CHECK (RFC 6679, section 7.2.2)
-abbrev pub ECN_CHECK : ℕ
-ECN_CHECK = 0x802D
-
--- TRANSACTION_TRANSMIT_COUNTER (RFC 7982, section 3.2)
-abbrev pub TRANSACTION_TRANSMIT_COUNTER : ℕ
-TRANSACTION_TRANSMIT_COUNTER = 0x8025
-
--- CHANGE-REQUEST (RFC 5780, section 7.2)
-abbrev pub CHANGE_REQUEST : ℕ
-CHANGE_REQUEST = 0x0003
-
--- RESPONSE-ORIGIN (RFC 5780, section 7.3)
-abbrev pub RESPONSE_ORIGIN : ℕ
-RESPONSE_ORIGIN = 0x802B
-
--- OTHER-ADDRESS (RFC 5780, section 7.4)
-abbrev pub OTHER_ADDRESS : ℕ
-OTHER_ADDRESS = 0x802C
-
--- RESPONSE-PORT (RFC 5780, section 7.5)
-abbrev pub RESPONSE_PORT : ℕ
-RESPONSE_PORT = 0x0027
-
--- PADDING (RFC 5780, section 7.6)
-abbrev pub PADDING : ℕ
-PADDING = 0x0026

@@ -19,22 +19,14 @@ pub mod AlgorithmListLaws
 -- messages in a stream of bytes, and in packets among those of other protocols (sections 6.2.2 and
 -- 7)
 pub mod Framing
--- the types of attributes of STUN, ICE, TURN and NAT behavior discovery
+-- the types of the attributes that calls read or write
 pub mod AttributeTypes
 -- how values of one form are read
 pub mod Values
--- addresses that are not XORed (RFC 8489, section 14.1)
-pub mod Address
 -- socket addresses, whose two spellings of IPv4 are one (RFC 4291, section 2.5.5.2)
 pub mod CanonicalAddress
 -- the values of TURN's attributes (RFC 8656, section 18)
 pub mod Turn
--- the values of ADDRESS-ERROR-CODE and ICMP (RFC 8656, sections 18.12 and 18.13)
-pub mod TurnErrors
--- the value of TRANSACTION_TRANSMIT_COUNTER (RFC 7982, section 3.2)
-pub mod TransmitCounter
--- the values of the attributes of NAT behavior discovery (RFC 5780, section 7)
-pub mod Discovery
 -- the methods of TURN (RFC 8656, section 17)
 pub mod TurnMethods
 -- what no clause of a public call cites: views of structs, and the entries of tables

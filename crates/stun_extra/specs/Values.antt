@@ -8,16 +8,6 @@ use Rattle.byteorder.specs.Endian.{big_bytes, big_number}
 use Rattle.byteorder.specs.Numbers.{big_number-reads_back}
 use Rattle.stun_types.specs.Attribute.{TypedValue}
 
--- the most bytes of an ALTERNATE-DOMAIN (RFC 8489, section 14.16)
-abbrev pub DOMAIN_LIMIT : ℕ
-DOMAIN_LIMIT = 255
-
--- the value of an attribute of this type, if it has exactly this number of bytes
-abbrev pub value_of_length : ℕ → ℕ → TypedValue → Option (List ℕ)
-value_of_length kind count attribute =
-    if attribute.kind == kind && (length attribute.value == count) then Some attribute.value
-    else None
-
 -- the number that is the value of an attribute of this type, if it has exactly this number of
 -- bytes, the highest first
 abbrev pub number_of : ℕ → ℕ → TypedValue → Option ℕ
@@ -50,10 +40,6 @@ number_of_4-written kind number fits = let read = number-written 4 number fits i
 pub number_of_8-written : (kind number : ℕ) → number < 2 ^ 64
     → number_of kind 8 (record { kind = kind; value = big_bytes 8 number }) ≡ Some number
 number_of_8-written kind number fits = let read = number-written 8 number fits in search rules
-
-pub value_of_length-written : (kind count : ℕ) (value : List ℕ) → length value ≡ count
-    → value_of_length kind count (record { kind = kind; value = value }) ≡ Some value
-value_of_length-written kind count value whole = search rules
 
 pub flag_of-written : (kind : ℕ) (flag : Unit {0}) → Unit {0}
     → flag_of kind (record { kind = kind; value = [] }) ≡ Some flag

@@ -7,13 +7,13 @@ ghost use Rattle.stun_cli.specs.Line.{has_line_feed};
 use crate::registry::attribute_name;
 use crate::value::{push_address, push_code, push_digits, push_quoted};
 use std::alloc::{AllocError, Allocator};
-use stun_cli::line::Line;
-use stun_extra::attribute::{
+use stun_attributes::{
     AddressErrorCode, AddressFamily, AlternateDomain, ChangeRequest, ChannelNumber, EvenPort,
     IceControlled, Icmp, Lifetime, MappedAddress, Priority, RequestedAddressFamily,
     RequestedTransport, ReservationToken, ResponsePort, Software, TransactionTransmitCounter,
     UseCandidate, XorPeerAddress,
 };
+use stun_cli::line::Line;
 use stun_extra::unknown::UnknownAttributes;
 use stun_types::attribute::RawAttribute;
 use stun_types::message::TransactionId;
@@ -61,7 +61,7 @@ pub fn push_domain<A: Allocator + Copy>(
     let Ok(alternate) = AlternateDomain::from_raw(raw) else {
         return Ok(false);
     };
-    push_quoted(line, alternate.domain())?;
+    push_quoted(line, alternate.text())?;
     Ok(true)
 }
 
@@ -99,6 +99,24 @@ pub fn push_number<A: Allocator + Copy>(
         return Ok(false);
     };
     line.push_number(u64::from(priority.number()))?;
+    Ok(true)
+}
+
+/// Reads a number of 16 bits, such as that of RESPONSE-PORT.
+fn short_in(value: &[u8]) -> Option<u16> {
+    let raw = RawAttribute::new(ResponsePort::TYPE, value);
+    Some(ResponsePort::from_raw(raw).ok()?.number())
+}
+
+/// Appends a number of 16 bits.
+pub fn push_short<A: Allocator + Copy>(
+    line: &mut Line<A>,
+    value: &[u8],
+) -> Result<bool, AllocError> {
+    let Some(number) = short_in(value) else {
+        return Ok(false);
+    };
+    line.push_number(u64::from(number))?;
     Ok(true)
 }
 
@@ -145,7 +163,7 @@ pub fn push_lifetime<A: Allocator + Copy>(
     let Ok(lifetime) = Lifetime::from_raw(RawAttribute::new(Lifetime::TYPE, value)) else {
         return Ok(false);
     };
-    line.push_number(u64::from(lifetime.seconds()))?;
+    line.push_number(u64::from(lifetime.number()))?;
     line.push_str(" seconds")?;
     Ok(true)
 }
@@ -287,11 +305,10 @@ pub fn push_response_port<A: Allocator + Copy>(
     line: &mut Line<A>,
     value: &[u8],
 ) -> Result<bool, AllocError> {
-    let raw = RawAttribute::new(ResponsePort::TYPE, value);
-    let Ok(response) = ResponsePort::from_raw(raw) else {
+    let Some(port) = short_in(value) else {
         return Ok(false);
     };
     line.push_str("port ")?;
-    line.push_number(u64::from(response.port()))?;
+    line.push_number(u64::from(port))?;
     Ok(true)
 }

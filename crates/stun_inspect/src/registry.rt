@@ -28,6 +28,8 @@ pub enum Form {
     Algorithms,
     /// A number of 32 bits.
     Number,
+    /// A number of 16 bits.
+    Short,
     /// A tie-breaker (RFC 8445, section 16.1).
     TieBreaker,
     /// An empty value: the attribute is a flag.

@@ -4,8 +4,8 @@ use crate::algorithms::{push_algorithm, push_algorithms};
 use crate::further_value::{
     push_address_error, push_change_request, push_channel, push_domain, push_even_port,
     push_family, push_flag, push_icmp, push_lifetime, push_number, push_plain_address,
-    push_response_port, push_software, push_tie_breaker, push_token, push_transmissions,
-    push_transport, push_types, push_xored_address,
+    push_response_port, push_short, push_software, push_tie_breaker, push_token,
+    push_transmissions, push_transport, push_types, push_xored_address,
 };
 use crate::registry::{Form, error_name};
 use std::alloc::{AllocError, Allocator};
@@ -54,6 +54,7 @@ fn push_form<A: Allocator + Copy>(
             Ok(has_length_of(form, value.len()) && push_digits(line, value)?)
         }
         Form::Number => push_number(line, value),
+        Form::Short => push_short(line, value),
         Form::TieBreaker => push_tie_breaker(line, value),
         Form::Flag => push_flag(line, value),
         Form::Channel => push_channel(line, value),

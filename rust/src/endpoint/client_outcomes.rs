@@ -2,9 +2,9 @@
 
 use super::DropReason;
 use crate::Instant;
+use crate::exported::stun_attributes::{AlternateDomain, AlternateServer};
 use crate::exported::stun_client::judged::Outcome;
 use crate::exported::stun_client_endpoint::{ended, told};
-use crate::exported::stun_extra::attribute::{AlternateDomain, AlternateServer};
 use crate::exported::stun_types::attribute::{AttributeType, ErrorCode};
 use crate::exported::stun_types::message::IntegrityAlgorithm;
 use crate::extra::reason_phrase;
@@ -168,13 +168,13 @@ impl Redirect {
     /// Returns the address of the other server.
     pub fn server(&self) -> Option<SocketAddr> {
         let found = self.response.message().attribute::<AlternateServer>();
-        Some(found.ok()?.server())
+        Some(found.ok()?.addr())
     }
 
     /// Returns the domain that the certificate of the other server must have, for TLS.
     pub fn domain(&self) -> Option<&str> {
         let found = self.response.message().attribute::<AlternateDomain>();
-        Some(found.ok()?.domain())
+        Some(found.ok()?.text())
     }
 
     /// Returns the message.

@@ -5,12 +5,12 @@ use super::open::ResponseSettings;
 use super::{BuildError, Cause, DEFAULT_NONCE_LIFETIME, DropReason, Refusal, UnixTime};
 use crate::copies::{copy, granted, text};
 use crate::credentials::{LongTermCredentials, long_term_key};
+use crate::exported::stun_attributes as further;
 use crate::exported::stun_auth::auth::{
     LongTermServerAuth, LongTermServerUser, NamedUser, StoredKeys,
 };
 use crate::exported::stun_base::attribute_type::AttributeType;
 use crate::exported::stun_endpoint::{buffered, lookup, received, reply, server, users};
-use crate::exported::stun_extra::attribute as further;
 use crate::exported::stun_extra::canonical_address::canonical;
 use crate::exported::stun_types::attribute::{Attribute, XorMappedAddress};
 use crate::exported::stun_types::message::{

@@ -1,5 +1,5 @@
 //! Attributes that have no value.
-ghost use Rattle.std.specs.Prelude.{[]};
+ghost use Rattle.std.specs.Prelude.{◌≡◌, []};
 ghost use Rattle.stun_extra.specs.Values.{flag_of, flag_of-written};
 
 use std::marker::Model;
@@ -23,6 +23,18 @@ impl<const KIND: u16> Flag<KIND> {
     /// Creates the attribute.
     pub fn new() -> Self {
         Flag
+    }
+}
+
+impl<const KIND: u16> AttributeStaticType for Flag<KIND> {
+    const TYPE: AttributeType = AttributeType(KIND);
+
+    ghost static_kind = { KIND };
+
+    fn static_type() -> AttributeType
+        ensures { result.0 ≡ KIND }
+    {
+        AttributeType(KIND)
     }
 }
 

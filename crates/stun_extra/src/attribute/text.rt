@@ -82,6 +82,18 @@ impl<'a, const KIND: u16, const LIMIT: usize> Text<'a, KIND, LIMIT> {
     }
 }
 
+impl<'a, const KIND: u16, const LIMIT: usize> AttributeStaticType for Text<'a, KIND, LIMIT> {
+    const TYPE: AttributeType = AttributeType(KIND);
+
+    ghost static_kind = { KIND };
+
+    fn static_type() -> AttributeType
+        ensures { result.0 ≡ KIND }
+    {
+        AttributeType(KIND)
+    }
+}
+
 impl<'a, const KIND: u16, const LIMIT: usize> Attribute for Text<'a, KIND, LIMIT> {
     ghost kind = { λ _. KIND };
 

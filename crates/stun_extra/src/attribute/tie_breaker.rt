@@ -43,6 +43,18 @@ impl<const KIND: u16> TieBreaker<KIND> {
     }
 }
 
+impl<const KIND: u16> AttributeStaticType for TieBreaker<KIND> {
+    const TYPE: AttributeType = AttributeType(KIND);
+
+    ghost static_kind = { KIND };
+
+    fn static_type() -> AttributeType
+        ensures { result.0 ≡ KIND }
+    {
+        AttributeType(KIND)
+    }
+}
+
 impl<const KIND: u16> Attribute for TieBreaker<KIND> {
     ghost kind = { λ _. KIND };
 

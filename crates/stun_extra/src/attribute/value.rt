@@ -7,11 +7,7 @@ use stun_types::attribute::AttributeType;
 use stun_types::prelude::*;
 
 /// Appends the type of an attribute and the length of its value, 4 bytes.
-pub(super) fn append_header<W: MessageWrite>(
-    writer: &mut W,
-    kind: AttributeType,
-    value_length: usize,
-)
+pub fn append_header<W: MessageWrite>(writer: &mut W, kind: AttributeType, value_length: usize)
     requires fits { value_length ≤ max_length }
     requires reserved { 4 ≤ W.reserved writer.old }
     ensures bytes { W.bytes writer.new

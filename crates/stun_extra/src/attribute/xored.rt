@@ -62,6 +62,18 @@ impl<const KIND: u16> XorAddress<KIND> {
     }
 }
 
+impl<const KIND: u16> AttributeStaticType for XorAddress<KIND> {
+    const TYPE: AttributeType = AttributeType(KIND);
+
+    ghost static_kind = { KIND };
+
+    fn static_type() -> AttributeType
+        ensures { result.0 ≡ KIND }
+    {
+        AttributeType(KIND)
+    }
+}
+
 impl<const KIND: u16> Attribute for XorAddress<KIND> {
     ghost kind = { λ _. KIND };
 

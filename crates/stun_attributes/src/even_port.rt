@@ -1,7 +1,7 @@
 //! EVEN-PORT (RFC 8656, section 18.7).
 ghost use Rattle.std.specs.Prelude.{◌≡◌};
-ghost use Rattle.stun_extra.specs.AttributeTypes.{EVEN_PORT};
-ghost use Rattle.stun_extra.specs.Turn.{even_port_of, even_port_of-written, even_port_value};
+ghost use Rattle.stun_attributes.specs.AttributeTypes.{EVEN_PORT};
+ghost use Rattle.stun_attributes.specs.Turn.{even_port_of, even_port_of-written, even_port_value};
 
 use std::marker::Model;
 use stun_base::error::StunParseError;

@@ -16,10 +16,10 @@ use Rattle.stun_types.specs.Attribute.{TypedValue}
 use Rattle.stun_types.specs.Equality.{same_error, same_error_equivalence}
 use Rattle.stun_types.specs.ErrorCode.{CODE_LENGTH, CodeAndReason, IsError, error_of, error_value}
 use Rattle.stun_types.specs.ErrorCodeLaws.{error_of-written}
-use Rattle.stun_extra.specs.AttributeTypes.{ADDRESS_ERROR_CODE, ICMP}
-use Rattle.stun_extra.specs.Turn.{family_number, numbered_family}
-use Rattle.stun_extra.specs.declared.attribute.address_family.AddressFamily.{AddressFamily}
-use Rattle.stun_extra.specs.declared.attribute.address_family.AddressFamily.TheVariants.{Ipv4, Ipv6}
+use Rattle.stun_attributes.specs.AttributeTypes.{ADDRESS_ERROR_CODE, ICMP}
+use Rattle.stun_attributes.specs.Turn.{family_number, numbered_family}
+use Rattle.stun_attributes.specs.declared.address_family.AddressFamily.{AddressFamily}
+use Rattle.stun_attributes.specs.declared.address_family.AddressFamily.TheVariants.{Ipv4, Ipv6}
 
 -- the error for one family of addresses: why a server has not allocated such an address
 pub record AddressError : Type 0 where

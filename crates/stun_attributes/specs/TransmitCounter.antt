@@ -5,7 +5,7 @@ use Rattle.std.specs.Prelude.{◌≡◌, ◌<◌, ◌^◌, ℕ, List, [], ◌∷
 use Rattle.std.specs.Prelude.{None, ◌==◌, ◌&&◌, if◌then◌else◌}
 use Rattle.std.proofs.Common.{rules}
 use Rattle.stun_types.specs.Attribute.{TypedValue}
-use Rattle.stun_extra.specs.AttributeTypes.{TRANSACTION_TRANSMIT_COUNTER}
+use Rattle.stun_attributes.specs.AttributeTypes.{TRANSACTION_TRANSMIT_COUNTER}
 
 -- the two numbers
 pub record TransmitCounts : Type 0 where

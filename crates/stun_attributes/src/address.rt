@@ -5,14 +5,14 @@ ghost use Rattle.byteorder.specs.Endian.{big_bytes};
 ghost use Rattle.stun_types.specs.Attribute.{attribute_length};
 ghost use Rattle.stun_types.specs.Grammar.{spelled_attribute};
 ghost use Rattle.stun_types.specs.Reading.{attribute_answer};
-ghost use Rattle.stun_extra.specs.Address.{IsAddress, address_of, address_of-written};
-ghost use Rattle.stun_extra.specs.Address.{address_value, ip_of};
+ghost use Rattle.stun_attributes.specs.Address.{IsAddress, address_of, address_of-written};
+ghost use Rattle.stun_attributes.specs.Address.{address_value, ip_of};
 
-use crate::attribute::value::append_header;
 use byteorder::{BigEndian, ByteOrder};
 use std::marker::Model;
 use std::net::{IpAddr, Ipv4Addr, Ipv6Addr, SocketAddr};
 use stun_base::error::StunParseError;
+use stun_extra::attribute::append_header;
 use stun_types::attribute::{AttributeType, RawAttribute};
 use stun_types::prelude::*;
 
@@ -76,7 +76,7 @@ pub struct PlainAddress<const KIND: u16> {
 }
 
 impl<const KIND: u16> Model for PlainAddress<KIND> {
-    ghost use Rattle.stun_extra.specs.declared.attribute.address.Address.{Address};
+    ghost use Rattle.stun_attributes.specs.declared.address.Address.{Address};
 
     ghost Value = { Address };
 
@@ -102,6 +102,18 @@ impl<const KIND: u16> PlainAddress<KIND> {
         ensures port { IsPlainSocket result self.now.port }
     {
         self.address.socket()
+    }
+}
+
+impl<const KIND: u16> AttributeStaticType for PlainAddress<KIND> {
+    const TYPE: AttributeType = AttributeType(KIND);
+
+    ghost static_kind = { KIND };
+
+    fn static_type() -> AttributeType
+        ensures { result.0 ≡ KIND }
+    {
+        AttributeType(KIND)
     }
 }
 

@@ -69,6 +69,18 @@ impl<'a, const KIND: u16> Bytes<'a, KIND> {
     }
 }
 
+impl<'a, const KIND: u16> AttributeStaticType for Bytes<'a, KIND> {
+    const TYPE: AttributeType = AttributeType(KIND);
+
+    ghost static_kind = { KIND };
+
+    fn static_type() -> AttributeType
+        ensures { result.0 ≡ KIND }
+    {
+        AttributeType(KIND)
+    }
+}
+
 impl<'a, const KIND: u16> Attribute for Bytes<'a, KIND> {
     ghost kind = { λ _. KIND };
 

@@ -9,7 +9,7 @@ use Rattle.std.specs.declared.net.ip_addr.IpAddr.TheVariants.{V4, V6}
 use Rattle.byteorder.specs.Endian.{big_bytes, big_number}
 use Rattle.stun_types.specs.Attribute.{TypedValue}
 use Rattle.stun_types.proofs.XorLemmas.{segments_of-octets_of}
-use Rattle.stun_extra.specs.declared.attribute.address.Address.{Address}
+use Rattle.stun_attributes.specs.declared.address.Address.{Address}
 
 -- 1 for IPv4 and 2 for IPv6
 abbrev pub family_of_ip : IpAddr → ℕ

@@ -1,7 +1,7 @@
 //! RESERVATION-TOKEN (RFC 8656, section 18.10).
 ghost use Rattle.std.specs.Prelude.{◌≡◌, length};
-ghost use Rattle.stun_extra.specs.AttributeTypes.{RESERVATION_TOKEN};
-ghost use Rattle.stun_extra.specs.Values.{value_of_length, value_of_length-written};
+ghost use Rattle.stun_attributes.specs.AttributeTypes.{RESERVATION_TOKEN};
+ghost use Rattle.stun_attributes.specs.Values.{value_of_length, value_of_length-written};
 
 use std::marker::Model;
 use stun_base::error::StunParseError;

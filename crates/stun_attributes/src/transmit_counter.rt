@@ -1,8 +1,8 @@
 //! TRANSACTION_TRANSMIT_COUNTER (RFC 7982, section 3.2).
 ghost use Rattle.std.specs.Prelude.{◌≡◌};
-ghost use Rattle.stun_extra.specs.AttributeTypes.{TRANSACTION_TRANSMIT_COUNTER};
-ghost use Rattle.stun_extra.specs.TransmitCounter.{AreCounts, counts_of, counts_of-written};
-ghost use Rattle.stun_extra.specs.TransmitCounter.{counts_value};
+ghost use Rattle.stun_attributes.specs.AttributeTypes.{TRANSACTION_TRANSMIT_COUNTER};
+ghost use Rattle.stun_attributes.specs.TransmitCounter.{AreCounts, counts_of, counts_of-written};
+ghost use Rattle.stun_attributes.specs.TransmitCounter.{counts_value};
 
 use std::marker::Model;
 use stun_base::error::StunParseError;
@@ -49,7 +49,7 @@ pub struct TransactionTransmitCounter {
 }
 
 impl Model for TransactionTransmitCounter {
-    ghost use Rattle.stun_extra.specs.TransmitCounter.{AreCounts, TransmitCounts};
+    ghost use Rattle.stun_attributes.specs.TransmitCounter.{AreCounts, TransmitCounts};
 
     ghost Value = { TransmitCounts };
 

@@ -1,7 +1,8 @@
 //! Attributes whose value is the family of an address (RFC 8656, sections 18.6 and 18.11).
 ghost use Rattle.std.specs.Prelude.{◌≡◌};
-ghost use Rattle.stun_extra.specs.Turn.{family_number, family_of, family_of-written, family_value};
-ghost use Rattle.stun_extra.specs.Turn.{numbered_family};
+ghost use Rattle.stun_attributes.specs.Turn.{family_number, family_of, family_of-written};
+ghost use Rattle.stun_attributes.specs.Turn.{family_value};
+ghost use Rattle.stun_attributes.specs.Turn.{numbered_family};
 
 use std::marker::Model;
 use stun_base::error::StunParseError;
@@ -52,7 +53,7 @@ pub struct Family<const KIND: u16> {
 }
 
 impl<const KIND: u16> Model for Family<KIND> {
-    ghost use Rattle.stun_extra.specs.declared.attribute.address_family.AddressFamily.{AddressFamily};
+    ghost use Rattle.stun_attributes.specs.declared.address_family.AddressFamily.{AddressFamily};
 
     ghost Value = { AddressFamily };
 
@@ -74,6 +75,18 @@ impl<const KIND: u16> Family<KIND> {
         ensures { result ≡ self.now }
     {
         self.family
+    }
+}
+
+impl<const KIND: u16> AttributeStaticType for Family<KIND> {
+    const TYPE: AttributeType = AttributeType(KIND);
+
+    ghost static_kind = { KIND };
+
+    fn static_type() -> AttributeType
+        ensures { result.0 ≡ KIND }
+    {
+        AttributeType(KIND)
     }
 }
 

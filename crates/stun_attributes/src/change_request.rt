@@ -1,8 +1,8 @@
 //! CHANGE-REQUEST (RFC 5780, section 7.2).
 ghost use Rattle.std.specs.Prelude.{◌≡◌};
-ghost use Rattle.stun_extra.specs.AttributeTypes.{CHANGE_REQUEST};
-ghost use Rattle.stun_extra.specs.Discovery.{change_request_of, change_request_of-written};
-ghost use Rattle.stun_extra.specs.Discovery.{change_request_value};
+ghost use Rattle.stun_attributes.specs.AttributeTypes.{CHANGE_REQUEST};
+ghost use Rattle.stun_attributes.specs.Discovery.{change_request_of, change_request_of-written};
+ghost use Rattle.stun_attributes.specs.Discovery.{change_request_value};
 
 use stun_base::error::StunParseError;
 use stun_types::attribute::{AttributeType, RawAttribute};

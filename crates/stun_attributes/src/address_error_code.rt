@@ -6,16 +6,17 @@ ghost use Rattle.stun_base.specs.Attributes.{ERROR_CODE};
 ghost use Rattle.stun_types.specs.Attribute.{padded_length};
 ghost use Rattle.stun_types.specs.ErrorCode.{error_of, error_refusal};
 ghost use Rattle.stun_types.specs.Limits.{TEXT_LIMIT};
-ghost use Rattle.stun_extra.specs.AttributeTypes.{ADDRESS_ERROR_CODE};
-ghost use Rattle.stun_extra.specs.TurnErrors.{IsAddressError, address_error_of};
-ghost use Rattle.stun_extra.specs.TurnErrors.{address_error_of-written, address_error_value};
-ghost use Rattle.stun_extra.specs.TurnErrors.{same_address_error, same_address_error_equivalence};
+ghost use Rattle.stun_attributes.specs.AttributeTypes.{ADDRESS_ERROR_CODE};
+ghost use Rattle.stun_attributes.specs.TurnErrors.{IsAddressError, address_error_of};
+ghost use Rattle.stun_attributes.specs.TurnErrors.{address_error_of-written, address_error_value};
+ghost use Rattle.stun_attributes.specs.TurnErrors.{same_address_error};
+ghost use Rattle.stun_attributes.specs.TurnErrors.{same_address_error_equivalence};
 
-use crate::attribute::address_family::AddressFamily;
-use crate::attribute::value::append_header;
+use crate::address_family::AddressFamily;
 use std::alloc::AllocError;
 use std::marker::Model;
 use stun_base::error::{StunParseError, StunWriteError};
+use stun_extra::attribute::append_header;
 use stun_types::attribute::{AttributeType, ErrorCode, RawAttribute};
 use stun_types::prelude::*;
 
@@ -54,7 +55,7 @@ pub struct AddressErrorCode<'a> {
 }
 
 impl<'a> Model for AddressErrorCode<'a> {
-    ghost use Rattle.stun_extra.specs.TurnErrors.{AddressError};
+    ghost use Rattle.stun_attributes.specs.TurnErrors.{AddressError};
 
     ghost Value = { AddressError };
 

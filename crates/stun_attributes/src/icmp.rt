@@ -1,8 +1,8 @@
 //! ICMP (RFC 8656, section 18.13).
 ghost use Rattle.std.specs.Prelude.{◌≡◌, ◌<◌, ◌^◌};
-ghost use Rattle.stun_extra.specs.AttributeTypes.{ICMP};
-ghost use Rattle.stun_extra.specs.TurnErrors.{IsReport, icmp_of, icmp_of-written, icmp_value};
-ghost use Rattle.stun_extra.specs.TurnErrors.{report_answer};
+ghost use Rattle.stun_attributes.specs.AttributeTypes.{ICMP};
+ghost use Rattle.stun_attributes.specs.TurnErrors.{IsReport, icmp_of, icmp_of-written, icmp_value};
+ghost use Rattle.stun_attributes.specs.TurnErrors.{report_answer};
 
 use byteorder::{BigEndian, ByteOrder};
 use std::marker::Model;
@@ -53,7 +53,7 @@ pub struct Icmp {
 }
 
 impl Model for Icmp {
-    ghost use Rattle.stun_extra.specs.TurnErrors.{IcmpReport, IsReport};
+    ghost use Rattle.stun_attributes.specs.TurnErrors.{IcmpReport, IsReport};
 
     ghost Value = { IcmpReport };
 

@@ -511,7 +511,7 @@ client_none None is = refl
 client_none (Some why) is = cc
 
 -- the ID of a request that is not refused is that of no other one
-free_to_start : (l : LoopSeen) (bytes : List ℕ) → is_some (request_refused l bytes) ≡ false
+pub free_to_start : (l : LoopSeen) (bytes : List ℕ) → is_some (request_refused l bytes) ≡ false
     → at (transaction_id_field bytes) l.client.requests.asked ≡ None
 free_to_start l bytes is =
     by (at (transaction_id_field bytes) l.client.requests.asked)
@@ -525,7 +525,7 @@ free_to_start l bytes is =
     by None b none = refl
     by (Some a) b none = cc
 
-free_again : (l : LoopSeen) (response bytes : List ℕ) (a : AskedSeen)
+pub free_again : (l : LoopSeen) (response bytes : List ℕ) (a : AskedSeen)
     → at (transaction_id_field response) l.client.requests.asked ≡ Some a
     → is_some (again_refused l response bytes) ≡ false
     → at (transaction_id_field bytes) l.client.requests.asked ≡ None
@@ -728,11 +728,11 @@ module _ (number now : ℕ) (bytes : List ℕ) (e : Endpoint) (a : AskedSeen) (i
   verdict_is is_heard (dropped why) = dropping_is number _ bytes e is
 
 -- the request that a response is to
-record IsOf (c : EndpointClient) (bytes message : List ℕ) (number : ℕ) : Type 0 where
-  same : message ≡ bytes
-  request : AskedSeen
-  here : at (transaction_id_field bytes) c.requests.asked ≡ Some request
-  named : request.number ≡ number
+pub record IsOf (c : EndpointClient) (bytes message : List ℕ) (number : ℕ) : Type 0 where
+  pub same : message ≡ bytes
+  pub request : AskedSeen
+  pub here : at (transaction_id_field bytes) c.requests.asked ≡ Some request
+  pub named : request.number ≡ number
 
 found_asked : (bytes : List ℕ) (found : Option AskedSeen) (a : AskedSeen)
     → if_answered bytes found ≡ Some a → found ≡ Some a
@@ -755,7 +755,7 @@ module _ (c : EndpointClient) (from : SocketAddr) (bytes message : List ℕ) (nu
     named = cc;
   }
 
-  response_of : heard c from bytes ≡ responded message number v → IsOf c bytes message number
+  pub response_of : heard c from bytes ≡ responded message number v → IsOf c bytes message number
   response_of =
       cases (is_some (refusal bytes)) (is_same_address from c.server) (class_in bytes)
     where
@@ -796,14 +796,14 @@ receives_is from bytes now e given is (inr (inr none)) =
 -- ---- requests
 
 -- a request that is not refused has the ID of a number, and bytes that are sent
-record IsWritten (e : Endpoint) (method : ℕ) (body : Body) : Type 0 where
-  number : ℕ
-  bytes : List ℕ
-  chosen_is : chosen e ≡ Some number
-  written : first_message e method number body ≡ Ok bytes
-  unrefused : is_some (request_refused e.state bytes) ≡ false
+pub record IsWritten (e : Endpoint) (method : ℕ) (body : Body) : Type 0 where
+  pub number : ℕ
+  pub bytes : List ℕ
+  pub chosen_is : chosen e ≡ Some number
+  pub written : first_message e method number body ≡ Ok bytes
+  pub unrefused : is_some (request_refused e.state bytes) ≡ false
 
-written_is : (e : Endpoint) (method : ℕ) (body : Body) → refusal_to_start e method body ≡ None
+pub written_is : (e : Endpoint) (method : ℕ) (body : Body) → refusal_to_start e method body ≡ None
     → IsWritten e method body
 written_is e method body none = by (chosen e) refl none
   where
@@ -828,7 +828,7 @@ written_is e method body none = by (chosen e) refl none
     by None has none = cc
     by (Some number) has none = page_is number has (first_message e method number body) refl none
 
-started_by_it : (e : Endpoint) (method : ℕ) (body : Body) (now : ℕ) (it : IsWritten e method body)
+pub started_by_it : (e : Endpoint) (method : ℕ) (body : Body) (now : ℕ) (it : IsWritten e method body)
     → started method body now e ≡ after_start it.number body it.bytes now e
 started_by_it e method body now it =
     ap (started_at e method body now) it.chosen_is ∙ ap (started_by e body now it.number) it.written
@@ -915,7 +915,7 @@ module _ (e : Endpoint) (is : IsEndpoint e) where
 
 -- ---- cancellation
 
-outstanding_is : (o : Option Pending) (p : Pending) → if_outstanding o ≡ Some p → o ≡ Some p
+pub outstanding_is : (o : Option Pending) (p : Pending) → if_outstanding o ≡ Some p → o ≡ Some p
 outstanding_is None p is = cc
 outstanding_is (Some q) p is = by (is_none q.end) is
   where
@@ -923,7 +923,7 @@ outstanding_is (Some q) p is = by (is_none q.end) is
     by true is = is
     by false is = cc
 
-is_going : (o : Option Pending) (p : Pending) → if_outstanding o ≡ Some p → p.end ≡ None
+pub is_going : (o : Option Pending) (p : Pending) → if_outstanding o ≡ Some p → p.end ≡ None
 is_going None p is = cc
 is_going (Some q) p is = by q.end refl is
   where

@@ -6,7 +6,11 @@ pub mod MomentLemmas
 pub mod NameLemmas
 -- one step of a poll
 pub mod StepLemmas
--- polls, one after the other
-pub mod PlanLemmas
 -- what any call keeps
 pub mod OnTimeLemmas
+-- calls that are no polls
+pub mod OtherLemmas
+-- calls, one after the other
+pub mod PlanLemmas
+-- ends, until they are said
+pub mod EndLemmas

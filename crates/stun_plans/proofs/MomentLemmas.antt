@@ -1,5 +1,5 @@
 -- The moments that a request awaits by its plan, and what a search finds first.
-use Rattle.std.proofs.Common.{ℕ, zero, suc, ◌+◌, ◌≡◌, ◌<◌, ◌≤◌, Bool, true, false, cond, List, []}
+use Rattle.std.proofs.Common.{ℕ, zero, suc, ◌+◌, ◌*◌, ◌≡◌, ◌<◌, ◌≤◌, Bool, true, false, cond, List, []}
 use Rattle.std.proofs.Common.{◌∷◌, ap, arith, inl, inr, min, refl, subst, sym, ◌∙◌}
 use Rattle.std.specs.BTreeMap.{is_at}
 use Rattle.std.specs.Cmp.{nat_cmp_is}
@@ -17,6 +17,7 @@ use Rattle.stun_base.specs.declared.wire.transport.TransportType.{TransportType}
 use Rattle.stun_agent.specs.Timing.{Settings, final_wait, planned_end, slots, sum_of_timeouts, timeout}
 use Rattle.stun_agent.proofs.EntryLemmas.{same_key}
 use Rattle.stun_agent.proofs.TimingLemmas.{sum_of_timeouts-add_one, sum_of_timeouts-zero}
+use Rattle.stun_plans.specs.Plan.{IsWithin}
 
 -- ---- the moments of a plan
 
@@ -74,6 +75,44 @@ module _ (start : ℕ) (transport : TransportType) (settings : Settings) where
       let next = le_awaited (k + 1) in
       let rest = awaited_up_to_end left (k + 1) (omega (arith, all)) in
       omega (arith, here, next, rest)
+
+-- one more timeout
+pub one_more : (k : ℕ) → k + 1 ≡ suc k
+one_more k = omega arith
+
+-- fewer times are no longer
+times_le : (more k n late : ℕ) → k + more ≡ n → k * late ≤ n * late
+times_le zero k n late all =
+    let same : k ≡ n = omega (arith, all) in
+    subst (λ m. k * late ≤ m * late) same (omega arith)
+times_le (suc more) k n late all =
+    let rest = times_le more (suc k) n late (omega (arith, all)) in omega (arith, rest)
+
+pub next_times_le : (more k n late : ℕ) → k + more ≡ n → suc k * late ≤ suc n * late
+next_times_le more k n late all =
+    let rest = times_le more k n late all in omega (arith, rest)
+
+-- a wait that begins late ends late, and not more
+pub late_wait : (late so_late sent wait last due now : ℕ) → IsWithin so_late sent last
+    → moment_after sent wait < last_moment → due ≤ moment_after last wait
+    → moment_after last wait ≤ now → now ≤ due + late
+    → IsWithin late (moment_after last wait) now × IsWithin (so_late + late) (moment_after sent wait) now
+late_wait late so_late sent wait last due now was less low come soon = (
+  record { no_earlier = come; no_later = omega (arith, low, soon) },
+  record {
+    no_earlier = later sent wait last now was.no_earlier come;
+    no_later = no_later sent wait last due now was.no_later less low soon;
+  },
+)
+  where
+    later : (sent wait last now : ℕ) → sent ≤ last → min (last + wait) last_moment ≤ now
+        → min (sent + wait) last_moment ≤ now
+    later sent wait last now before come = omega (arith, before, come)
+
+    no_later : (sent wait last due now : ℕ) → last ≤ sent + so_late
+        → min (sent + wait) last_moment < last_moment → due ≤ min (last + wait) last_moment
+        → now ≤ due + late → now ≤ min (sent + wait) last_moment + (so_late + late)
+    no_later sent wait last due now before less low soon = omega (arith, before, less, low, soon)
 
 -- a plan that starts in time starts at its first moment
 pub first_moment : (start : ℕ) (settings : Settings) → start ≤ last_moment

@@ -391,7 +391,12 @@ cancelled_keeps number e = by (outstanding_at number e.requests)
     by None = keeps_itself e
     by (Some p) = record { plan = refl; agent = withdrawn_follows p.id e.state.agent }
 
-call_on_time : (e after : Endpoint) (event : Event) → IsEndpoint e → IsOnTime e
+pub started_on_time : (e : Endpoint) (method : ℕ) (body : Body) (now : ℕ) → IsEndpoint e → IsOnTime e
+    → refusal_to_start e method body ≡ None → IsOnTime (started method body now e)
+started_on_time e method body now is on_time none =
+    on_time_after e (started method body now e) (started_keeps method body now e none) on_time
+
+pub call_on_time : (e after : Endpoint) (event : Event) → IsEndpoint e → IsOnTime e
     → Call e event after → IsOnTime after
 call_on_time e after event is on_time (requests _ _ method body now none so) =
     subst IsOnTime (sym so)

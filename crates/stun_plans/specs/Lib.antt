@@ -1,4 +1,6 @@
 -- What the contracts of this crate say.
 
--- polls at the times that a client asks for, and the plan of a request
+-- calls at any times, and the plan of a request
 pub mod Plan
+-- how a request ended, and what is said of its end
+pub mod Ends

@@ -1,6 +1,6 @@
 -- A request that is sent again for a challenge, and what is stored of it then.
-use Rattle.std.proofs.Common.{◌≡◌, ◌<◌, ◌^◌, ◌++◌, ◌∷◌, [], ℕ, zero, suc, Bool, true, false, List}
-use Rattle.std.proofs.Common.{Option, Some, None, arith, refl, sym, ◌∙◌, ap, cond, inl}
+use Rattle.std.proofs.Common.{◌≡◌, ◌≤◌, ◌<◌, ◌^◌, ◌++◌, ◌∷◌, [], ℕ, zero, suc, Bool, true, false, List}
+use Rattle.std.proofs.Common.{Option, Some, None, Ok, arith, refl, sym, ◌∙◌, ap, cond, inl}
 use Rattle.std.specs.BTreeMap.{insert_entry, is_at}
 use Rattle.std.specs.Int.{byte_at, bytes_high_first}
 use Rattle.std.specs.List.{slice_index}
@@ -26,12 +26,12 @@ use Rattle.stun_client.specs.Outcomes.{outcome_of}
 use Rattle.stun_client.specs.Requests.{AskedSeen, RequestsSeen, after_replacing, at, renewal_refusal}
 use Rattle.stun_client.specs.Requests.{renewal_refusal_of, renewed}
 use Rattle.stun_client.specs.declared.requests.RequestRefusal.TheVariants as Refusals
-use Rattle.stun_client_loop.specs.Loops.{of_client}
+use Rattle.stun_client_loop.specs.Loops.{again_refused, of_client}
 use Rattle.stun_client_loop.specs.declared.refusal.LoopRefusal.TheVariants.{NotSent}
 use Rattle.stun_client_loop.proofs.NumberLemmas.{apart_from_free, not_same}
 use Rattle.stun_client_endpoint.specs.Bodies.{Body}
 use Rattle.stun_client_endpoint.specs.Endpoints.{Endpoint, Renewal, answered_by, by_given, challenged_with, chosen}
-use Rattle.stun_client_endpoint.specs.Endpoints.{dropping, out_of_memory, received, resent, resent_at}
+use Rattle.stun_client_endpoint.specs.Endpoints.{dropping, message_of, out_of_memory, received, resent, resent_at}
 use Rattle.stun_client_endpoint.specs.Endpoints.{resent_by, resent_if, unauthorized_by}
 use Rattle.stun_client_endpoint.specs.Pendings.{Pending, ending, if_outstanding, is_late, is_refused_out}
 use Rattle.stun_client_endpoint.specs.Pendings.{outstanding_at, request_at, sending}
@@ -44,7 +44,7 @@ use Rattle.stun_client_endpoint.proofs.StoredLemmas.{apart, changed_same}
 use Rattle.stun_client_endpoint.proofs.WrittenLemmas.{request_id}
 use Rattle.stun_endpoint.specs.Answers.{is_fingerprinted, is_right}
 use Rattle.stun_requests.specs.ReadBack.{print_of}
-use Rattle.stun_meetings.specs.Meeting.{CanGoOn, ClientSide, IsEndedBy, IsSentAgain}
+use Rattle.stun_meetings.specs.Meeting.{ClientSide, IsEndedBy, IsSentAgain}
 use Rattle.stun_meetings.proofs.SideLemmas.{one_more, with_event}
 
 -- ---- an ID has 96 bits
@@ -124,11 +124,11 @@ is_going (Some q) p is = by q.end refl is
 
 -- ---- sending again
 
-second_none : {A : Type 0} (a b : Option A) → option_or a b ≡ None → b ≡ None
+pub second_none : {A : Type 0} (a b : Option A) → option_or a b ≡ None → b ≡ None
 second_none None b none = none
 second_none (Some a) b none = cc
 
-map_none : {A B : Type 0} (f : A → B) (o : Option A) → option_map f o ≡ None → o ≡ None
+pub map_none : {A B : Type 0} (f : A → B) (o : Option A) → option_map f o ≡ None → o ≡ None
 map_none f None none = refl
 map_none f (Some a) none = cc
 
@@ -139,11 +139,22 @@ free_of true o none = cc
 free_of false None none = refl
 free_of false (Some a) none = cc
 
+-- the message fits, and the agent sends it
+pub record IsGoing (e : Endpoint) (method : ℕ) (body : Body) (p : Pending) (challenges : ℕ)
+    (response : List ℕ) (c : Answered) (now : ℕ) : Type 0 where
+  pub in_time : now ≤ p.until
+  pub often : challenges < e.challenges
+  pub id_number : ℕ
+  pub left : chosen e ≡ Some id_number
+  pub bytes : List ℕ
+  pub fits : message_of e (Some c) method id_number body ≡ Ok bytes
+  pub sent : again_refused e.state response bytes ≡ None
+
 module _ (side : ClientSide) (e : Endpoint) (number method : ℕ) (body : Body) (p : Pending)
     (asked : AskedSeen) (out : outstanding_at number e.requests ≡ Some p)
     (found : at p.id e.state.client.requests.asked ≡ Some asked) (method_is : asked.method ≡ method)
     (body_is : p.body ≡ body) (response : List ℕ) (same_id : transaction_id_field response ≡ p.id)
-    (c : Answered) (now : ℕ) (can : CanGoOn e method body p asked.challenges response c now) where
+    (c : Answered) (now : ℕ) (can : IsGoing e method body p asked.challenges response c now) where
   abbrev table : RequestsSeen
   table = e.state.client.requests
 

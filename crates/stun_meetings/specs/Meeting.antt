@@ -1,9 +1,11 @@
 -- A client and a server that meet in two exchanges (RFC 8489, sections 9.2.3 to 9.2.5).
-use Rattle.std.specs.Prelude.{◌≡◌, ◌≤◌, ◌<◌, ℕ, Bool, true, false, List, Option, Some, None, Ok}
+use Rattle.std.specs.Prelude.{◌≡◌, ◌≤◌, ◌<◌, ℕ, Bool, true, false, List, length, Option, Some, None}
 use Rattle.std.specs.Prelude.{IsUtf8}
+use Rattle.std.specs.Option.{IsSome}
 use Rattle.std.specs.declared.net.socket_addr.SocketAddr.{SocketAddr}
 use Rattle.stun_base.specs.Credentials.{NameAndPassword}
 use Rattle.stun_base.specs.declared.keys.algorithm.IntegrityAlgorithm.{IntegrityAlgorithm}
+use Rattle.stun_types.specs.Limits.{USERNAME_LIMIT}
 use Rattle.stun_auth.specs.Seen.{ClientSeen}
 use Rattle.stun_extra.specs.CanonicalAddress.{is_same_address}
 use Rattle.stun_client.specs.Challenges.{Answered}
@@ -13,7 +15,7 @@ use Rattle.stun_client.specs.Requests.{AskedSeen, at}
 use Rattle.stun_client.specs.Standing.{is_ignored}
 use Rattle.stun_client.specs.declared.preferences.Preferences.{Preferences}
 use Rattle.stun_client_endpoint.specs.Bodies.{Body}
-use Rattle.stun_client_endpoint.specs.Endpoints.{Endpoint, chosen, message_of}
+use Rattle.stun_client_endpoint.specs.Endpoints.{Endpoint, chosen}
 use Rattle.stun_client_endpoint.specs.Endpoints.{next_number, received, refusal_to_start, started}
 use Rattle.stun_client_endpoint.specs.Laws.{IsEndpoint}
 use Rattle.stun_client_endpoint.specs.Pendings.{Pending, outstanding_at, request_at}
@@ -21,7 +23,6 @@ use Rattle.stun_client_endpoint.specs.Runs.{Calls, Event}
 use Rattle.stun_client_endpoint.specs.Written.{Form}
 use Rattle.stun_client_endpoint.specs.declared.ended.RequestEnd.TheVariants as how
 use Rattle.stun_client_endpoint.specs.declared.told.Received.TheVariants.{Consumed}
-use Rattle.stun_client_loop.specs.Loops.{again_refused}
 use Rattle.stun_endpoint.specs.Judged.{key_of_client}
 use Rattle.stun_endpoint.specs.Nonces.{current_nonce}
 use Rattle.stun_endpoint.specs.Received.{answered, challenge_answer, outcome_of_accepted}
@@ -32,7 +33,7 @@ use Rattle.stun_exchanges.specs.Agreement.{AgreeOn, IsSignedAnswer}
 use Rattle.stun_exchanges.specs.Exchange.{IsRegisteredUser, IsResponseTo, IsServer, IsWithinPeriod}
 use Rattle.stun_exchanges.specs.Exchange.{UserSecrets, meant_for, realm_knowing}
 use Rattle.stun_sessions.specs.Sessions.{IsForgotten}
-use Rattle.stun_requests.specs.ReadBack.{AreOrdinary}
+use Rattle.stun_requests.specs.Fitting.{IsBuiltBody}
 use Rattle.stun_requests.specs.Served.{IsPrinted}
 
 -- ---- who meets
@@ -55,14 +56,17 @@ pub record IsClientOf (side : ClientSide) (e : Endpoint) : Type 0 where
       ≡ long_term side.who side.preferences side.accepts_unsigned
   pub form_is : e.form ≡ side.form
   pub required_is : e.state.client.requires_fingerprint ≡ side.requires_fingerprint
+  pub most_is : e.state.client.requests.most ≡ e.challenges
 
--- a client and a server can meet: the server was built, the user is registered at it and is a text,
--- both agree on an algorithm, and the client sends the FINGERPRINT that one of them requires
+-- a client and a server can meet: the server was built, the user is registered at it, the name is a
+-- text of at most 513 bytes, both agree on an algorithm, and the client sends the FINGERPRINT that one
+-- of them requires
 pub record CanMeet (s : Settings) (users : UserSecrets) (side : ClientSide)
     (a : IntegrityAlgorithm) : Type 0 where
   pub built : IsServer s
   pub known : IsRegisteredUser s users side.who
   pub text : IsUtf8 side.who.username
+  pub short : length side.who.username ≤ USERNAME_LIMIT
   pub agree : AgreeOn side.preferences s.algorithms s.feature a
   pub printed : IsPrinted s side.form
   pub required : side.requires_fingerprint ≡ true → side.form.has_fingerprint ≡ true
@@ -83,17 +87,12 @@ pub record IsSignedFor (number : ℕ) (signed_for : Option Answered) (e : Endpoi
   pub signed : asked.signed_for ≡ signed_for
 
 -- it can be sent again for a challenge at a time: its first plan goes on, it was challenged less
--- often than it may be, an ID is left, the message fits, and the agent sends it. Each client that
--- was built for this server meets the last three, of a body that `Body` takes
-pub record CanGoOn (e : Endpoint) (method : ℕ) (body : Body) (p : Pending) (challenges : ℕ)
-    (response : List ℕ) (c : Answered) (now : ℕ) : Type 0 where
+-- often than it may be, and of the 2 ^ 64 - 1 numbers for transaction IDs one is left. That the message
+-- fits is no premise (`requests_can_be_written` of `stun_requests`)
+pub record CanGoOn (e : Endpoint) (p : Pending) (challenges now : ℕ) : Type 0 where
   pub in_time : now ≤ p.until
   pub often : challenges < e.challenges
-  pub id_number : ℕ
-  pub left : chosen e ≡ Some id_number
-  pub bytes : List ℕ
-  pub fits : message_of e (Some c) method id_number body ≡ Ok bytes
-  pub sent : again_refused e.state response bytes ≡ None
+  pub left : IsSome (chosen e)
 
 -- a response has a client send a request again, signed for a challenge. The client then is one after
 -- calls that began with the start of the request
@@ -141,7 +140,7 @@ pub record Meets (s : Settings) (users : UserSecrets) (from : SocketAddr) (side 
       → let response =
       (challenge_answer s Unauthenticated (current_nonce s from time) from p.bytes).bytes in
       let c = challenge_at s side a from time in
-      CanGoOn later method body p unsigned.asked.challenges response c now
+      CanGoOn later p unsigned.asked.challenges now
       → is_ignored later.state.client.standing c ≡ false
       → IsSentAgain side begun number c later response now
   -- signed for a challenge of the server, it is accepted while the nonce lasts
@@ -159,7 +158,7 @@ pub record Meets (s : Settings) (users : UserSecrets) (from : SocketAddr) (side 
       → let response =
       (challenge_answer s StaleNonce (current_nonce s from then_at) from p.bytes).bytes in
       let c = challenge_at s side a from then_at in
-      CanGoOn later method body p signed.asked.challenges response c now
+      CanGoOn later p signed.asked.challenges now
       → is_ignored later.state.client.standing c ≡ false
       → IsSentAgain side begun number c later response now
   -- and each signed answer ends it with its result. Those of the server are such
@@ -177,7 +176,7 @@ ClientsMeetServers =
     (s : Settings) (users : UserSecrets) (from : SocketAddr) (side : ClientSide)
     (a : IntegrityAlgorithm) (e later : Endpoint) (method : ℕ) (body : Body) (start : ℕ)
     (events : List Event) (p : Pending) → CanMeet s users side a → IsClientOf side e
-    → method < 4096 → AreOrdinary body → refusal_to_start e method body ≡ None
+    → method < 4096 → IsBuiltBody body → refusal_to_start e method body ≡ None
     → Calls (started method body start e) events later
     → outstanding_at (next_number e) later.requests ≡ Some p
     → Meets s users from side a (started method body start e) (next_number e) method body later p

@@ -3,3 +3,4 @@ pub mod ReadBackLemmas
 pub mod BodyLemmas
 pub mod BidLemmas
 pub mod ServedLemmas
+pub mod FitLemmas

@@ -96,17 +96,17 @@ pub record ReadingLaws : Type 0 where
 
 -- ---- tests and numbers
 
-both_false : (a b : Bool) → (a || b) ≡ false → (a ≡ false) × (b ≡ false)
+pub both_false : (a b : Bool) → (a || b) ≡ false → (a ≡ false) × (b ≡ false)
 both_false true b is = cc
 both_false false b is = (refl, is)
 
 true_false : true ≡ false → ⊥
 true_false is = cc
 
-flip : (a b : ℕ) → (a == b) ≡ false → (b == a) ≡ false
+pub flip : (a b : ℕ) → (a == b) ≡ false → (b == a) ≡ false
 flip a b apart = ne_eqb b a (λ same. true_false (sym (eq-eqb a b (sym same)) ∙ apart))
 
-none_of : (kinds : List ℕ) (k : ℕ) → list_any (λ other. other == k) kinds ≡ false
+pub none_of : (kinds : List ℕ) (k : ℕ) → list_any (λ other. other == k) kinds ≡ false
     → AllByRecursion (λ other. (other == k) ≡ false) kinds
 none_of [] k h = tt
 none_of (x ∷ xs) k h =
@@ -170,7 +170,7 @@ apart_of kind free =
       algorithm = flip PASSWORD_ALGORITHM kind all.1.1.1.1.1.1.1.0;
     }
 
-still_none : (kind : ℕ) (members : List Member) (last : Member) → has_kind kind members ≡ false
+pub still_none : (kind : ℕ) (members : List Member) (last : Member) → has_kind kind members ≡ false
     → (last.1.kind == kind) ≡ false → has_kind kind (members ++ last ∷ []) ≡ false
 still_none kind [] last none other = ap (λ b. b || false) other
 still_none kind (m ∷ members) last none other =
@@ -379,7 +379,7 @@ typed c = of_all IsTyped (record {
   digest = λ a key. tt;
 }) c
 
-not_print : (a : IntegrityAlgorithm) → (integrity_kind a == FINGERPRINT) ≡ false
+pub not_print : (a : IntegrityAlgorithm) → (integrity_kind a == FINGERPRINT) ≡ false
 not_print Sha1 = refl
 not_print Sha256 = refl
 

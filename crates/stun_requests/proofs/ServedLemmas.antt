@@ -41,12 +41,12 @@ undropped s form method added bytes printed is =
 
 -- ---- the texts of a challenge
 
-name_text : (hashes : Bool) (name realm : List ℕ) → IsUtf8 name
+pub name_text : (hashes : Bool) (name realm : List ℕ) → IsUtf8 name
     → IfSome (plain_name (naming_of hashes name realm)) IsUtf8
 name_text true name realm text = tt
 name_text false name realm text = text
 
-hash_long : (hashes : Bool) (name realm : List ℕ)
+pub hash_long : (hashes : Bool) (name realm : List ℕ)
     → IfSome (hashed_name (naming_of hashes name realm)) (λ hash. length hash ≡ 32)
 hash_long true name realm = length-sha256 _
 hash_long false name realm = tt

@@ -4,3 +4,5 @@
 pub mod ReadBack
 -- what a server makes of it
 pub mod Served
+-- each request can be written
+pub mod Fitting

@@ -1,4 +1,5 @@
 //! Laws of the bytes of a request.
+ghost use Rattle.stun_requests.specs.Fitting.{BuiltAreOrdinary, RequestsAreWritten};
 ghost use Rattle.stun_requests.specs.ReadBack.{BodiesAreReadBack, RequestsAreReadBack};
 ghost use Rattle.stun_requests.specs.ReadBack.{WrittenIsNotBidDown};
 ghost use Rattle.stun_requests.specs.Served.{RequestsAreAccepted, RequestsAreChallenged};
@@ -59,4 +60,24 @@ pub fn requests_are_accepted()
     requests_are_read_back();
     stun_endpoint::laws::nonces_have_the_bits_of_their_server();
     stun_exchanges::exchanges::users_are_accepted_by_the_strongest();
+}
+
+/// Each request that a client is given can be written, without a signature and signed for any
+/// challenge of a server of this library. What `Body` builds has attributes that the client does
+/// not write itself, of at most 60,000 bytes (`bodies`), and what the client adds to them always
+/// fits the message (`written`), so that a caller need not test it.
+///
+/// Premises: SOFTWARE has at most 763 bytes, as `request` tests; realm and nonce have at most 763
+/// bytes, as those of each `Challenge`; the name of the user has at most 513; and the list of
+/// algorithms has at most 2,600 (`IsShort`). A server of this library lists at most 8 bytes. The
+/// method has 12 bits, as each `Method`.
+pub fn requests_can_be_written()
+    ensures bodies { BuiltAreOrdinary }
+    ensures written { RequestsAreWritten }
+{
+    stun_types::laws::writing_adds_one_attribute();
+    stun_types::laws::signed_message_stands();
+    stun_auth::laws::built_messages_can_be_signed();
+    stun_auth::laws::signed_messages_are_read();
+    stun_auth::laws::additions_are_read_back();
 }

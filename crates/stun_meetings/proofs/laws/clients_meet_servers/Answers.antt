@@ -1,9 +1,12 @@
 -- Each exchange is a law of what a client and a server make of each other's messages.
 use Rattle.std.proofs.Common.{◌≡◌, ◌∙◌, ◌<◌, ◌^◌, ℕ, Option, Some, None, Ok, true, ap, refl, subst}
-use Rattle.std.proofs.Common.{map, sym}
+use Rattle.std.proofs.Common.{◌≤◌, List, arith, length, map, sym}
 use Rattle.std.specs.Option.{option_map_or}
+use Rattle.std.specs.declared.net.socket_addr.SocketAddr.{SocketAddr}
 use Rattle.stun_base.specs.Header.{transaction_id_field}
+use Rattle.stun_base.specs.declared.keys.algorithm.IntegrityAlgorithm.{IntegrityAlgorithm}
 use Rattle.stun_base.specs.declared.wire.message_type.MessageClass.TheVariants.{Request}
+use Rattle.stun_types.specs.Limits.{TEXT_LIMIT}
 use Rattle.stun_auth.specs.Nonces.{letter}
 use Rattle.stun_auth.specs.Reading.{reading_of}
 use Rattle.stun_client.specs.Challenges.{Answered, is_one}
@@ -12,25 +15,29 @@ use Rattle.stun_client.specs.Ids.{id_of}
 use Rattle.stun_client.specs.Judging.{Identity, anew, believed, long_term, sent_for}
 use Rattle.stun_client.specs.Requests.{AskedSeen, at}
 use Rattle.stun_client_endpoint.specs.Bodies.{Body}
-use Rattle.stun_client_endpoint.specs.Endpoints.{Endpoint, next_number, started}
+use Rattle.stun_client_endpoint.specs.Endpoints.{Endpoint, next_number, refusal_to_start, started}
 use Rattle.stun_client_endpoint.specs.Pendings.{Pending}
 use Rattle.stun_client_endpoint.specs.Sent.{IsStoredAs, asking}
 use Rattle.stun_client_endpoint.specs.Written.{Form, request_bytes}
 use Rattle.stun_client_endpoint.proofs.WrittenLemmas.{request_id}
 use Rattle.stun_endpoint.specs.Nonces.{current_nonce, epoch_of, words_of}
 use Rattle.stun_endpoint.specs.Received.{challenge_answer}
+use Rattle.stun_endpoint.specs.Settings.{Settings}
 use Rattle.stun_endpoint.specs.Lookups.{users_with}
 use Rattle.stun_endpoint.specs.declared.received.Refusal.TheVariants.{StaleNonce, Unauthenticated}
 use Rattle.stun_exchanges.specs.Agreement.{IsSignedAnswer}
-use Rattle.stun_exchanges.specs.Exchange.{IsResponseTo, realm_knowing}
+use Rattle.stun_exchanges.specs.Exchange.{IsResponseTo, UserSecrets, realm_knowing}
 use Rattle.stun_exchanges.proofs.AgreedLemmas.{accepted_again}
 use Rattle.stun_sessions.specs.Sessions.{client_named}
 use Rattle.stun_sessions.proofs.SessionLemmas.{is_another}
+use Rattle.stun_requests.specs.Fitting.{IsBuiltBody}
 use Rattle.stun_requests.specs.ReadBack.{added_to}
 use Rattle.stun_requests.proofs.ServedLemmas.{texts_of, undropped}
-use Rattle.stun_meetings.specs.Meeting.{ClientSide, IsClientOf, IsSignedFor, challenge_at}
-use Rattle.stun_meetings.proofs.SendLemmas.{ended_by_answer, id_low, is_printed, sent_again}
-use Rattle.stun_meetings.proofs.SideLemmas.{stays_client}
+use Rattle.stun_meetings.specs.Meeting.{CanGoOn, CanMeet, ClientSide, IsClientOf, IsSignedFor}
+use Rattle.stun_meetings.specs.Meeting.{challenge_at}
+use Rattle.stun_meetings.proofs.GoingLemmas.{can_go_on, short_challenge, sixteen, software_fits}
+use Rattle.stun_meetings.proofs.SendLemmas.{IsGoing, ended_by_answer, id_low, is_printed, sent_again}
+use Rattle.stun_meetings.proofs.SideLemmas.{IsSame, since_start, stays_client}
 use Rattle.stun_meetings.proofs.laws.clients_meet_servers.Goals as goal
 
 -- what is known of a request that is signed for a challenge, or for none
@@ -72,8 +79,41 @@ known_of side e method body later p signed_for of is signed = record {
     one = ap (λ (o : Option AskedSeen). option_map_or (λ a. a) o is.sent.asked)
         (sym is.sent.there ∙ signed.found)
 
+-- a request that can be sent again is, for each challenge of the server
+going_on : (c : goal.After-requests_can_be_written) (s : Settings) (users : UserSecrets)
+    (side : ClientSide) (a : IntegrityAlgorithm) (e later : Endpoint) (method : ℕ) (body : Body)
+    (p : Pending) (asked : AskedSeen) (response : List ℕ) (from : SocketAddr) (time now : ℕ)
+    → CanMeet s users side a → method < 4096 → IsBuiltBody body → IsClientOf side later → IsSame e later
+    → refusal_to_start e method body ≡ None → at p.id later.state.client.requests.asked ≡ Some asked
+    → transaction_id_field response ≡ p.id → CanGoOn later p asked.challenges now
+    → (signed_for : Option Answered) → IsKnown side e method body later p signed_for asked
+    → IsGoing later method body p asked.challenges response (challenge_at s side a from time) now
+going_on c s users side a e later method body p asked response from time now meet low built client same
+    none found same_id can signed_for known =
+    let who = side.who in
+    let prefers = side.preferences in
+    let accepts = side.accepts_unsigned in
+    let nonce = current_nonce s from time in
+    let challenge = Some (challenge_at s side a from time) in
+    let words = words_of s.algorithms s.secret from (epoch_of s time) in
+    let nonces = c.nonces_have_the_bits_of_their_server.ensures in
+    let few : length words ≤ 16 = sixteen _ in
+    let fits : length nonce ≤ TEXT_LIMIT = omega (arith, nonces.short s words, few) in
+    let software = software_fits side.form (long_term who prefers accepts) signed_for method p.id body
+    p.bytes known.written in
+    let ordinary = (c.requests_can_be_written.ensures.bodies body built).0 in
+    can_go_on side e later method body p asked response (challenge_at s side a from time) now
+    client.endpoint client same none found same_id can
+    (λ id. c.requests_can_be_written.ensures.written side.form who prefers accepts challenge method id
+    body low built software (short_challenge s prefers who nonce a meet.built meet.short fits))
+    (λ id bytes is. c.requests_are_read_back.ensures.as_made side.form who prefers accepts challenge
+    method id body bytes low ordinary
+    (texts_of s prefers who nonce a meet.built meet.text (nonces.text s words)) is)
+
 pub returns : goal.returns
-returns c = λ s users from side a e later method body start events p meet of low ordinary none calls out.
+returns c = λ s users from side a e later method body start events p meet of low built none calls out.
+    let ordinary = (c.requests_can_be_written.ensures.bodies body built).0 in
+    let same = since_start e later method body start events calls in
     let who = side.who in
     let prefers = side.preferences in
     let accepts = side.accepts_unsigned in
@@ -108,7 +148,9 @@ returns c = λ s users from side a e later method body start events p meet of lo
           (known.method_is ∙ sym read.method_is)
           (ap (is_one (Some challenge)) unsigned.signed) strong in
           sent_again side later number method body p unsigned.asked unsigned.there unsigned.found
-          known.method_is stored.body response (heard_as.0.id ∙ known.id_is) challenge now can
+          known.method_is stored.body response (heard_as.0.id ∙ known.id_is) challenge now
+          (going_on c s users side a e later method body p unsigned.asked response from time now meet low
+          built client same none unsigned.found (heard_as.0.id ∙ known.id_is) can None known)
           (started method body start e) events calls
           (said ∙ ap (λ (o : Option Answered). responded response unsigned.asked.number
           (sent_for o response challenge)) unsigned.signed
@@ -166,7 +208,10 @@ returns c = λ s users from side a e later method body start events p meet of lo
           (is_another s prefers who a from time then_at signed.asked.signed_for signed.signed
           other.current) strong in
           sent_again side later number method body p signed.asked signed.there signed.found
-          known.method_is stored.body response (heard_as.0.id ∙ known.id_is) challenge now can
+          known.method_is stored.body response (heard_as.0.id ∙ known.id_is) challenge now
+          (going_on c s users side a e later method body p signed.asked response from then_at now meet low
+          built client same none signed.found (heard_as.0.id ∙ known.id_is) can
+          (Some (challenge_at s side a from time)) known)
           (started method body start e) events calls
           (said ∙ ap (λ n. responded response n (anew challenge)) known.number_is);
       ended = λ time now response is_heard signed answers is_signed.

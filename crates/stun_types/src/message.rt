@@ -149,10 +149,7 @@ impl<'a> Message<'a> {
             (spelled_message message_type id []) result }
     {
         writer.reserve(HEADER_LENGTH)?;
-        writer.append(&message_type.value().to_be_bytes());
-        writer.append(&[0, 0]);
-        writer.append(&MAGIC_COOKIE.to_be_bytes());
-        writer.append(&id.as_u128().to_be_bytes()[4..]);
+        writer.append(&header_of(message_type, id));
         Ok(writer)
     }
 
@@ -327,4 +324,16 @@ impl<'a> Message<'a> {
             None => Err(StunParseError::MissingAttribute(A::static_type())),
         }
     }
+}
+
+/// Returns the header of a message without attributes.
+fn header_of(message_type: MessageType, id: TransactionId) -> [u8; HEADER_LENGTH]
+    ensures bytes { result ≡ spelled_message message_type id [] }
+    ensures fits { message_type < 2 ^ 14 }
+{
+    let mut header = [0; HEADER_LENGTH];
+    header[..2].copy_from_slice(&message_type.value().to_be_bytes());
+    header[4..8].copy_from_slice(&MAGIC_COOKIE.to_be_bytes());
+    header[8..].copy_from_slice(&id.as_u128().to_be_bytes()[4..]);
+    header
 }

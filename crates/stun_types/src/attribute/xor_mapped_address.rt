@@ -224,8 +224,8 @@ fn append_address<W: MessageWrite>(writer: &mut W, family: u8, port: u16, octets
         AttributeType::XOR_MAPPED_ADDRESS,
         FAMILY_AND_PORT_LENGTH + octets.len(),
     );
-    writer.append(&[0, family]);
-    writer.append(&port.to_be_bytes());
+    let [port_high, port_low] = port.to_be_bytes();
+    writer.append(&[0, family, port_high, port_low]);
     writer.append(octets);
 }
 

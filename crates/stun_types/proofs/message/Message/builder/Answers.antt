@@ -8,19 +8,17 @@ use Rattle.stun_types.proofs.message.Message.builder.Given.{Over}
 use Rattle.stun_types.proofs.message.Message.builder.Goals as goal
 
 -- what was written
-written : (g : Over) (c : goal.After-append-4 g)
-    → g.W.MessageWrite.bytes c.append-4.new.self
+written : (g : Over) (c : goal.After-append g)
+    → g.W.MessageWrite.bytes c.append.new.self
     ≡ spelled_message c.args.message_type c.args.id []
 written g c = search rules
 
 -- the message that is spelled
-spelled_is_open : (g : Over) (c : goal.After-append-4 g)
+spelled_is_open : (g : Over) (c : goal.After-append g)
     → IsOpen (spelled_message c.args.message_type c.args.id [])
     × (walk (spelled_message c.args.message_type c.args.id []) ≡ [])
 spelled_is_open g c =
-    let fits : c.args.message_type < 2 ^ 14 =
-    omega (arith, c.value.ensures.value, c.value.ensures.fits) in
-    IsOpen-spelled_message c.args.message_type c.args.id fits
+    IsOpen-spelled_message c.args.message_type c.args.id c.header_of.ensures.fits
 
 pub returns : goal.returns
 returns g c = record {

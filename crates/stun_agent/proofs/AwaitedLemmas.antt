@@ -90,7 +90,7 @@ pub told_is : {A D : Type 0} (transport : TransportType) (l : Link A D) → IsTi
     → told l ≡ awaited_of transport (items l)
 told_is transport Empty timed = refl
 told_is transport (Leaf awaited leaf) timed =
-    timed ∙ sym (joined_nothing (awaited_by transport leaf.value.1))
+    timed ∙ sym (joined_nothing (awaited_by transport leaf.value.entry.1))
 told_is transport (Fork' awaited p a b c d) timed = timed.0
 
 -- what the parts of a fork tell is what all of them await

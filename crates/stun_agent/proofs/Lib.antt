@@ -2,6 +2,7 @@ pub mod AnswerLemmas
 pub mod Ascending
 pub mod AwaitedLemmas
 pub mod CountLemmas
+pub mod CutLemmas
 pub mod EndedLemmas
 pub mod EntryLemmas
 pub mod FoundLemmas

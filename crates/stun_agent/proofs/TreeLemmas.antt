@@ -1,10 +1,12 @@
 -- The ids below a link are in its part, and they ascend.
 use Rattle.std.proofs.Common.{ℕ, ◌≡◌, ◌+◌, ◌-◌, ◌*◌, ◌/◌, ◌^◌, ◌<◌, arith, List, [], ◌∷◌}
-use Rattle.std.proofs.Common.{◌++◌, ap, ◌∙◌, ⊎_elim}
+use Rattle.std.proofs.Common.{◌++◌, ap, ap₂, sym, subst, refl, ◌∙◌, ⊎_elim}
 use Rattle.std.specs.List.{AllByRecursion}
 use Rattle.std.specs.List.Sorted.{IsStrictlySortedBy}
+use Rattle.std.specs.Map.{keys_of}
 use Rattle.std.proofs.Math.Pow.{shr_mono}
 use Rattle.std.proofs.lemmas.Bool.{cases_lt}
+use Rattle.std.proofs.lemmas.List.{map-append}
 use Rattle.std.proofs.lemmas.Nat.{shr-shr}
 use Rattle.stun_types.proofs.ReachedLemmas.{weaker}
 use Rattle.stun_base.specs.declared.wire.transport.TransportType.{TransportType}
@@ -13,8 +15,9 @@ use Rattle.stun_agent.specs.declared.state.tree.Link.TheVariants.{Empty, Leaf, F
 use Rattle.stun_agent.specs.Deadlines.{most_levels}
 use Rattle.stun_agent.specs.Transactions.{Transaction, Transactions, IsAscending}
 use Rattle.stun_agent.specs.Transactions.{AreKept}
-use Rattle.stun_agent.specs.code.Tree.{items, part_of, IsPlaced, IsOrdered, IsTree}
-use Rattle.stun_agent.proofs.HalvesLemmas.{AreLater, AreSooner, AreApart, ascending-append}
+use Rattle.stun_agent.specs.Tables.{Attached}
+use Rattle.stun_agent.specs.code.Tree.{items, attached, part_of, IsPlaced, IsOrdered, IsTree}
+use Rattle.stun_agent.proofs.HalvesLemmas.{AreLater, AreApart, ascending-append}
 
 -- ---- lists
 pub all_append : {X : Type 0} (P : X → Type 0) (xs ys : List X) → AllByRecursion P xs
@@ -27,6 +30,12 @@ pub apart_append : (xs ys zs : Transactions) → AreApart xs ys → AreApart xs 
 apart_append [] ys zs a b = tt
 apart_append (x ∷ xs) ys zs a b =
     (all_append _ ys zs a.0 b.0, apart_append xs ys zs a.1 b.1)
+
+-- lists of the same keys, one after the other
+alike : {X Y : Type 0} (xs : Attached X) (ys : Attached Y) (ps : Attached X) (qs : Attached Y)
+    → keys_of xs ≡ keys_of ys → keys_of ps ≡ keys_of qs → keys_of (xs ++ ps) ≡ keys_of (ys ++ qs)
+alike xs ys ps qs first rest =
+    map-append _ xs ps ∙ ap₂ (λ k l. k ++ l) first rest ∙ sym (map-append _ ys qs)
 
 -- ---- parts
 -- a part with fewer levels is in one with more of them
@@ -41,6 +50,19 @@ later_part levels id k less =
     (λ le. let most = shr_mono (2 * levels) le in omega (arith, less, most)) (cases_lt id k)
 
 -- ---- all ids are in the part
+abbrev pub AreInPart : {X : Type 0} → ℕ → ℕ → Attached X → Type 0
+AreInPart {X} levels part es = AllByRecursion (λ (e : ℕ × X). part_of levels e.0 ≡ part) es
+
+of_keys : {X : Type 0} (P : ℕ → Type 0) (es : Attached X) → AllByRecursion P (keys_of es)
+    → AllByRecursion (λ (e : ℕ × X). P e.0) es
+of_keys P [] h = tt
+of_keys P (e ∷ es) h = (h.0, of_keys P es h.1)
+
+to_keys : {X : Type 0} (P : ℕ → Type 0) (es : Attached X)
+    → AllByRecursion (λ (e : ℕ × X). P e.0) es → AllByRecursion P (keys_of es)
+to_keys P [] h = tt
+to_keys P (e ∷ es) h = (h.0, to_keys P es h.1)
+
 abbrev pub ArePlaced : ℕ → ℕ → Transactions → Type 0
 ArePlaced levels part es = AllByRecursion (IsPlaced levels part) es
 
@@ -69,16 +91,29 @@ module _ {A D : Type 0} where
       (wider levels part (4 * part + 2) some (omega arith) (items c) (placed (levels - 1) _ c oc))
       (wider levels part (4 * part + 3) some (omega arith) (items d) (placed (levels - 1) _ d od))))
 
-  -- ---- what that says of one id
-  module _ (levels part : ℕ) (l : Link A D) (h : IsOrdered levels part l) (id : ℕ) where
-    pub are_later : part_of levels id < part → AreLater id (items l)
-    are_later less =
-        weaker _ _ (items l) (λ e at. later_part levels id e.0 (rw at.inside less))
-        (placed levels part l h)
+  -- each request has a datum
+  pub same_keys : (l : Link A D) → keys_of (attached l) ≡ keys_of (items l)
+  same_keys Empty = refl
+  same_keys (Leaf awaited leaf) = refl
+  same_keys (Fork' awaited p a b c d) =
+      alike (attached a) (items a) _ _ (same_keys a)
+      (alike (attached b) (items b) _ _ (same_keys b)
+      (alike (attached c) (items c) _ _ (same_keys c) (same_keys d)))
 
-    pub are_sooner : part < part_of levels id → AreSooner id (items l)
-    are_sooner less =
-        weaker _ _ (items l) (λ e at. later_part levels e.0 id (rw at.inside less))
+  -- ---- what that says of ids
+  module _ (levels part : ℕ) (l : Link A D) (h : IsOrdered levels part l) where
+    pub items_in_part : AreInPart levels part (items l)
+    items_in_part = weaker _ _ (items l) (λ e at. at.inside) (placed levels part l h)
+
+    pub attached_in_part : AreInPart levels part (attached l)
+    attached_in_part =
+        of_keys (λ k. part_of levels k ≡ part) (attached l)
+        (subst (AllByRecursion (λ k. part_of levels k ≡ part)) (sym (same_keys l))
+        (to_keys (λ k. part_of levels k ≡ part) (items l) items_in_part))
+
+    are_later : (id : ℕ) → part_of levels id < part → AreLater id (items l)
+    are_later id less =
+        weaker _ _ (items l) (λ e at. later_part levels id e.0 (rw at.inside less))
         (placed levels part l h)
 
   -- links to parts of which the second is later
@@ -119,7 +154,7 @@ none_ascends = tt
 module _ {A D : Type 0} where
   pub ascends : (levels part : ℕ) (l : Link A D) → IsOrdered levels part l → IsAscending (items l)
   ascends levels part Empty h = none_ascends
-  ascends levels part (Leaf awaited leaf) h = one_ascends leaf.value
+  ascends levels part (Leaf awaited leaf) h = one_ascends leaf.value.entry
   ascends levels part (Fork' awaited p a b c d) (deep, oa, ob, oc, od) =
       ascending-append (items a) (items b ++ (items c ++ items d))
       (first_apart (levels - 1) part a b c d oa ob oc od) (ascends (levels - 1) _ a oa)

@@ -6,6 +6,8 @@ pub mod Timing
 pub mod Transactions
 -- an agent, and what each call makes of it (sections 6.2 and 6.3)
 pub mod Agent
+-- a table of requests with data of their owner (sections 6.2 and 6.3)
+pub mod Tables
 -- the addresses that an agent has validated
 pub mod Peers
 -- what an agent counts

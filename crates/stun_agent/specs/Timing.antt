@@ -1,6 +1,7 @@
 -- When a request is sent again, and when it ends (RFC 8489, sections 6.2.1 and 6.2.2). Spans are in
 -- nanoseconds.
-use Rattle.std.specs.Prelude.{ℕ, zero, suc, ◌+◌, ◌-◌, ◌*◌, ◌^◌, min, max}
+use Rattle.std.specs.Prelude.{ℕ, zero, suc, ◌+◌, ◌-◌, ◌*◌, ◌^◌, min, max, nat_lt, nat_le}
+use Rattle.std.specs.Prelude.{if◌then◌else◌}
 use Rattle.std.specs.Duration.{as_nanos, max_nanos}
 use Rattle.stun_base.specs.Moments.{moment_after}
 use Rattle.stun_base.specs.declared.wire.transport.TransportType.{TransportType}
@@ -65,3 +66,26 @@ abbrev pub planned_end : TransportType → Settings → ℕ → ℕ
 planned_end transport settings start =
     moment_after start
     (sum_of_timeouts settings (slots transport settings) + final_wait transport settings)
+
+-- ---- a shorter plan
+-- the time from the first transmission to the end: all timeouts, and the last wait
+abbrev pub plan_length : Settings → ℕ
+plan_length settings = sum_of_timeouts settings (repetitions settings) + settings.last_wait
+
+-- the most timeouts, k at most, that together are shorter than a time
+unfoldable pub timeouts_before : ℕ → Settings → ℕ → ℕ
+timeouts_before time settings zero = 0
+timeouts_before time settings (suc k) =
+    if nat_lt (sum_of_timeouts settings (suc k)) time then suc k
+    else timeouts_before time settings k
+
+-- the settings whose plan is the beginning of this one, and ends at a time if this one ends later:
+-- the transmissions that come before, and after the last of them the rest of the time
+abbrev pub cut : ℕ → Settings → Settings
+cut time settings =
+    if nat_le (plan_length settings) time then settings
+    else record settings {
+      transmissions = timeouts_before time settings (repetitions settings) + 1;
+      last_wait = time
+          - sum_of_timeouts settings (timeouts_before time settings (repetitions settings));
+    }

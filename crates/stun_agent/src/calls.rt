@@ -6,5 +6,6 @@ pub(crate) mod receive;
 pub(crate) mod request;
 pub(crate) mod resend;
 pub(crate) mod send;
+pub(crate) mod table;
 pub(crate) mod transmit;
 pub(crate) mod uncounted;

@@ -1,11 +1,13 @@
 //! Laws of an agent over any calls. The calls may be made in any order, and their times may go
 //! back.
-ghost use Rattle.std.specs.Prelude.{◌≡◌, ◌&&◌, ◌||◌, ◌↔◌, true, not};
+ghost use Rattle.std.specs.Prelude.{◌≡◌, ◌≤◌, ◌<◌, ◌&&◌, ◌||◌, ◌↔◌, ℕ, true, not, min};
 ghost use Rattle.std.specs.declared.net.socket_addr.SocketAddr.{SocketAddr};
 ghost use Rattle.stun_base.specs.Address.{same_address};
 ghost use Rattle.stun_agent.specs.Laws.{IsNeverEarly, WaitsAsTold, IgnoresUnknown};
 ghost use Rattle.stun_agent.specs.Laws.{IgnoresElsewhere, EndsAlike, EndsOnce};
 ghost use Rattle.stun_agent.specs.Laws.{IsTransmittedAtMost, KeepsCount};
+ghost use Rattle.stun_agent.specs.Timing.{Settings, cut, plan_length, repetitions, timeout};
+ghost use Rattle.stun_agent.specs.Timing.{sum_of_timeouts};
 ghost use Rattle.stun_agent.specs.Transcript.{CountsCalls, CountsNothing};
 ghost use Rattle.stun_agent.specs.Peers.{Peers, is_peer, with_peer, without_peer};
 
@@ -84,4 +86,18 @@ pub fn forgetting_removes_one_peer()
     ensures { (address other : SocketAddr) (peers : Peers)
         → is_peer other (without_peer address peers)
         ≡ (not (same_address other address) && is_peer other peers) }
+{}
+
+/// The plan of `RequestRto::within` ends after this time, or when the whole plan ends if that is
+/// earlier. Its waits between transmissions are those of the whole plan, and it has the transmissions
+/// of the whole plan that come before its end, and no others.
+pub fn a_plan_is_cut_at_a_time()
+    ensures ends { (time : ℕ) (settings : Settings)
+        → plan_length (cut time settings) ≡ min time (plan_length settings) }
+    ensures alike { (time i : ℕ) (settings : Settings)
+        → timeout (cut time settings) i ≡ timeout settings i }
+    ensures fewer { (time : ℕ) (settings : Settings)
+        → repetitions (cut time settings) ≤ repetitions settings }
+    ensures all { (time i : ℕ) (settings : Settings) → i ≤ repetitions settings
+        → sum_of_timeouts settings i < time → i ≤ repetitions (cut time settings) }
 {}

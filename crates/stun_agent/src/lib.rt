@@ -10,3 +10,4 @@ pub mod laws;
 mod poll;
 mod state;
 pub mod stats;
+pub mod table;

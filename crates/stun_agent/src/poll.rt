@@ -16,6 +16,7 @@ use std::sync::ledger::{Blank, Ledger};
 use stun_base::instant::Instant;
 
 pub(crate) mod reads;
+pub(crate) mod table;
 
 impl<A: Allocator> StunAgent<A> {
     /// Ends at most one request, or returns how long to wait.

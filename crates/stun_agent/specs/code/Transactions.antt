@@ -6,14 +6,21 @@ use Rattle.stun_base.specs.declared.wire.transport.TransportType.{TransportType}
 use Rattle.stun_agent.specs.declared.state.transaction.Change.{Change}
 use Rattle.stun_agent.specs.declared.state.transaction.Change.TheVariants.{Silence, Cancel}
 use Rattle.stun_agent.specs.declared.state.transaction.Change.TheVariants.{Configure}
+use Rattle.stun_agent.specs.Tables.{Attached}
 use Rattle.stun_agent.specs.Timing.{settings_of}
 use Rattle.stun_agent.specs.Transactions.{Transaction, Transactions, repeats}
 use Rattle.stun_agent.specs.Transactions.{without_retransmissions, with_cancellation, with_settings}
 
--- the outstanding requests, and the transport that carries them
-pub record Outstanding : Type 0 where
+-- a request under its id, with the datum of its owner
+pub record LeafSeen (D : Type 0) : Type 0 where
+  pub entry : ℕ × Transaction
+  pub datum : D
+
+-- the outstanding requests with the data of their owner, and the transport that carries them
+pub record Outstanding (D : Type 0) : Type 0 where
   pub transport : TransportType
   pub requests : Transactions
+  pub attached : Attached D
 
 -- what is sent of a transaction, and where
 abbrev pub contents : Transaction → List ℕ × SocketAddr

@@ -8,6 +8,7 @@ use Rattle.stun_agent.specs.declared.state.tree.Link.TheVariants.{Empty, Leaf, F
 use Rattle.stun_agent.specs.declared.state.tree.Quarter.{Quarter}
 use Rattle.stun_agent.specs.declared.state.tree.Quarter.TheVariants.{First, Second, Third, Fourth}
 use Rattle.stun_agent.specs.Deadlines.{most_levels}
+use Rattle.stun_agent.specs.Tables.{Attached}
 use Rattle.stun_agent.specs.Transactions.{Transaction, Transactions, IsNamed}
 use Rattle.stun_agent.specs.code.Awaited.{Awaited, nothing, awaited_by, awaited_of}
 
@@ -15,12 +16,23 @@ use Rattle.stun_agent.specs.code.Awaited.{Awaited, nothing, awaited_by, awaited_
 -- the transactions below a link, in the order of their ids
 abbrev pub items : {A D : Type 0} → Link A D → Transactions
 items Empty = []
-items (Leaf awaited leaf) = leaf.value ∷ []
+items (Leaf awaited leaf) = leaf.value.entry ∷ []
 items (Fork' awaited p a b c d) = items a ++ (items b ++ (items c ++ items d))
 
 abbrev pub fork_items : {A D : Type 0} → Fork A D → Transactions
 fork_items fork =
     items fork.first ++ (items fork.second ++ (items fork.third ++ items fork.fourth))
+
+-- the data of the owner below a link, in the order of the ids
+abbrev pub attached : {A D : Type 0} → Link A D → Attached D
+attached Empty = []
+attached (Leaf awaited leaf) = (leaf.value.entry.0, leaf.value.datum) ∷ []
+attached (Fork' awaited p a b c d) = attached a ++ (attached b ++ (attached c ++ attached d))
+
+abbrev pub fork_attached : {A D : Type 0} → Fork A D → Attached D
+fork_attached fork =
+    attached fork.first
+    ++ (attached fork.second ++ (attached fork.third ++ attached fork.fourth))
 
 -- ---- its order
 -- the part of all ids in which an id is, below which so many levels of forks have room: all its
@@ -48,7 +60,7 @@ pub record IsDeep (levels : ℕ) : Type 0 where
 -- each quarter of a part is below a link of its own, down to the single transactions
 abbrev pub IsOrdered : {A D : Type 0} → ℕ → ℕ → Link A D → Type 0
 IsOrdered levels part Empty = Unit {0}
-IsOrdered levels part (Leaf awaited leaf) = IsPlaced levels part leaf.value
+IsOrdered levels part (Leaf awaited leaf) = IsPlaced levels part leaf.value.entry
 IsOrdered levels part (Fork' awaited p a b c d) =
     IsDeep levels
     × IsOrdered (levels - 1) (4 * part) a × IsOrdered (levels - 1) (4 * part + 1) b
@@ -81,7 +93,7 @@ told (Fork' awaited p a b c d) = awaited
 -- each link tells what those below it await
 abbrev pub IsTimed : {A D : Type 0} → TransportType → Link A D → Type 0
 IsTimed transport Empty = Unit {0}
-IsTimed transport (Leaf awaited leaf) = awaited ≡ awaited_by transport leaf.value.1
+IsTimed transport (Leaf awaited leaf) = awaited ≡ awaited_by transport leaf.value.entry.1
 IsTimed transport (Fork' awaited p a b c d) =
     (awaited ≡ awaited_of transport (items a ++ (items b ++ (items c ++ items d))))
     × IsTimed transport a × IsTimed transport b × IsTimed transport c × IsTimed transport d
@@ -119,3 +131,8 @@ IsLone (Fork' awaited p a b c d) = ⊥
 abbrev pub first_request : Transactions → Option Transaction
 first_request [] = None
 first_request (e ∷ es) = Some e.1
+
+-- the first of some data, if there is any
+abbrev pub first_datum : {D : Type 0} → Attached D → Option D
+first_datum [] = None
+first_datum (e ∷ es) = Some e.1

@@ -1,16 +1,20 @@
 //! The count of a poll: how many requests it reads, and at how many links of the tree it looks.
 //! Only `poll_counted` can begin a count. All that is done below it counts under that one.
-ghost use Rattle.std.specs.Prelude.{◌≡◌, ◌≤◌, ◌+◌, Some, codes};
+ghost use Rattle.std.specs.Prelude.{◌≡◌, ◌≤◌, ◌+◌, Some, None, IfOk, IfErr, OnErr, codes};
 ghost use Rattle.std.specs.Fmt.{WritesOnOk};
+ghost use Rattle.std.specs.Option.{option_map};
 ghost use Rattle.stun_agent.specs.Agent.{poll_answer, after_poll};
 ghost use Rattle.stun_agent.specs.Deadlines.{early_requests, most_reads, most_looks, IsUnused};
+ghost use Rattle.stun_agent.specs.Tables.{datum_at, over_in, until_in, after_end};
 
 use crate::agent::{StunAgent, StunAgentPollRet};
+use crate::table::Table;
 use std::alloc::Allocator;
 use std::fmt;
 use std::marker::Model;
 use std::sync::ledger::{Blank, Book, Ledger, Share};
 use stun_base::instant::Instant;
+use stun_base::transaction_id::TransactionId;
 
 /// The number of requests that a search has read, and the number of links whose times it has looked
 /// at. It takes no memory, and no program can read it.
@@ -107,5 +111,32 @@ impl<A: Allocator> StunAgent<A> {
         let mut reads = Reads::<L>::new(blank);
         let answer = self.poll_under(now, &mut reads);
         (answer, reads)
+    }
+}
+
+impl<A: Allocator, D: Drop> Table<A, D> {
+    /// Like `poll`, but also returns how many requests it read, and at how many links of the tree
+    /// of requests it looked (see `StunAgent::poll_counted`).
+    #[doc(hidden)]
+    pub fn poll_counted<L: Ledger>(
+        &mut self,
+        now: Instant,
+        blank: Blank,
+    ) -> (Result<(TransactionId, D), Instant>, Reads<L>)
+        requires { IsUnused blank.name blank.parts L.name L.parts }
+        ensures ended { IfOk result.0 (λ e. option_map (λ o. o.0) (over_in now self.old)
+            ≡ Some e.0) }
+        ensures datum { IfOk result.0 (λ e. datum_at e.0 self.old.attached ≡ Some e.1) }
+        ensures none { OnErr result.0 (over_in now self.old ≡ None) }
+        ensures until { IfErr result.0 (λ until. until ≡ until_in now self.old) }
+        ensures after { self.new ≡ after_end now self.old }
+        ensures work { result.1.entries
+            ≤ early_requests self.old.transport now self.old.requests }
+        ensures path { result.1.entries ≤ most_reads }
+        ensures looks { result.1.looks ≤ most_looks result.1.entries }
+    {
+        let mut reads = Reads::<L>::new(blank);
+        let ended = self.end_under(now, &mut reads);
+        (ended, reads)
     }
 }

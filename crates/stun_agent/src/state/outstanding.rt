@@ -1,8 +1,10 @@
 //! The outstanding requests of an agent.
 ghost use Rattle.std.specs.Prelude.{◌≡◌, ◌+◌, ◌≤◌, ◌<◌, [], length, Some, None};
-ghost use Rattle.std.specs.Prelude.{IfSome, IsSomeAnd, IfOk, OnOk, IfErr, OnErr};
-ghost use Rattle.std.specs.Option.{option_map, option_copied};
+ghost use Rattle.std.specs.Map.{keys_of};
+ghost use Rattle.std.specs.Prelude.{MatchOption, IfSome, IsSome, IsSomeAnd, IfOk, OnOk, IfErr, OnErr};
+ghost use Rattle.std.specs.Option.{is_some, option_map, option_copied};
 ghost use Rattle.stun_agent.specs.Deadlines.{early_requests, most_reads, most_looks};
+ghost use Rattle.stun_agent.specs.Tables.{datum_at, with_datum, without_datum, set_datum};
 ghost use Rattle.stun_agent.specs.Transactions.{AreKept, at, with, without, with_change_at};
 ghost use Rattle.stun_agent.specs.Transactions.{first_over, wake_up, next_awaited};
 ghost use Rattle.stun_agent.specs.Transactions.{next_sent, after_slots, IsNamed};
@@ -18,6 +20,7 @@ use crate::state::tree::awaited::Awaited;
 use crate::state::tree::change::{change, pass_slots};
 use crate::state::tree::insert::insert;
 use crate::state::tree::remove::remove;
+use crate::state::tree::replace::replace;
 use crate::state::tree::{LEVELS, Leaf, Link, lookups};
 use std::alloc::{AllocError, Allocator};
 use std::marker::Model;
@@ -38,11 +41,15 @@ pub(crate) struct Outstanding<A: Allocator, D> {
 
 impl<A: Allocator, D> Model for Outstanding<A, D> {
     ghost use Rattle.stun_agent.specs.code.Transactions.{Outstanding};
-    ghost use Rattle.stun_agent.specs.code.Tree.{items, IsTree};
+    ghost use Rattle.stun_agent.specs.code.Tree.{items, attached, IsTree};
 
-    ghost Value = { Outstanding };
+    ghost Value = { Outstanding D };
 
-    ghost view = { λ o. record { transport = o.transport; requests = items o.root } };
+    ghost view = { λ o. record {
+      transport = o.transport;
+      requests = items o.root;
+      attached = attached o.root;
+    } };
 
     ghost invariant = { λ o. IsTree o.transport o.root };
 }
@@ -66,6 +73,7 @@ impl<A: Allocator, D: Drop> Outstanding<A, D> {
     ) -> Result<(TransactionId, bool), Instant>
         ensures over { IfOk result (λ ended. Some ended ≡ option_map id_and_repeats
             (first_over self.now.transport now self.now.requests)) }
+        ensures there { IfOk result (λ ended. IsSome (at ended.0 self.now.requests)) }
         ensures none { OnErr result
             (first_over self.now.transport now self.now.requests ≡ None) }
         ensures until { IfErr result (λ until. until
@@ -79,19 +87,24 @@ impl<A: Allocator, D: Drop> Outstanding<A, D> {
         search::decide(&self.root, now, reads)
     }
 
-    /// Removes the request with this ID.
-    pub(crate) fn remove(&mut self, id: TransactionId) -> Option<Transaction<A>>
-        ensures answer { result ≡ at id self.old.requests }
-        ensures after { self.new ≡ record self.old { requests = without id self.old.requests } }
+    /// Removes the request with this ID, and returns it with its datum.
+    pub(crate) fn remove(&mut self, id: TransactionId) -> Option<(Transaction<A>, D)>
+        ensures answer { option_map (λ r. r.0) result ≡ at id self.old.requests }
+        ensures datum { option_map (λ r. r.1) result ≡ datum_at id self.old.attached }
+        ensures after { self.new ≡ record self.old {
+          requests = without id self.old.requests;
+          attached = without_datum id self.old.attached;
+        } }
+        ensures same { MatchOption result (self.new ≡ self.old) (λ _. Unit {0}) }
     {
         let leaf = remove(&mut self.root, LEVELS, id, &mut Awaited::nothing())?;
-        Some(Box::into_inner(leaf).into_request())
+        Some(Box::into_inner(leaf).into_parts())
     }
 }
 
 impl<A: Allocator + Copy, D: Drop> Outstanding<A, D> {
     pub(crate) fn new(transport: TransportType) -> Self
-        ensures { result ≡ record { transport = transport; requests = [] } }
+        ensures { result ≡ record { transport = transport; requests = []; attached = [] } }
     {
         Outstanding {
             transport,
@@ -99,10 +112,37 @@ impl<A: Allocator + Copy, D: Drop> Outstanding<A, D> {
         }
     }
 
+    /// Returns whether a request has this ID.
+    pub(crate) fn has(&self, id: TransactionId, leave: Uncounted) -> bool
+        ensures has { result ≡ is_some (at id self.now.requests) }
+        ensures kept { AreKept self.now.requests }
+        ensures same { keys_of self.now.attached ≡ keys_of self.now.requests }
+    {
+        lookups::get(&self.root, LEVELS, id, leave).is_some()
+    }
+
     pub(crate) fn get(&self, id: TransactionId, leave: Uncounted) -> Option<&Transaction<A>>
         ensures { option_copied result ≡ at id self.now.requests }
     {
         lookups::get(&self.root, LEVELS, id, leave)
+    }
+
+    /// Returns the datum of the request with this ID.
+    pub(crate) fn datum(&self, id: TransactionId, leave: Uncounted) -> Option<&D>
+        ensures { option_copied result ≡ datum_at id self.now.attached }
+    {
+        lookups::datum(&self.root, LEVELS, id, leave)
+    }
+
+    /// Replaces the datum of the request with this ID, and returns the one before. If there is no
+    /// such request, the datum is dropped.
+    pub(crate) fn replace_datum(&mut self, id: TransactionId, datum: D) -> Option<D>
+        ensures before { result ≡ datum_at id self.old.attached }
+        ensures after { self.new ≡ record self.old {
+          attached = set_datum id datum self.old.attached;
+        } }
+    {
+        replace(&mut self.root, LEVELS, id, datum)
     }
 
     /// Stores a request whose ID has none. If an allocation fails, the requests stay as they were,
@@ -118,6 +158,7 @@ impl<A: Allocator + Copy, D: Drop> Outstanding<A, D> {
         requires absent { at id self.old.requests ≡ None }
         ensures ok { OnOk result (self.new ≡ record self.old {
           requests = with id request self.old.requests;
+          attached = with_datum id datum self.old.attached;
         }) }
         ensures there { OnOk result (at id self.new.requests ≡ Some request) }
         ensures err { OnErr result (self.new ≡ self.old) }

@@ -1,8 +1,9 @@
 //! The timeouts of a request: when it is sent again, and when it ends.
-ghost use Rattle.std.specs.Prelude.{◌≡◌, ◌≤◌, ◌*◌, ◌^◌};
+ghost use Rattle.std.specs.Prelude.{◌≡◌, ◌≤◌, ◌<◌, ◌+◌, ◌*◌, ◌^◌, ◌⊎◌};
 ghost use Rattle.std.specs.Duration.{as_nanos, max_nanos};
 ghost use Rattle.stun_agent.specs.Timing.{settings_of, default_settings, timeout, slots};
 ghost use Rattle.stun_agent.specs.Timing.{final_wait, repetitions, sum_of_timeouts};
+ghost use Rattle.stun_agent.specs.Timing.{timeouts_before, cut};
 
 use std::time::Duration;
 use stun_base::transport::TransportType;
@@ -73,6 +74,25 @@ impl RequestRto {
         }
     }
 
+    /// Returns the settings of a shorter plan, which ends after this time: the same transmissions at
+    /// the same times, as many as come before the end, and after the last of them a wait for the
+    /// rest of the time. If the whole plan ends in this time, returns the settings as they are.
+    pub fn within(&self, time: Duration) -> RequestRto
+        ensures { settings_of result ≡ cut (as_nanos time) (settings_of self.now) }
+    {
+        let end = nanos_of(time);
+        if self.sum_of_timeouts() + nanos_of(self.last_retransmit) <= end {
+            return *self;
+        }
+        let (count, passed) = self.timeouts_before(end);
+        RequestRto {
+            initial: self.initial,
+            max: self.max,
+            retransmits: count + 1,
+            last_retransmit: Duration::from_nanos_u128(end - passed),
+        }
+    }
+
     /// Returns how many times the request is sent again over UDP.
     fn repetitions(&self) -> u32
         ensures { result ≡ repetitions (settings_of self.now) }
@@ -108,6 +128,49 @@ impl RequestRto {
             sum += self.timeout_nanos(i);
         }
         sum + (all - rising) as u128 * self.timeout_nanos(DOUBLINGS)
+    }
+
+    /// Returns how many of the waits between transmissions end before this time, and their sum.
+    fn timeouts_before(&self, time: u128) -> (u32, u128)
+        ensures count { result.0
+            ≡ timeouts_before time (settings_of self.now) (repetitions (settings_of self.now)) }
+        ensures most { result.0 ≤ repetitions (settings_of self.now) }
+        ensures sum { result.1 ≡ sum_of_timeouts (settings_of self.now) result.0 }
+        ensures within { result.1 ≤ time }
+    {
+        let all = self.repetitions();
+        let rising = all.min(DOUBLINGS);
+        let mut passed = 0;
+        for i in 0..rising {
+            let next = passed + self.timeout_nanos(i);
+            if next >= time {
+                return (i, passed);
+            }
+            passed = next;
+        }
+        let wait = self.timeout_nanos(DOUBLINGS);
+        let more = waits_before(wait, all - rising, time - passed);
+        (rising + more, passed + more as u128 * wait)
+    }
+}
+
+/// Returns how many of `most` equal waits end before this time.
+fn waits_before(wait: u128, most: u32, time: u128) -> u32
+    ensures most { result ≤ most }
+    ensures fit { (result ≡ 0) ⊎ (result * wait < time) }
+    ensures next { (result ≡ most) ⊎ (time ≤ result * wait + wait) }
+{
+    if time == 0 {
+        return 0;
+    }
+    if wait == 0 {
+        return most;
+    }
+    let count = (time - 1) / wait;
+    if count < most as u128 {
+        count as u32
+    } else {
+        most
     }
 }
 

@@ -124,6 +124,12 @@ impl<A: Allocator> Transaction<A> {
         self.bytes.as_slice()
     }
 
+    pub(crate) fn into_bytes(self) -> Vec<u8, A>
+        ensures { result.items ≡ self.bytes }
+    {
+        self.bytes
+    }
+
     pub(crate) fn to(&self) -> SocketAddr
         ensures { result ≡ self.now.to }
     {

@@ -27,6 +27,7 @@ pub(crate) mod change;
 pub(crate) mod insert;
 pub(crate) mod lookups;
 pub(crate) mod remove;
+pub(crate) mod replace;
 
 /// A request and its ID, with what its owner stores beside it.
 #[derive(Drop)]
@@ -37,27 +38,27 @@ pub(crate) struct Leaf<A: Allocator, D> {
 }
 
 impl<A: Allocator, D> Model for Leaf<A, D> {
-    ghost use Rattle.std.specs.Prelude.{ℕ};
-    ghost use Rattle.stun_agent.specs.Transactions.{Transaction};
+    ghost use Rattle.stun_agent.specs.code.Transactions.{LeafSeen};
 
-    ghost Value = { ℕ × Transaction };
+    ghost Value = { LeafSeen D };
 
-    ghost view = { λ leaf. (leaf.id, leaf.request) };
+    ghost view = { λ leaf. record { entry = (leaf.id, leaf.request); datum = leaf.datum } };
 }
 
 impl<A: Allocator, D> Leaf<A, D> {
     pub(crate) fn new(id: TransactionId, request: Transaction<A>, datum: D) -> Self
-        ensures { result ≡ (id, request) }
+        ensures { result ≡ record { entry = (id, request); datum = datum } }
     {
         Leaf { id, request, datum }
     }
 }
 
 impl<A: Allocator, D: Drop> Leaf<A, D> {
-    pub(crate) fn into_request(self) -> Transaction<A>
-        ensures { result ≡ self.1 }
+    /// Returns the request and the datum.
+    pub(crate) fn into_parts(self) -> (Transaction<A>, D)
+        ensures { result ≡ (self.entry.1, self.datum) }
     {
-        self.request
+        (self.request, self.datum)
     }
 }
 
@@ -138,7 +139,11 @@ pub(crate) fn read_entry<A: Allocator, D, L: Ledger>(
     leaf: &Leaf<A, D>,
     reads: &mut Reads<L>,
 ) -> (Option<Instant>, TransactionId, Sending)
-    ensures entry { result ≡ (first_awaited awaited.now, leaf.now.0, leaf.now.1.sending) }
+    ensures entry { result ≡ (
+      first_awaited awaited.now,
+      leaf.now.entry.0,
+      leaf.now.entry.1.sending,
+    ) }
     ensures counts { reads.new ≡ record reads.old { entries = reads.old.entries + 1 } }
 {
     reads.count_entry();

@@ -5,7 +5,8 @@ ghost use Rattle.stun_agent.specs.Transactions.{with_change_at, next_sent, is_du
 ghost use Rattle.stun_agent.specs.Transactions.{after_slots, repeats};
 ghost use Rattle.stun_agent.specs.code.Awaited.{awaited_by, awaited_of};
 ghost use Rattle.stun_agent.specs.code.Transactions.{changed_transaction};
-ghost use Rattle.stun_agent.specs.code.Tree.{items, fork_items, part_of, IsDeep};
+ghost use Rattle.stun_agent.specs.code.Tree.{items, fork_items, attached, fork_attached};
+ghost use Rattle.stun_agent.specs.code.Tree.{part_of, IsDeep};
 ghost use Rattle.stun_agent.specs.code.Tree.{IsOrdered, IsOrderedFork, IsTimed, IsTimedFork};
 
 use crate::calls::uncounted::Uncounted;
@@ -29,6 +30,7 @@ pub(crate) fn change<A: Allocator, D>(
     requires { IsOrdered levels (part_of levels id) link.old }
     ensures after { items link.new
         ≡ with_change_at (changed_transaction to) id (items link.old) }
+    ensures attached { attached link.new ≡ attached link.old }
     ensures ordered { IsOrdered levels (part_of levels id) link.new }
     ensures timed { IsTimed transport link.old → IsTimed transport link.new }
 {
@@ -58,6 +60,7 @@ fn change_fork<A: Allocator, D>(
     requires ordered { IsOrderedFork levels (part_of levels id) fork.old }
     ensures after { fork_items fork.new
         ≡ with_change_at (changed_transaction to) id (fork_items fork.old) }
+    ensures attached { fork_attached fork.new ≡ fork_attached fork.old }
     ensures ordered { IsOrderedFork levels (part_of levels id) fork.new }
     ensures timed { IsTimedFork transport fork.old → IsTimedFork transport fork.new }
     ensures awaited { IsTimedFork transport fork.old
@@ -80,6 +83,7 @@ fn change_in<A: Allocator, D>(
     requires ordered { IsOrderedFork levels (part_of levels id) fork.old }
     ensures after { fork_items fork.new
         ≡ with_change_at (changed_transaction to) id (fork_items fork.old) }
+    ensures attached { fork_attached fork.new ≡ fork_attached fork.old }
     ensures ordered { IsOrderedFork levels (part_of levels id) fork.new }
     ensures timed { IsTimedFork transport fork.old → IsTimedFork transport fork.new }
 {
@@ -95,8 +99,11 @@ fn change_in<A: Allocator, D>(
 impl<A: Allocator, D> Leaf<A, D> {
     /// Changes the request, and returns what it then awaits.
     fn change(&mut self, transport: TransportType, to: Change) -> Awaited
-        ensures after { self.new ≡ (self.old.0, changed_transaction to self.old.1) }
-        ensures awaited { result ≡ awaited_by transport (changed_transaction to self.old.1) }
+        ensures after { self.new ≡ record self.old {
+          entry = (self.old.entry.0, changed_transaction to self.old.entry.1);
+        } }
+        ensures awaited { result
+            ≡ awaited_by transport (changed_transaction to self.old.entry.1) }
     {
         self.request.change(to);
         self.request.awaited_by(transport)
@@ -105,10 +112,12 @@ impl<A: Allocator, D> Leaf<A, D> {
     /// Passes the slot that is due, and sets what the request then awaits. Returns whether the
     /// request is still retransmitted.
     fn pass_slot(&mut self, awaited: &mut Awaited, transport: TransportType, now: Instant) -> bool
-        requires { is_due transport now self.old.1 ≡ true }
-        ensures sent { result ≡ repeats self.old.1.sending }
-        ensures after { self.new ≡ (self.old.0, after_slot now self.old.1) }
-        ensures awaited { awaited.new ≡ awaited_by transport self.new.1 }
+        requires { is_due transport now self.old.entry.1 ≡ true }
+        ensures sent { result ≡ repeats self.old.entry.1.sending }
+        ensures after { self.new ≡ record self.old {
+          entry = (self.old.entry.0, after_slot now self.old.entry.1);
+        } }
+        ensures awaited { awaited.new ≡ awaited_by transport self.new.entry.1 }
     {
         self.request.take_slot(now);
         *awaited = self.request.awaited_by(transport);
@@ -131,6 +140,7 @@ pub(crate) fn pass_slots<A: Allocator, D>(
     ensures after { (levels part : ℕ) → IsOrdered levels part link.old
         → items link.new ≡ after_slots transport now
         (option_map (λ e. e.0) (next_sent transport now (items link.old))) (items link.old) }
+    ensures attached { attached link.new ≡ attached link.old }
     ensures ordered { (levels part : ℕ) → IsOrdered levels part link.old
         → IsOrdered levels part link.new }
     ensures timed { IsTimed transport link.new }
@@ -167,6 +177,7 @@ fn pass_fork<A: Allocator, D>(
         → fork_items fork.new ≡ after_slots transport now
         (option_map (λ e. e.0) (next_sent transport now (fork_items fork.old)))
         (fork_items fork.old) }
+    ensures attached { fork_attached fork.new ≡ fork_attached fork.old }
     ensures ordered { (levels part : ℕ) → IsOrderedFork levels part fork.old
         → IsOrderedFork levels part fork.new }
     ensures timed { IsTimedFork transport fork.new }
@@ -191,6 +202,7 @@ fn pass_in<A: Allocator, D>(
         → fork_items fork.new ≡ after_slots transport now
         (option_map (λ e. e.0) (next_sent transport now (fork_items fork.old)))
         (fork_items fork.old) }
+    ensures attached { fork_attached fork.new ≡ fork_attached fork.old }
     ensures ordered { (levels part : ℕ) → IsOrderedFork levels part fork.old
         → IsOrderedFork levels part fork.new }
     ensures timed { IsTimedFork transport fork.new }

@@ -2,9 +2,11 @@
 ghost use Rattle.std.specs.Prelude.{◌≡◌, ◌≤◌, ℕ, [], ◌∷◌, None, OnOk, OnErr};
 ghost use Rattle.stun_base.specs.declared.wire.transport.TransportType.{TransportType};
 ghost use Rattle.stun_agent.specs.Deadlines.{most_levels};
+ghost use Rattle.stun_agent.specs.Tables.{with_datum};
 ghost use Rattle.stun_agent.specs.Transactions.{at, with, IsNamed};
 ghost use Rattle.stun_agent.specs.code.Awaited.{awaited_by};
-ghost use Rattle.stun_agent.specs.code.Tree.{items, fork_items, part_of, IsDeep, IsPlaced};
+ghost use Rattle.stun_agent.specs.code.Tree.{items, fork_items, attached, fork_attached};
+ghost use Rattle.stun_agent.specs.code.Tree.{part_of, IsDeep, IsPlaced};
 ghost use Rattle.stun_agent.specs.code.Tree.{IsFork, IsLeaf};
 ghost use Rattle.stun_agent.specs.code.Tree.{IsOrdered, IsOrderedFork, IsTimed, IsTimedFork};
 
@@ -24,13 +26,17 @@ pub(crate) fn insert<A: Allocator + Copy, D: Drop>(
     leaf: Box<Leaf<A, D>, A>,
 ) -> Result<(), AllocError>
     requires deep { levels ≤ most_levels }
-    requires ordered { IsOrdered levels (part_of levels leaf.value.0) link.old }
-    requires named { IsNamed leaf.value }
-    requires absent { at leaf.value.0 (items link.old) ≡ None }
-    ensures ok { OnOk result (items link.new ≡ with leaf.value.0 leaf.value.1 (items link.old)) }
+    requires ordered { IsOrdered levels (part_of levels leaf.value.entry.0) link.old }
+    requires named { IsNamed leaf.value.entry }
+    requires absent { at leaf.value.entry.0 (items link.old) ≡ None }
+    ensures ok { OnOk result
+        (items link.new ≡ with leaf.value.entry.0 leaf.value.entry.1 (items link.old)) }
     ensures err { OnErr result (items link.new ≡ items link.old) }
-    ensures ordered { IsOrdered levels (part_of levels leaf.value.0) link.new }
-    ensures timed { (transport : TransportType) → awaited.now ≡ awaited_by transport leaf.value.1
+    ensures attached { OnOk result (attached link.new
+        ≡ with_datum leaf.value.entry.0 leaf.value.datum (attached link.old)) }
+    ensures left { OnErr result (attached link.new ≡ attached link.old) }
+    ensures ordered { IsOrdered levels (part_of levels leaf.value.entry.0) link.new }
+    ensures timed { (transport : TransportType) → awaited.now ≡ awaited_by transport leaf.value.entry.1
         → IsTimed transport link.old → IsTimed transport link.new }
 {
     match link {
@@ -56,13 +62,17 @@ fn insert_below<A: Allocator + Copy, D: Drop>(
     leaf: Box<Leaf<A, D>, A>,
 ) -> Result<(), AllocError>
     requires fork { IsFork link.old }
-    requires ordered { IsOrdered levels (part_of levels leaf.value.0) link.old }
-    requires named { IsNamed leaf.value }
-    requires absent { at leaf.value.0 (items link.old) ≡ None }
-    ensures ok { OnOk result (items link.new ≡ with leaf.value.0 leaf.value.1 (items link.old)) }
+    requires ordered { IsOrdered levels (part_of levels leaf.value.entry.0) link.old }
+    requires named { IsNamed leaf.value.entry }
+    requires absent { at leaf.value.entry.0 (items link.old) ≡ None }
+    ensures ok { OnOk result
+        (items link.new ≡ with leaf.value.entry.0 leaf.value.entry.1 (items link.old)) }
     ensures err { OnErr result (items link.new ≡ items link.old) }
-    ensures ordered { IsOrdered levels (part_of levels leaf.value.0) link.new }
-    ensures timed { (transport : TransportType) → awaited.now ≡ awaited_by transport leaf.value.1
+    ensures attached { OnOk result (attached link.new
+        ≡ with_datum leaf.value.entry.0 leaf.value.datum (attached link.old)) }
+    ensures left { OnErr result (attached link.new ≡ attached link.old) }
+    ensures ordered { IsOrdered levels (part_of levels leaf.value.entry.0) link.new }
+    ensures timed { (transport : TransportType) → awaited.now ≡ awaited_by transport leaf.value.entry.1
         → IsTimed transport link.old → IsTimed transport link.new }
 {
     let Link::Fork(before, fork) = link else {
@@ -83,14 +93,17 @@ fn insert_into<A: Allocator + Copy, D: Drop>(
     leaf: Box<Leaf<A, D>, A>,
 ) -> Result<(), AllocError>
     requires deep { IsDeep levels }
-    requires ordered { IsOrderedFork levels (part_of levels leaf.value.0) fork.old }
-    requires named { IsNamed leaf.value }
-    requires absent { at leaf.value.0 (fork_items fork.old) ≡ None }
+    requires ordered { IsOrderedFork levels (part_of levels leaf.value.entry.0) fork.old }
+    requires named { IsNamed leaf.value.entry }
+    requires absent { at leaf.value.entry.0 (fork_items fork.old) ≡ None }
     ensures ok { OnOk result
-        (fork_items fork.new ≡ with leaf.value.0 leaf.value.1 (fork_items fork.old)) }
+        (fork_items fork.new ≡ with leaf.value.entry.0 leaf.value.entry.1 (fork_items fork.old)) }
     ensures err { OnErr result (fork_items fork.new ≡ fork_items fork.old) }
-    ensures ordered { IsOrderedFork levels (part_of levels leaf.value.0) fork.new }
-    ensures timed { (transport : TransportType) → awaited.now ≡ awaited_by transport leaf.value.1
+    ensures attached { OnOk result (fork_attached fork.new
+        ≡ with_datum leaf.value.entry.0 leaf.value.datum (fork_attached fork.old)) }
+    ensures left { OnErr result (fork_attached fork.new ≡ fork_attached fork.old) }
+    ensures ordered { IsOrderedFork levels (part_of levels leaf.value.entry.0) fork.new }
+    ensures timed { (transport : TransportType) → awaited.now ≡ awaited_by transport leaf.value.entry.1
         → IsTimedFork transport fork.old → IsTimedFork transport fork.new }
 {
     let below = levels - 1;
@@ -112,6 +125,7 @@ fn deepen<A: Allocator + Copy, D: Drop>(
     requires deep { IsDeep levels }
     ensures ok { OnOk result (IsFork link.new) }
     ensures items { items link.new ≡ items link.old }
+    ensures attached { attached link.new ≡ attached link.old }
     ensures ordered { (part : ℕ) → IsOrdered levels part link.old → IsOrdered levels part link.new }
     ensures timed { (transport : TransportType) → IsTimed transport link.old
         → IsTimed transport link.new }
@@ -137,10 +151,12 @@ impl<A: Allocator, D> Fork<A, D> {
     /// Creates a fork with one request, which is put in the quarter of its ID.
     fn of(levels: u32, awaited: Awaited, leaf: Box<Leaf<A, D>, A>) -> Self
         requires { IsDeep levels }
-        ensures items { fork_items result ≡ leaf.value ∷ [] }
-        ensures ordered { (part : ℕ) → IsPlaced levels part leaf.value
+        ensures items { fork_items result ≡ leaf.value.entry ∷ [] }
+        ensures attached { fork_attached result
+            ≡ (leaf.value.entry.0, leaf.value.datum) ∷ [] }
+        ensures ordered { (part : ℕ) → IsPlaced levels part leaf.value.entry
             → IsOrderedFork levels part result }
-        ensures timed { (transport : TransportType) → awaited ≡ awaited_by transport leaf.value.1
+        ensures timed { (transport : TransportType) → awaited ≡ awaited_by transport leaf.value.entry.1
             → IsTimedFork transport result }
     {
         let quarter = quarter_of(leaf.id, levels);

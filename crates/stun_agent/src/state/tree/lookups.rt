@@ -2,9 +2,10 @@
 ghost use Rattle.std.specs.Prelude.{◌≡◌, length};
 ghost use Rattle.std.specs.Option.{option_map, option_copied};
 ghost use Rattle.stun_base.specs.declared.wire.transport.TransportType.{TransportType};
+ghost use Rattle.stun_agent.specs.Tables.{datum_at};
 ghost use Rattle.stun_agent.specs.Transactions.{at, next_sent};
 ghost use Rattle.stun_agent.specs.code.Awaited.{awaited_of, first_awaited};
-ghost use Rattle.stun_agent.specs.code.Tree.{items, fork_items, part_of, IsOrdered};
+ghost use Rattle.stun_agent.specs.code.Tree.{items, fork_items, attached, part_of, IsOrdered};
 ghost use Rattle.stun_agent.specs.code.Tree.{IsTimed, IsTimedFork};
 
 use crate::calls::uncounted::Uncounted;
@@ -15,7 +16,6 @@ use stun_base::instant::Instant;
 use stun_base::transaction_id::TransactionId;
 
 /// Returns the request with this ID.
-#[cycle(get)]
 pub(crate) fn get<A: Allocator, D>(
     link: &Link<A, D>,
     levels: u32,
@@ -25,22 +25,48 @@ pub(crate) fn get<A: Allocator, D>(
     requires { IsOrdered levels (part_of levels id) link.now }
     ensures { option_copied result ≡ at id (items link.now) }
 {
+    let leaf = leaf_at(link, levels, id, leave)?;
+    Some(&leaf.request)
+}
+
+/// Returns the datum of the request with this ID.
+pub(crate) fn datum<A: Allocator, D>(
+    link: &Link<A, D>,
+    levels: u32,
+    id: TransactionId,
+    leave: Uncounted,
+) -> Option<&D>
+    requires { IsOrdered levels (part_of levels id) link.now }
+    ensures { option_copied result ≡ datum_at id (attached link.now) }
+{
+    let leaf = leaf_at(link, levels, id, leave)?;
+    Some(&leaf.datum)
+}
+
+/// Returns the leaf with this ID.
+#[cycle(leaf_at)]
+fn leaf_at<A: Allocator, D>(
+    link: &Link<A, D>,
+    levels: u32,
+    id: TransactionId,
+    leave: Uncounted,
+) -> Option<&Leaf<A, D>>
+    requires { IsOrdered levels (part_of levels id) link.now }
+    ensures request { option_map (λ leaf. leaf.entry.1) (option_copied result)
+        ≡ at id (items link.now) }
+    ensures datum { option_map (λ leaf. leaf.datum) (option_copied result)
+        ≡ datum_at id (attached link.now) }
+{
     match link {
         Link::Empty => None,
-        Link::Leaf(_, leaf) => {
-            if leaf.id == id {
-                Some(&leaf.request)
-            } else {
-                None
-            }
-        }
+        Link::Leaf(_, leaf) => { if leaf.id == id { Some(leaf) } else { None } }
         Link::Fork(_, fork) => {
             let below = levels - 1;
             match quarter_of(id, levels) {
-                Quarter::First => get(&fork.first, below, id, leave),
-                Quarter::Second => get(&fork.second, below, id, leave),
-                Quarter::Third => get(&fork.third, below, id, leave),
-                Quarter::Fourth => get(&fork.fourth, below, id, leave),
+                Quarter::First => leaf_at(&fork.first, below, id, leave),
+                Quarter::Second => leaf_at(&fork.second, below, id, leave),
+                Quarter::Third => leaf_at(&fork.third, below, id, leave),
+                Quarter::Fourth => leaf_at(&fork.fourth, below, id, leave),
             }
         }
     }
@@ -91,7 +117,8 @@ fn first_sent<A: Allocator, D>(
     leave: Uncounted,
 ) -> Option<&Leaf<A, D>>
     ensures { (transport : TransportType) → IsTimed transport link.now
-        → option_copied result ≡ next_sent transport now (items link.now) }
+        → option_map (λ leaf. leaf.entry) (option_copied result)
+        ≡ next_sent transport now (items link.now) }
 {
     match link {
         Link::Empty => None,
@@ -122,7 +149,8 @@ fn first_sent_below<A: Allocator, D>(
     leave: Uncounted,
 ) -> Option<&Leaf<A, D>>
     ensures { (transport : TransportType) → IsTimedFork transport fork.now
-        → option_copied result ≡ next_sent transport now (fork_items fork.now) }
+        → option_map (λ leaf. leaf.entry) (option_copied result)
+        ≡ next_sent transport now (fork_items fork.now) }
 {
     if let Some(found) = first_sent(&fork.first, now, leave) {
         return Some(found);

@@ -3,10 +3,12 @@ ghost use Rattle.std.specs.Prelude.{◌≡◌, ℕ, [], Some, None, IfSome, true
 ghost use Rattle.std.specs.Prelude.{MatchOption};
 ghost use Rattle.std.specs.Option.{option_map};
 ghost use Rattle.stun_base.specs.declared.wire.transport.TransportType.{TransportType};
+ghost use Rattle.stun_agent.specs.Tables.{datum_at, without_datum};
 ghost use Rattle.stun_agent.specs.Transactions.{at, without};
 ghost use Rattle.stun_agent.specs.declared.state.tree.Link.TheVariants.{Empty};
 ghost use Rattle.stun_agent.specs.code.Awaited.{awaited_by, awaited_of, joined};
-ghost use Rattle.stun_agent.specs.code.Tree.{items, fork_items, first_request, IsLeaf, IsLone};
+ghost use Rattle.stun_agent.specs.code.Tree.{items, fork_items, attached, fork_attached};
+ghost use Rattle.stun_agent.specs.code.Tree.{first_request, first_datum, IsLeaf, IsLone};
 ghost use Rattle.stun_agent.specs.code.Tree.{part_of, IsDeep, IsOrdered, IsOrderedFork};
 ghost use Rattle.stun_agent.specs.code.Tree.{IsTimed, IsTimedFork};
 
@@ -26,14 +28,17 @@ pub(crate) fn remove<A: Allocator, D: Drop>(
     gone: &mut Awaited,
 ) -> Option<Box<Leaf<A, D>, A>>
     requires { IsOrdered levels (part_of levels id) link.old }
-    ensures answer { option_map (λ leaf. leaf.value.1) result ≡ at id (items link.old) }
+    ensures answer { option_map (λ leaf. leaf.value.entry.1) result ≡ at id (items link.old) }
+    ensures datum { option_map (λ leaf. leaf.value.datum) result
+        ≡ datum_at id (attached link.old) }
     ensures after { items link.new ≡ without id (items link.old) }
+    ensures attached { attached link.new ≡ without_datum id (attached link.old) }
     ensures same { MatchOption result (link.new ≡ link.old) (λ _. Unit {0}) }
     ensures ordered { IsOrdered levels (part_of levels id) link.new }
     ensures timed { (transport : TransportType) → IsTimed transport link.old
         → IsTimed transport link.new }
     ensures gone { IfSome result (λ leaf. (transport : TransportType) → IsTimed transport link.old
-        → gone.new ≡ awaited_by transport leaf.value.1) }
+        → gone.new ≡ awaited_by transport leaf.value.entry.1) }
 {
     match link {
         Link::Empty => None,
@@ -67,14 +72,17 @@ fn remove_from<A: Allocator, D: Drop>(
 ) -> Option<Box<Leaf<A, D>, A>>
     requires deep { IsDeep levels }
     requires ordered { IsOrderedFork levels (part_of levels id) fork.old }
-    ensures answer { option_map (λ leaf. leaf.value.1) result ≡ at id (fork_items fork.old) }
+    ensures answer { option_map (λ leaf. leaf.value.entry.1) result ≡ at id (fork_items fork.old) }
+    ensures datum { option_map (λ leaf. leaf.value.datum) result
+        ≡ datum_at id (fork_attached fork.old) }
     ensures after { fork_items fork.new ≡ without id (fork_items fork.old) }
+    ensures attached { fork_attached fork.new ≡ without_datum id (fork_attached fork.old) }
     ensures same { MatchOption result (fork.new ≡ fork.old) (λ _. Unit {0}) }
     ensures ordered { IsOrderedFork levels (part_of levels id) fork.new }
     ensures timed { (transport : TransportType) → IsTimedFork transport fork.old
         → IsTimedFork transport fork.new }
     ensures gone { IfSome result (λ leaf. (transport : TransportType)
-        → IsTimedFork transport fork.old → gone.new ≡ awaited_by transport leaf.value.1) }
+        → IsTimedFork transport fork.old → gone.new ≡ awaited_by transport leaf.value.entry.1) }
 {
     let below = levels - 1;
     match quarter_of(id, levels) {
@@ -91,10 +99,12 @@ fn take_leaf<A: Allocator, D: Drop>(
     gone: &mut Awaited,
 ) -> Option<Box<Leaf<A, D>, A>>
     requires { IsLeaf link.old }
-    ensures answer { option_map (λ leaf. leaf.value.1) result
+    ensures answer { option_map (λ leaf. leaf.value.entry.1) result
         ≡ first_request (items link.old) }
+    ensures datum { option_map (λ leaf. leaf.value.datum) result
+        ≡ first_datum (attached link.old) }
     ensures gone { IfSome result (λ leaf. (transport : TransportType) → IsTimed transport link.old
-        → gone.new ≡ awaited_by transport leaf.value.1) }
+        → gone.new ≡ awaited_by transport leaf.value.entry.1) }
     ensures some { MatchOption result (Empty ≡ link.old) (λ _. Unit {0}) }
     ensures empty { link.new ≡ Empty }
 {
@@ -115,8 +125,13 @@ impl<A: Allocator, D> Link<A, D> {
     fn is_of(&self, id: TransactionId) -> bool
         requires { IsLeaf self.now }
         ensures yes { result ≡ true → at id (items self.now) ≡ first_request (items self.now) }
+        ensures own { result ≡ true
+            → datum_at id (attached self.now) ≡ first_datum (attached self.now) }
         ensures no { result ≡ false → at id (items self.now) ≡ None }
+        ensures none { result ≡ false → datum_at id (attached self.now) ≡ None }
         ensures stays { result ≡ false → without id (items self.now) ≡ items self.now }
+        ensures left { result ≡ false
+            → without_datum id (attached self.now) ≡ attached self.now }
     {
         match self {
             Link::Leaf(_, leaf) => leaf.id == id,
@@ -148,6 +163,7 @@ impl<A: Allocator, D> Fork<A, D> {
     fn take_lone(&mut self) -> Option<Link<A, D>>
         ensures none { MatchOption result (self.new ≡ self.old) (λ _. Unit {0}) }
         ensures items { IfSome result (λ link. items link ≡ fork_items self.old) }
+        ensures attached { IfSome result (λ link. attached link ≡ fork_attached self.old) }
         ensures lone { IfSome result IsLone }
         ensures timed { IfSome result (λ link. (transport : TransportType)
             → IsTimedFork transport self.old → IsTimed transport link) }
@@ -179,6 +195,7 @@ impl<A: Allocator, D> Fork<A, D> {
     fn settle(&mut self, all: &mut Awaited, gone: &Awaited) -> Option<Link<A, D>>
         ensures same { MatchOption result (self.new ≡ self.old) (λ _. Unit {0}) }
         ensures items { IfSome result (λ link. items link ≡ fork_items self.old) }
+        ensures attached { IfSome result (λ link. attached link ≡ fork_attached self.old) }
         ensures lone { IfSome result IsLone }
         ensures timed { IfSome result (λ link. (transport : TransportType)
             → IsTimedFork transport self.old → IsTimed transport link) }

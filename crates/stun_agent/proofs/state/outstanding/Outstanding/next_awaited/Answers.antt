@@ -12,9 +12,9 @@ returns-clause-least g c =
     let inside = c.self.inside in
     c.next_awaited.ensures inside.transport c.self.invariant.timed
     ∙ sym (next_awaited_is inside.transport (items inside.root))
-    ∙ ap (λ (o : Outstanding). next_awaited o.transport o.requests) c.self.view_is
+    ∙ ap (λ (o : Outstanding _). next_awaited o.transport o.requests) c.self.view_is
 
 pub returns-clause-kept : goal.returns-clause-kept
 returns-clause-kept g c =
-    subst (λ (o : Outstanding). AreKept o.requests) c.self.view_is
+    subst (λ (o : Outstanding _). AreKept o.requests) c.self.view_is
     (kept c.self.inside.transport c.self.inside.root c.self.invariant)

@@ -10,7 +10,7 @@ use Rattle.stun_agent.proofs.state.outstanding.Outstanding.pass_due_slots.Goals 
 
 pub returns-clause-request : goal.returns-clause-request
 returns-clause-request g c =
-    let all = subst (λ (o : Outstanding). AreKept o.requests) c.self.view_is
+    let all = subst (λ (o : Outstanding _). AreKept o.requests) c.self.view_is
     (kept c.self.inside.transport c.self.inside.root c.self.invariant) in
     named-found _ c.args.self.now.requests all.named
 

@@ -5,7 +5,8 @@ use Rattle.stun_agent.specs.Transactions.{at, without}
 use Rattle.stun_agent.specs.code.Awaited.{awaited_of, joined}
 use Rattle.stun_agent.specs.code.Tree.{items, fork_items, part_of, two_bits, IsTimed, IsTimedFork}
 use Rattle.stun_agent.proofs.AwaitedLemmas.{awaited_of-without}
-use Rattle.stun_agent.proofs.QuarterLemmas.{without_acts, at_first, at_second, at_third, at_fourth}
+use Rattle.stun_agent.proofs.QuarterLemmas.{without_acts, of_items, of_attached}
+use Rattle.stun_agent.proofs.QuarterLemmas.{at_first, at_second, at_third, at_fourth}
 use Rattle.stun_agent.proofs.QuarterLemmas.{in_first, in_second, in_third, in_fourth}
 use Rattle.stun_agent.proofs.RemoveLemmas.{kept_ordered}
 use Rattle.stun_agent.proofs.state.tree.remove.+remove.Goals as goal
@@ -42,7 +43,7 @@ remove-returns-in-None-clause-timed g t c transport timed =
     ∙ ap (λ f. without c.args.id (fork_items f)) c.deref_mut.ensures.value in
     let gone = c.in_ok-leaf-in-Fork.ensures.gone transport whole in
     let others = told.0
-    ∙ awaited_of-without transport c.args.id c.in_ok-leaf-in-Fork.leaf.value.1 all there
+    ∙ awaited_of-without transport c.args.id c.in_ok-leaf-in-Fork.leaf.value.entry.1 all there
     ∙ ap₂ joined (ap (awaited_of transport) (sym left)) (sym gone) in (
       c.in-None.ensures.awaited transport found others
           ∙ ap (awaited_of transport) (ap fork_items (sym c.in-None.ensures.same)),
@@ -56,12 +57,12 @@ remove-returns-in-None-clause-timed g t c transport timed =
 pub remove_from-returns-in-First-clause-answer : goal.remove_from-returns-in-First-clause-answer
 remove_from-returns-in-First-clause-answer g t c =
     c.remove.ensures.answer
-    ∙ at_first c.args.levels c.args.id c.args.fork.now c.requires.ordered
+    ∙ at_first c.args.levels c.args.id (of_items c.args.fork.now c.requires.ordered)
     (omega (arith, c.quarter_of.ensures, ap two_bits c.in-First.is))
 
 pub remove_from-returns-in-First-clause-after : goal.remove_from-returns-in-First-clause-after
 remove_from-returns-in-First-clause-after g t c =
-    in_first c.args.levels c.args.id c.args.fork.now c.requires.ordered (without_acts c.args.id) _
+    in_first c.args.levels c.args.id (of_items c.args.fork.now c.requires.ordered) (without_acts c.args.id) _
     (omega (arith, c.quarter_of.ensures, ap two_bits c.in-First.is)) c.remove.ensures.after
 
 pub remove_from-returns-in-First-clause-timed : goal.remove_from-returns-in-First-clause-timed
@@ -71,12 +72,12 @@ remove_from-returns-in-First-clause-timed g t c transport timed =
 pub remove_from-returns-in-Second-clause-answer : goal.remove_from-returns-in-Second-clause-answer
 remove_from-returns-in-Second-clause-answer g t c =
     c.remove-in-Second.ensures.answer
-    ∙ at_second c.args.levels c.args.id c.args.fork.now c.requires.ordered
+    ∙ at_second c.args.levels c.args.id (of_items c.args.fork.now c.requires.ordered)
     (omega (arith, c.quarter_of.ensures, ap two_bits c.in-Second.is))
 
 pub remove_from-returns-in-Second-clause-after : goal.remove_from-returns-in-Second-clause-after
 remove_from-returns-in-Second-clause-after g t c =
-    in_second c.args.levels c.args.id c.args.fork.now c.requires.ordered (without_acts c.args.id) _
+    in_second c.args.levels c.args.id (of_items c.args.fork.now c.requires.ordered) (without_acts c.args.id) _
     (omega (arith, c.quarter_of.ensures, ap two_bits c.in-Second.is))
     c.remove-in-Second.ensures.after
 
@@ -87,12 +88,12 @@ remove_from-returns-in-Second-clause-timed g t c transport timed =
 pub remove_from-returns-in-Third-clause-answer : goal.remove_from-returns-in-Third-clause-answer
 remove_from-returns-in-Third-clause-answer g t c =
     c.remove-in-Third.ensures.answer
-    ∙ at_third c.args.levels c.args.id c.args.fork.now c.requires.ordered
+    ∙ at_third c.args.levels c.args.id (of_items c.args.fork.now c.requires.ordered)
     (omega (arith, c.quarter_of.ensures, ap two_bits c.in-Third.is))
 
 pub remove_from-returns-in-Third-clause-after : goal.remove_from-returns-in-Third-clause-after
 remove_from-returns-in-Third-clause-after g t c =
-    in_third c.args.levels c.args.id c.args.fork.now c.requires.ordered (without_acts c.args.id) _
+    in_third c.args.levels c.args.id (of_items c.args.fork.now c.requires.ordered) (without_acts c.args.id) _
     (omega (arith, c.quarter_of.ensures, ap two_bits c.in-Third.is))
     c.remove-in-Third.ensures.after
 
@@ -103,15 +104,59 @@ remove_from-returns-in-Third-clause-timed g t c transport timed =
 pub remove_from-returns-in-Fourth-clause-answer : goal.remove_from-returns-in-Fourth-clause-answer
 remove_from-returns-in-Fourth-clause-answer g t c =
     c.remove-in-Fourth.ensures.answer
-    ∙ at_fourth c.args.levels c.args.id c.args.fork.now c.requires.ordered
+    ∙ at_fourth c.args.levels c.args.id (of_items c.args.fork.now c.requires.ordered)
     (omega (arith, c.quarter_of.ensures, ap two_bits c.in-Fourth.is))
 
 pub remove_from-returns-in-Fourth-clause-after : goal.remove_from-returns-in-Fourth-clause-after
 remove_from-returns-in-Fourth-clause-after g t c =
-    in_fourth c.args.levels c.args.id c.args.fork.now c.requires.ordered (without_acts c.args.id) _
+    in_fourth c.args.levels c.args.id (of_items c.args.fork.now c.requires.ordered) (without_acts c.args.id) _
     (omega (arith, c.quarter_of.ensures, ap two_bits c.in-Fourth.is))
     c.remove-in-Fourth.ensures.after
 
 pub remove_from-returns-in-Fourth-clause-timed : goal.remove_from-returns-in-Fourth-clause-timed
 remove_from-returns-in-Fourth-clause-timed g t c transport timed =
     (timed.0, timed.1, timed.2, c.remove-in-Fourth.ensures.timed transport timed.3)
+
+pub remove_from-returns-in-First-clause-datum : goal.remove_from-returns-in-First-clause-datum
+remove_from-returns-in-First-clause-datum g t c =
+    c.remove.ensures.datum
+    ∙ at_first c.args.levels c.args.id (of_attached c.args.fork.now c.requires.ordered)
+    (omega (arith, c.quarter_of.ensures, ap two_bits c.in-First.is))
+
+pub remove_from-returns-in-First-clause-attached : goal.remove_from-returns-in-First-clause-attached
+remove_from-returns-in-First-clause-attached g t c =
+    in_first c.args.levels c.args.id (of_attached c.args.fork.now c.requires.ordered) (without_acts c.args.id) _
+    (omega (arith, c.quarter_of.ensures, ap two_bits c.in-First.is)) c.remove.ensures.attached
+
+pub remove_from-returns-in-Second-clause-datum : goal.remove_from-returns-in-Second-clause-datum
+remove_from-returns-in-Second-clause-datum g t c =
+    c.remove-in-Second.ensures.datum
+    ∙ at_second c.args.levels c.args.id (of_attached c.args.fork.now c.requires.ordered)
+    (omega (arith, c.quarter_of.ensures, ap two_bits c.in-Second.is))
+
+pub remove_from-returns-in-Second-clause-attached : goal.remove_from-returns-in-Second-clause-attached
+remove_from-returns-in-Second-clause-attached g t c =
+    in_second c.args.levels c.args.id (of_attached c.args.fork.now c.requires.ordered) (without_acts c.args.id) _
+    (omega (arith, c.quarter_of.ensures, ap two_bits c.in-Second.is)) c.remove-in-Second.ensures.attached
+
+pub remove_from-returns-in-Third-clause-datum : goal.remove_from-returns-in-Third-clause-datum
+remove_from-returns-in-Third-clause-datum g t c =
+    c.remove-in-Third.ensures.datum
+    ∙ at_third c.args.levels c.args.id (of_attached c.args.fork.now c.requires.ordered)
+    (omega (arith, c.quarter_of.ensures, ap two_bits c.in-Third.is))
+
+pub remove_from-returns-in-Third-clause-attached : goal.remove_from-returns-in-Third-clause-attached
+remove_from-returns-in-Third-clause-attached g t c =
+    in_third c.args.levels c.args.id (of_attached c.args.fork.now c.requires.ordered) (without_acts c.args.id) _
+    (omega (arith, c.quarter_of.ensures, ap two_bits c.in-Third.is)) c.remove-in-Third.ensures.attached
+
+pub remove_from-returns-in-Fourth-clause-datum : goal.remove_from-returns-in-Fourth-clause-datum
+remove_from-returns-in-Fourth-clause-datum g t c =
+    c.remove-in-Fourth.ensures.datum
+    ∙ at_fourth c.args.levels c.args.id (of_attached c.args.fork.now c.requires.ordered)
+    (omega (arith, c.quarter_of.ensures, ap two_bits c.in-Fourth.is))
+
+pub remove_from-returns-in-Fourth-clause-attached : goal.remove_from-returns-in-Fourth-clause-attached
+remove_from-returns-in-Fourth-clause-attached g t c =
+    in_fourth c.args.levels c.args.id (of_attached c.args.fork.now c.requires.ordered) (without_acts c.args.id) _
+    (omega (arith, c.quarter_of.ensures, ap two_bits c.in-Fourth.is)) c.remove-in-Fourth.ensures.attached

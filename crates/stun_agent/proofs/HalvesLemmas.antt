@@ -92,7 +92,8 @@ module _ {X : Type 0} (id : ℕ) where
   without-left (x ∷ xs) ys h = by (is_at (nat_cmp id) x.0) (without-left xs ys h)
     where
       by : (b : Bool) → without_datum id (xs ++ ys) ≡ without_datum id xs ++ ys
-          → cond b (xs ++ ys) (x ∷ without_datum id (xs ++ ys)) ≡ cond b xs (x ∷ without_datum id xs) ++ ys
+          → cond b (xs ++ ys) (x ∷ without_datum id (xs ++ ys))
+          ≡ cond b xs (x ∷ without_datum id xs) ++ ys
       by true rest = refl
       by false rest = ap (λ es. x ∷ es) rest
 

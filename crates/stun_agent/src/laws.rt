@@ -89,7 +89,7 @@ pub fn forgetting_removes_one_peer()
 {}
 
 /// The plan of `RequestRto::within` ends after this time, or when the whole plan ends if that is
-/// earlier. Its waits between transmissions are those of the whole plan, and it has the transmissions
+/// earlier. Its waits between transmissions are those of the whole plan. It has those transmissions
 /// of the whole plan that come before its end, and no others.
 pub fn a_plan_is_cut_at_a_time()
     ensures ends { (time : ℕ) (settings : Settings)

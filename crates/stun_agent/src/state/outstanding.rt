@@ -1,7 +1,8 @@
 //! The outstanding requests of an agent.
 ghost use Rattle.std.specs.Prelude.{◌≡◌, ◌+◌, ◌≤◌, ◌<◌, [], length, Some, None};
 ghost use Rattle.std.specs.Map.{keys_of};
-ghost use Rattle.std.specs.Prelude.{MatchOption, IfSome, IsSome, IsSomeAnd, IfOk, OnOk, IfErr, OnErr};
+ghost use Rattle.std.specs.Prelude.{MatchOption, IfSome, IsSome, IsSomeAnd};
+ghost use Rattle.std.specs.Prelude.{IfOk, OnOk, IfErr, OnErr};
 ghost use Rattle.std.specs.Option.{is_some, option_map, option_copied};
 ghost use Rattle.stun_agent.specs.Deadlines.{early_requests, most_reads, most_looks};
 ghost use Rattle.stun_agent.specs.Tables.{datum_at, with_datum, without_datum, set_datum};

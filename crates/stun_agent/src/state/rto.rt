@@ -74,9 +74,9 @@ impl RequestRto {
         }
     }
 
-    /// Returns the settings of a shorter plan, which ends after this time: the same transmissions at
-    /// the same times, as many as come before the end, and after the last of them a wait for the
-    /// rest of the time. If the whole plan ends in this time, returns the settings as they are.
+    /// Returns the settings of a plan that ends after this time: the same transmissions at the same
+    /// times, as many as come before the end, and after the last of them a wait for the rest of the
+    /// time. If the whole plan ends in this time, returns the settings as they are.
     pub fn within(&self, time: Duration) -> RequestRto
         ensures { settings_of result ≡ cut (as_nanos time) (settings_of self.now) }
     {

@@ -36,7 +36,8 @@ pub(crate) fn insert<A: Allocator + Copy, D: Drop>(
         ≡ with_datum leaf.value.entry.0 leaf.value.datum (attached link.old)) }
     ensures left { OnErr result (attached link.new ≡ attached link.old) }
     ensures ordered { IsOrdered levels (part_of levels leaf.value.entry.0) link.new }
-    ensures timed { (transport : TransportType) → awaited.now ≡ awaited_by transport leaf.value.entry.1
+    ensures timed { (transport : TransportType)
+        → awaited.now ≡ awaited_by transport leaf.value.entry.1
         → IsTimed transport link.old → IsTimed transport link.new }
 {
     match link {
@@ -72,7 +73,8 @@ fn insert_below<A: Allocator + Copy, D: Drop>(
         ≡ with_datum leaf.value.entry.0 leaf.value.datum (attached link.old)) }
     ensures left { OnErr result (attached link.new ≡ attached link.old) }
     ensures ordered { IsOrdered levels (part_of levels leaf.value.entry.0) link.new }
-    ensures timed { (transport : TransportType) → awaited.now ≡ awaited_by transport leaf.value.entry.1
+    ensures timed { (transport : TransportType)
+        → awaited.now ≡ awaited_by transport leaf.value.entry.1
         → IsTimed transport link.old → IsTimed transport link.new }
 {
     let Link::Fork(before, fork) = link else {
@@ -103,7 +105,8 @@ fn insert_into<A: Allocator + Copy, D: Drop>(
         ≡ with_datum leaf.value.entry.0 leaf.value.datum (fork_attached fork.old)) }
     ensures left { OnErr result (fork_attached fork.new ≡ fork_attached fork.old) }
     ensures ordered { IsOrderedFork levels (part_of levels leaf.value.entry.0) fork.new }
-    ensures timed { (transport : TransportType) → awaited.now ≡ awaited_by transport leaf.value.entry.1
+    ensures timed { (transport : TransportType)
+        → awaited.now ≡ awaited_by transport leaf.value.entry.1
         → IsTimedFork transport fork.old → IsTimedFork transport fork.new }
 {
     let below = levels - 1;
@@ -156,7 +159,8 @@ impl<A: Allocator, D> Fork<A, D> {
             ≡ (leaf.value.entry.0, leaf.value.datum) ∷ [] }
         ensures ordered { (part : ℕ) → IsPlaced levels part leaf.value.entry
             → IsOrderedFork levels part result }
-        ensures timed { (transport : TransportType) → awaited ≡ awaited_by transport leaf.value.entry.1
+        ensures timed { (transport : TransportType)
+            → awaited ≡ awaited_by transport leaf.value.entry.1
             → IsTimedFork transport result }
     {
         let quarter = quarter_of(leaf.id, levels);

@@ -132,7 +132,8 @@ insert_into-returns-in-First-clause-attached g t c =
     (omega (arith, rw own at c.quarter_of.ensures, ap two_bits c.in-First.is)))
     c.insert.ensures.attached
 
-pub insert_into-returns-in-Second-clause-attached : goal.insert_into-returns-in-Second-clause-attached
+pub insert_into-returns-in-Second-clause-attached :
+    goal.insert_into-returns-in-Second-clause-attached
 insert_into-returns-in-Second-clause-attached g t c =
     let id = c.args.leaf.value.entry.0 in
     let own = ap (λ l. l.entry.0) (c.behind-leaf.view_is ∙ c.deref.ensures) in
@@ -152,7 +153,8 @@ insert_into-returns-in-Third-clause-attached g t c =
     (omega (arith, rw own at c.quarter_of.ensures, ap two_bits c.in-Third.is)))
     c.insert-in-Third.ensures.attached
 
-pub insert_into-returns-in-Fourth-clause-attached : goal.insert_into-returns-in-Fourth-clause-attached
+pub insert_into-returns-in-Fourth-clause-attached :
+    goal.insert_into-returns-in-Fourth-clause-attached
 insert_into-returns-in-Fourth-clause-attached g t c =
     let id = c.args.leaf.value.entry.0 in
     let own = ap (λ l. l.entry.0) (c.behind-leaf.view_is ∙ c.deref.ensures) in

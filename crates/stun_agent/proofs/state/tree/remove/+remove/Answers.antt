@@ -62,8 +62,9 @@ remove_from-returns-in-First-clause-answer g t c =
 
 pub remove_from-returns-in-First-clause-after : goal.remove_from-returns-in-First-clause-after
 remove_from-returns-in-First-clause-after g t c =
-    in_first c.args.levels c.args.id (of_items c.args.fork.now c.requires.ordered) (without_acts c.args.id) _
-    (omega (arith, c.quarter_of.ensures, ap two_bits c.in-First.is)) c.remove.ensures.after
+    in_first c.args.levels c.args.id (of_items c.args.fork.now c.requires.ordered)
+    (without_acts c.args.id) _ (omega (arith, c.quarter_of.ensures, ap two_bits c.in-First.is))
+    c.remove.ensures.after
 
 pub remove_from-returns-in-First-clause-timed : goal.remove_from-returns-in-First-clause-timed
 remove_from-returns-in-First-clause-timed g t c transport timed =
@@ -77,8 +78,8 @@ remove_from-returns-in-Second-clause-answer g t c =
 
 pub remove_from-returns-in-Second-clause-after : goal.remove_from-returns-in-Second-clause-after
 remove_from-returns-in-Second-clause-after g t c =
-    in_second c.args.levels c.args.id (of_items c.args.fork.now c.requires.ordered) (without_acts c.args.id) _
-    (omega (arith, c.quarter_of.ensures, ap two_bits c.in-Second.is))
+    in_second c.args.levels c.args.id (of_items c.args.fork.now c.requires.ordered)
+    (without_acts c.args.id) _ (omega (arith, c.quarter_of.ensures, ap two_bits c.in-Second.is))
     c.remove-in-Second.ensures.after
 
 pub remove_from-returns-in-Second-clause-timed : goal.remove_from-returns-in-Second-clause-timed
@@ -93,8 +94,8 @@ remove_from-returns-in-Third-clause-answer g t c =
 
 pub remove_from-returns-in-Third-clause-after : goal.remove_from-returns-in-Third-clause-after
 remove_from-returns-in-Third-clause-after g t c =
-    in_third c.args.levels c.args.id (of_items c.args.fork.now c.requires.ordered) (without_acts c.args.id) _
-    (omega (arith, c.quarter_of.ensures, ap two_bits c.in-Third.is))
+    in_third c.args.levels c.args.id (of_items c.args.fork.now c.requires.ordered)
+    (without_acts c.args.id) _ (omega (arith, c.quarter_of.ensures, ap two_bits c.in-Third.is))
     c.remove-in-Third.ensures.after
 
 pub remove_from-returns-in-Third-clause-timed : goal.remove_from-returns-in-Third-clause-timed
@@ -109,8 +110,8 @@ remove_from-returns-in-Fourth-clause-answer g t c =
 
 pub remove_from-returns-in-Fourth-clause-after : goal.remove_from-returns-in-Fourth-clause-after
 remove_from-returns-in-Fourth-clause-after g t c =
-    in_fourth c.args.levels c.args.id (of_items c.args.fork.now c.requires.ordered) (without_acts c.args.id) _
-    (omega (arith, c.quarter_of.ensures, ap two_bits c.in-Fourth.is))
+    in_fourth c.args.levels c.args.id (of_items c.args.fork.now c.requires.ordered)
+    (without_acts c.args.id) _ (omega (arith, c.quarter_of.ensures, ap two_bits c.in-Fourth.is))
     c.remove-in-Fourth.ensures.after
 
 pub remove_from-returns-in-Fourth-clause-timed : goal.remove_from-returns-in-Fourth-clause-timed
@@ -125,8 +126,9 @@ remove_from-returns-in-First-clause-datum g t c =
 
 pub remove_from-returns-in-First-clause-attached : goal.remove_from-returns-in-First-clause-attached
 remove_from-returns-in-First-clause-attached g t c =
-    in_first c.args.levels c.args.id (of_attached c.args.fork.now c.requires.ordered) (without_acts c.args.id) _
-    (omega (arith, c.quarter_of.ensures, ap two_bits c.in-First.is)) c.remove.ensures.attached
+    in_first c.args.levels c.args.id (of_attached c.args.fork.now c.requires.ordered)
+    (without_acts c.args.id) _ (omega (arith, c.quarter_of.ensures, ap two_bits c.in-First.is))
+    c.remove.ensures.attached
 
 pub remove_from-returns-in-Second-clause-datum : goal.remove_from-returns-in-Second-clause-datum
 remove_from-returns-in-Second-clause-datum g t c =
@@ -134,10 +136,12 @@ remove_from-returns-in-Second-clause-datum g t c =
     ∙ at_second c.args.levels c.args.id (of_attached c.args.fork.now c.requires.ordered)
     (omega (arith, c.quarter_of.ensures, ap two_bits c.in-Second.is))
 
-pub remove_from-returns-in-Second-clause-attached : goal.remove_from-returns-in-Second-clause-attached
+pub remove_from-returns-in-Second-clause-attached :
+    goal.remove_from-returns-in-Second-clause-attached
 remove_from-returns-in-Second-clause-attached g t c =
-    in_second c.args.levels c.args.id (of_attached c.args.fork.now c.requires.ordered) (without_acts c.args.id) _
-    (omega (arith, c.quarter_of.ensures, ap two_bits c.in-Second.is)) c.remove-in-Second.ensures.attached
+    in_second c.args.levels c.args.id (of_attached c.args.fork.now c.requires.ordered)
+    (without_acts c.args.id) _ (omega (arith, c.quarter_of.ensures, ap two_bits c.in-Second.is))
+    c.remove-in-Second.ensures.attached
 
 pub remove_from-returns-in-Third-clause-datum : goal.remove_from-returns-in-Third-clause-datum
 remove_from-returns-in-Third-clause-datum g t c =
@@ -147,8 +151,9 @@ remove_from-returns-in-Third-clause-datum g t c =
 
 pub remove_from-returns-in-Third-clause-attached : goal.remove_from-returns-in-Third-clause-attached
 remove_from-returns-in-Third-clause-attached g t c =
-    in_third c.args.levels c.args.id (of_attached c.args.fork.now c.requires.ordered) (without_acts c.args.id) _
-    (omega (arith, c.quarter_of.ensures, ap two_bits c.in-Third.is)) c.remove-in-Third.ensures.attached
+    in_third c.args.levels c.args.id (of_attached c.args.fork.now c.requires.ordered)
+    (without_acts c.args.id) _ (omega (arith, c.quarter_of.ensures, ap two_bits c.in-Third.is))
+    c.remove-in-Third.ensures.attached
 
 pub remove_from-returns-in-Fourth-clause-datum : goal.remove_from-returns-in-Fourth-clause-datum
 remove_from-returns-in-Fourth-clause-datum g t c =
@@ -156,7 +161,9 @@ remove_from-returns-in-Fourth-clause-datum g t c =
     ∙ at_fourth c.args.levels c.args.id (of_attached c.args.fork.now c.requires.ordered)
     (omega (arith, c.quarter_of.ensures, ap two_bits c.in-Fourth.is))
 
-pub remove_from-returns-in-Fourth-clause-attached : goal.remove_from-returns-in-Fourth-clause-attached
+pub remove_from-returns-in-Fourth-clause-attached :
+    goal.remove_from-returns-in-Fourth-clause-attached
 remove_from-returns-in-Fourth-clause-attached g t c =
-    in_fourth c.args.levels c.args.id (of_attached c.args.fork.now c.requires.ordered) (without_acts c.args.id) _
-    (omega (arith, c.quarter_of.ensures, ap two_bits c.in-Fourth.is)) c.remove-in-Fourth.ensures.attached
+    in_fourth c.args.levels c.args.id (of_attached c.args.fork.now c.requires.ordered)
+    (without_acts c.args.id) _ (omega (arith, c.quarter_of.ensures, ap two_bits c.in-Fourth.is))
+    c.remove-in-Fourth.ensures.attached

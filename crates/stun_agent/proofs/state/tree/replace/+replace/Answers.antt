@@ -17,7 +17,8 @@ pub replace_in-returns-in-First-clause-attached : goal.replace_in-returns-in-Fir
 replace_in-returns-in-First-clause-attached g t c =
     in_first c.args.levels c.args.id (of_attached c.args.fork.now c.requires.ordered)
     (set_acts c.args.id c.args.datum) _
-    (omega (arith, c.quarter_of.ensures, ap two_bits c.in-First.is)) c.replace.ensures.attached
+    (omega (arith, c.quarter_of.ensures, ap two_bits c.in-First.is))
+    c.replace.ensures.attached
 
 pub replace_in-returns-in-Second-clause-before : goal.replace_in-returns-in-Second-clause-before
 replace_in-returns-in-Second-clause-before g t c =
@@ -29,7 +30,8 @@ pub replace_in-returns-in-Second-clause-attached : goal.replace_in-returns-in-Se
 replace_in-returns-in-Second-clause-attached g t c =
     in_second c.args.levels c.args.id (of_attached c.args.fork.now c.requires.ordered)
     (set_acts c.args.id c.args.datum) _
-    (omega (arith, c.quarter_of.ensures, ap two_bits c.in-Second.is)) c.replace-in-Second.ensures.attached
+    (omega (arith, c.quarter_of.ensures, ap two_bits c.in-Second.is))
+    c.replace-in-Second.ensures.attached
 
 pub replace_in-returns-in-Third-clause-before : goal.replace_in-returns-in-Third-clause-before
 replace_in-returns-in-Third-clause-before g t c =
@@ -41,7 +43,8 @@ pub replace_in-returns-in-Third-clause-attached : goal.replace_in-returns-in-Thi
 replace_in-returns-in-Third-clause-attached g t c =
     in_third c.args.levels c.args.id (of_attached c.args.fork.now c.requires.ordered)
     (set_acts c.args.id c.args.datum) _
-    (omega (arith, c.quarter_of.ensures, ap two_bits c.in-Third.is)) c.replace-in-Third.ensures.attached
+    (omega (arith, c.quarter_of.ensures, ap two_bits c.in-Third.is))
+    c.replace-in-Third.ensures.attached
 
 pub replace_in-returns-in-Fourth-clause-before : goal.replace_in-returns-in-Fourth-clause-before
 replace_in-returns-in-Fourth-clause-before g t c =
@@ -53,7 +56,8 @@ pub replace_in-returns-in-Fourth-clause-attached : goal.replace_in-returns-in-Fo
 replace_in-returns-in-Fourth-clause-attached g t c =
     in_fourth c.args.levels c.args.id (of_attached c.args.fork.now c.requires.ordered)
     (set_acts c.args.id c.args.datum) _
-    (omega (arith, c.quarter_of.ensures, ap two_bits c.in-Fourth.is)) c.replace-in-Fourth.ensures.attached
+    (omega (arith, c.quarter_of.ensures, ap two_bits c.in-Fourth.is))
+    c.replace-in-Fourth.ensures.attached
 
 -- ---- what is awaited stays
 pub replace-returns-in-Fork-clause-timed : goal.replace-returns-in-Fork-clause-timed

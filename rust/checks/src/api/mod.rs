@@ -21,6 +21,7 @@ mod server_loop;
 mod short_term;
 mod shown;
 mod support;
+mod table;
 mod text_heaps;
 mod texts;
 mod writing;

@@ -9,8 +9,13 @@ use crate::host::{Abort, Fail};
 use crate::kit::alloc::{Allocator, Global};
 use crate::kit::prelude::Vec;
 use crate::refusing::RefusingAllocator;
-use crate::test_support::datagrams::{REQUEST, SUCCESS, at, id, local, message, peer};
+use crate::test_support::datagrams::{REQUEST, SUCCESS, at, local, message, peer};
 use std::time::Duration;
+
+/// The id of this number.
+fn id(number: u8) -> TransactionId {
+    TransactionId::from_u128(u128::from(number)).expect("each byte is an id")
+}
 
 /// Sends the request of this number with a datum.
 fn send<A: Allocator + Copy, D>(
@@ -21,14 +26,22 @@ fn send<A: Allocator + Copy, D>(
     millis: u64,
 ) -> Result<(), StunError> {
     let bytes = Vec::from_slice(alloc, &message(REQUEST, number))?;
-    let id = id(number).expect("each byte is an id");
-    table.send(alloc, id, bytes, RequestRto::default(), datum, at(millis))
+    table.send(
+        alloc,
+        id(number),
+        bytes,
+        RequestRto::default(),
+        datum,
+        at(millis),
+    )
 }
 
 /// Polls both for what to send again, until neither has anything.
 fn transmitted(agent: &mut StunAgent, table: &mut Table<Global, u8>, millis: u64) {
     loop {
-        let sent = agent.poll_transmit(at(millis)).map(|sent| sent.data.to_vec());
+        let sent = agent
+            .poll_transmit(at(millis))
+            .map(|sent| sent.data.to_vec());
         let id = table.poll_transmit(at(millis));
         let bytes = id.and_then(|id| table.bytes_of(id)).map(<[u8]>::to_vec);
         assert_eq!(bytes, sent);
@@ -75,7 +88,7 @@ fn a_table_does_what_an_agent_does() {
                     let response = Message::from_bytes(&bytes)?;
                     let now = at(millis);
                     let taken = agent.handle_stun_message_with_time(&response, peer(), now)?;
-                    let answered = table.answer(id(number)?, bytes.len(), Some(now));
+                    let answered = table.answer(id(number), bytes.len(), Some(now));
                     assert_eq!(answered.is_some(), taken);
                 }
                 _ => millis += (word >> 50) % 400,
@@ -97,17 +110,17 @@ fn a_datum_is_that_of_its_request() {
             send(&mut table, rt.alloc(), number, u32::from(number), 0)?;
         }
         for number in 0..=255 {
-            let before = table.replace_datum(id(number)?, u32::from(number) + 1000);
+            let before = table.replace_datum(id(number), u32::from(number) + 1000);
             assert_eq!(before, Some(u32::from(number)));
         }
         for number in 0..=255 {
-            assert_eq!(table.datum(id(number)?), Some(&(u32::from(number) + 1000)));
-            let (bytes, datum) = table.cancel(id(number)?).ok_or("it is outstanding")?;
+            assert_eq!(table.datum(id(number)), Some(&(u32::from(number) + 1000)));
+            let (bytes, datum) = table.cancel(id(number)).ok_or("it is outstanding")?;
             assert_eq!(bytes.as_slice(), message(REQUEST, number));
             assert_eq!(datum, u32::from(number) + 1000);
-            assert!(!table.has(id(number)?));
+            assert!(!table.has(id(number)));
         }
-        assert_eq!(table.replace_datum(id(7)?, 7), None);
+        assert_eq!(table.replace_datum(id(7), 7), None);
         let stats = table.stats().ok_or("it counts")?;
         assert_eq!(stats.transactions_cancelled(), 256);
         Ok(())
@@ -128,14 +141,13 @@ fn a_table_allocates_only_to_send() {
             assert_eq!(sent, Ok(()));
         } else {
             assert_eq!(sent, Err(StunError::OutOfMemory));
-            assert!(!table.has(id(200).expect("each byte is an id")));
+            assert!(!table.has(id(200)));
         }
     }
     heap.refuse(1);
-    let first = id(0).expect("each byte is an id");
-    assert_eq!(table.replace_datum(first, 9), Some(0));
-    assert!(table.answer(first, 20, None).is_some());
-    assert!(table.cancel(id(1).expect("each byte is an id")).is_some());
+    assert_eq!(table.replace_datum(id(0), 9), Some(0));
+    assert!(table.answer(id(0), 20, None).is_some());
+    assert!(table.cancel(id(1)).is_some());
     while table.poll_transmit(at(500)).is_some() {}
     while table.poll_transmit(at(1_000_000)).is_some() {}
     while table.poll(at(2_000_000)).is_ok() {}
@@ -171,5 +183,8 @@ fn a_plan_is_cut() {
         initial: Duration::ZERO,
         ..often
     };
-    assert_eq!(at_once.within(Duration::from_nanos(1)).retransmits, u32::MAX);
+    assert_eq!(
+        at_once.within(Duration::from_nanos(1)).retransmits,
+        u32::MAX
+    );
 }

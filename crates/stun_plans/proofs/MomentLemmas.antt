@@ -17,7 +17,7 @@ use Rattle.stun_base.specs.declared.wire.transport.TransportType.{TransportType}
 use Rattle.stun_agent.specs.Timing.{Settings, final_wait, planned_end, slots, sum_of_timeouts, timeout}
 use Rattle.stun_agent.proofs.EntryLemmas.{same_key}
 use Rattle.stun_agent.proofs.TimingLemmas.{sum_of_timeouts-add_one, sum_of_timeouts-zero}
-use Rattle.stun_plans.specs.Plan.{IsWithin}
+use Rattle.stun_plans.specs.Plan.{ComesWithin}
 
 -- ---- the moments of a plan
 
@@ -93,10 +93,10 @@ next_times_le more k n late all =
     let rest = times_le more k n late all in omega (arith, rest)
 
 -- a wait that begins late ends late, and not more
-pub late_wait : (late so_late sent wait last due now : ℕ) → IsWithin so_late sent last
+pub late_wait : (late so_late sent wait last due now : ℕ) → ComesWithin so_late sent last
     → moment_after sent wait < last_moment → due ≤ moment_after last wait
     → moment_after last wait ≤ now → now ≤ due + late
-    → IsWithin late (moment_after last wait) now × IsWithin (so_late + late) (moment_after sent wait) now
+    → ComesWithin late (moment_after last wait) now × ComesWithin (so_late + late) (moment_after sent wait) now
 late_wait late so_late sent wait last due now was less low come soon = (
   record { no_earlier = come; no_later = omega (arith, low, soon) },
   record {

@@ -38,9 +38,9 @@ use Rattle.stun_client_endpoint.specs.declared.told.RequestError.TheVariants as 
 use Rattle.stun_client_endpoint.proofs.LawLemmas.{IsStep, below, call_is, polls_is}
 use Rattle.stun_client_endpoint.proofs.StoredLemmas.{changed_same, put_same}
 use Rattle.stun_client_endpoint.proofs.WrittenLemmas.{request_id}
-use Rattle.stun_plans.specs.Plan.{CallsInTime, GoesByPlan, GoesOnByPlan, IsOnTime, IsWithin, TakesTime}
+use Rattle.stun_plans.specs.Plan.{CallsInTime, IsSentByPlan, GoesOnByPlan, IsOnTime, ComesWithin, TakesTime}
 use Rattle.stun_plans.specs.Plan.{awaits, begins, due_after, id_of_request, is_poll, is_unsent}
-use Rattle.stun_plans.specs.Plan.{no_more, other, poll, said_of, sends, times_out, unanswered}
+use Rattle.stun_plans.specs.Plan.{no_more, other, poll, said_of, sends, times_out, unanswered_end}
 use Rattle.stun_plans.proofs.MomentLemmas.{awaited_end, awaited_slot, first_moment, one_more, sent_at}
 use Rattle.stun_plans.proofs.NameLemmas.{begin_so, read_id}
 use Rattle.stun_plans.proofs.OnTimeLemmas.{call_on_time}
@@ -63,14 +63,14 @@ polls_go r now u k more last due e after told is s soon (goes_on _ next _ _ said
           polls_go r now u k more last due next after told quiet.kept quiet.stands soon rest
       | inr (inl sent) ↦ let no : None ≡ Some (transmit r.number) = sent.told in cc
       | inr (inr ended) ↦
-          let no : None ≡ Some (ends (unanswered r.number ended.drops)) = ended.told in cc
+          let no : None ≡ Some (ends (unanswered_end r.number ended.drops)) = ended.told in cc
     ]
 
 -- ---- any calls
 
 -- what is said of a request from where it stands on
 abbrev pub Follows : Sent → Bool → ℕ → ℕ → ℕ → List (ℕ × Told) → Type 0
-Follows r true next k last said = GoesByPlan r.late r.agent r.start r.number next said
+Follows r true next k last said = IsSentByPlan r.late r.agent r.start r.number next said
 Follows r false next k last said = GoesOnByPlan r.late r.agent r.start r.number next k last said
 
 -- nothing is said of a request that is over
@@ -103,7 +103,7 @@ sends_next : (r : Sent) (u : Bool) (k more last due now next : ℕ) (e : Endpoin
     → Follows r false next was was_last said → Follows r u next k last ((now, told) ∷ said)
 sends_next r true k more last due now next e s early soon told said was now_left was_last same which tail =
     let first = s.first refl in
-    subst (λ (t : Told). GoesByPlan r.late r.agent r.start r.number next ((now, t) ∷ said)) (sym same)
+    subst (λ (t : Told). IsSentByPlan r.late r.agent r.start r.number next ((now, t) ∷ said)) (sym same)
     (begins now said
     (record { no_earlier = early; no_later = at_first first.at_once })
     (subst (λ m. GoesOnByPlan r.late r.agent r.start r.number next m r.start said)
@@ -117,7 +117,7 @@ sends_next r false k more last due now next e s early soon told said was now_lef
     subst (λ (t : Told). GoesOnByPlan r.late r.agent r.start r.number next k last ((now, t) ∷ said))
     (sym same)
     (sends k last now said within which.is_due.0
-    (subst (λ d. IsWithin (suc k * r.late) d now) planned_is which.is_due.1)
+    (subst (λ d. ComesWithin (suc k * r.late) d now) planned_is which.is_due.1)
     (subst (λ m. GoesOnByPlan r.late r.agent r.start r.number next m now said) which.was_is
     (subst (λ m. GoesOnByPlan r.late r.agent r.start r.number next was m said) which.last_is tail)))
   where
@@ -134,13 +134,13 @@ sends_next r false k more last due now next e s early soon told said was now_lef
 
 -- it ends
 ends_there : (r : Sent) (k last now next : ℕ) (told : Told) (drops : Drops)
-    → told ≡ ends (unanswered r.number drops) → k + 0 ≡ slots_of r → IsDue r k last now
+    → told ≡ ends (unanswered_end r.number drops) → k + 0 ≡ slots_of r → IsDue r k last now
     → Follows r false next k last ((now, told) ∷ [])
 ends_there r k last now next told drops same all is_due =
     subst (λ (t : Told). GoesOnByPlan r.late r.agent r.start r.number next k last ((now, t) ∷ []))
     (sym same)
     (times_out k last now drops (omega (arith, all)) is_due.0
-    (subst (λ d. IsWithin (suc k * r.late) d now)
+    (subst (λ d. ComesWithin (suc k * r.late) d now)
     (awaited_end r.start r.agent.transport r.agent.settings k all) is_due.1))
 
 -- a call that is no poll
@@ -217,8 +217,8 @@ follow r u k more last due next e after said is on_time s
           (sends_next r u k more last due now next e s early soon told (said_of r.number more_said)
           sent.was sent.now_left sent.was_last same sent.which tail)
       | inr (inr ended) ↦
-          let same : told ≡ ends (unanswered r.number ended.drops) =
-          some_told told (ends (unanswered r.number ended.drops)) ended.told in
+          let same : told ≡ ends (unanswered_end r.number ended.drops) =
+          some_told told (ends (unanswered_end r.number ended.drops)) ended.told in
           let low = below r.number e is (s.pending, s.there) in
           let none : said_of r.number more_said ≡ [] =
           silent r.late r.start r.number (due_after due now told) next mid after more_said kept.kept

@@ -57,7 +57,7 @@ use Rattle.stun_client_endpoint.proofs.PollLemmas.{timers_next}
 use Rattle.stun_client_endpoint.proofs.StoredLemmas.{apart, changed_other, changed_same}
 use Rattle.stun_client_endpoint.proofs.StoredLemmas.{ended_is_there, overdue_first, removed}
 use Rattle.stun_client_endpoint.proofs.StoredLemmas.{removed_other, same_or_apart, unsent_is_there}
-use Rattle.stun_plans.specs.Plan.{IsWithin, due_after, next_due, unanswered}
+use Rattle.stun_plans.specs.Plan.{ComesWithin, due_after, request_due, unanswered_end}
 use Rattle.stun_plans.proofs.MomentLemmas.{awaited_after, awaited_slot, awaited_up_to_end}
 use Rattle.stun_plans.proofs.MomentLemmas.{found_first, late_wait, next_times_le, one_more, sent_at}
 
@@ -73,7 +73,7 @@ pub record Sent : Type 0 where
 
 -- the moment that it awaits after k timeouts, the last of which passed at a time
 abbrev pub awaited : Sent → ℕ → ℕ → ℕ
-awaited r k last = next_due r.agent k last
+awaited r k last = request_due r.agent k last
 
 -- the one that it awaits by its plan
 abbrev pub planned : Sent → ℕ → ℕ
@@ -89,7 +89,7 @@ end_at r = planned_end r.agent.transport r.agent.settings r.start
 -- it is due at a time: at most so late, and in its plan at most so late for each timeout
 abbrev pub IsDue : Sent → ℕ → ℕ → ℕ → Type 0
 IsDue r k last now =
-    IsWithin r.late (awaited r k last) now × IsWithin (suc k * r.late) (planned r k) now
+    ComesWithin r.late (awaited r k last) now × ComesWithin (suc k * r.late) (planned r k) now
 
 -- nothing of it has passed
 pub record AtStart (r : Sent) (k last due : ℕ) : Type 0 where
@@ -116,7 +116,7 @@ pub record Stands (r : Sent) (is_unsent : Bool) (k more last due : ℕ) (e : End
   pub slot_is : transaction.slot ≡ k
   pub last_is : transaction.last ≡ last
   pub all : k + more ≡ slots_of r
-  pub on_plan : IsWithin (k * r.late) (sent_at r.start r.agent.settings k) last
+  pub on_plan : ComesWithin (k * r.late) (sent_at r.start r.agent.settings k) last
   pub low : due ≤ awaited r k last
   pub first : is_unsent ≡ true → AtStart r k last due
 
@@ -163,7 +163,7 @@ pub record IsSent (r : Sent) (is_unsent : Bool) (k more last due now : ℕ) (sai
 pub record IsEnded (r : Sent) (is_unsent : Bool) (k more last due now : ℕ) (said : Option Told)
     (after : Endpoint) : Type 0 where
   pub drops : Drops
-  pub told : said ≡ Some (ends (unanswered r.number drops))
+  pub told : said ≡ Some (ends (unanswered_end r.number drops))
   pub was_sent : is_unsent ≡ false
   pub none_left : more ≡ 0
   pub is_due : IsDue r k last now
@@ -276,7 +276,7 @@ module _ (r : Sent) (u : Bool) (k more last due : ℕ) (e : Endpoint) (is : IsEn
       let both = late_wait r.late (k * r.late) (sent_at r.start r.agent.settings k)
       (cond (nat_lt k (slots_of r)) (timeout r.agent.settings k)
       (final_wait r.agent.transport r.agent.settings)) last due now s.on_plan in_plan s.low come soon in
-      (both.0, subst (λ l. IsWithin l (planned r k) now) (times (k * r.late)) both.1)
+      (both.0, subst (λ l. ComesWithin l (planned r k) now) (times (k * r.late)) both.1)
     where
       times : (m : ℕ) → k * r.late + r.late ≡ suc k * r.late
       times m = omega arith
@@ -416,7 +416,7 @@ module _ (r : Sent) (now : ℕ) where
       slot_is = ap (λ n. n + 1) s.slot_is ∙ one_more k;
       last_is = refl;
       all = counted k more less.0 (slots_of r) s.all less.1;
-      on_plan = subst (λ d. IsWithin (suc k * r.late) d now) next is_due_so.1;
+      on_plan = subst (λ d. ComesWithin (suc k * r.late) d now) next is_due_so.1;
       low = later (cond (nat_lt (suc k) (slots_of r)) (timeout r.agent.settings (suc k))
           (final_wait r.agent.transport r.agent.settings)) s.low come;
       first = λ on. cc;

@@ -67,19 +67,19 @@ said_of number said = filter (λ t. is_told_of number t.1) said
 -- ---- the plan of a request
 
 -- the end of a request that got no response which counts, and what was dropped for it
-abbrev pub unanswered : ℕ → Drops → Ended
-unanswered number drops = record { number = number; end = TimedOut drops; response = [] }
+abbrev pub unanswered_end : ℕ → Drops → Ended
+unanswered_end number drops = record { number = number; end = TimedOut drops; response = [] }
 
 -- when a request is due after k timeouts, the last of which passed at `last`: to be sent again, or to
 -- end
-abbrev pub next_due : Agent → ℕ → ℕ → ℕ
-next_due a k last =
+abbrev pub request_due : Agent → ℕ → ℕ → ℕ
+request_due a k last =
     moment_after last
     (if nat_lt k (slots a.transport a.settings) then timeout a.settings k
     else final_wait a.transport a.settings)
 
 -- a time from another one on, and at most so late
-pub record IsWithin (late due now : ℕ) : Type 0 where
+pub record ComesWithin (late due now : ℕ) : Type 0 where
   pub no_earlier : due ≤ now
   pub no_later : now ≤ due + late
 
@@ -89,26 +89,26 @@ pub record IsWithin (late due now : ℕ) : Type 0 where
 -- is due before `next` nothing is missing
 pub data GoesOnByPlan (late : ℕ) (a : Agent) (start number next : ℕ) :
     ℕ → ℕ → List (ℕ × Told) → Type 0 where
-  awaits : (k last : ℕ) → next ≤ next_due a k last
+  awaits : (k last : ℕ) → next ≤ request_due a k last
       → GoesOnByPlan late a start number next k last []
   sends : (k last now : ℕ) (said : List (ℕ × Told)) → k < slots a.transport a.settings
-      → IsWithin late (next_due a k last) now
-      → IsWithin (suc k * late) (moment_after start (sum_of_timeouts a.settings (suc k))) now
+      → ComesWithin late (request_due a k last) now
+      → ComesWithin (suc k * late) (moment_after start (sum_of_timeouts a.settings (suc k))) now
       → GoesOnByPlan late a start number next (suc k) now said
       → GoesOnByPlan late a start number next k last ((now, transmit number) ∷ said)
   times_out : (k last now : ℕ) (drops : Drops) → k ≡ slots a.transport a.settings
-      → IsWithin late (next_due a k last) now
-      → IsWithin (suc k * late) (planned_end a.transport a.settings start) now
+      → ComesWithin late (request_due a k last) now
+      → ComesWithin (suc k * late) (planned_end a.transport a.settings start) now
       → GoesOnByPlan late a start number next k last
-      ((now, ends (unanswered number drops)) ∷ [])
+      ((now, ends (unanswered_end number drops)) ∷ [])
 
 -- what is said of a request from its start on: it is sent, and then goes on
-pub data GoesByPlan (late : ℕ) (a : Agent) (start number next : ℕ) :
+pub data IsSentByPlan (late : ℕ) (a : Agent) (start number next : ℕ) :
     List (ℕ × Told) → Type 0 where
-  is_unsent : next ≤ start → GoesByPlan late a start number next []
-  begins : (now : ℕ) (said : List (ℕ × Told)) → IsWithin late start now
+  is_unsent : next ≤ start → IsSentByPlan late a start number next []
+  begins : (now : ℕ) (said : List (ℕ × Told)) → ComesWithin late start now
       → GoesOnByPlan late a start number next 0 start said
-      → GoesByPlan late a start number next ((now, transmit number) ∷ said)
+      → IsSentByPlan late a start number next ((now, transmit number) ∷ said)
 
 -- ---- the laws
 
@@ -147,4 +147,4 @@ RequestsAreSentByPlan =
     (said : List (ℕ × Told)) → IsEndpoint e → IsOnTime e → TakesTime late e.state.agent start
     → refusal_to_start e method body ≡ None
     → CallsInTime late start (next_number e) start (started method body start e) said next after
-    → GoesByPlan late e.state.agent start (next_number e) next (said_of (next_number e) said)
+    → IsSentByPlan late e.state.agent start (next_number e) next (said_of (next_number e) said)

@@ -1,6 +1,6 @@
 # The targets of this repository. Those listed above `With the toolchain` do not need rt, and a
 # release of the sources has only those.
-.PHONY: help lib export rust test rust-c dist prove c check wrong bench install uninstall release verify-release
+.PHONY: help lib export rust rust-i686 test rust-c dist prove c check wrong bench install uninstall release verify-release
 
 # Ends a target that needs the toolchain, where it is not there.
 needs_rt = @command -v rt >/dev/null || { echo "make $@: needs the toolchain rt, which is not \
@@ -16,6 +16,7 @@ help:
 	@echo "make export   export the proved sources as plain Rust to target/export, and build them"
 	@echo "make rust     export the proved sources as plain Rust to target/export, and run its tests"
 	@echo "make test     the same: what is tested without rt"
+	@echo "make rust-i686  the tests in Rust for i686-unknown-linux-gnu, by Debian's compiler"
 	@echo "make rust-c   after 'make rust': build libstunp.a and libstunp.so to target/c, and test them"
 	@echo "make dist     release/stunp-VERSION-source.tar.gz, with other crates, to build without network"
 	@echo "With the toolchain (rt):"
@@ -34,6 +35,9 @@ export:
 
 rust:
 	@tools/rust.sh
+
+rust-i686:
+	@tests/export/foreign.sh i686
 
 test: rust
 

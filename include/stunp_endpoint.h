@@ -264,6 +264,9 @@
  *    stunp_ice_checker_controls, stunp_ice_checker_set_tie_breaker, stunp_ice_checker_check_with,
  *    stunp_ice_checker_check, stunp_ice_checker_receive_with, stunp_ice_checker_receive,
  *    stunp_ice_checker_clear, stunp_ice_checker_free
+ *   ICE, around checks: stunp_ice_find_sender, stunp_ice_priority, stunp_ice_pair_priority,
+ *    stunp_ice_consent_from, stunp_ice_consent_poll, stunp_ice_consent_answered,
+ *    stunp_ice_consent_until
  *   clients: stunp_endpoint_client_new_with, stunp_endpoint_client_new, stunp_endpoint_client_clear,
  *    stunp_endpoint_client_free
  *   clients, requests: stunp_body_on, stunp_body_put, stunp_body_add, stunp_body_add_number,
@@ -1283,6 +1286,96 @@ STUNP_INLINED int64_t stunp_ice_checker_receive(stunp_ice_checker *checker,
                                                 const stunp_ice_check *check,
                                                 uint8_t *STUNP_RESTRICT out, size_t room,
                                                 stunp_ice_received *received);
+
+/* ---- Around the checks of ICE
+ *
+ * What an agent needs beside checks. These calls are done in C: they are tested, and not proved. */
+
+/* Finds the username fragment of the peer in a check that was accepted: what follows your own and a
+ * colon in USERNAME. If one offer has several answers, it says which of them the check belongs to.
+ *
+ *     size_t sender_length;
+ *     int64_t place = stunp_ice_find_sender(bytes, length, &sender_length);
+ *     if (place > 0) printf("%.*s\n", (int)sender_length, (const char *)bytes + place);
+ *
+ * Returns the place of the fragment in the message, and writes its length in bytes to
+ * `*sender_length`. Errors are those of stunp_find_text, and STUNP_MALFORMED_ATTRIBUTE if USERNAME
+ * has no colon. */
+STUNP_USE_RESULT STUNP_NOT_NULL(3)
+STUNP_INLINED int64_t stunp_ice_find_sender(const uint8_t *message, size_t length,
+                                            size_t *sender_length);
+
+/* How a candidate was found. The numbers are the type preferences that RFC 8445 recommends (section
+ * 5.1.2.2). */
+typedef enum stunp_ice_candidate_kind {
+    STUNP_ICE_RELAYED = 0,            /* an address that a TURN server has allocated */
+    STUNP_ICE_SERVER_REFLEXIVE = 100, /* the address that a STUN server saw a request come from */
+    STUNP_ICE_PEER_REFLEXIVE = 110,   /* the address that the peer saw a check come from */
+    STUNP_ICE_HOST = 126              /* the address of a socket */
+} stunp_ice_candidate_kind;
+
+/* Returns the priority of a candidate (section 5.1.2.1), or what PRIORITY of a check has that is sent
+ * from it, if `kind` is STUNP_ICE_PEER_REFLEXIVE (section 7.1.1). `preference` ranks the addresses of
+ * this side: 65535 for the best, and for the only one. `component` is the number of the component,
+ * from 1 on. */
+STUNP_USE_RESULT
+STUNP_INLINED uint32_t stunp_ice_priority(stunp_ice_candidate_kind kind, uint16_t preference,
+                                          uint8_t component);
+
+/* Returns the priority of a pair, which both agents compute alike (section 6.1.2.3), from those of the
+ * candidates of the agent that controls and of the other one. A priority above 2147483647, which no
+ * candidate may have, counts as that number. */
+STUNP_USE_RESULT
+STUNP_INLINED uint64_t stunp_ice_pair_priority(uint32_t controlling, uint32_t controlled);
+
+/* The timers of consent on a selected pair (RFC 7675, section 5.1): a check every 4 to 6 seconds, and
+ * the end if none was answered for 30 seconds. The checks keep the path open too.
+ *
+ *     stunp_ice_consent consent = stunp_ice_consent_from(now, random); // the pair is selected
+ *     // In the loop:
+ *     switch (stunp_ice_consent_poll(&consent, now, random)) {
+ *     case STUNP_ICE_CONSENT_ASK: // write a check on the pair, and send it once
+ *     case STUNP_ICE_CONSENT_OVER: // send nothing more to the peer
+ *     default: until = stunp_ice_consent_until(&consent, until);
+ *     }
+ *     // When the answer to any of these checks is STUNP_ICE_VALID:
+ *     stunp_ice_consent_answered(&consent, now);
+ *
+ * Times are nanoseconds of a clock that never goes back.
+ *
+ *   until  when consent ends
+ *   next   when the next check is sent */
+typedef struct {
+    uint64_t until;
+    uint64_t next;
+} stunp_ice_consent;
+
+/* What is to be done for consent. */
+typedef enum stunp_ice_consent_step {
+    STUNP_ICE_CONSENT_WAIT = 0, /* nothing yet */
+    STUNP_ICE_CONSENT_ASK = 1,  /* send a check on the pair, once */
+    STUNP_ICE_CONSENT_OVER = 2  /* no check was answered for 30 seconds: send nothing more */
+} stunp_ice_consent_step;
+
+/* Returns the timers of a pair that is selected now: the answer that made it valid was the first
+ * consent. `random` is a random number, by which the first check is sent in 4 to 6 seconds. */
+STUNP_USE_RESULT
+STUNP_INLINED stunp_ice_consent stunp_ice_consent_from(uint64_t now, uint32_t random);
+
+/* Returns what is to be done now. `random` is a random number, by which the next check is sent 4 to 6
+ * seconds after this one. */
+STUNP_USE_RESULT STUNP_NOT_NULL(1)
+STUNP_INLINED stunp_ice_consent_step stunp_ice_consent_poll(stunp_ice_consent *consent,
+                                                            uint64_t now, uint32_t random);
+
+/* Renews consent for 30 seconds, because the answer to a check has arrived. Does nothing if consent is
+ * over. */
+STUNP_NOT_NULL(1)
+STUNP_INLINED void stunp_ice_consent_answered(stunp_ice_consent *consent, uint64_t now);
+
+/* Returns the earlier of `until` and the time at which there is something to do for consent. */
+STUNP_USE_RESULT STUNP_NOT_NULL(1)
+STUNP_INLINED uint64_t stunp_ice_consent_until(const stunp_ice_consent *consent, uint64_t until);
 
 /* ---- Clients
  *

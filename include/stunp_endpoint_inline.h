@@ -491,6 +491,59 @@ STUNP_INLINED const char *stunp_result_text(stunp_result result) {
     }
 }
 
+STUNP_INLINED int64_t stunp_ice_find_sender(const uint8_t *message, size_t length,
+                                            size_t *sender_length) {
+    size_t name_length = 0, at;
+    int64_t place = stunp_find_text(message, length, STUNP_USERNAME, &name_length);
+    *sender_length = 0;
+    if (place < 0) return place;
+    for (at = 0; at < name_length; at++) {
+        if (message[(size_t)place + at] == ':') {
+            *sender_length = name_length - at - 1;
+            return place + (int64_t)at + 1;
+        }
+    }
+    return STUNP_MALFORMED_ATTRIBUTE;
+}
+
+STUNP_INLINED uint32_t stunp_ice_priority(stunp_ice_candidate_kind kind, uint16_t preference,
+                                          uint8_t component) {
+    return ((uint32_t)kind << 24) + ((uint32_t)preference << 8) + (256 - (uint32_t)component);
+}
+
+STUNP_INLINED uint64_t stunp_ice_pair_priority(uint32_t controlling, uint32_t controlled) {
+    const uint32_t largest = 0x7fffffff;
+    uint64_t one = controlling < largest ? controlling : largest;
+    uint64_t other = controlled < largest ? controlled : largest;
+    return one > other ? (other << 32) + 2 * one + 1 : (one << 32) + 2 * other;
+}
+
+STUNP_INLINED stunp_ice_consent stunp_ice_consent_from(uint64_t now, uint32_t random) {
+    const uint64_t second = 1000000000;
+    stunp_ice_consent consent;
+    consent.until = now + 30 * second;
+    consent.next = now + 4 * second + (2 * second * random >> 32);
+    return consent;
+}
+
+STUNP_INLINED stunp_ice_consent_step stunp_ice_consent_poll(stunp_ice_consent *consent,
+                                                            uint64_t now, uint32_t random) {
+    if (now >= consent->until) return STUNP_ICE_CONSENT_OVER;
+    if (now < consent->next) return STUNP_ICE_CONSENT_WAIT;
+    consent->next = stunp_ice_consent_from(now, random).next;
+    return STUNP_ICE_CONSENT_ASK;
+}
+
+STUNP_INLINED void stunp_ice_consent_answered(stunp_ice_consent *consent, uint64_t now) {
+    uint64_t until = stunp_ice_consent_from(now, 0).until;
+    if (now < consent->until && until > consent->until) consent->until = until;
+}
+
+STUNP_INLINED uint64_t stunp_ice_consent_until(const stunp_ice_consent *consent, uint64_t until) {
+    uint64_t next = consent->next < consent->until ? consent->next : consent->until;
+    return next < until ? next : until;
+}
+
 STUNP_INLINED stunp_keepalive stunp_keepalive_every(uint64_t every, uint64_t now) {
     stunp_keepalive keepalive;
     keepalive.every = every;

@@ -99,8 +99,7 @@ Type = collections.namedtuple("Type", "number rfc place")
 REGISTRY, LONGER = "crates/stun_inspect/src/registry.rt", {"ECN-CHECK": "ECN-CHECK STUN"}
 # Lists of types that must be understood, which are those below 0x8000. Each list has the types of
 # these RFCs, or if none is named, all that the library reads. The client of the exported crate has
-# no list of its own: it understands STUN and the rows of rust/src/attributes.rs. The lists of
-# endpoint.rs leave out the types of STUN.
+# no list of its own: it understands STUN and the rows of rust/src/attributes.rs.
 LISTS = [
     ("crates/stun_c_endpoint/src/client/settings.rt", "UNDERSTOOD", ()),
     ("crates/stun_endpoint/src/server/settings.rt", "STUN_ATTRIBUTES", (8489,)),
@@ -108,7 +107,6 @@ LISTS = [
     ("crates/stun_ice/src/parts.rt", "UNDERSTOOD", (8489, 8445)),
     ("rust/src/ported.rs", "STUN", (8489,)), ("rust/src/ported.rs", "ICE", (8489, 8445)),
     ("rust/src/ported.rs", "TURN", (8489, 8656)),
-    ("rust/src/endpoint.rs", "ICE", (8445,)), ("rust/src/endpoint.rs", "TURN", (8656,)),
     ("tests/endpoint_messages.py", "OWN", (8489,)), ("tests/endpoint_client.py", "READ", ()),
 ]
 # Lists of the types that a client adds by itself, which are alike.

@@ -186,7 +186,7 @@ fn main() {
         };
         let plain = || match algorithm {
             IntegrityAlgorithm::Sha1 => drop(black_box(Md5::digest(black_box(&joined)))),
-            IntegrityAlgorithm::Sha256 => drop(black_box(Sha256::digest(black_box(&joined)))),
+            _ => drop(black_box(Sha256::digest(black_box(&joined)))),
         };
         let digest = if algorithm == IntegrityAlgorithm::Sha1 {
             "MD5"

@@ -26,7 +26,7 @@ use words::Words;
 
 const USAGE: &str = "many HOST PORT CALLERS REQUESTS [NAME PASSWORD]";
 
-type Answer = Result<Response, RequestError>;
+type Answer = Result<Response, Box<dyn Error + Send + Sync>>;
 
 /// What the owner of the client waits for.
 enum Event {
@@ -56,7 +56,7 @@ impl Front {
         let (caller, answer) = channel();
         let sent = self.0.send(Event::Request(method, body, caller));
         sent.map_err(|_| RequestError::Cancelled)?;
-        answer.recv().unwrap_or(Err(RequestError::Cancelled))
+        answer.recv().unwrap_or(Err(RequestError::Cancelled.into()))
     }
 }
 
@@ -87,7 +87,7 @@ fn drive(socket: &UdpSocket, server: SocketAddr, mut client: Client, events: &Re
                 Output::Transmit(bytes) => drop(socket.send(bytes)), // what is lost is sent again
                 Output::Ended(request, answer) => {
                     let caller: Option<Sender<Answer>> = callers.remove(&request);
-                    caller.map(|caller| caller.send(answer));
+                    caller.map(|caller| caller.send(answer.map_err(Into::into)));
                 }
                 Output::Wait(until) => break until,
                 _ => {}
@@ -102,7 +102,7 @@ fn drive(socket: &UdpSocket, server: SocketAddr, mut client: Client, events: &Re
             Ok(Event::Request(method, body, caller)) => {
                 match client.request(method, body, clock.now()) {
                     Ok(request) => drop(callers.insert(request, caller)),
-                    Err(error) => drop(caller.send(Err(error))),
+                    Err(error) => drop(caller.send(Err(error.into()))),
                 }
             }
             Err(RecvTimeoutError::Timeout) => {}

@@ -15,7 +15,9 @@
 //! use seatcrane_stun::Instant;
 //! use seatcrane_stun::agent::{StunAgent, StunAgentPollRet};
 //! use seatcrane_stun::types::TransportType;
-//! use seatcrane_stun::types::message::{BINDING, Message, MessageWriteVec, TransactionId};
+//! use seatcrane_stun::types::message::{
+//!     BINDING, Message, MessageWriteVec, TransactionId,
+//! };
 //! use seatcrane_stun::types::prelude::*;
 //!
 //! # fn main() -> Result<(), Box<dyn std::error::Error>> {
@@ -23,7 +25,9 @@
 //! let mut agent = StunAgent::builder(TransportType::Udp, local).build();
 //!
 //! let id = TransactionId::from(*b"any 12 bytes"); // yours must be unpredictable
-//! let request = Message::builder_request_with_id(BINDING, id, MessageWriteVec::new()).finish();
+//! let request =
+//!     Message::builder_request_with_id(BINDING, id, MessageWriteVec::new())
+//!         .finish();
 //! let mut now = Instant::ZERO;
 //! agent.send_request(&request, server, now)?; // send the bytes that it returns
 //!
@@ -33,13 +37,17 @@
 //!         retransmissions += 1; // send `_transmit.data` to `_transmit.to`
 //!     }
 //!     match agent.poll(now) {
-//!         StunAgentPollRet::WaitUntil(time) => now = time, // sleep, or wait for a datagram
+//!         // sleep, or wait for a datagram
+//!         StunAgentPollRet::WaitUntil(time) => now = time,
 //!         StunAgentPollRet::TransactionTimedOut(_) => break,
-//!         StunAgentPollRet::TransactionCancelled(_) => unreachable!("nobody canceled it"),
+//!         StunAgentPollRet::TransactionCancelled(_) => {
+//!             unreachable!("nobody canceled it")
+//!         }
 //!     }
 //! }
 //! assert_eq!(retransmissions, 6); // seven transmissions in all
 //! assert_eq!(now.as_nanos(), 39_500_000_000); // 39.5 s after the first one
+//!
 //! # Ok(())
 //! # }
 //! ```
@@ -170,6 +178,7 @@ impl StunAgentBuilder {
     }
 
     /// Builds the agent.
+    #[must_use]
     pub fn build(self) -> StunAgent {
         StunAgent(self.0.build())
     }
@@ -578,17 +587,20 @@ pub struct StunRequest<'a> {
 
 impl StunRequest<'_> {
     /// Returns the address that the request was sent to.
+    #[must_use]
     pub fn peer_address(&self) -> SocketAddr {
         self.peer_address
     }
 
     /// Returns the algorithm of the request's integrity attribute, or `None` if it has none. If it
     /// has both attributes, this is HMAC-SHA256.
+    #[must_use]
     pub fn integrity(&self) -> Option<IntegrityAlgorithm> {
         self.integrity
     }
 
     /// Returns the agent that sent the request.
+    #[must_use]
     pub fn agent(&self) -> &StunAgent {
         self.agent
     }
@@ -611,7 +623,11 @@ impl StunRequest<'_> {
 /// /// Lets a request wait for at most a second, with two transmissions.
 /// fn hurry(agent: &mut StunAgent, id: TransactionId) {
 ///     if let Some(mut request) = agent.mut_request_transaction(id) {
-///         request.configure_timeout(Duration::from_millis(400), 2, Duration::from_millis(600));
+///         request.configure_timeout(
+///             Duration::from_millis(400),
+///             2,
+///             Duration::from_millis(600),
+///         );
 ///     }
 /// }
 /// # use seatcrane_stun::types::TransportType;
@@ -628,17 +644,20 @@ pub struct StunRequestMut<'a> {
 
 impl StunRequestMut<'_> {
     /// Returns the address that the request was sent to.
+    #[must_use]
     pub fn peer_address(&self) -> SocketAddr {
         self.peer_address
     }
 
     /// Returns the algorithm of the request's integrity attribute, or `None` if it has none. If it
     /// has both attributes, this is HMAC-SHA256.
+    #[must_use]
     pub fn integrity(&self) -> Option<IntegrityAlgorithm> {
         self.integrity
     }
 
     /// Returns the agent that sent the request.
+    #[must_use]
     pub fn agent(&self) -> &StunAgent {
         self.agent
     }

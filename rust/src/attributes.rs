@@ -105,7 +105,8 @@ table! {
     /// use seatcrane_stun::types::prelude::*;
     ///
     /// # let id = TransactionId::from(*b"any 12 bytes");
-    /// let mut message = Message::builder_request_with_id(BINDING, id, MessageWriteVec::new());
+    /// let mut message =
+    ///     Message::builder_request_with_id(BINDING, id, MessageWriteVec::new());
     /// message.add_attribute(&Software::new("example 1.0")?)?;
     /// let bytes = message.finish();
     ///
@@ -166,7 +167,8 @@ table! {
     /// use seatcrane_stun::types::prelude::*;
     ///
     /// # let id = TransactionId::from(*b"any 12 bytes");
-    /// let mut message = Message::builder_request_with_id(BINDING, id, MessageWriteVec::new());
+    /// let mut message =
+    ///     Message::builder_request_with_id(BINDING, id, MessageWriteVec::new());
     /// message.add_attribute(&Priority::new(0x6e00_01ff))?;
     /// let bytes = message.finish();
     ///
@@ -188,7 +190,8 @@ table! {
     /// use seatcrane_stun::types::prelude::*;
     ///
     /// # let id = TransactionId::from(*b"any 12 bytes");
-    /// let mut check = Message::builder_request_with_id(BINDING, id, MessageWriteVec::new());
+    /// let mut check =
+    ///     Message::builder_request_with_id(BINDING, id, MessageWriteVec::new());
     /// check.add_attribute(&UseCandidate)?; // nominates the pair
     /// let check = check.finish();
     ///
@@ -210,7 +213,8 @@ table! {
     /// use seatcrane_stun::types::prelude::*;
     ///
     /// # let id = TransactionId::from(*b"any 12 bytes");
-    /// let mut message = Message::builder_request_with_id(BINDING, id, MessageWriteVec::new());
+    /// let mut message =
+    ///     Message::builder_request_with_id(BINDING, id, MessageWriteVec::new());
     /// message.add_attribute(&IceControlled::new(0x0123_4567_89ab_cdef))?;
     /// let bytes = message.finish();
     ///
@@ -233,7 +237,8 @@ table! {
     /// use seatcrane_stun::types::prelude::*;
     ///
     /// # let id = TransactionId::from(*b"any 12 bytes");
-    /// let mut message = Message::builder_request_with_id(BINDING, id, MessageWriteVec::new());
+    /// let mut message =
+    ///     Message::builder_request_with_id(BINDING, id, MessageWriteVec::new());
     /// message.add_attribute(&IceControlling::new(0x0123_4567_89ab_cdef))?;
     /// let bytes = message.finish();
     ///
@@ -263,7 +268,8 @@ table! {
     ///
     /// # let id = TransactionId::from(*b"any 12 bytes");
     /// let method = TurnMethod::Refresh.method();
-    /// let mut message = Message::builder_request_with_id(method, id, MessageWriteVec::new());
+    /// let mut message =
+    ///     Message::builder_request_with_id(method, id, MessageWriteVec::new());
     /// message.add_attribute(&Lifetime::new(0))?; // ends the allocation
     /// let bytes = message.finish();
     ///
@@ -290,7 +296,8 @@ table! {
     /// # let id = TransactionId::from(*b"any 12 bytes");
     /// # let peer = "192.0.2.15:9001".parse().unwrap();
     /// let permission = TurnMethod::CreatePermission.method();
-    /// let mut request = Message::builder_request_with_id(permission, id, MessageWriteVec::new());
+    /// let mut request =
+    ///     Message::builder_request_with_id(permission, id, MessageWriteVec::new());
     /// request.add_attribute(&XorPeerAddress::new(peer, id))?;
     /// # Ok::<(), StunWriteError>(())
     /// ```
@@ -360,7 +367,8 @@ table! {
     ///
     /// # let id = TransactionId::from(*b"any 12 bytes");
     /// let method = TurnMethod::Allocate.method();
-    /// let mut message = Message::builder_request_with_id(method, id, MessageWriteVec::new());
+    /// let mut message =
+    ///     Message::builder_request_with_id(method, id, MessageWriteVec::new());
     /// message.add_attribute(&RequestedAddressFamily::new(AddressFamily::Ipv6))?;
     /// let bytes = message.finish();
     ///
@@ -433,7 +441,8 @@ table! {
     /// use seatcrane_stun::types::prelude::*;
     ///
     /// # let id = TransactionId::from(*b"any 12 bytes");
-    /// let mut message = Message::builder_request_with_id(BINDING, id, MessageWriteVec::new());
+    /// let mut message =
+    ///     Message::builder_request_with_id(BINDING, id, MessageWriteVec::new());
     /// message.add_attribute(&ConnectionId::new(7))?;
     /// let bytes = message.finish();
     ///
@@ -456,7 +465,8 @@ table! {
     /// use seatcrane_stun::types::prelude::*;
     ///
     /// # let id = TransactionId::from(*b"any 12 bytes");
-    /// let mut message = Message::builder_request_with_id(BINDING, id, MessageWriteVec::new());
+    /// let mut message =
+    ///     Message::builder_request_with_id(BINDING, id, MessageWriteVec::new());
     /// message.add_attribute(&MobilityTicket::new(b"opaque"))?;
     /// let bytes = message.finish();
     ///
@@ -480,7 +490,8 @@ table! {
     /// use seatcrane_stun::types::prelude::*;
     ///
     /// # let id = TransactionId::from(*b"any 12 bytes");
-    /// let mut message = Message::builder_request_with_id(BINDING, id, MessageWriteVec::new());
+    /// let mut message =
+    ///     Message::builder_request_with_id(BINDING, id, MessageWriteVec::new());
     /// message.add_attribute(&ThirdPartyAuthorization::new("turn.example.org")?)?;
     /// let bytes = message.finish();
     ///
@@ -503,7 +514,8 @@ table! {
     /// use seatcrane_stun::types::prelude::*;
     ///
     /// # let id = TransactionId::from(*b"any 12 bytes");
-    /// let mut message = Message::builder_request_with_id(BINDING, id, MessageWriteVec::new());
+    /// let mut message =
+    ///     Message::builder_request_with_id(BINDING, id, MessageWriteVec::new());
     /// message.add_attribute(&AccessToken::new(b"opaque"))?;
     /// let bytes = message.finish();
     ///
@@ -524,7 +536,8 @@ table! {
     /// use seatcrane_stun::extra::attribute::EcnCheck;
     /// use seatcrane_stun::types::message::{Message, StunParseError};
     ///
-    /// /// Returns the ECN field that the request had when it arrived, if the response says it.
+    /// /// Returns the ECN field that the request had when it arrived, if the response says
+    /// /// it.
     /// fn echoed(success: &Message<'_>) -> Result<Option<u32>, StunParseError> {
     ///     let bits = success.attribute::<EcnCheck>()?.bits();
     ///     Ok((bits & 1 == 1).then_some(bits >> 1 & 3))
@@ -554,8 +567,10 @@ table! {
     /// use seatcrane_stun::types::prelude::*;
     ///
     /// # let id = TransactionId::from(*b"any 12 bytes");
-    /// let mut message = Message::builder_request_with_id(BINDING, id, MessageWriteVec::new());
-    /// message.add_attribute(&ResponseOrigin::new("192.0.2.1:3478".parse().unwrap()))?;
+    /// let mut message =
+    ///     Message::builder_request_with_id(BINDING, id, MessageWriteVec::new());
+    /// message
+    ///     .add_attribute(&ResponseOrigin::new("192.0.2.1:3478".parse().unwrap()))?;
     /// let bytes = message.finish();
     ///
     /// let message = Message::from_bytes(&bytes).unwrap();
@@ -577,7 +592,8 @@ table! {
     /// use seatcrane_stun::types::prelude::*;
     ///
     /// # let id = TransactionId::from(*b"any 12 bytes");
-    /// let mut message = Message::builder_request_with_id(BINDING, id, MessageWriteVec::new());
+    /// let mut message =
+    ///     Message::builder_request_with_id(BINDING, id, MessageWriteVec::new());
     /// message.add_attribute(&OtherAddress::new("192.0.2.2:3479".parse().unwrap()))?;
     /// let bytes = message.finish();
     ///
@@ -625,7 +641,8 @@ table! {
     /// use seatcrane_stun::types::prelude::*;
     ///
     /// # let id = TransactionId::from(*b"any 12 bytes");
-    /// let mut message = Message::builder_request_with_id(BINDING, id, MessageWriteVec::new());
+    /// let mut message =
+    ///     Message::builder_request_with_id(BINDING, id, MessageWriteVec::new());
     /// message.add_attribute(&Padding::new(&[0; 1500]))?;
     /// let bytes = message.finish();
     ///

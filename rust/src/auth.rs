@@ -20,7 +20,9 @@
 //!
 //! ```
 //! use seatcrane_stun::Instant;
-//! use seatcrane_stun::auth::{LongTermClientAuth, LongTermClientValidation, LongTermServerAuth};
+//! use seatcrane_stun::auth::{
+//!     LongTermClientAuth, LongTermClientValidation, LongTermServerAuth,
+//! };
 //! use seatcrane_stun::types::message::*;
 //! use seatcrane_stun::types::prelude::*;
 //!
@@ -38,7 +40,8 @@
 //! let request = client.sign_outgoing_message(request)?.finish();
 //! let request = Message::from_bytes(&request)?;
 //! let random = [7; 16]; // yours must be unpredictable
-//! let verdict = server.validate_incoming_message_with_words(&request, from, now, random);
+//! let verdict =
+//!     server.validate_incoming_message_with_words(&request, from, now, random);
 //! assert!(verdict.is_err());
 //!
 //! // The server challenges the client, which must then send a new, signed request.
@@ -52,7 +55,8 @@
 //! let request = Message::builder_request_with_id(BINDING, id, MessageWriteVec::new());
 //! let request = client.sign_outgoing_message(request)?.finish();
 //! let request = Message::from_bytes(&request)?;
-//! let verdict = server.validate_incoming_message_with_words(&request, from, now, random);
+//! let verdict =
+//!     server.validate_incoming_message_with_words(&request, from, now, random);
 //! assert!(verdict.is_ok());
 //! assert_eq!(server.client(from), Some(("alice", IntegrityAlgorithm::Sha1)));
 //! # Ok(())
@@ -65,10 +69,9 @@ use crate::Instant;
 use crate::copies::{granted, text};
 use crate::credentials::{LongTermCredentials, ShortTermCredentials};
 use crate::exported::stun_auth::auth as proved;
-use crate::exported::stun_types::message::{
-    IntegrityAlgorithm, IntegrityKey, StunWriteError, ValidateError,
-};
+use crate::exported::stun_types::message::{IntegrityAlgorithm, StunWriteError, ValidateError};
 use crate::exported::stun_types::prelude::MessageWrite;
+use crate::keys::IntegrityKey;
 use crate::kit::alloc::Global;
 use crate::message::Message;
 use crate::replay::WordSource;
@@ -80,10 +83,11 @@ use core::net::SocketAddr;
 use core::time::Duration;
 
 pub use crate::exported::stun_auth::auth::{
-    Accepted, Feature, LONG_TERM_RFC8489_NONCE_COOKIE, LongTermAuthError, LongTermClientAuthError,
+    Feature, LONG_TERM_RFC8489_NONCE_COOKIE, LongTermAuthError, LongTermClientAuthError,
     LongTermClientAuthErrorReason, LongTermClientValidation, LongTermServerAuthError,
     LongTermServerAuthErrorReason, LongTermServerValidation, NamedUser, StoredKeys, VerdictRefusal,
 };
+pub use crate::keys::Accepted;
 pub use crate::nonce::NonceSecurityBits;
 
 /// The shortest nonce lifetime that a server accepts: 30 seconds.
@@ -145,6 +149,7 @@ macro_rules! debug {
 pub struct ShortTermAuth {
     proved: proved::ShortTermAuth,
     kept: Option<(ShortTermCredentials, IntegrityAlgorithm)>,
+    key: Option<IntegrityKey>,
 }
 
 debug!(ShortTermAuth);
@@ -160,10 +165,12 @@ impl ShortTermAuth {
     ///
     /// Until [`set_credentials`](Self::set_credentials) is called, it signs nothing and verifies
     /// nothing.
+    #[must_use]
     pub fn new() -> ShortTermAuth {
         ShortTermAuth {
             proved: proved::ShortTermAuth::new(Global),
             kept: None,
+            key: None,
         }
     }
 
@@ -180,10 +187,12 @@ impl ShortTermAuth {
             self.proved
                 .set_credentials(credentials.to_proved(), algorithm),
         );
+        self.key = Some(credentials.make_key());
         self.kept = Some((credentials, algorithm));
     }
 
     /// Returns the credentials that were set, and the algorithm to sign with.
+    #[must_use]
     pub fn credentials(&self) -> Option<(&ShortTermCredentials, IntegrityAlgorithm)> {
         self.kept
             .as_ref()
@@ -191,12 +200,14 @@ impl ShortTermAuth {
     }
 
     /// Returns the key that the credentials give, which is the password itself.
+    #[must_use]
     pub fn integrity_key(&self) -> Option<&IntegrityKey> {
-        self.proved.integrity_key()
+        self.key.as_ref()
     }
 
     /// Returns the number of bytes that signing adds to a message: 24 for HMAC-SHA1, 36 for
     /// HMAC-SHA256, and 0 if there are no credentials.
+    #[must_use]
     pub fn message_signature_bytes(&self) -> usize {
         self.proved.message_signature_bytes()
     }
@@ -291,7 +302,9 @@ impl ShortTermAuth {
 /// A client of HMAC-SHA256 that does not let itself be downgraded:
 ///
 /// ```
-/// use seatcrane_stun::auth::{LongTermClientAuth, LongTermClientValidation as Validation};
+/// use seatcrane_stun::auth::{
+///     LongTermClientAuth, LongTermClientValidation as Validation,
+/// };
 /// use seatcrane_stun::types::message::*;
 ///
 /// /// Returns `true` to send another request, and `false` to give up.
@@ -302,7 +315,10 @@ impl ShortTermAuth {
 ///
 /// let mut auth = LongTermClientAuth::new();
 /// auth.set_supported_integrity(IntegrityAlgorithm::Sha256);
-/// auth.set_credentials(LongTermCredentials::new("alice".to_string(), "wonderland".to_string()));
+/// auth.set_credentials(LongTermCredentials::new(
+///     "alice".to_string(),
+///     "wonderland".to_string(),
+/// ));
 /// # use seatcrane_stun::types::attribute::{Nonce, Realm};
 /// # use seatcrane_stun::types::prelude::*;
 /// # let request = Message::from_bytes(b"\0\x01\0\0\x21\x12\xa4\x42 any 12 byte").unwrap();
@@ -333,6 +349,7 @@ impl LongTermClientAuth {
     ///
     /// It supports HMAC-SHA1 only, and sends the user name as a hash if the server accepts that
     /// ([`Feature::Auto`]).
+    #[must_use]
     pub fn new() -> LongTermClientAuth {
         LongTermClientAuth {
             proved: proved::LongTermClientAuth::new(Global),
@@ -353,11 +370,13 @@ impl LongTermClientAuth {
     }
 
     /// Returns the user name and password, if they were set.
+    #[must_use]
     pub fn credentials(&self) -> Option<&LongTermCredentials> {
         self.credentials.as_ref()
     }
 
     /// Returns the supported algorithms, each of them once, in the order in which they were added.
+    #[must_use]
     pub fn supported_integrity(&self) -> &[IntegrityAlgorithm] {
         self.proved.supported_integrity()
     }
@@ -385,6 +404,7 @@ impl LongTermClientAuth {
     }
 
     /// Returns whether the user name is sent as a hash (USERHASH).
+    #[must_use]
     pub fn anonymous_username(&self) -> Feature {
         self.proved.anonymous_username()
     }
@@ -397,12 +417,14 @@ impl LongTermClientAuth {
 
     /// Returns the algorithm that the next message would be signed with, or `None` if the client
     /// has not accepted a challenge yet and would not sign.
+    #[must_use]
     pub fn signing_algorithm(&self) -> Option<IntegrityAlgorithm> {
         self.proved.signing_algorithm()
     }
 
     /// Returns the number of bytes that signing adds to a request. It is 0 if the client has not
     /// accepted a challenge yet.
+    #[must_use]
     pub fn message_signature_bytes(&self) -> usize {
         self.proved.message_signature_bytes()
     }
@@ -496,7 +518,8 @@ impl LongTermClientAuth {
     /// Acting on the verdict:
     ///
     /// ```
-    /// use seatcrane_stun::auth::{LongTermClientAuth, LongTermClientAuthErrorReason as Reason};
+    /// use seatcrane_stun::auth::LongTermClientAuth;
+    /// use seatcrane_stun::auth::LongTermClientAuthErrorReason as Reason;
     /// use seatcrane_stun::auth::LongTermClientValidation as Validation;
     /// # use seatcrane_stun::types::message::Message;
     ///
@@ -548,7 +571,10 @@ impl LongTermClientAuth {
 /// let mut auth = LongTermServerAuth::new("example.org".to_string());
 /// auth.add_supported_integrity(IntegrityAlgorithm::Sha256); // besides HMAC-SHA1
 /// auth.set_nonce_expiry_duration(Duration::from_secs(600));
-/// auth.add_user(LongTermCredentials::new("alice".to_string(), "wonderland".to_string()));
+/// auth.add_user(LongTermCredentials::new(
+///     "alice".to_string(),
+///     "wonderland".to_string(),
+/// ));
 /// ```
 pub struct LongTermServerAuth {
     proved: proved::LongTermServerAuth,
@@ -564,6 +590,7 @@ impl LongTermServerAuth {
     ///
     /// A realm longer than 763 bytes is accepted here, but then no response can be signed. Keep it
     /// short: it is part of every challenge, and a challenge goes to whoever asks.
+    #[must_use]
     pub fn new(realm: String) -> LongTermServerAuth {
         LongTermServerAuth {
             proved: proved::LongTermServerAuth::new(Global, text(realm)),
@@ -601,7 +628,7 @@ impl LongTermServerAuth {
     ///     0x0f, 0x52, 0x1c, 0xe7, 0x1c, 0xfe, 0x6f, 0x59,
     /// ];
     /// let mut auth = LongTermServerAuth::new("example.org".to_string());
-    /// auth.add_user_with_keys("alice".to_string(), StoredKeys { sha1: Some(md5), sha256: None });
+    /// auth.add_user_with_keys("alice".to_string(), StoredKeys::new().with_sha1(md5));
     /// ```
     pub fn add_user_with_keys(&mut self, username: String, keys: StoredKeys) {
         granted(self.proved.add_user_with_keys(text(username), keys));
@@ -900,7 +927,9 @@ impl LongTermServerAuth {
     ///     Err(Reason::Unauthorized) => Some(401),
     ///     Err(Reason::StaleNonce) => Some(438),
     ///     Err(Reason::BadRequest) if had_nonce => Some(400),
-    ///     Err(Reason::BadRequest) => Some(auth.nonce_for_client(from).map_or(400, |_| 438)),
+    ///     Err(Reason::BadRequest) => {
+    ///         Some(auth.nonce_for_client(from).map_or(400, |_| 438))
+    ///     }
     ///     Err(_) => None, // drop it
     /// }
     /// # }
@@ -1004,7 +1033,8 @@ impl LongTermServerAuth {
     ///     database: impl Fn(NamedUser<'_>) -> Option<LongTermCredentials>,
     /// ) -> Option<LongTermServerUser> {
     ///     let credentials = database(auth.named_user(message, from)?)?;
-    ///     Some(auth.prepare_user(credentials)) // for `validate_incoming_message_of_with_words`
+    ///     // for `validate_incoming_message_of_with_words`
+    ///     Some(auth.prepare_user(credentials))
     /// }
     /// ```
     pub fn named_user<'a>(
@@ -1140,7 +1170,7 @@ impl LongTermServerAuth {
         message: &'a Message<'_>,
         nonce: &str,
     ) -> Result<Accepted<'a>, VerdictRefusal> {
-        judged(message, self.proved.judge(&message.0, nonce))
+        judged(message, self.proved.judge(&message.0, nonce).map(Accepted))
     }
 
     /// Judges a request or an indication like [`judge`](Self::judge), as a server whose only user
@@ -1159,7 +1189,8 @@ impl LongTermServerAuth {
         nonce: &str,
         user: &'a LongTermServerUser,
     ) -> Result<Accepted<'a>, VerdictRefusal> {
-        judged(message, self.proved.judge_of(&message.0, nonce, &user.proved))
+        let accepted = self.proved.judge_of(&message.0, nonce, &user.proved);
+        judged(message, accepted.map(Accepted))
     }
 
     /// Adds to a response what a client needs to sign its next request under a nonce: NONCE, REALM
@@ -1197,7 +1228,8 @@ impl LongTermServerAuth {
     /// let mut server = LongTermServerAuth::new("example.org".to_string());
     /// server.add_supported_integrity(IntegrityAlgorithm::Sha256);
     /// server.add_user(alice.clone());
-    /// let nonce = server.nonce_of_words(&[7; 16]); // derive yours from a secret, address and time
+    /// // derive yours from a secret, address and time
+    /// let nonce = server.nonce_of_words(&[7; 16]);
     ///
     /// let mut client = LongTermClientAuth::new();
     /// client.add_supported_integrity(IntegrityAlgorithm::Sha256);
@@ -1222,7 +1254,7 @@ impl LongTermServerAuth {
     /// assert_eq!(accepted.algorithm(), IntegrityAlgorithm::Sha256);
     ///
     /// let mut success = Message::builder_success(&request, MessageWriteVec::new());
-    /// let (key, algorithm) = (accepted.key().clone(), accepted.algorithm()); // for later
+    /// let (key, algorithm) = (accepted.key(), accepted.algorithm()); // for later
     /// success.add_message_integrity_with_prepared_key(&key, algorithm)?;
     /// client.validate_incoming_message(&Message::from_bytes(&success.finish())?)?;
     /// assert_eq!(server.address_count(), 0);
@@ -1331,17 +1363,25 @@ impl LongTermServerAuth {
 /// A user whose keys are stored in a database in place of the password:
 ///
 /// ```
-/// use seatcrane_stun::auth::{LongTermServerAuth, LongTermServerUser, StoredKeys};
+/// use seatcrane_stun::auth::{
+///     LongTermServerAuth, LongTermServerUser, StoredKeys,
+/// };
 /// use seatcrane_stun::types::message::{IntegrityAlgorithm, long_term_key};
 ///
 /// // Once, when alice chooses a password.
-/// let key = long_term_key(IntegrityAlgorithm::Sha1, "alice", "example.org", "wonderland");
+/// let key = long_term_key(
+///     IntegrityAlgorithm::Sha1,
+///     "alice",
+///     "example.org",
+///     "wonderland",
+/// );
 /// let stored: [u8; 16] = key.as_bytes().try_into().unwrap();
 ///
 /// // For each message that names her.
 /// let auth = LongTermServerAuth::new("example.org".to_string());
-/// let keys = StoredKeys { sha1: Some(stored), sha256: None };
-/// let alice: LongTermServerUser = auth.prepare_user_with_keys("alice".to_string(), keys);
+/// let keys = StoredKeys::new().with_sha1(stored);
+/// let alice: LongTermServerUser =
+///     auth.prepare_user_with_keys("alice".to_string(), keys);
 /// ```
 pub struct LongTermServerUser {
     proved: proved::LongTermServerUser,

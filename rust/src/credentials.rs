@@ -2,47 +2,13 @@
 //! neither.
 
 use crate::copies::{copy, granted, text};
-use crate::exported::stun_base::compare::is_same_text;
+use crate::exported::stun_auth::auth::StoredKeys;
 use crate::exported::stun_types::message::MessageIntegrityCredentials as Proved;
-use crate::exported::stun_types::message::{self as proved, IntegrityAlgorithm, IntegrityKey};
+use crate::exported::stun_types::message::{self as proved, IntegrityAlgorithm};
+use crate::keys::IntegrityKey;
 use crate::kit::alloc::Global;
 use alloc::string::String;
 use core::fmt;
-
-impl IntegrityKey<Global> {
-    /// Creates a key from its bytes.
-    ///
-    /// Up to 32 bytes are stored in the key itself; a longer key is allocated.
-    ///
-    /// # Examples
-    ///
-    /// ```
-    /// use seatcrane_stun::types::message::IntegrityKey;
-    ///
-    /// let key = IntegrityKey::new(b"VOkJxbRl1RmTxUk/WvJxBt");
-    /// assert_eq!(key.as_bytes().len(), 22);
-    /// assert_eq!(format!("{key:?}"), "IntegrityKey { .. }");
-    /// ```
-    pub fn new(bytes: &[u8]) -> Self {
-        granted(IntegrityKey::from_bytes(Global, bytes))
-    }
-}
-
-impl AsRef<[u8]> for IntegrityKey<Global> {
-    fn as_ref(&self) -> &[u8] {
-        self.as_bytes()
-    }
-}
-
-/// Keys are equal if and only if their bytes are. Keys of the same length are compared without an
-/// early exit.
-impl PartialEq for IntegrityKey<Global> {
-    fn eq(&self, other: &Self) -> bool {
-        is_same_text(self.as_bytes(), other.as_bytes())
-    }
-}
-
-impl Eq for IntegrityKey<Global> {}
 
 /// Derives the long-term key of a user in a realm (RFC 8489, section 9.2.2): 16 bytes for `Sha1`,
 /// 32 bytes for `Sha256`.
@@ -62,13 +28,57 @@ impl Eq for IntegrityKey<Global> {}
 /// // The MD5 hash of "user:realm:pass" (RFC 8489, section 9.2.2).
 /// assert_eq!(key.as_bytes()[..4], [0x84, 0x93, 0xfb, 0xc5]);
 /// ```
+#[must_use]
 pub fn long_term_key(
     algorithm: IntegrityAlgorithm,
     username: &str,
     realm: &str,
     password: &str,
 ) -> IntegrityKey {
-    proved::long_term_key(Global, algorithm, username, realm, password)
+    IntegrityKey(proved::long_term_key(Global, algorithm, username, realm, password))
+}
+
+impl StoredKeys {
+    /// Returns no keys. Set the fields, or call [`with_sha1`](Self::with_sha1) and
+    /// [`with_sha256`](Self::with_sha256).
+    ///
+    /// # Examples
+    ///
+    /// ```
+    /// use seatcrane_stun::auth::StoredKeys;
+    ///
+    /// # let (sha1, sha256): (Option<[u8; 16]>, Option<[u8; 32]>) = (None, Some([7; 32]));
+    /// // Columns of a database, which may be null. An array alone will do, too.
+    /// let keys = StoredKeys::new().with_sha1(sha1).with_sha256(sha256);
+    /// ```
+    #[must_use]
+    pub const fn new() -> StoredKeys {
+        StoredKeys {
+            sha1: None,
+            sha256: None,
+        }
+    }
+
+    /// Sets the key for HMAC-SHA1, if there is one.
+    #[must_use]
+    pub fn with_sha1(mut self, key: impl Into<Option<[u8; 16]>>) -> StoredKeys {
+        self.sha1 = key.into();
+        self
+    }
+
+    /// Sets the key for HMAC-SHA256, if there is one.
+    #[must_use]
+    pub fn with_sha256(mut self, key: impl Into<Option<[u8; 32]>>) -> StoredKeys {
+        self.sha256 = key.into();
+        self
+    }
+}
+
+/// Like [`StoredKeys::new`].
+impl Default for StoredKeys {
+    fn default() -> StoredKeys {
+        StoredKeys::new()
+    }
 }
 
 macro_rules! credentials {
@@ -92,9 +102,12 @@ macro_rules! credentials {
 /// # Examples
 ///
 /// ```
-/// use seatcrane_stun::types::message::{MessageIntegrityCredentials, ShortTermCredentials};
+/// use seatcrane_stun::types::message::{
+///     MessageIntegrityCredentials, ShortTermCredentials,
+/// };
 ///
-/// let credentials = ShortTermCredentials::new("VOkJxbRl1RmTxUk/WvJxBt".to_string());
+/// let credentials =
+///     ShortTermCredentials::new("VOkJxbRl1RmTxUk/WvJxBt".to_string());
 /// assert_eq!(format!("{credentials:?}"), "ShortTermCredentials { .. }");
 ///
 /// // For the calls that sign or verify one message.
@@ -106,6 +119,7 @@ credentials!(ShortTermCredentials);
 
 impl ShortTermCredentials {
     /// Creates the credentials from a password.
+    #[must_use]
     pub fn new(password: String) -> ShortTermCredentials {
         ShortTermCredentials(proved::ShortTermCredentials::new(text(password)).into())
     }
@@ -124,13 +138,15 @@ impl ShortTermCredentials {
     }
 
     /// Returns the password. Its bytes are the key for both algorithms.
+    #[must_use]
     pub fn password(&self) -> &str {
         self.kept().password()
     }
 
     /// Returns the key, which consists of the bytes of the password.
+    #[must_use]
     pub fn make_key(&self) -> IntegrityKey {
-        granted(self.kept().make_key())
+        IntegrityKey(granted(self.kept().make_key()))
     }
 }
 
@@ -156,8 +172,11 @@ impl PartialEq for ShortTermCredentials {
 /// ```
 /// use seatcrane_stun::types::message::{IntegrityAlgorithm, LongTermCredentials};
 ///
-/// let alice = LongTermCredentials::new("alice".to_string(), "wonderland".to_string());
-/// let key = alice.to_key("example.org".to_string()).make_key(IntegrityAlgorithm::Sha256);
+/// let alice =
+///     LongTermCredentials::new("alice".to_string(), "wonderland".to_string());
+/// let key = alice
+///     .to_key("example.org".to_string())
+///     .make_key(IntegrityAlgorithm::Sha256);
 /// assert_eq!(key.as_bytes().len(), 32);
 /// ```
 pub struct LongTermCredentials(pub(crate) proved::LongTermCredentials);
@@ -166,6 +185,7 @@ credentials!(LongTermCredentials);
 
 impl LongTermCredentials {
     /// Creates the credentials from a user name and a password.
+    #[must_use]
     pub fn new(username: String, password: String) -> LongTermCredentials {
         LongTermCredentials(proved::LongTermCredentials::new(
             text(username),
@@ -174,16 +194,19 @@ impl LongTermCredentials {
     }
 
     /// Returns the user name.
+    #[must_use]
     pub fn username(&self) -> &str {
         self.0.username()
     }
 
     /// Returns the password.
+    #[must_use]
     pub fn password(&self) -> &str {
         self.0.password()
     }
 
     /// Combines the credentials with a realm. Keys can be derived from the result.
+    #[must_use]
     pub fn to_key(&self, realm: String) -> LongTermKeyCredentials {
         LongTermKeyCredentials(granted(self.0.to_key(text(realm))).into())
     }
@@ -210,16 +233,21 @@ impl PartialEq for LongTermCredentials {
 /// use seatcrane_stun::types::message::*;
 /// use seatcrane_stun::types::prelude::*;
 ///
-/// let alice = LongTermCredentials::new("alice".to_string(), "wonderland".to_string());
+/// let alice =
+///     LongTermCredentials::new("alice".to_string(), "wonderland".to_string());
 /// let alice: LongTermKeyCredentials = alice.to_key("example.org".to_string());
 /// let key = alice.make_key(IntegrityAlgorithm::Sha1); // 16 bytes, by MD5
 ///
 /// # let id = TransactionId::from(*b"any 12 bytes");
-/// let mut request = Message::builder_request_with_id(BINDING, id, MessageWriteVec::new());
+/// let mut request =
+///     Message::builder_request_with_id(BINDING, id, MessageWriteVec::new());
 /// request.add_message_integrity(&alice.into(), IntegrityAlgorithm::Sha1)?;
 /// let request = request.finish();
 /// let request = Message::from_bytes(&request).unwrap();
-/// assert_eq!(request.validate_integrity_with_key(&key), Ok(IntegrityAlgorithm::Sha1));
+/// assert_eq!(
+///     request.validate_integrity_with_key(&key),
+///     Ok(IntegrityAlgorithm::Sha1)
+/// );
 /// # Ok::<(), StunWriteError>(())
 /// ```
 pub struct LongTermKeyCredentials(Proved);
@@ -236,23 +264,27 @@ impl LongTermKeyCredentials {
     }
 
     /// Returns the user name.
+    #[must_use]
     pub fn username(&self) -> &str {
         self.kept().username()
     }
 
     /// Returns the realm.
+    #[must_use]
     pub fn realm(&self) -> &str {
         self.kept().realm()
     }
 
     /// Returns the password.
+    #[must_use]
     pub fn password(&self) -> &str {
         self.kept().password()
     }
 
     /// Derives the key for this algorithm, like [`long_term_key`].
+    #[must_use]
     pub fn make_key(&self, algorithm: IntegrityAlgorithm) -> IntegrityKey {
-        self.kept().make_key(algorithm)
+        IntegrityKey(self.kept().make_key(algorithm))
     }
 }
 
@@ -278,10 +310,12 @@ impl PartialEq for LongTermKeyCredentials {
 /// use seatcrane_stun::types::message::*;
 ///
 /// let password = ShortTermCredentials::new("VOkJxbRl1RmTxUk/WvJxBt".to_string());
-/// let alice = LongTermCredentials::new("alice".to_string(), "wonderland".to_string());
+/// let alice =
+///     LongTermCredentials::new("alice".to_string(), "wonderland".to_string());
 ///
 /// let session: MessageIntegrityCredentials = password.into();
-/// let user: MessageIntegrityCredentials = alice.to_key("example.org".to_string()).into();
+/// let user: MessageIntegrityCredentials =
+///     alice.to_key("example.org".to_string()).into();
 /// assert_ne!(session, user);
 /// ```
 #[derive(Clone, PartialEq, Eq)]

@@ -17,8 +17,10 @@
 //!
 //! # fn main() -> Result<(), Box<dyn std::error::Error>> {
 //! let secret = random_seed(); // store it, so that a restart loses no client
-//! let server = Server::builder(LongTerm::new("example.org", secret)).answer_binding(true).build()?;
-//! let mut users = server.users(); // keys depend on the realm, so the server makes the table
+//! let settings = LongTerm::new("example.org", secret);
+//! let server = Server::builder(settings).answer_binding(true).build()?;
+//! // keys depend on the realm, so the server makes the table
+//! let mut users = server.users();
 //! users.add(LongTermCredentials::new("alice".to_string(), "wonderland".to_string()))?;
 //!
 //! let socket = UdpSocket::bind("0.0.0.0:3478")?;
@@ -26,15 +28,17 @@
 //! loop {
 //!     let (length, from) = socket.recv_from(&mut buffer)?;
 //!     match server.receive(&buffer[..length], from, UnixTime::now(), &users) {
-//!         Received::Answer(answer) => drop(socket.send_to(answer.bytes(), answer.to())),
+//!         Received::Answer(answer) => {
+//!             drop(socket.send_to(answer.bytes(), answer.to()));
+//!         }
 //!         Received::Dropped(why) => eprintln!("dropped: {why}"),
-//!         _ => {} // an indication, a response, or a request with another method than Binding
+//!         // an indication, a response, or a request with another method than Binding
+//!         _ => {}
 //!     }
 //! }
 //! # }
 //! ```
 
-use crate::exported::stun_base::attribute_type::AttributeType;
 use crate::exported::stun_client_endpoint::ended;
 use crate::exported::stun_endpoint::received;
 use core::fmt;
@@ -46,6 +50,7 @@ mod client_settings;
 #[cfg(feature = "std")]
 mod clock;
 mod given;
+mod indications;
 mod open;
 mod server;
 mod stream;
@@ -63,7 +68,7 @@ pub use crate::exported::stun_endpoint::unix_time::UnixTime;
 pub use body::{AddError, BODY_LIMIT, Body, BodyError};
 pub use client::Client;
 pub use client_outcomes::{
-    Drops, ErrorResponse, Input, Output, Redirect, RequestError, RequestId, Response,
+    Drops, ErrorResponse, Input, Output, Redirect, RequestError, RequestId, Response, StartError,
 };
 pub use client_settings::{
     ClientBuildError, ClientBuilder, Credentials, Retransmission, Transport,
@@ -75,6 +80,7 @@ pub use open::{
     OpenReceived, OpenRequest, OpenServer, ResponseSettings, ShortTermIndication, ShortTermReceived,
     ShortTermServer, ShortTermUsers,
 };
+pub(crate) use server::lent;
 pub use server::{
     Answer, Identified, LongTerm, Lookup, OwnedLookup, Received, Reply, ReplyWriter, Request,
     Server, ServerBuilder, User, UserError, Users,
@@ -82,59 +88,11 @@ pub use server::{
 pub use stream::{FrameBuffer, StreamError};
 pub use time_limited::TimeLimitedUsers;
 
-/// Types of attributes to pass to [`ServerBuilder::understands`], and to the other builders. Unlike
-/// those of [`crate::types`], these lists leave out the types of STUN itself.
+/// Types of attributes to pass to [`ServerBuilder::understands`], and to the other builders: the lists
+/// of [`crate::types`]. The types of STUN itself, which are in them, are always understood.
 pub mod types {
-    use super::AttributeType;
-
-    /// The attributes of ICE that a receiver must understand (RFC 8445, section 16.1).
-    ///
-    /// # Examples
-    ///
-    /// ```
-    /// use seatcrane_stun::endpoint::{ResponseSettings, types};
-    ///
-    /// let settings = ResponseSettings::new().understands(types::ICE);
-    /// ```
-    pub const ICE: &[AttributeType] = &[AttributeType(0x0024), AttributeType(0x0025)];
-
-    /// The attributes of TURN that a receiver must understand (RFC 8656, section 18).
-    ///
-    /// A server that passes this list promises to do what each attribute asks for, because a request
-    /// with one of them no longer gets a 420. These three ask for something that not every server
-    /// does:
-    ///
-    /// - DONT-FRAGMENT (section 18.9): the DF bit is set in what the server relays.
-    /// - EVEN-PORT (section 18.7): the relayed address has an even port, and the next port is
-    ///   reserved if the attribute says so.
-    /// - RESERVATION-TOKEN (section 18.10): the relayed address is the one that was reserved under
-    ///   this token.
-    ///
-    /// Leave those out that yours does not do, by
-    /// [`ServerBuilder::does_not_understand`](super::ServerBuilder::does_not_understand).
-    ///
-    /// # Examples
-    ///
-    /// ```
-    /// use seatcrane_stun::endpoint::{ResponseSettings, types};
-    /// use seatcrane_stun::types::attribute::AttributeType;
-    ///
-    /// let settings = ResponseSettings::new()
-    ///     .understands(types::TURN)
-    ///     .does_not_understand(&[AttributeType::DONT_FRAGMENT]);
-    /// ```
-    pub const TURN: &[AttributeType] = &[
-        AttributeType(0x000C),
-        AttributeType(0x000D),
-        AttributeType(0x0012),
-        AttributeType(0x0013),
-        AttributeType(0x0016),
-        AttributeType(0x0017),
-        AttributeType(0x0018),
-        AttributeType(0x0019),
-        AttributeType(0x001A),
-        AttributeType(0x0022),
-    ];
+    #[doc(no_inline)]
+    pub use crate::types::{ICE, TURN};
 }
 
 /// Returns 32 random bytes of the operating system: the seed of a [`Client`], or the secret of a
@@ -167,15 +125,27 @@ impl UnixTime {
     /// Returns the current time, or the beginning of 1970 if the clock says that it is earlier.
     #[cfg(feature = "std")]
     #[cfg_attr(docsrs, doc(cfg(feature = "std")))]
+    #[must_use]
     pub fn now() -> UnixTime {
-        UnixTime::from(std::time::SystemTime::now())
+        UnixTime::at(std::time::SystemTime::now())
     }
-}
 
-/// The whole seconds since the beginning of 1970. An earlier time becomes the beginning of 1970.
-#[cfg(feature = "std")]
-impl From<std::time::SystemTime> for UnixTime {
-    fn from(time: std::time::SystemTime) -> UnixTime {
+    /// Converts a time of the standard library, which you have read already, to whole seconds since the
+    /// beginning of 1970. An earlier time becomes the beginning of 1970.
+    ///
+    /// # Examples
+    ///
+    /// ```
+    /// use seatcrane_stun::endpoint::UnixTime;
+    /// use std::time::{Duration, SystemTime};
+    ///
+    /// let time = SystemTime::UNIX_EPOCH + Duration::from_millis(1_800_000_000_900);
+    /// assert_eq!(UnixTime::at(time).as_secs(), 1_800_000_000);
+    /// ```
+    #[cfg(feature = "std")]
+    #[cfg_attr(docsrs, doc(cfg(feature = "std")))]
+    #[must_use]
+    pub fn at(time: std::time::SystemTime) -> UnixTime {
         let since = time.duration_since(std::time::UNIX_EPOCH);
         UnixTime::from_secs(since.unwrap_or_default().as_secs())
     }
@@ -204,11 +174,13 @@ impl Cause {
     pub const COUNT: usize = 7;
 
     /// Returns a number below [`COUNT`](Self::COUNT), for counters of yours.
+    #[must_use]
     pub fn index(self) -> usize {
         self as usize
     }
 
     /// Returns the name of the cause, as in the source.
+    #[must_use]
     pub fn name(self) -> &'static str {
         match self {
             Cause::NoSignature => "NoSignature",
@@ -255,7 +227,12 @@ impl fmt::Display for Cause {
 /// let mut counters = Counters::default();
 /// counters.count(DropReason::Malformed);
 /// let names = DropReason::ALL.map(DropReason::name);
-/// assert!(names.iter().zip(counters.0).any(|(name, count)| *name == "Malformed" && count == 1));
+/// assert!(
+///     names
+///         .iter()
+///         .zip(counters.0)
+///         .any(|(name, count)| *name == "Malformed" && count == 1)
+/// );
 /// ```
 #[derive(Clone, Copy, Debug, PartialEq, Eq, Hash)]
 #[non_exhaustive]
@@ -290,6 +267,9 @@ pub enum DropReason {
     /// It is the challenge that the request is signed for, once more. The request is sent again by its
     /// timer, and ends as [`Unauthorized`](RequestError::Unauthorized) if one arrives after that.
     Refused,
+    /// It is a request or an indication with a method that you do not serve
+    /// ([`ServerBuilder::methods`], [`ResponseSettings::methods`]; RFC 8489, section 6.3).
+    OtherMethod,
 }
 
 impl DropReason {
@@ -306,17 +286,20 @@ impl DropReason {
         DropReason::MissingFingerprint,
         DropReason::LateChallenge,
         DropReason::Refused,
+        DropReason::OtherMethod,
     ];
 
     /// How many reasons there are.
-    pub const COUNT: usize = 11;
+    pub const COUNT: usize = 12;
 
     /// Returns a number below [`COUNT`](Self::COUNT), for counters of yours.
+    #[must_use]
     pub fn index(self) -> usize {
         self as usize
     }
 
     /// Returns the name of the reason, as in the source.
+    #[must_use]
     pub fn name(self) -> &'static str {
         match self {
             DropReason::NotStun => "NotStun",
@@ -330,6 +313,7 @@ impl DropReason {
             DropReason::MissingFingerprint => "MissingFingerprint",
             DropReason::LateChallenge => "LateChallenge",
             DropReason::Refused => "Refused",
+            DropReason::OtherMethod => "OtherMethod",
         }
     }
 }
@@ -348,6 +332,7 @@ impl fmt::Display for DropReason {
             DropReason::MissingFingerprint => "the FINGERPRINT is missing",
             DropReason::LateChallenge => "its challenge arrived too late",
             DropReason::Refused => "its challenge was answered already",
+            DropReason::OtherMethod => "its method is not served",
         })
     }
 }

@@ -21,7 +21,9 @@
 //! use seatcrane_stun::types::message::Message;
 //!
 //! /// Removes the first message from the front of `bytes`, if it is complete.
-//! fn next<'a>(bytes: &mut &'a [u8]) -> Result<Option<Message<'a>>, Box<dyn std::error::Error>> {
+//! fn next<'a>(
+//!     bytes: &mut &'a [u8],
+//! ) -> Result<Option<Message<'a>>, Box<dyn std::error::Error>> {
 //!     match next_frame(bytes) {
 //!         Frame::Need(_) => Ok(None), // read more first
 //!         Frame::NotStun => Err("not STUN: close the connection".into()),
@@ -59,7 +61,7 @@ pub use crate::exported::stun_extra::unknown::{
 
 /// The methods of TURN (RFC 8656, section 17; RFC 6062), and the data of its channels.
 pub mod turn {
-    pub use crate::turn::{ChannelData, TurnMethod};
+    pub use crate::turn::{ChannelData, Packet, TurnMethod, data_indication, send_indication};
 }
 
 /// Further attributes: of STUN (RFC 8489, section 14), of ICE (RFC 8445, section 16.1), of TURN
@@ -74,12 +76,15 @@ pub mod turn {
 /// ```
 /// use seatcrane_stun::extra::attribute::{Lifetime, RequestedTransport};
 /// use seatcrane_stun::extra::turn::TurnMethod;
-/// use seatcrane_stun::types::message::{Message, MessageWriteVec, StunWriteError, TransactionId};
+/// use seatcrane_stun::types::message::{
+///     Message, MessageWriteVec, StunWriteError, TransactionId,
+/// };
 /// use seatcrane_stun::types::prelude::*;
 ///
 /// let id = TransactionId::from(*b"any 12 bytes"); // yours must be unpredictable
 /// let allocate = TurnMethod::Allocate.method();
-/// let mut request = Message::builder_request_with_id(allocate, id, MessageWriteVec::new());
+/// let mut request =
+///     Message::builder_request_with_id(allocate, id, MessageWriteVec::new());
 /// request.add_attribute(&RequestedTransport::new(RequestedTransport::UDP))?;
 /// request.add_attribute(&Lifetime::new(600))?;
 /// let bytes = request.finish();
@@ -151,7 +156,8 @@ pub fn next_turn_frame(bytes: &[u8]) -> Frame {
 /// use seatcrane_stun::extra::{Frame, next_packet_frame};
 ///
 /// let bytes = b"\0\x05mediamore";
-/// assert_eq!(next_packet_frame(bytes), Frame::Message(7)); // the packet is `bytes[2..7]`
+/// // the packet is `bytes[2..7]`
+/// assert_eq!(next_packet_frame(bytes), Frame::Message(7));
 /// assert_eq!(next_packet_frame(&bytes[7..8]), Frame::Need(1));
 /// ```
 #[must_use]
@@ -176,8 +182,8 @@ pub fn is_stun(packet: &[u8]) -> bool {
 }
 
 /// Returns the registered reason phrase of an error code of STUN (RFC 8489, section 14.8), TURN (RFC
-/// 8656, section 19; RFC 6062, section 6.3) or ICE (RFC 8445, section 16.1), or `None` if the code
-/// has none.
+/// 8656, section 19; RFC 6062, section 6.3; RFC 8016) or ICE (RFC 8445, section 16.1), or `None` if
+/// the code has none. [`Reply::refuse`](crate::endpoint::Reply::refuse) writes it.
 ///
 /// # Examples
 ///
@@ -198,6 +204,7 @@ pub fn reason_phrase(code: u16) -> Option<&'static str> {
         400 => "Bad Request",
         401 => "Unauthenticated",
         403 => "Forbidden",
+        405 => "Mobility Forbidden",
         420 => "Unknown Attribute",
         437 => "Allocation Mismatch",
         438 => "Stale Nonce",
@@ -264,8 +271,12 @@ pub fn check_fingerprint(message: &Message<'_>) -> Fingerprint {
 /// use seatcrane_stun::types::prelude::*;
 ///
 /// # let id = TransactionId::from(*b"any 12 bytes");
-/// let mut check = Message::builder_request_with_id(BINDING, id, MessageWriteVec::new());
-/// check.add_message_integrity_with_key(b"their password", IntegrityAlgorithm::Sha1)?;
+/// let mut check =
+///     Message::builder_request_with_id(BINDING, id, MessageWriteVec::new());
+/// check.add_message_integrity_with_key(
+///     b"their password",
+///     IntegrityAlgorithm::Sha1,
+/// )?;
 /// let datagram: Vec<u8> = finish_with_fingerprint(check)?;
 /// # Ok::<(), StunWriteError>(())
 /// ```
@@ -287,7 +298,8 @@ pub fn finish_with_fingerprint<W: MessageWrite>(writer: W) -> Result<W::Output, 
 /// // A request with PRIORITY, to a server that does not know ICE.
 /// let request = b"\0\x01\0\x08\x21\x12\xa4\x42 any 12 byte\0\x24\0\x04\0\0\0\0";
 /// let request = Message::from_bytes(request).unwrap();
-/// let unknown: Vec<AttributeType> = unknown_types(&request, &[AttributeType::USERNAME]).collect();
+/// let unknown: Vec<AttributeType> =
+///     unknown_types(&request, &[AttributeType::USERNAME]).collect();
 /// assert_eq!(unknown, [AttributeType::PRIORITY]);
 /// ```
 #[must_use]
@@ -338,9 +350,11 @@ pub fn has_unknown(message: &Message<'_>, known: &[AttributeType]) -> bool {
 /// use seatcrane_stun::types::attribute::AttributeType;
 /// use seatcrane_stun::types::message::{Message, MessageWriteVec, StunWriteError};
 ///
-/// const KNOWN: [AttributeType; 2] = [AttributeType::USERNAME, AttributeType::MESSAGE_INTEGRITY];
+/// const KNOWN: [AttributeType; 2] =
+///     [AttributeType::USERNAME, AttributeType::MESSAGE_INTEGRITY];
 ///
-/// /// Returns the response to a request with unknown attributes, or `None` to go on with it.
+/// /// Returns the response to a request with unknown attributes, or `None` to go on
+/// /// with it.
 /// fn refuse(request: &Message<'_>) -> Result<Option<MessageWriteVec>, StunWriteError> {
 ///     answer_unknown(request, &KNOWN, MessageWriteVec::new())
 /// }

@@ -21,6 +21,7 @@ impl Instant {
     /// ```
     #[cfg(feature = "std")]
     #[cfg_attr(docsrs, doc(cfg(feature = "std")))]
+    #[must_use]
     pub fn from_std(start: std::time::Instant) -> Instant {
         Instant::ZERO + start.elapsed()
     }
@@ -45,11 +46,13 @@ impl Instant {
     /// ```
     #[cfg(feature = "std")]
     #[cfg_attr(docsrs, doc(cfg(feature = "std")))]
+    #[must_use]
     pub fn to_std(self, start: std::time::Instant) -> std::time::Instant {
         start + (self - Instant::ZERO)
     }
 
     /// Returns the time elapsed since `earlier`, or zero if `earlier` is later than `self`.
+    #[must_use]
     pub fn duration_since(self, earlier: Instant) -> Duration {
         self - earlier
     }
@@ -58,11 +61,13 @@ impl Instant {
     ///
     /// This is what [`duration_since`](Instant::duration_since) returns too. The two names are
     /// those of the standard library.
+    #[must_use]
     pub fn saturating_duration_since(self, earlier: Instant) -> Duration {
         self - earlier
     }
 
     /// Returns the time elapsed since `earlier`, or `None` if `earlier` is later than `self`.
+    #[must_use]
     pub fn checked_duration_since(self, earlier: Instant) -> Option<Duration> {
         (earlier <= self).then(|| self - earlier)
     }

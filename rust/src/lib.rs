@@ -1,3 +1,29 @@
+// Of two definitions of a link the first counts: here the names of README.md lead to their pages.
+//! [`agent`]: mod@agent
+//! [`auth`]: mod@auth
+//! [`endpoint`]: mod@endpoint
+//! [`endpoint::Client`]: endpoint::Client
+//! [`endpoint::FrameBuffer`]: endpoint::FrameBuffer
+//! [`endpoint::Input::NotOurs`]: endpoint::Input::NotOurs
+//! [`endpoint::OpenServer`]: endpoint::OpenServer
+//! [`endpoint::Reply`]: endpoint::Reply
+//! [`endpoint::Server`]: endpoint::Server
+//! [`endpoint::ServerBuilder`]: endpoint::ServerBuilder
+//! [`endpoint::ShortTermServer`]: endpoint::ShortTermServer
+//! [`endpoint::ice`]: mod@endpoint::ice
+//! [`endpoint::ice::Candidate`]: endpoint::ice::Candidate
+//! [`endpoint::ice::Check`]: endpoint::ice::Check
+//! [`endpoint::ice::Checker`]: endpoint::ice::Checker
+//! [`endpoint::ice::Checks`]: endpoint::ice::Checks
+//! [`endpoint::ice::Consent`]: endpoint::ice::Consent
+//! [`endpoint::ice::pair_priority`]: endpoint::ice::pair_priority
+//! [`endpoint::ice::priority`]: endpoint::ice::priority
+//! [`extra::turn`]: mod@extra::turn
+//! [`extra::turn::ChannelData`]: extra::turn::ChannelData
+//! [`extra::turn::Packet`]: extra::turn::Packet
+//! [`extra::turn::send_indication`]: extra::turn::send_indication
+//! [`types`]: mod@types
+//!
 #![cfg_attr(all(feature = "std", feature = "rand"), doc = include_str!("../README.md"))]
 #![cfg_attr(not(all(feature = "std", feature = "rand")), doc = "Sans-I/O STUN (RFC 8489).")]
 //!
@@ -52,8 +78,6 @@
 #![forbid(unsafe_code)]
 #![deny(missing_docs)]
 #![cfg_attr(not(test), warn(clippy::pedantic))]
-#![allow(clippy::doc_markdown, reason = "names of the protocol, such as XOR-MAPPED-ADDRESS, are no code")]
-#![allow(clippy::must_use_candidate, reason = "whoever calls a getter in vain sees it")]
 
 extern crate alloc;
 #[cfg(feature = "std")]
@@ -68,7 +92,6 @@ mod copies;
 mod credentials;
 // The public modules export a part of these.
 #[allow(dead_code, unused_imports)]
-#[allow(clippy::pedantic, reason = "these are the words of another language, written by a program")]
 mod exported;
 pub mod endpoint;
 pub mod extra;
@@ -76,6 +99,7 @@ mod family;
 mod flag;
 mod hashes;
 mod instant;
+mod keys;
 #[allow(dead_code, unused_imports)]
 #[allow(clippy::missing_errors_doc, reason = "each error is that an allocation failed")]
 #[allow(clippy::unused_self, reason = "the calls are those of other crates")]

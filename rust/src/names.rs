@@ -23,6 +23,7 @@ impl AttributeType {
     /// assert!(AttributeType::USERNAME.comprehension_required());
     /// assert!(!AttributeType::SOFTWARE.comprehension_required()); // 0x8022 may be ignored
     /// ```
+    #[must_use]
     pub fn comprehension_required(self) -> bool {
         self.0 < 0x8000
     }
@@ -37,6 +38,7 @@ impl AttributeType {
     /// assert_eq!(AttributeType::XOR_MAPPED_ADDRESS.name(), Some("XOR-MAPPED-ADDRESS"));
     /// assert_eq!(AttributeType::new(0xffff).name(), None);
     /// ```
+    #[must_use]
     pub fn name(self) -> Option<&'static str> {
         Some(match self {
             AttributeType::USERNAME => "USERNAME",
@@ -55,12 +57,15 @@ impl AttributeType {
     }
 }
 
-/// Further registered codes. Their reason phrase is empty unless you set one.
+/// Further registered codes. The builder leaves their reason phrase empty unless you set one;
+/// [`reason_phrase`](crate::extra::reason_phrase) returns the one that is registered.
 impl<'a> ErrorCode<'a> {
     /// 300: the client should try a different server.
     pub const TRY_ALTERNATE: u16 = 300;
     /// 403: the request is forbidden (RFC 8656).
     pub const FORBIDDEN: u16 = 403;
+    /// 405: the server does not let this client move its allocation (RFC 8016).
+    pub const MOBILITY_FORBIDDEN: u16 = 405;
     /// 420: the request has an attribute that the server must understand and does not know.
     pub const UNKNOWN_ATTRIBUTE: u16 = 420;
     /// 437: the request needs an allocation and there is none, or the other way round (RFC 8656).
@@ -69,6 +74,14 @@ impl<'a> ErrorCode<'a> {
     pub const ADDRESS_FAMILY_NOT_SUPPORTED: u16 = 440;
     /// 441: the credentials are not those with which the allocation was made (RFC 8656).
     pub const WRONG_CREDENTIALS: u16 = 441;
+    /// 442: the server does not relay over this transport protocol (RFC 8656).
+    pub const UNSUPPORTED_TRANSPORT_PROTOCOL: u16 = 442;
+    /// 443: the peer's address is of another family than the relayed address (RFC 8656).
+    pub const PEER_ADDRESS_FAMILY_MISMATCH: u16 = 443;
+    /// 446: the client has a connection to this peer already (RFC 6062).
+    pub const CONNECTION_ALREADY_EXISTS: u16 = 446;
+    /// 447: the server could not connect to the peer (RFC 6062).
+    pub const CONNECTION_TIMEOUT_OR_FAILURE: u16 = 447;
     /// 486: the user has too many allocations (RFC 8656).
     pub const ALLOCATION_QUOTA_REACHED: u16 = 486;
     /// 487: both ICE agents have the same role (RFC 8445).
@@ -112,10 +125,14 @@ impl PasswordAlgorithms<'_> {
     /// The algorithms that a server offers, the strongest first:
     ///
     /// ```
-    /// use seatcrane_stun::types::attribute::{PasswordAlgorithmValue, PasswordAlgorithms};
+    /// use seatcrane_stun::types::attribute::{
+    ///     PasswordAlgorithmValue, PasswordAlgorithms,
+    /// };
     /// use seatcrane_stun::types::message::{Message, StunParseError};
     ///
-    /// fn offered(challenge: &Message<'_>) -> Result<Vec<PasswordAlgorithmValue>, StunParseError> {
+    /// fn offered(
+    ///     challenge: &Message<'_>,
+    /// ) -> Result<Vec<PasswordAlgorithmValue>, StunParseError> {
     ///     Ok(challenge.attribute::<PasswordAlgorithms>()?.algorithms())
     /// }
     /// # let challenge = b"\x01\x11\0\x0c\x21\x12\xa4\x42 any 12 byte\
@@ -124,6 +141,7 @@ impl PasswordAlgorithms<'_> {
     /// # let both = vec![PasswordAlgorithmValue::SHA256, PasswordAlgorithmValue::MD5];
     /// # assert_eq!(offered(&challenge), Ok(both));
     /// ```
+    #[must_use]
     pub fn algorithms(&self) -> Vec<PasswordAlgorithmValue> {
         (0..self.len()).filter_map(|i| self.get(i)).collect()
     }

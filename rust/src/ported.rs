@@ -80,13 +80,31 @@ pub const ICE: &[AttributeType] = &joined::<13>(
 /// The attribute types that a TURN client or server must understand: those of [`STUN`], and those
 /// below 0x8000 of RFC 8656 (section 18).
 ///
+/// A server that passes this list to
+/// [`understands`](crate::endpoint::ServerBuilder::understands) promises to do what each attribute
+/// asks for, because a request with one of them no longer gets a 420. These three ask for something
+/// that not every server does:
+///
+/// - DONT-FRAGMENT (section 18.9): the DF bit is set in what the server relays.
+/// - EVEN-PORT (section 18.7): the relayed address has an even port, and the next port is reserved if
+///   the attribute says so.
+/// - RESERVATION-TOKEN (section 18.10): the relayed address is the one that was reserved under this
+///   token.
+///
+/// Leave those out that yours does not do, by
+/// [`does_not_understand`](crate::endpoint::ServerBuilder::does_not_understand).
+///
 /// # Examples
 ///
 /// ```
+/// use seatcrane_stun::endpoint::ResponseSettings;
 /// use seatcrane_stun::types::TURN;
 /// use seatcrane_stun::types::attribute::AttributeType;
 ///
 /// assert!(TURN.contains(&AttributeType::LIFETIME));
+/// let settings = ResponseSettings::new()
+///     .understands(TURN)
+///     .does_not_understand(&[AttributeType::DONT_FRAGMENT]);
 /// ```
 pub const TURN: &[AttributeType] = &joined::<21>(
     STUN,
@@ -196,11 +214,13 @@ impl MessageType {
     }
 
     /// Returns the bytes of the type, as a message starts with them.
+    #[must_use]
     pub fn to_bytes(self) -> [u8; 2] {
         self.value().to_be_bytes()
     }
 
     /// Returns `true` if the message has this method.
+    #[must_use]
     pub fn has_method(self, method: Method) -> bool {
         self.method() == method
     }
@@ -257,6 +277,7 @@ impl<'a> RawAttribute<'a> {
     /// # Panics
     ///
     /// If the value has more than 65535 bytes, which no attribute can have.
+    #[must_use]
     pub fn to_bytes(&self) -> Vec<u8> {
         let length = u16::try_from(self.length()).expect("a value of at most 65535 bytes");
         let mut bytes = Vec::with_capacity(self.padded_len());
@@ -279,6 +300,7 @@ impl<'a> TryFrom<&'a [u8]> for RawAttribute<'a> {
 impl<'a> Message<'a> {
     /// Returns the first visible attribute of this type and its offset in the message, without
     /// parsing its value.
+    #[must_use]
     pub fn raw_attribute_and_offset(
         &self,
         kind: AttributeType,
@@ -339,7 +361,8 @@ impl<'a> Message<'a> {
     /// let check = Message::from_bytes(check).unwrap();
     /// let code = |supported, required| {
     ///     let writer = MessageWriteVec::new();
-    ///     let refusal = Message::check_attribute_types(&check, supported, required, writer)?;
+    ///     let refusal =
+    ///         Message::check_attribute_types(&check, supported, required, writer)?;
     ///     Message::from_bytes(&refusal).unwrap().error_code().ok()
     /// };
     /// assert_eq!(code(STUN, &[]), Some(420));
@@ -420,7 +443,9 @@ fn refusal<W: MessageWrite>(request: &Message<'_>, code: u16, reason: &str, writ
 /// # Examples
 ///
 /// ```
-/// use seatcrane_stun::types::attribute::{DynAttribute, Priority, UseCandidate, Username};
+/// use seatcrane_stun::types::attribute::{
+///     DynAttribute, Priority, UseCandidate, Username,
+/// };
 /// use seatcrane_stun::types::message::*;
 /// use seatcrane_stun::types::prelude::*;
 ///
@@ -430,7 +455,8 @@ fn refusal<W: MessageWrite>(request: &Message<'_>, code: u16, reason: &str, writ
 ///     Box::new(Priority::new(1_845_501_695)),
 ///     Box::new(UseCandidate),
 /// ];
-/// let mut check = Message::builder_request_with_id(BINDING, id, MessageWriteVec::new());
+/// let mut check =
+///     Message::builder_request_with_id(BINDING, id, MessageWriteVec::new());
 /// for attribute in &attributes {
 ///     check.add_attribute(attribute)?;
 /// }
@@ -509,6 +535,7 @@ pub struct TcpBuffer {
 
 impl TcpBuffer {
     /// Creates an empty buffer. This does not allocate.
+    #[must_use]
     pub fn new() -> TcpBuffer {
         TcpBuffer::default()
     }
@@ -534,6 +561,7 @@ impl TcpBuffer {
     }
 
     /// Returns the bytes that no packet has been made of yet.
+    #[must_use]
     pub fn into_inner(mut self) -> Vec<u8> {
         self.bytes.drain(..self.returned);
         self.bytes

@@ -50,7 +50,8 @@ impl TransactionId {
     /// ```
     /// use seatcrane_stun::types::message::TransactionId;
     ///
-    /// // `fill` is `|bytes| rng.fill_bytes(bytes)` for a generator `rng` of the crate `rand`.
+    /// // `fill` is `|bytes| rng.fill_bytes(bytes)` for a generator `rng` of the crate
+    /// // `rand`.
     /// fn new_id(fill: impl FnMut(&mut [u8])) -> TransactionId {
     ///     TransactionId::generate_with(fill)
     /// }
@@ -69,6 +70,7 @@ impl TransactionId {
     }
 
     /// Returns the transaction ID as a number, which is less than 2^96.
+    #[must_use]
     pub fn as_u128(self) -> u128 {
         self.0.as_u128()
     }

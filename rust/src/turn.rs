@@ -1,10 +1,20 @@
 //! The methods of TURN, and the data of its channels.
 
-use crate::exported::stun_extra::framing::CHANNEL_HEADER_LENGTH;
+use crate::endpoint::lent;
+use crate::exported::stun_buffer::writer::BufferWriter;
+use crate::exported::stun_extra::canonical_address::canonical;
+use crate::exported::stun_extra::framing::{CHANNEL_HEADER_LENGTH, is_stun};
 use crate::exported::stun_extra::turn::TurnMethod as Proved;
-use crate::exported::stun_types::message::Method;
+use crate::exported::stun_types::message::{
+    self as proved, MessageClass, MessageType, Method, StunWriteError,
+};
+use crate::exported::stun_types::prelude::{MessageWrite, MessageWriteExt};
+use crate::kit::prelude::Vec as KitVec;
+use crate::transaction::TransactionId;
+use crate::types::attribute::{Data, XorPeerAddress};
 use alloc::vec::Vec;
 use core::fmt;
+use core::net::SocketAddr;
 
 /// A method of TURN (RFC 8656, section 17), or of TURN with TCP to the peers (RFC 6062, section
 /// 6.1).
@@ -59,6 +69,7 @@ impl TurnMethod {
     ];
 
     /// Returns the number of the method.
+    #[must_use]
     pub fn number(self) -> u16 {
         match self {
             TurnMethod::Allocate => Proved::Allocate.number(),
@@ -75,11 +86,13 @@ impl TurnMethod {
 
     /// Returns the method, as a message has it.
     #[expect(clippy::missing_panics_doc, reason = "each number has 12 bits")]
+    #[must_use]
     pub fn method(self) -> Method {
         Method::new(self.number()).expect("a number of 12 bits")
     }
 
     /// Returns the method of TURN that a message's method is, or `None` if it is not one of TURN.
+    #[must_use]
     pub fn of(method: Method) -> Option<TurnMethod> {
         let number = method.value();
         TurnMethod::ALL.into_iter().find(|one| one.number() == number)
@@ -99,6 +112,191 @@ impl From<TurnMethod> for Method {
     fn from(method: TurnMethod) -> Method {
         method.method()
     }
+}
+
+/// The methods of TURN (RFC 8656, section 17) and of TURN with TCP to the peers (RFC 6062, section 6.1).
+/// [`TurnMethod`] has them as an enum, to match on.
+///
+/// # Examples
+///
+/// ```
+/// use seatcrane_stun::types::message::{BINDING, Method};
+///
+/// const SERVED: &[Method] = &[BINDING, Method::ALLOCATE, Method::REFRESH];
+/// assert!(SERVED.contains(&Method::new(3).unwrap()));
+/// assert!(!SERVED.contains(&Method::CONNECT));
+/// ```
+impl Method {
+    /// A client requests an allocation.
+    pub const ALLOCATE: Method = method(0x003);
+    /// A client refreshes its allocation, or deletes it.
+    pub const REFRESH: Method = method(0x004);
+    /// A client sends data to a peer through the server. Only indications have this method.
+    pub const SEND: Method = method(0x006);
+    /// A server passes the data of a peer on to the client. Only indications have this method.
+    pub const DATA: Method = method(0x007);
+    /// A client permits a peer to send.
+    pub const CREATE_PERMISSION: Method = method(0x008);
+    /// A client binds a channel to a peer.
+    pub const CHANNEL_BIND: Method = method(0x009);
+    /// A client asks the server to connect to a peer over TCP (RFC 6062).
+    pub const CONNECT: Method = method(0x00A);
+    /// A client takes over a connection to a peer (RFC 6062).
+    pub const CONNECTION_BIND: Method = method(0x00B);
+    /// A server tells that a peer has connected (RFC 6062). Only indications have this method.
+    pub const CONNECTION_ATTEMPT: Method = method(0x00C);
+}
+
+/// The method of a number that has 12 bits.
+const fn method(number: u16) -> Method {
+    match Method::new(number) {
+        Some(method) => method,
+        None => panic!("a number of 12 bits"),
+    }
+}
+
+/// What a datagram at a socket of a TURN client or server is.
+///
+/// # Examples
+///
+/// ```
+/// use seatcrane_stun::extra::turn::Packet;
+///
+/// fn receive(datagram: &[u8]) {
+///     match Packet::of(datagram) {
+///         Packet::Message => println!("for `Server::receive` or `Client::receive`"),
+///         Packet::ChannelData(found) => println!("{} bytes", found.data().len()),
+///         _ => {} // neither
+///     }
+/// }
+/// # receive(b"\x40\0\0\x05media");
+/// ```
+#[derive(Clone, Copy, Debug, PartialEq, Eq, Hash)]
+#[non_exhaustive]
+pub enum Packet<'a> {
+    /// It begins with the header of a STUN message. Pass it to the endpoint, which says whether the
+    /// rest of it is well-formed.
+    Message,
+    /// It is data on a channel.
+    ChannelData(ChannelData<'a>),
+    /// It is neither, or ChannelData that is not whole.
+    Other,
+}
+
+impl<'a> Packet<'a> {
+    /// Tells messages from ChannelData by the first byte (RFC 8656, section 12; RFC 7983).
+    pub fn of(bytes: &'a [u8]) -> Packet<'a> {
+        if is_stun(bytes) {
+            return Packet::Message;
+        }
+        ChannelData::from_bytes(bytes).map_or(Packet::Other, Packet::ChannelData)
+    }
+}
+
+/// Writes a Data indication into a buffer that you keep, in place of what it has: the data that came
+/// from a peer, for the client (RFC 8656, section 11.3). An IPv4 address is written as IPv4 in either
+/// spelling.
+///
+/// Nobody answers an indication, so its transaction ID need not be unpredictable, and a counter will
+/// do. [`Message::builder_indication`](crate::types::message::Message::builder_indication) asks the
+/// operating system for random numbers, which takes longer than the rest.
+///
+/// # Errors
+///
+/// The first of these that applies. The buffer is then empty.
+///
+/// - [`StunWriteError::TooLarge`]: the data does not fit in a message.
+/// - [`StunWriteError::OutOfMemory`]: an allocation failed.
+///
+/// # Examples
+///
+/// ```
+/// use seatcrane_stun::extra::attribute::Data;
+/// use seatcrane_stun::extra::turn::data_indication;
+/// use seatcrane_stun::types::message::{Message, TransactionId};
+///
+/// # fn main() -> Result<(), Box<dyn std::error::Error>> {
+/// let (mut buffer, mut count, peer) =
+///     (Vec::with_capacity(1500), 0_u128, "192.0.2.7:9".parse()?);
+/// for payload in [&b"one"[..], b"two"] {
+///     count += 1;
+///     data_indication(TransactionId::from(count), peer, payload, &mut buffer)?;
+///     // send the buffer to the client
+///     assert_eq!(
+///         Message::from_bytes(&buffer)?.attribute::<Data>()?.data(),
+///         payload
+///     );
+/// }
+/// # Ok(())
+/// # }
+/// ```
+pub fn data_indication(
+    id: TransactionId,
+    peer: SocketAddr,
+    data: &[u8],
+    buffer: &mut Vec<u8>,
+) -> Result<(), StunWriteError> {
+    indication(Method::DATA, id, peer, data, buffer)
+}
+
+/// Writes a Send indication into a buffer that you keep, in place of what it has: data for a peer, for
+/// the server to relay (RFC 8656, section 11.1). It is not signed, so it needs no [`Client`], and its
+/// transaction ID may be a counter, as that of [`data_indication`]. An IPv4 address is written as
+/// IPv4 in either spelling.
+///
+/// [`Client`]: crate::endpoint::Client
+///
+/// # Errors
+///
+/// The first of these that applies. The buffer is then empty.
+///
+/// - [`StunWriteError::TooLarge`]: the data does not fit in a message.
+/// - [`StunWriteError::OutOfMemory`]: an allocation failed.
+///
+/// # Examples
+///
+/// ```
+/// use seatcrane_stun::extra::turn::send_indication;
+/// use seatcrane_stun::types::message::TransactionId;
+/// use std::net::{SocketAddr, UdpSocket};
+///
+/// fn send(
+///     (socket, server): (&UdpSocket, SocketAddr),
+///     (id, peer): (TransactionId, SocketAddr),
+///     data: &[u8],
+///     buffer: &mut Vec<u8>,
+/// ) -> Result<(), Box<dyn std::error::Error>> {
+///     send_indication(id, peer, data, buffer)?;
+///     socket.send_to(buffer, server)?;
+///     Ok(())
+/// }
+/// ```
+pub fn send_indication(
+    id: TransactionId,
+    peer: SocketAddr,
+    data: &[u8],
+    buffer: &mut Vec<u8>,
+) -> Result<(), StunWriteError> {
+    indication(Method::SEND, id, peer, data, buffer)
+}
+
+/// Writes an indication with XOR-PEER-ADDRESS and DATA.
+fn indication(
+    method: Method,
+    id: TransactionId,
+    peer: SocketAddr,
+    data: &[u8],
+    buffer: &mut Vec<u8>,
+) -> Result<(), StunWriteError> {
+    let kind = MessageType::from_class_method(MessageClass::Indication, method);
+    let bytes: Result<KitVec<u8>, StunWriteError> = lent(buffer, |memory| {
+        let mut page = proved::Message::builder(kind, id.0, BufferWriter::over(memory))?;
+        page.add_attribute(&XorPeerAddress::new(canonical(peer), id))?;
+        page.add_attribute(&Data::new(data))?;
+        Ok(page.finish())
+    });
+    *buffer = bytes.map(KitVec::into_std)?;
+    Ok(())
 }
 
 /// Data on a channel (RFC 8656, section 12.4): what a client and its TURN server send in place of
@@ -141,6 +339,7 @@ impl<'a> ChannelData<'a> {
     ///
     /// RFC 8656 has the channels 0x4000 to 0x4FFF alone. A server sends on others only to a client
     /// of RFC 5766 that has bound one.
+    #[must_use]
     pub fn new(channel: u16, data: &'a [u8]) -> Option<ChannelData<'a>> {
         let length = u16::try_from(data.len()).ok()?;
         (channel >> 14 == 1).then_some(ChannelData {
@@ -163,11 +362,13 @@ impl<'a> ChannelData<'a> {
     }
 
     /// Returns the number of the channel.
+    #[must_use]
     pub fn channel(&self) -> u16 {
         self.channel
     }
 
     /// Returns the data.
+    #[must_use]
     pub fn data(&self) -> &'a [u8] {
         self.data
     }

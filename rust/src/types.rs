@@ -33,10 +33,11 @@ pub mod message {
         ShortTermCredentials, long_term_key,
     };
     pub use crate::exported::stun_types::message::{
-        BINDING, IntegrityAlgorithm, IntegrityKey, MessageAttributesIter, MessageClass,
-        MessageType, MessageWriteMutSlice, Method, PreparedKey, StunParseError, StunWriteError,
-        ValidateError, hmac_sha1, hmac_sha256,
+        BINDING, IntegrityAlgorithm, MessageAttributesIter, MessageClass, MessageType,
+        MessageWriteMutSlice, Method, StunParseError, StunWriteError, ValidateError, hmac_sha1,
+        hmac_sha256,
     };
+    pub use crate::keys::{IntegrityKey, PreparedKey};
     pub use crate::message::{Message, MessageHeader};
     pub use crate::ported::MAGIC_COOKIE;
     pub use crate::transaction::TransactionId;

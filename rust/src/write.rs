@@ -11,10 +11,11 @@ use crate::exported::stun_types::attribute::{
 use crate::exported::stun_types::limits::MAX_LENGTH;
 use crate::exported::stun_types::message::{
     self as proved, IntegrityAlgorithm, MessageClass, MessageType, MessageWriteMutSlice, Method,
-    PreparedKey, StunWriteError,
+    StunWriteError,
 };
 use crate::exported::stun_types::prelude::MessageWrite;
 use crate::exported::stun_types::prelude::MessageWriteExt as Proved;
+use crate::keys::PreparedKey;
 use crate::kit::alloc::{AllocError, Global};
 use crate::message::MessageHeader;
 use crate::ported::not_after_fingerprint;
@@ -50,11 +51,15 @@ use core::ops::Deref;
 /// use seatcrane_stun::types::prelude::*;
 ///
 /// # let id = TransactionId::from(*b"any 12 bytes");
-/// let mut check = Message::builder_request_with_id(BINDING, id, MessageWriteVec::new());
+/// let mut check =
+///     Message::builder_request_with_id(BINDING, id, MessageWriteVec::new());
 /// check.add_attribute(&Username::new("their-name:my-name")?)?;
 /// check.add_attribute(&Priority::new(1_845_501_695))?;
 /// check.add_attribute(&IceControlling::new(0x0123_4567_89ab_cdef))?;
-/// check.add_message_integrity_with_key(b"their password", IntegrityAlgorithm::Sha1)?;
+/// check.add_message_integrity_with_key(
+///     b"their password",
+///     IntegrityAlgorithm::Sha1,
+/// )?;
 /// let datagram: Vec<u8> = check.finish();
 /// # Ok::<(), StunWriteError>(())
 /// ```
@@ -127,11 +132,15 @@ pub trait MessageWriteExt: MessageWrite + Sized {
     /// use seatcrane_stun::types::prelude::*;
     ///
     /// # let id = TransactionId::from(*b"any 12 bytes");
-    /// let mut request = Message::builder_request_with_id(BINDING, id, MessageWriteVec::new());
+    /// let mut request =
+    ///     Message::builder_request_with_id(BINDING, id, MessageWriteVec::new());
     /// request.add_attribute(&Software::new("example 1.0")?)?;
     ///
     /// let again = request.add_attribute(&Software::new("example 2.0")?);
-    /// assert_eq!(again, Err(StunWriteError::AttributeExists(AttributeType::SOFTWARE)));
+    /// assert_eq!(
+    ///     again,
+    ///     Err(StunWriteError::AttributeExists(AttributeType::SOFTWARE))
+    /// );
     /// # Ok::<(), StunWriteError>(())
     /// ```
     fn add_attribute<A: Attribute>(&mut self, attribute: &A) -> Result<(), StunWriteError> {
@@ -220,14 +229,19 @@ pub trait MessageWriteExt: MessageWrite + Sized {
     /// use seatcrane_stun::types::message::*;
     /// use seatcrane_stun::types::prelude::*;
     ///
-    /// let credentials = ShortTermCredentials::new("VOkJxbRl1RmTxUk/WvJxBt".to_string()).into();
+    /// let credentials =
+    ///     ShortTermCredentials::new("VOkJxbRl1RmTxUk/WvJxBt".to_string()).into();
     /// # let id = TransactionId::from(*b"any 12 bytes");
-    /// let mut request = Message::builder_request_with_id(BINDING, id, MessageWriteVec::new());
+    /// let mut request =
+    ///     Message::builder_request_with_id(BINDING, id, MessageWriteVec::new());
     /// request.add_message_integrity(&credentials, IntegrityAlgorithm::Sha256)?;
     /// let request = request.finish();
     ///
     /// let request = Message::from_bytes(&request).unwrap();
-    /// assert_eq!(request.validate_integrity(&credentials), Ok(IntegrityAlgorithm::Sha256));
+    /// assert_eq!(
+    ///     request.validate_integrity(&credentials),
+    ///     Ok(IntegrityAlgorithm::Sha256)
+    /// );
     /// # Ok::<(), StunWriteError>(())
     /// ```
     fn add_message_integrity(
@@ -274,7 +288,7 @@ pub trait MessageWriteExt: MessageWrite + Sized {
         algorithm: IntegrityAlgorithm,
     ) -> Result<(), StunWriteError> {
         not_after_fingerprint(self)?;
-        Proved::add_message_integrity_with_prepared_key(self, key, algorithm)
+        Proved::add_message_integrity_with_prepared_key(self, &key.core, algorithm)
     }
 
     /// Adds XOR-MAPPED-ADDRESS with this address, XORed with the magic cookie and the transaction
@@ -326,12 +340,19 @@ pub trait MessageWriteExt: MessageWrite + Sized {
     /// use seatcrane_stun::types::prelude::*;
     ///
     /// # let id = TransactionId::from(*b"any 12 bytes");
-    /// let mut check = Message::builder_request_with_id(BINDING, id, MessageWriteVec::new());
-    /// check.add_message_integrity_with_key(b"their password", IntegrityAlgorithm::Sha1)?;
+    /// let mut check =
+    ///     Message::builder_request_with_id(BINDING, id, MessageWriteVec::new());
+    /// check.add_message_integrity_with_key(
+    ///     b"their password",
+    ///     IntegrityAlgorithm::Sha1,
+    /// )?;
     /// check.add_fingerprint()?;
     ///
     /// let more = check.add_attribute(&Software::new("example 1.0")?);
-    /// assert_eq!(more, Err(StunWriteError::AttributeExists(AttributeType::FINGERPRINT)));
+    /// assert_eq!(
+    ///     more,
+    ///     Err(StunWriteError::AttributeExists(AttributeType::FINGERPRINT))
+    /// );
     /// # Ok::<(), StunWriteError>(())
     /// ```
     fn add_fingerprint(&mut self) -> Result<(), StunWriteError> {
@@ -409,6 +430,7 @@ impl MessageWriteVec {
     ///
     /// If the allocation fails, the writer has no capacity yet, and the first call that adds to it
     /// allocates.
+    #[must_use]
     pub fn new() -> MessageWriteVec {
         let mut writer = proved::MessageWriteVec::new(Global);
         let _ = writer.reserve(CAPACITY);

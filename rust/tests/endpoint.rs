@@ -460,13 +460,8 @@ fn one_user_who_was_looked_up_is_enough() {
         code(&answer(server.receive_for(&request, from, secs(0), None))),
         401
     );
-    let keys = StoredKeys {
-        sha1: None,
-        sha256: long_term_key(Sha256, "alice", "example.org", "wonderland")
-            .as_bytes()
-            .try_into()
-            .ok(),
-    };
+    let key = long_term_key(Sha256, "alice", "example.org", "wonderland");
+    let keys = StoredKeys::new().with_sha256(key.as_bytes().try_into().ok());
     let mut table = server.users();
     table.add_with_keys("alice", keys).unwrap();
     let by_keys = answer(server.receive(&request, from, secs(0), &table));

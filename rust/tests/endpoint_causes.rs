@@ -257,10 +257,7 @@ fn one_user_is_enough_for_the_cause() {
     let nonce = server.nonce_for(from, now);
     let request = Asked::new(&nonce).request();
     let key = long_term_key(Sha1, "alice", "example.org", "wonderland");
-    let weak = StoredKeys {
-        sha1: Some(key.as_bytes().try_into().unwrap()),
-        sha256: None,
-    };
+    let weak = StoredKeys::new().with_sha1(key.as_bytes().try_into().ok());
     let alice = LongTermCredentials::new("alice".to_string(), "wonderland".to_string());
     let users = [
         (Some(server.user(alice)), None),

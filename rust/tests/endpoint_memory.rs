@@ -106,7 +106,7 @@ fn asked_within(blocks: usize, response: &dyn Fn(&[u8]) -> Vec<u8>) -> (bool, bo
     let mut client = Client::builder(server).build([7; 32]).unwrap();
     let started = within(blocks, || client.request(BINDING, Body::new(), now));
     if let Err(error) = started {
-        assert_eq!(error, RequestError::OutOfMemory);
+        assert_eq!(error, StartError::OutOfMemory);
         assert_eq!(client.outstanding(), 0);
         assert!(matches!(within(0, || client.poll(now)), Output::Wait(None)));
         return (false, false);

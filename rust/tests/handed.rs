@@ -79,16 +79,18 @@ fn a_user_is_handed_in_with_a_message() {
 }
 
 /// MD5 and SHA-256 of `user:realm:pass`, made by Python's hashlib.
-const KEYS: StoredKeys = StoredKeys {
-    sha1: Some([
+const KEYS: StoredKeys = {
+    let mut keys = StoredKeys::new();
+    keys.sha1 = Some([
         0x84, 0x93, 0xfb, 0xc5, 0x3b, 0xa5, 0x82, 0xfb, 0x4c, 0x04, 0x4c, 0x45, 0x6b, 0xdc, 0x40,
         0xeb,
-    ]),
-    sha256: Some([
+    ]);
+    keys.sha256 = Some([
         0x07, 0xe9, 0x34, 0x11, 0x7a, 0xbd, 0x40, 0x83, 0x6e, 0x7c, 0x63, 0x29, 0xb5, 0x47, 0x31,
         0xb2, 0xb2, 0xd2, 0xa5, 0xf9, 0xa7, 0x1f, 0x54, 0x49, 0x22, 0xd7, 0x5e, 0x07, 0x30, 0xd8,
         0x25, 0x1b,
-    ]),
+    ]);
+    keys
 };
 
 #[test]
@@ -108,10 +110,7 @@ fn a_user_is_handed_in_by_stored_keys() {
     };
     let mut swapped = KEYS;
     swapped.sha256 = Some([7; 32]);
-    let weaker = StoredKeys {
-        sha256: None,
-        ..KEYS
-    };
+    let weaker = KEYS.with_sha256(None);
     for keys in [swapped, weaker] {
         let (verdict, _) = judged(&mut both.server, keys, both.from);
         assert_eq!(verdict, Err(LongTermServerAuthErrorReason::Unauthorized));

@@ -62,6 +62,7 @@ fn due(checks: &mut Checks, now: Instant) -> (Vec<Vec<u8>>, Vec<TransactionId>, 
                 ends.push(check.id());
             }
             ChecksOutput::Wait(until) => return (sends, ends, until),
+            other => panic!("{other:?}"),
         }
     }
 }

@@ -92,10 +92,9 @@ fn registers_users_by_stored_keys() {
     let mut both = Conversation::with_both("pass");
     let sha1 = long_term_key(Sha1, "user", "realm", "pass");
     let sha256 = long_term_key(Sha256, "user", "realm", "pass");
-    let keys = StoredKeys {
-        sha1: Some(sha1.as_bytes().try_into().unwrap()),
-        sha256: Some(sha256.as_bytes().try_into().unwrap()),
-    };
+    let keys = StoredKeys::new()
+        .with_sha1(sha1.as_bytes().try_into().ok())
+        .with_sha256(sha256.as_bytes().try_into().ok());
     let mut server = LongTermServerAuth::new("realm".to_string());
     server.add_user_with_keys("user".to_string(), keys);
     server.add_supported_integrity(Sha256); // the user gets this key too
@@ -105,7 +104,7 @@ fn registers_users_by_stored_keys() {
     assert_eq!(verdict(&server, &request, &nonce), user);
     assert_eq!(verdict(&both.server, &request, &nonce), user);
 
-    server.add_user_with_keys("user".to_string(), StoredKeys { sha256: None, ..keys });
+    server.add_user_with_keys("user".to_string(), keys.with_sha256(None));
     let refused = Err(VerdictRefusal::Unauthorized);
     assert_eq!(verdict(&server, &request, &nonce), refused);
     server.remove_user("user");

@@ -66,10 +66,7 @@ fn a_table_says_whom_it_has() {
     for name in ["carol", "alice", "bob", "alice"] {
         users.add(user(name, "wonderland")).unwrap();
     }
-    let keys = StoredKeys {
-        sha1: None,
-        sha256: Some([7; 32]),
-    };
+    let keys = StoredKeys::new().with_sha256([7; 32]);
     users.add_with_keys("dave", keys).unwrap();
     assert!(users.names().eq(["alice", "bob", "carol", "dave"]));
     assert_eq!(

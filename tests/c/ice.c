@@ -554,6 +554,45 @@ static void each_allocation(void) {
     stunp_ice_checker_free(&agent);
 }
 
+/* Priorities are those of RFC 8445, and the timers those of RFC 7675. */
+static void around_checks(void) {
+    const uint64_t second = 1000000000;
+    const uint32_t random = (uint32_t)1 << 31; /* in the middle */
+    want("host", stunp_ice_priority(STUNP_ICE_HOST, 65535, 1), 2130706431);
+    want("reflexive", stunp_ice_priority(STUNP_ICE_PEER_REFLEXIVE, 65535, 1), 1862270975);
+    want("relayed", stunp_ice_priority(STUNP_ICE_RELAYED, 0, 255), 1);
+    want("pair", stunp_ice_pair_priority(3, 2) == (((uint64_t)2 << 32) | 7), true);
+    want("pair", stunp_ice_pair_priority(2, 3) == (((uint64_t)2 << 32) | 6), true);
+    want("pair", stunp_ice_pair_priority(3, 3) == (((uint64_t)3 << 32) | 6), true);
+    want("most", stunp_ice_pair_priority(UINT32_MAX, UINT32_MAX)
+         == (((uint64_t)0x7fffffff << 32) | 0xfffffffe), true);
+
+    size_t length = 9;
+    int64_t place = stunp_ice_find_sender(BYTES(request), &length);
+    want("sender", place > 0 && length == 4 && memcmp(request + place, "h6vY", 4) == 0, true);
+    want("no message", stunp_ice_find_sender(request, 7, &length), STUNP_TRUNCATED);
+    want("nobody", length, 0);
+    want("no name", stunp_ice_find_sender(BYTES(response), &length), STUNP_MISSING_ATTRIBUTE);
+
+    stunp_ice_consent consent = stunp_ice_consent_from(7, random);
+    want("first", stunp_ice_consent_until(&consent, UINT64_MAX) == 7 + 5 * second, true);
+    want("sooner", stunp_ice_consent_until(&consent, 9), 9);
+    want("wait", stunp_ice_consent_poll(&consent, 6 + 5 * second, random), STUNP_ICE_CONSENT_WAIT);
+    want("ask", stunp_ice_consent_poll(&consent, 7 + 5 * second, 0), STUNP_ICE_CONSENT_ASK);
+    want("next", consent.next == 7 + 9 * second, true);
+    stunp_ice_consent_answered(&consent, 8 + 5 * second);
+    want("renewed", consent.until == 8 + 35 * second, true);
+    stunp_ice_consent_answered(&consent, 7);
+    want("not shortened", consent.until == 8 + 35 * second, true);
+    want("ask", stunp_ice_consent_poll(&consent, 7 + 35 * second, UINT32_MAX),
+         STUNP_ICE_CONSENT_ASK);
+    want("end", stunp_ice_consent_until(&consent, UINT64_MAX) == 8 + 35 * second, true);
+    want("over", stunp_ice_consent_poll(&consent, 8 + 35 * second, 0), STUNP_ICE_CONSENT_OVER);
+    stunp_ice_consent_answered(&consent, 8 + 35 * second);
+    want("stays over", stunp_ice_consent_poll(&consent, 9 + 35 * second, 0),
+         STUNP_ICE_CONSENT_OVER);
+}
+
 int main(void) {
     settings_in_order();
     plain_calls();
@@ -568,6 +607,7 @@ int main(void) {
     worked(true);
     worked(false);
     each_allocation();
+    around_checks();
     want_no_blocks("in the end");
     puts("ice: passed");
     return 0;

@@ -14,6 +14,71 @@ PLACES = {"stun_base": "crate::exported::stun_base", "stun_auth": "crate::export
           "stun_tool": "crate::programs::stun_tool", "stun_cli": "crate::programs::stun_cli"}
 
 CASES = [
+    ("results that are not to be ignored, unless the call changes something", "stun_base", """
+impl Row {
+    /// Returns the bytes.
+    pub fn bytes(&self, more: [u8; 2]) -> [u8; 3] { self.0 }
+    pub fn of(
+        number: u16,
+    ) -> Option<Row>
+    where
+        u16: Copy,
+    { None }
+    pub fn take(&mut self) -> u8 { 0 }
+    pub fn fill(&self, into: &'a mut [u8]) -> u8 { 0 }
+    pub fn read(&self) -> Result<u8, Error> { Ok(0) }
+    pub(crate) fn own(&self) -> u8 { 0 }
+    pub fn nothing(&self) { }
+}
+""", """
+impl Row {
+    /// Returns the bytes.
+    #[must_use]
+    pub fn bytes(&self, more: [u8; 2]) -> [u8; 3] { self.0 }
+    #[must_use]
+    pub fn of(
+        number: u16,
+    ) -> Option<Row>
+    where
+        u16: Copy,
+    { None }
+    pub fn take(&mut self) -> u8 { 0 }
+    pub fn fill(&self, into: &'a mut [u8]) -> u8 { 0 }
+    pub fn read(&self) -> Result<u8, Error> { Ok(0) }
+    pub(crate) fn own(&self) -> u8 { 0 }
+    pub fn nothing(&self) { }
+}
+"""),
+    ("what may have a further case, and a constant call", "stun_base", """
+pub enum IntegrityAlgorithm {
+    Sha1,
+}
+pub struct StoredKeys {
+    pub sha1: u8,
+}
+pub enum Other {
+    One,
+}
+impl Method {
+    pub fn new(number: u16) -> Option<Method> { None }
+}
+""", """
+#[non_exhaustive]
+pub enum IntegrityAlgorithm {
+    Sha1,
+}
+#[non_exhaustive]
+pub struct StoredKeys {
+    pub sha1: u8,
+}
+pub enum Other {
+    One,
+}
+impl Method {
+    #[must_use]
+    pub const fn new(number: u16) -> Option<Method> { None }
+}
+"""),
     ("a hasher after a block, for which the kit has a type", "stun_base", """
 use sha1::Sha1;
 use sha1::Sha1 as BegunSha1;

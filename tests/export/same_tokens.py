@@ -29,6 +29,7 @@ KNOWN = [
     ("an allocator grants bytes, no pointer", "* mut u8", "( )"),
     ("an allocator grants bytes, no pointer", ", _ptr : * mut u8", ""),
     ("a body of `static_type`", ";", "{ Self :: TYPE }"),
+    ("a function of constants", "", "const"),
     ("an arm's braces, by rustfmt", "{", ""),
     ("an arm's braces, by rustfmt", "}", ","),
 ]

@@ -29,8 +29,35 @@ LIBRARY = ["stun_base", "stun_types", "stun_agent", "stun_auth", "stun_proto", "
            "stun_attributes", "stun_buffer", "stun_endpoint", "stun_client", "stun_client_loop",
            "stun_client_endpoint", "stun_ice"]
 PROGRAMS = ["stun_tool", "stun_inspect"]
-# The style of the sources, and what they could do more simply, is that of another language.
-STYLE = "#![allow(clippy::complexity, clippy::style, clippy::large_enum_variant)]\n\n"
+# What clippy would have otherwise, and why it stays. A lint that is not here is none of the sources.
+STYLE = "".join(f"#![allow({', '.join('clippy::' + lint for lint in lints.split())}, "
+                f'reason = "{reason}")]\n' for lints, reason in (
+    ("elidable_lifetime_names needless_lifetimes", "the sources name each lifetime"),
+    ("match_same_arms collapsible_match single_match single_match_else needless_return",
+     "each arm is a case of a proof"),
+    ("manual_div_ceil manual_filter manual_map manual_ok_err manual_range_contains "
+     "mem_replace_option_with_none mem_replace_option_with_some needless_range_loop question_mark "
+     "redundant_closure while_let_on_iterator", "the sources have no such call"),
+    ("cast_lossless needless_as_bytes explicit_auto_deref precedence semicolon_if_nothing_returned",
+     "the language of the sources has no shorter form"),
+    ("ref_option trivially_copy_pass_by_ref needless_pass_by_value",
+     "a contract is stated of what is passed"),
+    ("cast_possible_truncation", "each is argued where it stands: `proved:`"),
+    ("missing_errors_doc missing_panics_doc",
+     "users read the pages of the types over these, which list errors"),
+    ("unreadable_literal many_single_char_names", "numbers and letters are those of the RFCs"),
+    ("too_many_arguments struct_excessive_bools", "settings are passed one by one to C too"),
+    ("enum_variant_names struct_field_names iter_without_into_iter wildcard_imports",
+     "names are those of the crates that are ported"),
+    ("len_without_is_empty new_without_default", "users have the types over these"),
+    ("inline_always", "measured, where it stands"),
+    ("large_enum_variant", "these are returned, and not stored"),
+    ("only_used_in_recursion", "the argument is what the proof recurs on"),
+    ("doc_lazy_continuation", "the comments are laid out by another formatter"),
+)) + "\n"
+
+# Programs are not the library: what they could do more simply is that of another language.
+PROGRAM_STYLE = "#![allow(clippy::complexity, clippy::style, clippy::large_enum_variant)]\n\n"
 
 # Paths that Rust lacks or has otherwise, and where the crate has them.
 PATHS = {
@@ -229,17 +256,33 @@ def rewrite_signatures(text):
                    "fn fmt(&self, f: &mut fmt::Formatter<'_>)")
     text = in_code(text, r"\bfinal fn\b", "fn")
     # A proof needs the number from a call. Here the constant says it.
-    text = in_code(text, r"^( *fn static_type\(\) -> AttributeType)\s*;",
-                   r"\1 { Self::TYPE }")
-    # A later version may have more reasons.
-    text = in_code(text, r"(?<!#\[non_exhaustive\]\n)^(pub enum \w+(?:Error|Reason)\b)",
+    text = in_code(text, r"^( *)(fn static_type\(\) -> AttributeType)\s*;",
+                   "\\1#[must_use]\n\\1\\2 { Self::TYPE }")
+    # A later version may have more reasons, algorithms or transports.
+    text = in_code(text, r"(?<!#\[non_exhaustive\]\n)^(pub enum \w+(?:Error|Reason)\b|"
+                   r"pub enum (?:IntegrityAlgorithm|PasswordAlgorithmValue|TransportType)\b|"
+                   r"pub struct StoredKeys\b)",
                    "#[non_exhaustive]\n" r"\1")
+    # Constants of methods are made by it.
+    text = in_code(text, r"\bpub (fn new\(number: u16\) -> Option<Method>)", r"pub const \1")
     text = in_code(text, r"#\[rattlefmt::skip\]", "#[rustfmt::skip]")
     text = in_code(text, r"^fn main\(rt: HostRuntime\) -> ExitCode \{",
                    "/// Runs the program.\npub fn main() -> ExitCode {\n    let rt = HostRuntime;")
     # Tests inside the crates are those of the package `checks`.
     return in_code(text, r"^#\[cfg\(test\)\]\nmod tests;",
                    '#[cfg(all(test, feature = "checks"))]\nmod tests;')
+
+
+def rewrite_results(text):
+    """The compiler warns if the result of a call that changes nothing is ignored."""
+    def marked(found):
+        head = text[found.start():found.end()]
+        if re.search(r"&(?:'\w+ )?mut\b|#\[must_use", head):
+            return head
+        return f"{found.group(1)}#[must_use]\n{head}"
+    some = r"(?:\[[^\]]*\]|[^{;])"  # of a signature: in brackets is the length of an array
+    result = rf"\s*->(?!\s*(?:Result|impl)\b){some}+\{{"
+    return in_code(text, rf"^( *)pub (?:const )?fn \w+{some}*?\){result}", marked)
 
 
 def rewrite_imports(text):
@@ -279,6 +322,8 @@ def exported(text, crate, places):
                  rewrite_clone, rewrite_memory, rewrite_macros, rewrite_tests, rewrite_signatures,
                  rewrite_imports):
         text = rule(text)
+    if crate in LIBRARY:
+        text = rewrite_results(text)
     left = re.search(r"\b(ghost|ensures|requires|tactic|prove|Model|derive_where)\b.*", mask(text))
     if left:
         raise Unknown(left.group(0))
@@ -366,10 +411,11 @@ def main():
     commit = export_argued.commit_of(ROOT)
     for crate in crates:
         export_crate(crate, places, library if crate in LIBRARY else programs, commit)
-    for folder, words, names in (
-            (library, "crates of the library", LIBRARY),
-            (programs, "programs, and the crates that they share", set(crates) - set(LIBRARY))):
-        (folder / "mod.rs").write_text(f"//! The {words}, exported.\n" + STYLE + "".join(
+    for folder, words, names, style in (
+            (library, "crates of the library", LIBRARY, STYLE),
+            (programs, "programs, and the crates that they share", set(crates) - set(LIBRARY),
+             PROGRAM_STYLE)):
+        (folder / "mod.rs").write_text(f"//! The {words}, exported.\n" + style + "".join(
             f"pub mod {crate};\n" for crate in sorted(names)))
     export_c.write(out, exported, places, ROOT)
     # rustup has a rustfmt that runs nothing where the component is not there.

@@ -18,7 +18,8 @@ ghost use Rattle.stun_auth.specs.ForgettingSteps.{after_step, next_address};
 ghost use Rattle.stun_auth.specs.Nonces.{MINIMUM_EXPIRY};
 ghost use Rattle.stun_auth.specs.Seen.{PlaceSeen};
 ghost use Rattle.stun_auth.specs.Places.{with_change, with_client};
-ghost use Rattle.stun_auth.specs.Registered.{with_user, with_user_by_keys, without_user};
+ghost use Rattle.stun_auth.specs.Registered.{name_with_hash, with_user, with_user_by_keys};
+ghost use Rattle.stun_auth.specs.Registered.{without_user};
 ghost use Rattle.stun_auth.specs.Validation.{client_at, new_server};
 
 use crate::algorithm_set::AlgorithmSet;
@@ -150,6 +151,15 @@ impl<A: Allocator + Copy> LongTermServerAuth<A> {
         ensures { result.now ≡ self.now.registered.realm }
     {
         self.registry.realm()
+    }
+
+    /// Returns the name of the registered user whose name has this hash at the realm (USERHASH, RFC
+    /// 8489, section 14.4): the first in the order of names, if there are several. It does not
+    /// allocate and computes no hash.
+    pub fn name_with_hash(&self, hash: &[u8; 32]) -> Option<&str>
+        ensures { option_copied result ≡ name_with_hash self.now.registered hash.now }
+    {
+        self.registry.name_with_hash(hash)
     }
 
     /// Returns the supported algorithms, the strongest first: HMAC-SHA256 before HMAC-SHA1.

@@ -100,10 +100,7 @@ fn owned(text: &str) -> Result<String, UserError> {
 
 /// Returns the keys of `0xKEY [0xKEY]`.
 fn stored_keys(text: &str) -> Option<StoredKeys> {
-    let mut keys = StoredKeys {
-        sha1: None,
-        sha256: None,
-    };
+    let mut keys = StoredKeys::new();
     for word in text.split([' ', '\t']) {
         let digits = word.strip_prefix("0x")?;
         match digits.len() {

@@ -31,8 +31,10 @@ pub use crate::exported::stun_client_endpoint::body::{BODY_LIMIT, BodyError};
 ///     .add(&Lifetime::new(600))?;
 ///
 /// // CreatePermission for two peers: types may repeat.
-/// let (one, other) = ("192.0.2.7:0".parse().unwrap(), "[2001:db8::7]:0".parse().unwrap());
-/// let peers = Body::new().add_xor_peer_address(one)?.add_xor_peer_address(other)?;
+/// let (one, other) =
+///     ("192.0.2.7:0".parse().unwrap(), "[2001:db8::7]:0".parse().unwrap());
+/// let peers =
+///     Body::new().add_xor_peer_address(one)?.add_xor_peer_address(other)?;
 /// # Ok(())
 /// # }
 /// ```
@@ -59,7 +61,7 @@ impl Default for Body {
 
 impl fmt::Debug for Body {
     fn fmt(&self, f: &mut fmt::Formatter<'_>) -> fmt::Result {
-        f.write_str("Body { .. }")
+        write!(f, "Body({} bytes)", self.core.length())
     }
 }
 
@@ -158,6 +160,7 @@ pub struct AddError {
 
 impl AddError {
     /// Returns why the attribute was not added.
+    #[must_use]
     pub fn reason(&self) -> BodyError {
         self.reason
     }

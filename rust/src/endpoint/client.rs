@@ -1,8 +1,9 @@
 //! A client as one value.
 
 use super::Body;
-use super::client_outcomes::{Drops, Input, Output, RequestError, RequestId, result_of};
+use super::client_outcomes::{Drops, Input, Output, RequestId, StartError, result_of};
 use super::client_settings::ClientBuilder;
+use super::indications::Indications;
 use crate::Instant;
 use crate::copies::granted;
 use crate::exported::stun_agent::agent::StunAgentBuilder;
@@ -17,6 +18,7 @@ use crate::stats::StunAgentStats;
 use crate::trace::event;
 use crate::trace::record;
 use crate::transaction::TransactionId;
+use alloc::vec::Vec;
 use core::fmt;
 use core::net::SocketAddr;
 
@@ -58,21 +60,35 @@ use core::net::SocketAddr;
 /// use std::io::ErrorKind::{Interrupted, TimedOut, WouldBlock};
 /// use std::net::{SocketAddr, UdpSocket};
 ///
-/// fn my_address(server: SocketAddr, seed: [u8; 32]) -> Result<SocketAddr, Box<dyn Error>> {
-///     let socket = UdpSocket::bind(if server.is_ipv4() { "0.0.0.0:0" } else { "[::]:0" })?;
-///     socket.connect(server)?; // so that a closed port is reported, as an error of `recv`
+/// fn my_address(
+///     server: SocketAddr,
+///     seed: [u8; 32],
+/// ) -> Result<SocketAddr, Box<dyn Error>> {
+///     let socket =
+///         UdpSocket::bind(if server.is_ipv4() { "0.0.0.0:0" } else { "[::]:0" })?;
+///     // so that a closed port is reported, as an error of `recv`
+///     socket.connect(server)?;
 ///     let mut client = Client::builder(server).build(seed)?;
 ///     let (clock, mut buffer) = (Clock::start(), [0; 2048]);
 ///     client.request(BINDING, Body::new(), clock.now())?;
 ///     loop {
 ///         match client.poll(clock.now()) {
-///             Output::Transmit(bytes) => drop(socket.send(bytes)), // what is lost is sent again
-///             Output::Ended(_, result) => return Ok(result?.message().xor_mapped_address()?),
+///             // what is lost is sent again
+///             Output::Transmit(bytes) => drop(socket.send(bytes)),
+///             Output::Ended(_, result) => {
+///                 return Ok(result?.message().xor_mapped_address()?);
+///             }
 ///             Output::Wait(until) => {
 ///                 socket.set_read_timeout(clock.timeout(until))?;
 ///                 match socket.recv(&mut buffer) {
-///                     Ok(n) => drop(client.receive(&buffer[..n], server, clock.now())),
-///                     Err(e) if matches!(e.kind(), WouldBlock | TimedOut | Interrupted) => {}
+///                     Ok(n) => {
+///                         drop(client.receive(&buffer[..n], server, clock.now()))
+///                     }
+///                     Err(e)
+///                         if matches!(
+///                             e.kind(),
+///                             WouldBlock | TimedOut | Interrupted
+///                         ) => {}
 ///                     Err(e) => return Err(e.into()), // nobody serves that port
 ///                 }
 ///             }
@@ -83,6 +99,7 @@ use core::net::SocketAddr;
 /// ```
 pub struct Client {
     core: ClientEndpoint<Global>,
+    indications: Indications,
     #[cfg(feature = "tracing")]
     server: SocketAddr,
 }
@@ -101,11 +118,13 @@ impl Client {
         server: SocketAddr,
         credentials: Credentials<Global>,
         settings: Settings<Global>,
+        indications: Indications,
         seed: &[u8; 32],
     ) -> Client {
         let core = ClientEndpoint::new(Global, agent, server, credentials, settings, seed);
         Client {
             core: granted(core),
+            indications,
             #[cfg(feature = "tracing")]
             server,
         }
@@ -125,17 +144,58 @@ impl Client {
     /// The first of these that applies, but `OutOfMemory` may come before `TooLarge`. Nothing has
     /// changed then.
     ///
-    /// - [`RequestError::NoId`]: the seed has no transaction ID left.
-    /// - [`RequestError::TooLarge`]: the message would be too long.
-    /// - [`RequestError::OutOfMemory`]: an allocation failed.
+    /// - [`StartError::NoId`]: the seed has no transaction ID left.
+    /// - [`StartError::TooLarge`]: the message would be too long.
+    /// - [`StartError::OutOfMemory`]: an allocation failed.
     pub fn request(
         &mut self,
         method: impl Into<Method>,
         body: Body,
         now: Instant,
-    ) -> Result<RequestId, RequestError> {
+    ) -> Result<RequestId, StartError> {
         let number = self.core.request(method.into(), body.core, now)?;
         Ok(RequestId(number))
+    }
+
+    /// Returns the bytes of an indication. Send them to the server, once: nobody answers it. Its
+    /// transaction ID is derived from the seed, as those of requests are. It has SOFTWARE and
+    /// FINGERPRINT if the client is built with them. It is signed with short-term credentials, and
+    /// not with long-term ones, which no indication can have (RFC 8489, section 9.2).
+    ///
+    /// # Errors
+    ///
+    /// The first of these that applies:
+    ///
+    /// - [`StartError::TooLarge`]: the message would be too long.
+    /// - [`StartError::OutOfMemory`]: an allocation failed.
+    ///
+    /// # Examples
+    ///
+    /// Data for a peer of a TURN session. [`send_indication`](crate::extra::turn::send_indication)
+    /// writes it into a buffer of yours, without a client:
+    ///
+    /// ```
+    /// use seatcrane_stun::endpoint::{Body, Client};
+    /// use seatcrane_stun::extra::attribute::Data;
+    /// use seatcrane_stun::types::message::Method;
+    /// use std::net::{SocketAddr, UdpSocket};
+    ///
+    /// fn send(
+    ///     client: &mut Client,
+    ///     (socket, server): (&UdpSocket, SocketAddr),
+    ///     (peer, payload): (SocketAddr, &[u8]),
+    /// ) -> Result<(), Box<dyn std::error::Error>> {
+    ///     let body = Body::new().add_xor_peer_address(peer)?.add(&Data::new(payload))?;
+    ///     socket.send_to(&client.indication(Method::SEND, &body)?, server)?;
+    ///     Ok(())
+    /// }
+    /// ```
+    pub fn indication(
+        &mut self,
+        method: impl Into<Method>,
+        body: &Body,
+    ) -> Result<Vec<u8>, StartError> {
+        Ok(self.indications.write(method.into(), body)?)
     }
 
     /// Reads a datagram that came from this address. If the result is [`Input::NotOurs`], offer the
@@ -179,8 +239,8 @@ impl Client {
         }
     }
 
-    /// Ends a request with [`RequestError::Cancelled`], which `poll` then returns. Returns `false` if
-    /// it has ended already.
+    /// Ends a request with [`RequestError::Cancelled`](super::RequestError::Cancelled), which `poll`
+    /// then returns. Returns `false` if it has ended already.
     pub fn cancel(&mut self, request: RequestId) -> bool {
         self.core.cancel(request.0)
     }

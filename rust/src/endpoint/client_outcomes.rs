@@ -6,7 +6,7 @@ use crate::exported::stun_attributes::{AlternateDomain, AlternateServer};
 use crate::exported::stun_client::judged::Outcome;
 use crate::exported::stun_client_endpoint::{ended, told};
 use crate::exported::stun_types::attribute::{AttributeType, ErrorCode};
-use crate::exported::stun_types::message::IntegrityAlgorithm;
+use crate::exported::stun_types::message::{IntegrityAlgorithm, StunWriteError};
 use crate::extra::reason_phrase;
 use crate::kit::alloc::Global;
 use crate::message::Message;
@@ -41,7 +41,8 @@ pub struct RequestId(pub(super) u64);
 /// use seatcrane_stun::endpoint::Response;
 /// use std::net::SocketAddr;
 ///
-/// /// The address in a response to Binding, if somebody who knows the password signed it.
+/// /// The address in a response to Binding, if somebody who knows the password signed
+/// /// it.
 /// fn signed_address(response: &Response) -> Option<SocketAddr> {
 ///     response.signed_by()?;
 ///     response.message().xor_mapped_address().ok()
@@ -63,16 +64,19 @@ impl fmt::Debug for Response {
 impl Response {
     /// Returns the message.
     #[expect(clippy::missing_panics_doc, reason = "the bytes were read before")]
+    #[must_use]
     pub fn message(&self) -> Message<'_> {
         Message::from_bytes(&self.bytes).expect("it was read before")
     }
 
     /// Returns the algorithm of its signature, or `None` if nobody signed it.
+    #[must_use]
     pub fn signed_by(&self) -> Option<IntegrityAlgorithm> {
         self.signed_by
     }
 
     /// Returns the bytes of the message.
+    #[must_use]
     pub fn into_bytes(self) -> Vec<u8> {
         self.bytes
     }
@@ -100,28 +104,33 @@ pub struct ErrorResponse {
 
 impl ErrorResponse {
     /// Returns the code of the error.
+    #[must_use]
     pub fn code(&self) -> u16 {
         self.code
     }
 
     /// Returns the reason phrase, which may be empty. The server chose it, so escape it before you
     /// show it. [`Display`](fmt::Display) of [`RequestError`] has the registered one instead.
+    #[must_use]
     pub fn reason(&self) -> &str {
         let found = self.response.message().attribute::<ErrorCode>();
         found.map_or("", |found| found.reason())
     }
 
     /// Returns the message.
+    #[must_use]
     pub fn message(&self) -> Message<'_> {
         self.response.message()
     }
 
     /// Returns the algorithm of its signature, or `None` if nobody signed it.
+    #[must_use]
     pub fn signed_by(&self) -> Option<IntegrityAlgorithm> {
         self.response.signed_by
     }
 
     /// Returns the bytes of the message.
+    #[must_use]
     pub fn into_bytes(self) -> Vec<u8> {
         self.response.bytes
     }
@@ -166,28 +175,33 @@ impl Eq for Redirect {}
 
 impl Redirect {
     /// Returns the address of the other server.
+    #[must_use]
     pub fn server(&self) -> Option<SocketAddr> {
         let found = self.response.message().attribute::<AlternateServer>();
         Some(found.ok()?.addr())
     }
 
     /// Returns the domain that the certificate of the other server must have, for TLS.
+    #[must_use]
     pub fn domain(&self) -> Option<&str> {
         let found = self.response.message().attribute::<AlternateDomain>();
         Some(found.ok()?.text())
     }
 
     /// Returns the message.
+    #[must_use]
     pub fn message(&self) -> Message<'_> {
         self.response.message()
     }
 
     /// Returns the algorithm of the signature, or `None` if nobody signed the response.
+    #[must_use]
     pub fn signed_by(&self) -> Option<IntegrityAlgorithm> {
         self.response.signed_by
     }
 
     /// Returns the bytes of the message.
+    #[must_use]
     pub fn into_bytes(self) -> Vec<u8> {
         self.response.bytes
     }
@@ -216,16 +230,19 @@ pub struct Drops {
 
 impl Drops {
     /// Returns how many responses were dropped.
+    #[must_use]
     pub fn count(&self) -> u32 {
         self.count
     }
 
     /// Returns why the last of them was.
+    #[must_use]
     pub fn last(&self) -> Option<DropReason> {
         self.last
     }
 
     /// Returns the error code of the last of them, if it had one.
+    #[must_use]
     pub fn code(&self) -> Option<u16> {
         self.code
     }
@@ -264,7 +281,9 @@ impl fmt::Display for Drops {
 /// fn say(result: Result<Response, RequestError>) -> String {
 ///     match result {
 ///         Ok(response) => format!("{:?}", response.message()),
-///         Err(RequestError::Refused(error)) if error.code() == 486 => "too many allocations".into(),
+///         Err(RequestError::Refused(error)) if error.code() == 486 => {
+///             "too many allocations".into()
+///         }
 ///         Err(RequestError::Unauthorized) => "wrong password?".into(),
 ///         Err(RequestError::TimedOut(drops)) => format!("no answer; {drops}"),
 ///         Err(error) => error.to_string(),
@@ -290,13 +309,52 @@ pub enum RequestError {
     MalformedResponse,
     /// You called [`Client::cancel`](super::Client::cancel).
     Cancelled,
-    /// The request would be too long for a message.
+}
+
+/// Why a request was not started, or an indication not written.
+///
+/// # Examples
+///
+/// ```
+/// use seatcrane_stun::Instant;
+/// use seatcrane_stun::endpoint::{Body, Client, RequestId, StartError};
+/// use seatcrane_stun::types::message::Method;
+///
+/// /// Starts a request, unless its body is too long.
+/// fn start(
+///     client: &mut Client,
+///     body: Body,
+///     now: Instant,
+/// ) -> Result<Option<RequestId>, StartError> {
+///     match client.request(Method::REFRESH, body, now) {
+///         Ok(request) => Ok(Some(request)),
+///         Err(StartError::TooLarge) => Ok(None),
+///         Err(other) => Err(other),
+///     }
+/// }
+/// ```
+#[derive(Clone, Copy, Debug, PartialEq, Eq, Hash)]
+#[non_exhaustive]
+pub enum StartError {
+    /// The message would be too long.
     TooLarge,
     /// The seed has no transaction ID left.
     NoId,
     /// An allocation failed.
     OutOfMemory,
 }
+
+impl fmt::Display for StartError {
+    fn fmt(&self, f: &mut fmt::Formatter<'_>) -> fmt::Result {
+        f.write_str(match self {
+            StartError::TooLarge => "the body does not fit a message",
+            StartError::NoId => "no transaction ID is left",
+            StartError::OutOfMemory => "an allocation failed",
+        })
+    }
+}
+
+impl core::error::Error for StartError {}
 
 impl fmt::Display for RequestError {
     fn fmt(&self, f: &mut fmt::Formatter<'_>) -> fmt::Result {
@@ -325,21 +383,27 @@ impl fmt::Display for RequestError {
             }
             RequestError::MalformedResponse => f.write_str("the response is an error without code"),
             RequestError::Cancelled => f.write_str("cancelled"),
-            RequestError::TooLarge => f.write_str("the body does not fit a message"),
-            RequestError::NoId => f.write_str("no transaction ID is left"),
-            RequestError::OutOfMemory => f.write_str("an allocation failed"),
         }
     }
 }
 
 impl core::error::Error for RequestError {}
 
-impl From<told::RequestError> for RequestError {
-    fn from(why: told::RequestError) -> RequestError {
+impl From<told::RequestError> for StartError {
+    fn from(why: told::RequestError) -> StartError {
         match why {
-            told::RequestError::NoId => RequestError::NoId,
-            told::RequestError::TooLarge => RequestError::TooLarge,
-            told::RequestError::OutOfMemory => RequestError::OutOfMemory,
+            told::RequestError::NoId => StartError::NoId,
+            told::RequestError::TooLarge => StartError::TooLarge,
+            told::RequestError::OutOfMemory => StartError::OutOfMemory,
+        }
+    }
+}
+
+impl From<StunWriteError> for StartError {
+    fn from(why: StunWriteError) -> StartError {
+        match why {
+            StunWriteError::OutOfMemory => StartError::OutOfMemory,
+            _ => StartError::TooLarge,
         }
     }
 }
@@ -412,8 +476,15 @@ pub enum Output<'c> {
 /// use std::net::SocketAddr;
 ///
 /// /// Offers a datagram to the clients of a socket, one after the other.
-/// fn receive(clients: &mut [Client], bytes: &[u8], from: SocketAddr, now: Instant) -> bool {
-///     let is_its = |client: &mut Client| !matches!(client.receive(bytes, from, now), Input::NotOurs);
+/// fn receive(
+///     clients: &mut [Client],
+///     bytes: &[u8],
+///     from: SocketAddr,
+///     now: Instant,
+/// ) -> bool {
+///     let is_its = |client: &mut Client| {
+///         !matches!(client.receive(bytes, from, now), Input::NotOurs)
+///     };
 ///     clients.iter_mut().any(is_its)
 /// }
 /// # assert!(!receive(&mut [], b"any", "192.0.2.1:1".parse().unwrap(), Instant::ZERO));

@@ -1,6 +1,7 @@
 //! The settings of a client.
 
 use super::client::Client;
+use super::indications::Indications;
 use crate::attributes::TYPES;
 use crate::copies::{granted, text};
 use crate::credentials::{LongTermCredentials, ShortTermCredentials};
@@ -168,8 +169,10 @@ impl Default for Retransmission {
 /// use seatcrane_stun::endpoint::{Client, FrameBuffer, Transport};
 ///
 /// # let (server, seed) = ("192.0.2.1:3478".parse()?, [7; 32]);
-/// // Over TCP. What is read goes through the buffer, and each message to `Client::receive`.
-/// let client = Client::builder(server).transport(Transport::Stream).build(seed)?;
+/// // Over TCP. What is read goes through the buffer, and each message to
+/// // `Client::receive`.
+/// let client =
+///     Client::builder(server).transport(Transport::Stream).build(seed)?;
 /// let buffer = FrameBuffer::new();
 /// # Ok::<(), Box<dyn std::error::Error>>(())
 /// ```
@@ -315,8 +318,8 @@ impl ClientBuilder {
     }
 
     /// Sets whether unsigned responses are accepted to requests that the client sent unsigned: they
-    /// are not, unless you call this. Only long-term credentials use this: without credentials unsigned responses are always accepted, and with
-    /// short-term ones never.
+    /// are not, unless you call this. Only long-term credentials use this: without credentials
+    /// unsigned responses are always accepted, and with short-term ones never.
     ///
     /// A request is unsigned until it is challenged, and new requests are unsigned again after a
     /// challenged request timed out. So an attacker who can make requests time out can then also forge
@@ -346,8 +349,8 @@ impl ClientBuilder {
     }
 
     /// Sets whether responses without FINGERPRINT are dropped (RFC 8489, section 7.3). Unless you call
-    /// this, a response may have none; one whose FINGERPRINT is wrong, is not the last attribute or does not have 4
-    /// bytes is dropped always. Call it if your protocol requires FINGERPRINT, because responses of
+    /// this, a response may have none; one whose FINGERPRINT is wrong, is not the last attribute or
+    /// does not have 4 bytes is dropped always. Call it if your protocol requires FINGERPRINT, because responses of
     /// other servers are then dropped until their requests time out.
     pub fn require_fingerprint(mut self, required: bool) -> ClientBuilder {
         self.requires_fingerprint = required;
@@ -387,6 +390,7 @@ impl ClientBuilder {
             return Err(ClientBuildError::NoAlgorithm);
         }
         let (agent, timeouts) = (self.agent(), self.timeouts());
+        let indications = self.indications(seed);
         let credentials = self
             .credentials
             .core(self.preferences, self.accepts_unsigned);
@@ -403,8 +407,25 @@ impl ClientBuilder {
             self.server,
             credentials,
             settings,
+            indications,
             &seed,
         ))
+    }
+
+    /// Returns what each indication has.
+    fn indications(&self, seed: [u8; 32]) -> Indications {
+        Indications {
+            seed,
+            next: 0,
+            software: self.software.clone(),
+            has_fingerprint: self.has_fingerprint,
+            signer: match &self.credentials.0 {
+                Kind::Short(name, password, algorithm) => {
+                    Some((name.clone(), password.password().into(), *algorithm))
+                }
+                Kind::None | Kind::Long(_) => None,
+            },
+        }
     }
 
     /// Returns when a request is sent again, and when it ends.

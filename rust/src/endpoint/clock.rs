@@ -23,11 +23,13 @@ pub struct Clock(std::time::Instant);
 
 impl Clock {
     /// Starts a clock.
+    #[must_use]
     pub fn start() -> Clock {
         Clock(std::time::Instant::now())
     }
 
     /// Returns the current time.
+    #[must_use]
     pub fn now(&self) -> Instant {
         Instant::from_std(self.0)
     }
@@ -44,11 +46,13 @@ impl Clock {
     /// let now = std::time::Instant::now(); // once for all that is to be done now
     /// assert_eq!(clock.to_std(clock.at(now)), now);
     /// ```
+    #[must_use]
     pub fn at(&self, time: std::time::Instant) -> Instant {
         Instant::ZERO + time.saturating_duration_since(self.0)
     }
 
     /// Converts a time of this clock to one of the standard library, such as for a timer.
+    #[must_use]
     pub fn to_std(&self, at: Instant) -> std::time::Instant {
         at.to_std(self.0)
     }
@@ -56,6 +60,7 @@ impl Clock {
     /// Returns how long it is until this time, at least a millisecond, as
     /// [`UdpSocket::set_read_timeout`](std::net::UdpSocket::set_read_timeout) needs it. Without a
     /// time it returns `None`, which means to wait without limit.
+    #[must_use]
     pub fn timeout(&self, until: Option<Instant>) -> Option<Duration> {
         let left = until?.saturating_duration_since(self.now());
         Some(left.max(Duration::from_millis(1)))

@@ -18,6 +18,10 @@ impl<S> Given<S> {
         self.0.len()
     }
 
+    pub(super) fn get(&self, name: &str) -> Option<&S> {
+        self.0.get(name)
+    }
+
     pub(super) fn contains(&self, name: &str) -> bool {
         self.0.contains_key(name)
     }

@@ -15,8 +15,10 @@
 //! use seatcrane_stun::endpoint::ice::{Checker, Judged, Outcome, Received, Role};
 //! use seatcrane_stun::types::message::TransactionId;
 //!
-//! // What each side tells the other over signalling. Make both texts of random characters.
-//! let (left, right) = (("evtj", "asd88fgpdd777uzjYhagZg"), ("h6vY", "VOkJxbRl1RmTxUk/WvJxBt"));
+//! // What each side tells the other over signalling. Make both texts of random
+//! // characters.
+//! let left = ("evtj", "asd88fgpdd777uzjYhagZg");
+//! let right = ("h6vY", "VOkJxbRl1RmTxUk/WvJxBt");
 //! let mut here = Checker::new(left, right, 0x0123_4567_89ab_cdef, Role::Controlling)?;
 //! let mut there = Checker::new(right, left, 0xfedc_ba98_7654_3210, Role::Controlled)?;
 //!
@@ -25,7 +27,8 @@
 //!
 //! // At the other side, where a translator has changed the source address:
 //! let seen = "203.0.113.9:4242".parse()?;
-//! let Received::Check { answer, judged, .. } = there.receive(check.bytes(), seen, None) else {
+//! let received = there.receive(check.bytes(), seen, None);
+//! let Received::Check { answer, judged, .. } = received else {
 //!     panic!("no check")
 //! };
 //! assert_eq!(
@@ -35,7 +38,10 @@
 //!
 //! // Back here, the answer is judged with the check that has its transaction ID.
 //! let received = here.receive(&answer, check.to(), Some(&check));
-//! assert!(matches!(received, Received::Response(Outcome::Valid { mapped }) if mapped == seen));
+//! assert!(matches!(
+//!     received,
+//!     Received::Response(Outcome::Valid { mapped }) if mapped == seen
+//! ));
 //! # Ok::<(), Box<dyn std::error::Error>>(())
 //! ```
 //!
@@ -47,12 +53,16 @@
 //! [`Checker::set_remote`] gives it the credentials of the peer when the answer has arrived:
 //!
 //! ```
-//! use seatcrane_stun::endpoint::ice::{CheckError, Checker, Judged, Received, Role};
+//! use seatcrane_stun::endpoint::ice::{
+//!     CheckError, Checker, Judged, Received, Role,
+//! };
 //! use seatcrane_stun::types::message::TransactionId;
 //!
-//! let (ours, theirs) = (("evtj", "asd88fgpdd777uzjYhagZg"), ("h6vY", "VOkJxbRl1RmTxUk/WvJxBt"));
+//! let (ours, theirs) =
+//!     (("evtj", "asd88fgpdd777uzjYhagZg"), ("h6vY", "VOkJxbRl1RmTxUk/WvJxBt"));
 //! let mut here = Checker::offer(ours, 0x0123_4567_89ab_cdef, Role::Controlling)?;
-//! let there = Checker::new(theirs, ours, 0xfedc_ba98_7654_3210, Role::Controlled)?;
+//! let there =
+//!     Checker::new(theirs, ours, 0xfedc_ba98_7654_3210, Role::Controlled)?;
 //!
 //! // The peer has the offer, and checks.
 //! let (id, to) = (TransactionId::from([7; 12]), "192.0.2.1:5000".parse()?);
@@ -60,7 +70,8 @@
 //! let seen = "203.0.113.9:4242".parse()?;
 //! match here.receive(check.bytes(), seen, None) {
 //!     Received::Check { fragment, judged: Judged::Accepted { .. }, .. } => {
-//!         assert_eq!(fragment, Some(&b"h6vY"[..])) // who answers the offer: send the answer
+//!         // who answers the offer: send the answer
+//!         assert_eq!(fragment, Some(&b"h6vY"[..]))
 //!     }
 //!     other => panic!("{other:?}"),
 //! }
@@ -93,12 +104,19 @@
 //! use std::net::{SocketAddr, UdpSocket};
 //!
 //! /// Sends the checks that are due, and returns when there is more to do.
-//! fn send(checks: &mut Checks, socket: &UdpSocket, now: Instant) -> io::Result<Option<Instant>> {
+//! fn send(
+//!     checks: &mut Checks,
+//!     socket: &UdpSocket,
+//!     now: Instant,
+//! ) -> io::Result<Option<Instant>> {
 //!     loop {
 //!         match checks.poll(now) {
-//!             ChecksOutput::Transmit { to, bytes, .. } => drop(socket.send_to(bytes, to)?),
+//!             ChecksOutput::Transmit { to, bytes, .. } => {
+//!                 socket.send_to(bytes, to)?;
+//!             }
 //!             ChecksOutput::TimedOut { check, .. } => println!("{} fails", check.to()),
 //!             ChecksOutput::Wait(until) => return Ok(until),
+//!             _ => {}
 //!         }
 //!     }
 //! }
@@ -115,10 +133,13 @@
 //!         ChecksInput::Check { answer, judged, .. } => {
 //!             socket.send_to(&answer, from)?;
 //!             if let Judged::Accepted { .. } = judged {
-//!                 // have the pair checked next, by `checks.start` (RFC 8445, section 7.3.1.4)
+//!                 // have the pair checked next, by `checks.start` (RFC 8445, section
+//!                 // 7.3.1.4)
 //!             }
 //!         }
-//!         ChecksInput::Ended(ended) => println!("{}: {}", ended.check.to(), ended.outcome),
+//!         ChecksInput::Ended(ended) => {
+//!             println!("{}: {}", ended.check.to(), ended.outcome);
+//!         }
 //!         _ => {} // an indication, or dropped
 //!     }
 //!     Ok(())
@@ -282,11 +303,13 @@ impl Checker {
 
     /// Returns `true` if the credentials of the peer are known, so that [`check`](Self::check) does
     /// not fail with [`CheckError::NoRemote`].
+    #[must_use]
     pub fn has_remote(&self) -> bool {
         self.0.has_remote()
     }
 
     /// Returns the role that the agent has now.
+    #[must_use]
     pub fn role(&self) -> Role {
         self.0.role()
     }
@@ -298,6 +321,7 @@ impl Checker {
     }
 
     /// Returns the tie-breaker.
+    #[must_use]
     pub fn tie_breaker(&self) -> u64 {
         self.0.tie_breaker()
     }
@@ -398,6 +422,7 @@ impl Checker {
     /// assert_eq!(Message::from_bytes(&message)?.transaction_id(), id);
     /// # Ok::<(), seatcrane_stun::types::message::StunParseError>(())
     /// ```
+    #[must_use]
     pub fn keepalive(id: TransactionId) -> Vec<u8> {
         let page = Message::builder_indication_with_id(BINDING, id, MessageWriteVec::new());
         // It fits: a header and one attribute.
@@ -451,7 +476,8 @@ impl Checker {
     /// fn answer(checker: &mut Checker, socket: &UdpSocket) -> std::io::Result<()> {
     ///     let (mut datagram, mut buffer) = ([0; 2048], Vec::with_capacity(128));
     ///     while let Ok((length, from)) = socket.recv_from(&mut datagram) {
-    ///         let received = checker.receive_into(&datagram[..length], from, None, &mut buffer);
+    ///         let received =
+    ///             checker.receive_into(&datagram[..length], from, None, &mut buffer);
     ///         if let Received::Check { answer, .. } = received {
     ///             socket.send_to(answer, from)?;
     ///         }
@@ -510,7 +536,11 @@ impl Checker {
 /// use std::net::UdpSocket;
 ///
 /// /// Sends a check, and stores it until its answer arrives.
-/// fn send(socket: &UdpSocket, checks: &mut HashMap<TransactionId, Check>, check: Check) {
+/// fn send(
+///     socket: &UdpSocket,
+///     checks: &mut HashMap<TransactionId, Check>,
+///     check: Check,
+/// ) {
 ///     drop(socket.send_to(check.bytes(), check.to()));
 ///     checks.insert(check.id(), check);
 /// }
@@ -537,26 +567,31 @@ impl fmt::Debug for Check {
 
 impl Check {
     /// Returns the transaction ID, which the answer has too.
+    #[must_use]
     pub fn id(&self) -> TransactionId {
         TransactionId(self.0.id())
     }
 
     /// Returns the address to send the check to, as it was passed to [`Checker::check`].
+    #[must_use]
     pub fn to(&self) -> SocketAddr {
         self.0.to()
     }
 
     /// Returns the role that the check says its sender has.
+    #[must_use]
     pub fn role(&self) -> Role {
         self.0.role()
     }
 
     /// Returns `true` if the check nominates its pair.
+    #[must_use]
     pub fn nominates(&self) -> bool {
         self.0.nominates()
     }
 
     /// Returns the bytes to send.
+    #[must_use]
     pub fn bytes(&self) -> &[u8] {
         self.0.bytes()
     }
@@ -621,7 +656,9 @@ pub enum Received<'a, B = Vec<u8>> {
 /// fn log(outcome: Outcome) {
 ///     match outcome {
 ///         Outcome::Valid { mapped } => println!("valid, seen from {mapped}"),
-///         Outcome::RoleConflict { switched } => println!("role conflict, switched: {switched}"),
+///         Outcome::RoleConflict { switched } => {
+///             println!("role conflict, switched: {switched}")
+///         }
 ///         failed => println!("{failed}"),
 ///     }
 /// }
@@ -793,11 +830,13 @@ impl DropReason {
     pub const COUNT: usize = 8;
 
     /// Returns a number below [`COUNT`](Self::COUNT), for counters of yours.
+    #[must_use]
     pub fn index(self) -> usize {
         self as usize
     }
 
     /// Returns the name of the reason, as in the source.
+    #[must_use]
     pub fn name(self) -> &'static str {
         match self {
             DropReason::NotStun => "NotStun",

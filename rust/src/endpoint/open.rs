@@ -1,7 +1,7 @@
 //! Servers without a realm: one without credentials, and one with short-term credentials.
 
 use super::given::{Given, text_of};
-use super::server::{Request, answer_of, lent, request_of, shared};
+use super::server::{Request, answer_of, is_of_other_method, lent, request_of, shared};
 use super::{Answer, BuildError, DropReason, Refusal, Reply, UserError};
 use crate::copies::{granted, text};
 use crate::credentials::ShortTermCredentials;
@@ -9,16 +9,18 @@ use crate::exported::stun_base::attribute_type::AttributeType;
 use crate::exported::stun_endpoint::{buffered, open, responder, short_term};
 use crate::exported::stun_extra::canonical_address::canonical;
 use crate::exported::stun_types::message::{IntegrityAlgorithm, Method};
-use crate::kit::alloc::{AllocError, Global};
+use crate::kit::alloc::Global;
 use crate::kit::prelude::{String as KitString, Vec as KitVec};
 use crate::message::Message;
+use crate::ported::STUN;
 use crate::trace::record;
 use alloc::string::String;
 use alloc::vec::Vec;
 use core::fmt;
 use core::net::SocketAddr;
 
-/// What a server understands, and what it adds to its responses: no further attributes, no SOFTWARE, and Binding requests for you, unless you change them.
+/// What a server understands, and what it adds to its responses: no further attributes, no SOFTWARE,
+/// requests with any method, and Binding requests for you, unless you change them.
 ///
 /// # Examples
 ///
@@ -36,6 +38,7 @@ pub struct ResponseSettings {
     pub(super) software: Option<String>,
     pub(super) answers_binding: bool,
     pub(super) requires_fingerprint: bool,
+    pub(super) methods: Option<Vec<Method>>,
 }
 
 impl ResponseSettings {
@@ -47,7 +50,8 @@ impl ResponseSettings {
     /// Adds types of attributes that you understand, beside those of STUN. [`types`](super::types)
     /// has lists.
     pub fn understands(mut self, types: &[AttributeType]) -> ResponseSettings {
-        self.understood.extend_from_slice(types);
+        let further = types.iter().filter(|kind| !STUN.contains(kind));
+        self.understood.extend(further);
         self
     }
 
@@ -72,16 +76,43 @@ impl ResponseSettings {
         self
     }
 
-    /// Sets whether messages without FINGERPRINT are dropped (RFC 8489, section 7.3), as a protocol may
-    /// require. Unless you call this, a message may have none; one whose FINGERPRINT is wrong, is not the last
-    /// attribute or does not have 4 bytes is dropped always.
+    /// Sets whether messages without FINGERPRINT are dropped (RFC 8489, section 7.3), as a protocol
+    /// may require. Unless you call this, a message may have none; one whose FINGERPRINT is wrong, is
+    /// not the last attribute or does not have 4 bytes is dropped always.
     pub fn require_fingerprint(mut self, required: bool) -> ResponseSettings {
         self.requires_fingerprint = required;
         self
     }
 
+    /// Sets the methods that you serve: requests and indications with any other are dropped, before
+    /// anything else of them is judged (RFC 8489, section 6.3). Unless you call this, a server takes
+    /// all methods, and you refuse by hand those that you do not have. Name
+    /// [`BINDING`](crate::types::message::BINDING) too if you serve it.
+    ///
+    /// # Examples
+    ///
+    /// ```
+    /// use seatcrane_stun::endpoint::{
+    ///     DropReason, OpenReceived, OpenServer, ResponseSettings,
+    /// };
+    /// use seatcrane_stun::types::message::{BINDING, Method};
+    ///
+    /// let settings = ResponseSettings::new().methods(&[BINDING, Method::SEND]);
+    /// let server = OpenServer::new(settings.answer_binding(true))?;
+    /// let allocate = b"\0\x03\0\0\x21\x12\xa4\x42 any 12 byte";
+    /// match server.receive(allocate, "192.0.2.1:4242".parse()?) {
+    ///     OpenReceived::Dropped(why) => assert_eq!(why, DropReason::OtherMethod),
+    ///     other => panic!("{other:?}"),
+    /// }
+    /// # Ok::<(), Box<dyn std::error::Error>>(())
+    /// ```
+    pub fn methods(mut self, methods: &[Method]) -> ResponseSettings {
+        self.methods = Some(methods.to_vec());
+        self
+    }
+
     /// The settings as the core has them.
-    fn core(self) -> Result<responder::ResponseSettings<Global>, BuildError> {
+    pub(super) fn core(self) -> Result<responder::ResponseSettings<Global>, BuildError> {
         let mut understood = KitVec::new(Global);
         understood
             .extend_from_slice(&self.understood)
@@ -113,14 +144,20 @@ impl ResponseSettings {
 /// loop {
 ///     let (length, from) = socket.recv_from(&mut buffer)?;
 ///     match server.receive(&buffer[..length], from) {
-///         OpenReceived::Answer(answer) => drop(socket.send_to(answer.bytes(), answer.to())),
+///         OpenReceived::Answer(answer) => {
+///             drop(socket.send_to(answer.bytes(), answer.to()));
+///         }
 ///         OpenReceived::Dropped(why) => eprintln!("dropped: {why}"),
-///         _ => {} // an indication, a response, or a request with another method than Binding
+///         // an indication, a response, or a request with another method than Binding
+///         _ => {}
 ///     }
 /// }
 /// # }
 /// ```
-pub struct OpenServer(open::OpenServer<Global>);
+pub struct OpenServer {
+    core: open::OpenServer<Global>,
+    methods: Option<Vec<Method>>,
+}
 
 impl fmt::Debug for OpenServer {
     fn fmt(&self, f: &mut fmt::Formatter<'_>) -> fmt::Result {
@@ -138,7 +175,9 @@ impl OpenServer {
     /// - [`BuildError::SoftwareTooLong`]: the text of SOFTWARE has more than 763 bytes.
     /// - [`BuildError::OutOfMemory`]: an allocation failed.
     pub fn new(settings: ResponseSettings) -> Result<OpenServer, BuildError> {
-        open::OpenServer::new(Global, settings.core()?).map(OpenServer)
+        let methods = settings.methods.clone();
+        let core = open::OpenServer::new(Global, settings.core()?)?;
+        Ok(OpenServer { core, methods })
     }
 
     /// Judges a datagram, and writes the response if it gets one at once.
@@ -146,17 +185,32 @@ impl OpenServer {
     /// `from` is the address that it came from. An IPv4 address is the same in both spellings,
     /// `a.b.c.d` and `::ffff:a.b.c.d`.
     ///
-    /// - Bytes that are not a message, and messages with a wrong FINGERPRINT, are dropped.
+    /// - Bytes that are not a message, messages with a wrong FINGERPRINT, and requests and indications
+    ///   with a method that you do not serve ([`methods`](ResponseSettings::methods)) are dropped.
     /// - A request gets a 420 if it has an attribute that is not understood, and the answer to
     ///   Binding if the server is to give it. All others are for you. Signatures are not looked at.
     /// - An indication with an attribute that is not understood is dropped. Other indications, and
     ///   responses, are for you.
     pub fn receive<'a>(&self, bytes: &'a [u8], from: SocketAddr) -> OpenReceived<'a> {
         let mut buffer = KitVec::new(Global);
-        let received = self.0.receive_into(bytes, from, &mut buffer);
+        let received = self.judged(bytes, from, &mut buffer);
         let received = open_of_core(received, buffer.into_std());
         record!(bytes, from, received, || None);
         received
+    }
+
+    /// What a datagram comes to, with the bytes of a response in the buffer.
+    fn judged<'a>(
+        &self,
+        bytes: &'a [u8],
+        from: SocketAddr,
+        buffer: &mut KitVec<u8>,
+    ) -> Result<buffered::OpenReceivedInto<'a, Global>, DropReason> {
+        if is_of_other_method(self.methods.as_deref(), bytes) {
+            buffer.clear();
+            return Err(DropReason::OtherMethod);
+        }
+        Ok(self.core.receive_into(bytes, from, buffer)?)
     }
 
     /// Judges a datagram like [`receive`](Self::receive), and writes the response into a buffer that
@@ -186,7 +240,7 @@ impl OpenServer {
         from: SocketAddr,
         buffer: &'b mut Vec<u8>,
     ) -> OpenReceived<'a, &'b [u8]> {
-        let received = lent(buffer, |buffer| self.0.receive_into(bytes, from, buffer));
+        let received = lent(buffer, |buffer| self.judged(bytes, from, buffer));
         let received = open_of_core(received, buffer.as_slice());
         record!(bytes, from, received, || None);
         received
@@ -195,7 +249,7 @@ impl OpenServer {
 
 /// What the core returns, with the bytes of the response.
 fn open_of_core<B>(
-    received: Result<buffered::OpenReceivedInto<'_, Global>, AllocError>,
+    received: Result<buffered::OpenReceivedInto<'_, Global>, DropReason>,
     bytes: B,
 ) -> OpenReceived<'_, B> {
     use buffered::OpenReceivedInto as Core;
@@ -215,7 +269,7 @@ fn open_of_core<B>(
         Ok(Core::Indication(message)) => OpenReceived::Indication(Message(message)),
         Ok(Core::Response(message)) => OpenReceived::Response(Message(message)),
         Ok(Core::Dropped(why)) => OpenReceived::Dropped(why.into()),
-        Err(_) => OpenReceived::Dropped(DropReason::OutOfMemory),
+        Err(why) => OpenReceived::Dropped(why),
     }
 }
 
@@ -231,7 +285,9 @@ fn open_of_core<B>(
 /// fn response(received: OpenReceived<'_>) -> Option<Vec<u8>> {
 ///     match received {
 ///         OpenReceived::Answer(answer) => Some(answer.into_bytes()),
-///         OpenReceived::Request(request) => request.reply().error(400, "Bad Request").finish().ok(),
+///         OpenReceived::Request(request) => {
+///             request.reply().error(400, "Bad Request").finish().ok()
+///         }
 ///         _ => None, // an indication, a response, or a datagram that is dropped
 ///     }
 /// }
@@ -272,11 +328,13 @@ pub struct OpenRequest<'a> {
 
 impl<'a> OpenRequest<'a> {
     /// Returns the message.
+    #[must_use]
     pub fn message(&self) -> &Message<'a> {
         &self.message
     }
 
     /// Returns the method of the request.
+    #[must_use]
     pub fn method(&self) -> Method {
         self.message.method()
     }
@@ -284,11 +342,13 @@ impl<'a> OpenRequest<'a> {
     /// Returns the address that the request came from, an IPv4 address as IPv4 in either spelling,
     /// `a.b.c.d` and `::ffff:a.b.c.d`. The response goes to [`Reply::to`], which is the address that
     /// you passed to `receive`: a socket of IPv6 needs it in that spelling.
+    #[must_use]
     pub fn from(&self) -> SocketAddr {
         canonical(self.reply.to())
     }
 
     /// Returns the means to respond, without a signature. Clone it to respond later.
+    #[must_use]
     pub fn reply(&self) -> &Reply {
         &self.reply
     }
@@ -308,7 +368,8 @@ impl<'a> OpenRequest<'a> {
 /// use std::net::SocketAddr;
 ///
 /// # fn main() -> Result<(), Box<dyn std::error::Error>> {
-/// let server = ShortTermServer::new(ResponseSettings::new().answer_binding(true))?;
+/// let server =
+///     ShortTermServer::new(ResponseSettings::new().answer_binding(true))?;
 /// let mut users = ShortTermUsers::new();
 /// users.add("alice", ShortTermCredentials::new("wonderland".to_string()))?;
 ///
@@ -319,7 +380,9 @@ impl<'a> OpenRequest<'a> {
 /// ) -> Option<Vec<u8>> {
 ///     match server.receive(bytes, from, users) {
 ///         ShortTermReceived::Answer(answer) => Some(answer.into_bytes()),
-///         ShortTermReceived::Request(request) => request.reply().success().finish().ok(),
+///         ShortTermReceived::Request(request) => {
+///             request.reply().success().finish().ok()
+///         }
 ///         _ => None, // an indication, a response, or a datagram that is dropped
 ///     }
 /// }
@@ -328,7 +391,10 @@ impl<'a> OpenRequest<'a> {
 /// # Ok(())
 /// # }
 /// ```
-pub struct ShortTermServer(short_term::ShortTermServer<Global>);
+pub struct ShortTermServer {
+    core: short_term::ShortTermServer<Global>,
+    methods: Option<Vec<Method>>,
+}
 
 impl fmt::Debug for ShortTermServer {
     fn fmt(&self, f: &mut fmt::Formatter<'_>) -> fmt::Result {
@@ -346,7 +412,9 @@ impl ShortTermServer {
     /// - [`BuildError::SoftwareTooLong`]: the text of SOFTWARE has more than 763 bytes.
     /// - [`BuildError::OutOfMemory`]: an allocation failed.
     pub fn new(settings: ResponseSettings) -> Result<ShortTermServer, BuildError> {
-        short_term::ShortTermServer::new(Global, settings.core()?).map(ShortTermServer)
+        let methods = settings.methods.clone();
+        let core = short_term::ShortTermServer::new(Global, settings.core()?)?;
+        Ok(ShortTermServer { core, methods })
     }
 
     /// Judges a datagram, and writes the response if it gets one at once.
@@ -354,7 +422,8 @@ impl ShortTermServer {
     /// `from` is the address that it came from. An IPv4 address is the same in both spellings,
     /// `a.b.c.d` and `::ffff:a.b.c.d`.
     ///
-    /// - Bytes that are not a message, and messages with a wrong FINGERPRINT, are dropped.
+    /// - Bytes that are not a message, messages with a wrong FINGERPRINT, and requests and indications
+    ///   with a method that you do not serve ([`methods`](ResponseSettings::methods)) are dropped.
     /// - A request gets a 400 if it has no MESSAGE-INTEGRITY and no MESSAGE-INTEGRITY-SHA256, or no
     ///   USERNAME before it; a 401 if USERNAME is not the name of one of `users`, or the signature
     ///   is not made with the user's password; a 420, which is signed, if it has an attribute that
@@ -371,10 +440,25 @@ impl ShortTermServer {
         users: &'a ShortTermUsers,
     ) -> ShortTermReceived<'a> {
         let mut buffer = KitVec::new(Global);
-        let received = self.0.receive_into(bytes, from, &users.core, &mut buffer);
+        let received = self.judged(bytes, from, users, &mut buffer);
         let received = signed_of_core(received, buffer.into_std());
         record!(bytes, from, received, || None);
         received
+    }
+
+    /// What a datagram comes to, with the bytes of a response in the buffer.
+    fn judged<'a>(
+        &self,
+        bytes: &'a [u8],
+        from: SocketAddr,
+        users: &'a ShortTermUsers,
+        buffer: &mut KitVec<u8>,
+    ) -> Result<buffered::ShortTermReceivedInto<'a, Global>, DropReason> {
+        if is_of_other_method(self.methods.as_deref(), bytes) {
+            buffer.clear();
+            return Err(DropReason::OtherMethod);
+        }
+        Ok(self.core.receive_into(bytes, from, &users.core, buffer)?)
     }
 
     /// Judges a datagram like [`receive`](Self::receive), and writes the response into a buffer that
@@ -387,9 +471,7 @@ impl ShortTermServer {
         users: &'a ShortTermUsers,
         buffer: &'b mut Vec<u8>,
     ) -> ShortTermReceived<'a, &'b [u8]> {
-        let received = lent(buffer, |buffer| {
-            self.0.receive_into(bytes, from, &users.core, buffer)
-        });
+        let received = lent(buffer, |buffer| self.judged(bytes, from, users, buffer));
         let received = signed_of_core(received, buffer.as_slice());
         record!(bytes, from, received, || None);
         received
@@ -398,7 +480,7 @@ impl ShortTermServer {
 
 /// What the core returns, with the bytes of the response.
 fn signed_of_core<B>(
-    received: Result<buffered::ShortTermReceivedInto<'_, Global>, AllocError>,
+    received: Result<buffered::ShortTermReceivedInto<'_, Global>, DropReason>,
     bytes: B,
 ) -> ShortTermReceived<'_, B> {
     use buffered::ShortTermReceivedInto as Core;
@@ -417,7 +499,7 @@ fn signed_of_core<B>(
         Ok(Core::Response(message)) => ShortTermReceived::Response(Message(message)),
         Ok(Core::NotSigned(refusal)) => ShortTermReceived::NotSigned(refusal),
         Ok(Core::Dropped(why)) => ShortTermReceived::Dropped(why.into()),
-        Err(_) => ShortTermReceived::Dropped(DropReason::OutOfMemory),
+        Err(why) => ShortTermReceived::Dropped(why),
     }
 }
 
@@ -431,7 +513,9 @@ fn signed_of_core<B>(
 ///
 /// fn log(received: &ShortTermReceived<'_>) {
 ///     match received {
-///         ShortTermReceived::NotSigned(refusal) => println!("dropped an indication: {refusal}"),
+///         ShortTermReceived::NotSigned(refusal) => {
+///             println!("dropped an indication: {refusal}")
+///         }
 ///         ShortTermReceived::Dropped(why) => println!("dropped: {why}"),
 ///         _ => {}
 ///     }
@@ -478,16 +562,19 @@ pub struct ShortTermIndication<'a> {
 
 impl<'a> ShortTermIndication<'a> {
     /// Returns the message.
+    #[must_use]
     pub fn message(&self) -> &Message<'a> {
         &self.message
     }
 
     /// Returns the name of the user who has signed the indication.
+    #[must_use]
     pub fn user(&self) -> &'a str {
         self.user
     }
 
     /// Returns the algorithm of the signature.
+    #[must_use]
     pub fn algorithm(&self) -> IntegrityAlgorithm {
         self.algorithm
     }
@@ -541,6 +628,7 @@ impl Clone for ShortTermUsers {
 
 impl ShortTermUsers {
     /// Returns an empty table.
+    #[must_use]
     pub fn new() -> ShortTermUsers {
         ShortTermUsers {
             core: short_term::ShortTermUsers::new(Global),

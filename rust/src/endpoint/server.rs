@@ -10,16 +10,20 @@ use crate::exported::stun_auth::auth::{
     LongTermServerAuth, LongTermServerUser, NamedUser, StoredKeys,
 };
 use crate::exported::stun_base::attribute_type::AttributeType;
-use crate::exported::stun_endpoint::{buffered, lookup, received, reply, server, users};
+use crate::exported::stun_endpoint::{buffered, lookup, open, received, reply, server, users};
 use crate::exported::stun_extra::canonical_address::canonical;
-use crate::exported::stun_types::attribute::{Attribute, XorMappedAddress};
+use crate::exported::stun_types::attribute::{
+    Attribute, ErrorCode, RawAttribute, XorMappedAddress,
+};
 use crate::exported::stun_types::message::{
-    self as proved, IntegrityAlgorithm, Method, StunWriteError,
+    BINDING, IntegrityAlgorithm, MessageClass, MessageWriteVec, Method, StunWriteError,
+    deciding_algorithm,
 };
 use crate::exported::stun_types::prelude::{MessageWrite, MessageWriteExt as Proved};
+use crate::extra::reason_phrase;
 use crate::kit::alloc::{AllocError, Global};
 use crate::kit::prelude::{String as KitString, Vec as KitVec};
-use crate::message::Message;
+use crate::message::{Message, MessageHeader};
 use crate::trace::record;
 use crate::transaction::TransactionId;
 use crate::write::check_appended;
@@ -61,11 +65,14 @@ pub struct LongTerm {
     algorithms: (bool, bool),
     user_hashes: bool,
     nonce_lifetime: u64,
+    open_binding: bool,
 }
 
+/// It shows the realm, and no secret.
 impl fmt::Debug for LongTerm {
     fn fmt(&self, f: &mut fmt::Formatter<'_>) -> fmt::Result {
-        f.write_str("LongTerm { .. }")
+        let mut shown = f.debug_struct("LongTerm");
+        shown.field("realm", &self.realm).finish_non_exhaustive()
     }
 }
 
@@ -79,6 +86,7 @@ impl LongTerm {
             algorithms: (true, true),
             user_hashes: true,
             nonce_lifetime: DEFAULT_NONCE_LIFETIME,
+            open_binding: false,
         }
     }
 
@@ -111,6 +119,36 @@ impl LongTerm {
     /// Sets for how many seconds a nonce is sent. It is accepted for one to two times as long.
     pub fn nonce_lifetime(mut self, seconds: u64) -> LongTerm {
         self.nonce_lifetime = seconds;
+        self
+    }
+
+    /// Sets whether the server answers Binding requests without a signature, as TURN servers do: it
+    /// challenges them, unless you call this. The answer is the one of an
+    /// [`OpenServer`](super::OpenServer) that answers Binding, and is not signed. A Binding request
+    /// with a signature is judged like any other.
+    ///
+    /// # Examples
+    ///
+    /// ```
+    /// use seatcrane_stun::endpoint::{LongTerm, Received, Server, UnixTime};
+    /// use seatcrane_stun::types::message::Message;
+    ///
+    /// # let secret = [1; 32]; // yours must be random
+    /// let settings = LongTerm::new("example.org", secret).open_binding(true);
+    /// let server = Server::builder(settings).build()?;
+    /// let (users, from) = (server.users(), "192.0.2.1:4242".parse()?);
+    ///
+    /// let binding = b"\0\x01\0\0\x21\x12\xa4\x42 any 12 byte";
+    /// match server.receive(binding, from, UnixTime::now(), &users) {
+    ///     Received::Answer(answer) => {
+    ///         assert_eq!(Message::from_bytes(answer.bytes())?.xor_mapped_address()?, from);
+    ///     }
+    ///     other => panic!("{other:?}"),
+    /// }
+    /// # Ok::<(), Box<dyn std::error::Error>>(())
+    /// ```
+    pub fn open_binding(mut self, is_open: bool) -> LongTerm {
+        self.open_binding = is_open;
         self
     }
 }
@@ -191,6 +229,20 @@ impl ServerBuilder {
         self
     }
 
+    /// Sets the methods that you serve, like [`ResponseSettings::methods`]: requests and indications
+    /// with any other are dropped.
+    pub fn methods(mut self, methods: &[Method]) -> ServerBuilder {
+        self.settings = self.settings.methods(methods);
+        self
+    }
+
+    /// Sets whether Binding requests without a signature are answered, like
+    /// [`LongTerm::open_binding`].
+    pub fn open_binding(mut self, is_open: bool) -> ServerBuilder {
+        self.long_term = self.long_term.open_binding(is_open);
+        self
+    }
+
     /// Builds the server.
     ///
     /// # Errors
@@ -213,6 +265,9 @@ impl ServerBuilder {
 pub struct Server {
     core: server::Server<Global>,
     realm: String,
+    /// What answers Binding requests without a signature.
+    open: Option<open::OpenServer<Global>>,
+    methods: Option<Vec<Method>>,
 }
 
 /// It shows the realm, and no secret.
@@ -248,7 +303,9 @@ impl Server {
         understood
             .extend_from_slice(&settings.understood)
             .map_err(|_| BuildError::OutOfMemory)?;
-        let realm = long_term.realm.clone();
+        let (realm, methods) = (long_term.realm.clone(), settings.methods.clone());
+        let open = settings.clone().answer_binding(true);
+        let open = long_term.open_binding.then_some(open);
         let settings = server::LongTerm {
             realm: text(long_term.realm),
             secret: long_term.secret,
@@ -263,7 +320,16 @@ impl Server {
             requires_fingerprint: settings.requires_fingerprint,
         };
         let core = server::Server::new(Global, settings)?;
-        Ok(Server { core, realm })
+        let open = match open {
+            Some(settings) => Some(open::OpenServer::new(Global, settings.core()?)?),
+            None => None,
+        };
+        Ok(Server {
+            core,
+            realm,
+            open,
+            methods,
+        })
     }
 
     /// Returns an empty table of users for this server's realm.
@@ -289,9 +355,12 @@ impl Server {
     /// `from` is the address that it came from. An IPv4 address is the same in both spellings,
     /// `a.b.c.d` and `::ffff:a.b.c.d`.
     ///
-    /// - Bytes that are not a message, and messages with a wrong FINGERPRINT, are dropped.
+    /// - Bytes that are not a message, messages with a wrong FINGERPRINT, and requests and indications
+    ///   with a method that you do not serve ([`methods`](ServerBuilder::methods)) are dropped.
     /// - A request gets the answer of the first line that applies (RFC 8489, sections 6.3.1 and
     ///   9.2.4):
+    ///   - Success or 420, which are not signed: it is a Binding request without a signature, and you
+    ///     called [`open_binding`](ServerBuilder::open_binding).
     ///   - 401: it is not signed.
     ///   - 400: it has no REALM, NONCE or user name, or it has the current nonce and other algorithms
     ///     than were offered with it.
@@ -311,9 +380,57 @@ impl Server {
         now: UnixTime,
         users: &'a Users,
     ) -> Received<'a> {
-        let received = of_received(self.core.receive(bytes, from, now, &users.core));
+        let mut buffer = KitVec::new(Global);
+        let received = self.judged(bytes, from, &mut buffer, |buffer| {
+            self.core.receive_into(bytes, from, now, &users.core, buffer)
+        });
+        let received = of_core(received, buffer.into_std());
         record!(bytes, from, received, || self.cause(bytes, from, now, users));
         received
+    }
+
+    /// Judges a datagram by this call of the core, unless it is dropped for its method, or answered
+    /// without credentials.
+    fn judged<'a>(
+        &self,
+        bytes: &'a [u8],
+        from: SocketAddr,
+        buffer: &mut KitVec<u8>,
+        judge: impl FnOnce(&mut KitVec<u8>) -> Result<CoreReceived<'a>, AllocError>,
+    ) -> Judged<'a> {
+        if self.lacks_method_of(bytes) {
+            buffer.clear();
+            return Err(DropReason::OtherMethod);
+        }
+        if let Some(open) = self.open_for(bytes) {
+            return match open.receive_into(bytes, from, buffer) {
+                Ok(buffered::OpenReceivedInto::Answer(answer)) => Ok(CoreReceived::Answer(answer)),
+                Ok(buffered::OpenReceivedInto::Dropped(why)) => Err(why.into()),
+                // The server answers each Binding request, and this is one.
+                Ok(_) => Err(DropReason::Malformed),
+                Err(error) => Err(error.into()),
+            };
+        }
+        judge(buffer).map_err(DropReason::from)
+    }
+
+    /// Returns `true` if a datagram is a request or an indication with a method that is not served.
+    fn lacks_method_of(&self, bytes: &[u8]) -> bool {
+        is_of_other_method(self.methods.as_deref(), bytes)
+    }
+
+    /// Returns what answers a datagram without credentials, if it is a Binding request without a
+    /// signature and everybody may make one.
+    fn open_for(&self, bytes: &[u8]) -> Option<&open::OpenServer<Global>> {
+        let open = self.open.as_ref()?;
+        let message = Message::from_bytes(bytes).ok()?;
+        let is_binding = message.has_class(MessageClass::Request) && message.has_method(BINDING);
+        (is_binding && deciding_algorithm(bytes).is_none()).then_some(open)
+    }
+
+    /// Returns `true` if a datagram is dropped or answered before its credentials are judged.
+    fn needs_no_credentials(&self, bytes: &[u8]) -> bool {
+        self.lacks_method_of(bytes) || self.open_for(bytes).is_some()
     }
 
     /// Judges a datagram like [`receive`](Self::receive), and writes the response into a buffer that
@@ -350,7 +467,9 @@ impl Server {
         buffer: &'b mut Vec<u8>,
     ) -> Received<'a, &'b [u8]> {
         let received = lent(buffer, |buffer| {
-            self.core.receive_into(bytes, from, now, &users.core, buffer)
+            self.judged(bytes, from, buffer, |buffer| {
+                self.core.receive_into(bytes, from, now, &users.core, buffer)
+            })
         });
         let received = of_core(received, buffer.as_slice());
         record!(bytes, from, received, || self.cause(bytes, from, now, users));
@@ -382,7 +501,11 @@ impl Server {
         user: Option<&'a User>,
     ) -> Received<'a> {
         let core = user.map(|user| &*user.0);
-        let received = of_received(self.core.receive_for(bytes, from, now, core));
+        let mut buffer = KitVec::new(Global);
+        let received = self.judged(bytes, from, &mut buffer, |buffer| {
+            self.core.receive_for_into(bytes, from, now, core, buffer)
+        });
+        let received = of_core(received, buffer.into_std());
         record!(bytes, from, received, || self.cause_for(bytes, from, now, user));
         received
     }
@@ -400,7 +523,9 @@ impl Server {
     ) -> Received<'a, &'b [u8]> {
         let core = user.map(|user| &*user.0);
         let received = lent(buffer, |buffer| {
-            self.core.receive_for_into(bytes, from, now, core, buffer)
+            self.judged(bytes, from, buffer, |buffer| {
+                self.core.receive_for_into(bytes, from, now, core, buffer)
+            })
         });
         let received = of_core(received, buffer.as_slice());
         record!(bytes, from, received, || self.cause_for(bytes, from, now, user));
@@ -422,9 +547,15 @@ impl Server {
     /// use seatcrane_stun::endpoint::{Answer, Received, Server, UnixTime, Users};
     /// use std::net::SocketAddr;
     ///
-    /// fn answer(server: &Server, users: &Users, bytes: &[u8], from: SocketAddr) -> Option<Answer> {
+    /// fn answer(
+    ///     server: &Server,
+    ///     users: &Users,
+    ///     bytes: &[u8],
+    ///     from: SocketAddr,
+    /// ) -> Option<Answer> {
     ///     let now = UnixTime::now();
-    ///     let Received::Answer(answer) = server.receive(bytes, from, now, users) else {
+    ///     let Received::Answer(answer) = server.receive(bytes, from, now, users)
+    ///     else {
     ///         return None;
     ///     };
     ///     if answer.refusal().is_some() {
@@ -443,6 +574,9 @@ impl Server {
         now: UnixTime,
         users: &Users,
     ) -> Option<Cause> {
+        if self.needs_no_credentials(bytes) {
+            return None;
+        }
         self.core.cause(bytes, from, now, &users.core).ok().flatten()
     }
 
@@ -459,6 +593,9 @@ impl Server {
         now: UnixTime,
         user: Option<&User>,
     ) -> Option<Cause> {
+        if self.needs_no_credentials(bytes) {
+            return None;
+        }
         let user = user.map(|user| &*user.0);
         self.core.cause_for(bytes, from, now, user).ok().flatten()
     }
@@ -498,20 +635,101 @@ impl Server {
         from: SocketAddr,
         now: UnixTime,
     ) -> Identified<'a> {
-        let received = match self.core.identify(bytes, from, now) {
-            Ok(lookup::Identified::Done(received)) => of_received(Ok(received)),
-            Ok(lookup::Identified::Lookup(lookup)) => {
+        let mut buffer = KitVec::new(Global);
+        let identified = self.identified(bytes, from, now, &mut buffer);
+        self.of_identified(identified, bytes, from, now, buffer.into_std())
+    }
+
+    /// Judges a datagram like [`identify`](Self::identify), and writes the response into a buffer that
+    /// you keep between datagrams, in place of what it has. The buffer is empty afterwards if there
+    /// is no response, as while a request waits for its user.
+    ///
+    /// # Examples
+    ///
+    /// ```
+    /// use seatcrane_stun::endpoint::{Identified, Received, Server, UnixTime, Users};
+    /// use std::net::UdpSocket;
+    ///
+    /// fn answer(
+    ///     (server, users): (&Server, &Users),
+    ///     socket: &UdpSocket,
+    ///     (datagram, buffer): (&mut [u8], &mut Vec<u8>),
+    /// ) -> std::io::Result<()> {
+    ///     let (length, from) = socket.recv_from(datagram)?;
+    ///     let bytes = &datagram[..length];
+    ///     if let Identified::Lookup(lookup) =
+    ///         server.identify_into(bytes, from, UnixTime::now(), buffer)
+    ///     {
+    ///         let user = users.find(lookup.user_id());
+    ///         let _ = server.resume_into(lookup, user.as_ref(), buffer);
+    ///     }
+    ///     match buffer.is_empty() {
+    ///         true => Ok(()), // nothing to send at once
+    ///         false => socket.send_to(buffer, from).map(drop),
+    ///     }
+    /// }
+    /// ```
+    pub fn identify_into<'a, 'b>(
+        &'a self,
+        bytes: &'a [u8],
+        from: SocketAddr,
+        now: UnixTime,
+        buffer: &'b mut Vec<u8>,
+    ) -> Identified<'a, &'b [u8]> {
+        let identified = lent(buffer, |buffer| self.identified(bytes, from, now, buffer));
+        self.of_identified(identified, bytes, from, now, buffer.as_slice())
+    }
+
+    /// What a datagram comes to without its user, with the bytes of a response in the buffer.
+    fn identified<'a>(
+        &'a self,
+        bytes: &'a [u8],
+        from: SocketAddr,
+        now: UnixTime,
+        buffer: &mut KitVec<u8>,
+    ) -> Known<'a> {
+        let mut waiting = None;
+        let judged = self.judged(bytes, from, buffer, |buffer| {
+            match self.core.identify(bytes, from, now)? {
+                lookup::Identified::Done(received) => Ok(received.into_buffer(buffer)),
+                lookup::Identified::Lookup(lookup) => {
+                    buffer.clear();
+                    waiting = Some(lookup);
+                    Err(AllocError) // which nobody sees
+                }
+            }
+        });
+        match waiting {
+            Some(lookup) => Known::Lookup(lookup),
+            None => Known::Done(judged),
+        }
+    }
+
+    /// What the core returns, as this module says it.
+    #[cfg_attr(not(feature = "tracing"), allow(unused_variables, clippy::unused_self))]
+    fn of_identified<'a, B>(
+        &'a self,
+        identified: Known<'a>,
+        bytes: &'a [u8],
+        from: SocketAddr,
+        now: UnixTime,
+        buffer: B,
+    ) -> Identified<'a, B> {
+        match identified {
+            Known::Done(received) => {
+                let received = of_core(received, buffer);
+                record!(bytes, from, received, || self.cause_for(bytes, from, now, None));
+                Identified::Done(received)
+            }
+            Known::Lookup(lookup) => {
                 #[cfg(feature = "tracing")]
                 super::verdict::record_look_up(bytes, from);
-                return Identified::Lookup(Lookup {
+                Identified::Lookup(Lookup {
                     message: Message(copy(lookup.message())),
                     lookup,
-                });
+                })
             }
-            Err(error) => of_received(Err(error)),
-        };
-        record!(bytes, from, received, || self.cause_for(bytes, from, now, None));
-        Identified::Done(received)
+        }
     }
 
     /// Judges the request of a look-up by the user that you found, or by nobody if there is no such
@@ -528,16 +746,186 @@ impl Server {
         lookup: impl Into<Lookup<'a>>,
         user: Option<&'a User>,
     ) -> Received<'a> {
-        let lookup = lookup.into();
-        #[cfg(feature = "tracing")]
-        let (bytes, from, now) = (lookup.message.as_bytes(), lookup.from(), lookup.arrived());
-        let received = of_received(self.core.resume(lookup.lookup, user.map(|user| &*user.0)));
-        record!(bytes, from, received, || self.cause_for(bytes, from, now, user));
+        let core = user.map(|user| &*user.0);
+        let mut buffer = KitVec::new(Global);
+        let (looked_up, received) = self.resumed(lookup, |lookup| {
+            Ok(self.core.resume(lookup, core)?.into_buffer(&mut buffer))
+        });
+        let received = of_core(received, buffer.into_std());
+        looked_up.record(&received, |bytes, from, now| self.cause_for(bytes, from, now, user));
         received
+    }
+
+    /// Judges the request of a look-up like [`resume`](Self::resume), and writes the response into a
+    /// buffer that you keep between datagrams, in place of what it has. The buffer is empty afterwards
+    /// if there is no response. [`identify_into`](Self::identify_into) has an example.
+    pub fn resume_into<'a, 'b>(
+        &'a self,
+        lookup: impl Into<Lookup<'a>>,
+        user: Option<&'a User>,
+        buffer: &'b mut Vec<u8>,
+    ) -> Received<'a, &'b [u8]> {
+        let core = user.map(|user| &*user.0);
+        let (looked_up, received) = lent(buffer, |buffer| {
+            self.resumed(lookup, |lookup| {
+                Ok(self.core.resume(lookup, core)?.into_buffer(buffer))
+            })
+        });
+        let received = of_core(received, buffer.as_slice());
+        looked_up.record(&received, |bytes, from, now| self.cause_for(bytes, from, now, user));
+        received
+    }
+
+    /// Judges the request of a look-up like [`resume`](Self::resume), by the one of these users whom
+    /// it names: for a server that has a table beside users that it looks up elsewhere.
+    ///
+    /// # Examples
+    ///
+    /// Users of limited time, and if the request names none of them, those of a table:
+    ///
+    /// ```
+    /// use seatcrane_stun::endpoint::Received;
+    /// use seatcrane_stun::endpoint::{
+    ///     Identified, Server, TimeLimitedUsers, UnixTime, Users,
+    /// };
+    /// use std::net::SocketAddr;
+    ///
+    /// fn answer(
+    ///     (server, limited, users): (&Server, &TimeLimitedUsers, &Users),
+    ///     bytes: &[u8],
+    ///     from: SocketAddr,
+    /// ) -> Option<Vec<u8>> {
+    ///     let now = UnixTime::now();
+    ///     let user;
+    ///     let received = match server.identify(bytes, from, now) {
+    ///         Identified::Done(received) => received,
+    ///         Identified::Lookup(lookup) => match limited.find(lookup.user_id(), now)
+    ///         {
+    ///             Some(found) => {
+    ///                 user = server.user(found);
+    ///                 server.resume(lookup, Some(&user))
+    ///             }
+    ///             None => server.resume_among(lookup, users),
+    ///         },
+    ///     };
+    ///     match received {
+    ///         Received::Answer(answer) => Some(answer.into_bytes()),
+    ///         Received::Request(request) => request.reply().refuse(400).finish().ok(),
+    ///         _ => None,
+    ///     }
+    /// }
+    /// ```
+    pub fn resume_among<'a>(
+        &'a self,
+        lookup: impl Into<Lookup<'a>>,
+        users: &'a Users,
+    ) -> Received<'a> {
+        let mut buffer = KitVec::new(Global);
+        let (looked_up, received) = self.resumed(lookup, |lookup| {
+            self.among(&lookup, users, &mut buffer)
+        });
+        let received = of_core(received, buffer.into_std());
+        looked_up.record(&received, |bytes, from, now| self.cause(bytes, from, now, users));
+        received
+    }
+
+    /// Judges the request of a look-up like [`resume_among`](Self::resume_among), and writes the
+    /// response into a buffer that you keep between datagrams, in place of what it has. The buffer is
+    /// empty afterwards if there is no response.
+    pub fn resume_among_into<'a, 'b>(
+        &'a self,
+        lookup: impl Into<Lookup<'a>>,
+        users: &'a Users,
+        buffer: &'b mut Vec<u8>,
+    ) -> Received<'a, &'b [u8]> {
+        let (looked_up, received) = lent(buffer, |buffer| {
+            self.resumed(lookup, |lookup| self.among(&lookup, users, buffer))
+        });
+        let received = of_core(received, buffer.as_slice());
+        looked_up.record(&received, |bytes, from, now| self.cause(bytes, from, now, users));
+        received
+    }
+
+    /// What the request of a look-up comes to with a table: what `receive` says of it at the time at
+    /// which it arrived.
+    fn among<'a>(
+        &'a self,
+        lookup: &lookup::Lookup<'a>,
+        users: &'a Users,
+        buffer: &mut KitVec<u8>,
+    ) -> Result<CoreReceived<'a>, AllocError> {
+        let (bytes, arrived) = (lookup.message().as_bytes(), lookup.arrived());
+        self.core.receive_into(bytes, lookup.source(), arrived, &users.core, buffer)
+    }
+
+    /// What the request of a look-up comes to by this call of the core, and what is recorded of it.
+    #[allow(clippy::unused_self, reason = "the call is of this server")]
+    fn resumed<'a>(
+        &'a self,
+        lookup: impl Into<Lookup<'a>>,
+        judge: impl FnOnce(lookup::Lookup<'a>) -> Result<CoreReceived<'a>, AllocError>,
+    ) -> (LookedUp<'a>, Judged<'a>) {
+        let lookup = lookup.into();
+        let looked_up = LookedUp {
+            bytes: lookup.message.as_bytes(),
+            from: lookup.from(),
+            arrived: lookup.arrived(),
+        };
+        (looked_up, judge(lookup.lookup).map_err(DropReason::from))
     }
 }
 
-/// What a datagram comes to without its user, or that it needs the user.
+/// The request of a look-up, to be recorded.
+#[cfg_attr(not(feature = "tracing"), allow(dead_code))]
+struct LookedUp<'a> {
+    bytes: &'a [u8],
+    from: SocketAddr,
+    arrived: UnixTime,
+}
+
+impl LookedUp<'_> {
+    /// Records what the request came to; `cause` returns why it was refused.
+    #[cfg_attr(not(feature = "tracing"), allow(unused_variables, clippy::unused_self))]
+    fn record<B>(
+        &self,
+        received: &Received<'_, B>,
+        cause: impl FnOnce(&[u8], SocketAddr, UnixTime) -> Option<Cause>,
+    ) {
+        let (bytes, from) = (self.bytes, self.from);
+        record!(bytes, from, *received, || cause(bytes, from, self.arrived));
+    }
+}
+
+/// What the core returns, with the bytes of a response in a buffer.
+type CoreReceived<'a> = buffered::ReceivedInto<'a, Global>;
+
+/// That, or why the datagram is dropped before the core judges it, or for want of memory.
+type Judged<'a> = Result<CoreReceived<'a>, DropReason>;
+
+/// What the core says of a datagram without its user, with the bytes of a response in a buffer.
+enum Known<'a> {
+    Done(Judged<'a>),
+    Lookup(lookup::Lookup<'a>),
+}
+
+impl From<AllocError> for DropReason {
+    fn from(_: AllocError) -> DropReason {
+        DropReason::OutOfMemory
+    }
+}
+
+/// Returns `true` if a datagram is a request or an indication with a method that is not in the list,
+/// if there is one.
+pub(super) fn is_of_other_method(methods: Option<&[Method]>, bytes: &[u8]) -> bool {
+    let (Some(methods), Ok(header)) = (methods, MessageHeader::from_bytes(bytes)) else {
+        return false;
+    };
+    let kind = header.get_type();
+    !kind.is_response() && !methods.contains(&kind.method())
+}
+
+/// What a datagram comes to without its user, or that it needs the user. The bytes of a response are
+/// a `Vec`, or a slice of the buffer that was passed to [`identify_into`](Server::identify_into).
 ///
 /// # Examples
 ///
@@ -557,9 +945,9 @@ impl Server {
 /// ```
 #[must_use = "it may be a response to send, or a request that waits for its user"]
 #[derive(Debug)]
-pub enum Identified<'a> {
+pub enum Identified<'a, B = Vec<u8>> {
     /// What the datagram comes to, whoever the user is.
-    Done(Received<'a>),
+    Done(Received<'a, B>),
     /// The request waits for its user. Look that user up, and pass both to [`Server::resume`].
     Lookup(Lookup<'a>),
 }
@@ -593,26 +981,31 @@ pub struct Lookup<'a> {
 impl<'a> Lookup<'a> {
     /// Returns whom the request names. The signature is not checked yet, so anybody with a nonce can
     /// name anybody.
+    #[must_use]
     pub fn user_id(&self) -> NamedUser<'a> {
         self.lookup.user_id()
     }
 
     /// Returns the transaction ID of the request.
+    #[must_use]
     pub fn transaction_id(&self) -> TransactionId {
         TransactionId(self.lookup.transaction_id())
     }
 
     /// Returns the address that the request came from, an IPv4 address as IPv4 in either spelling.
+    #[must_use]
     pub fn from(&self) -> SocketAddr {
         canonical(self.lookup.from())
     }
 
     /// Returns the time that was passed to [`Server::identify`].
+    #[must_use]
     pub fn arrived(&self) -> UnixTime {
         self.lookup.arrived()
     }
 
     /// Returns the request.
+    #[must_use]
     pub fn message(&self) -> &Message<'a> {
         &self.message
     }
@@ -686,6 +1079,7 @@ impl fmt::Debug for OwnedLookup {
 impl OwnedLookup {
     /// Returns whom the request names. The signature is not checked yet, so anybody with a nonce can
     /// name anybody.
+    #[must_use]
     pub fn user_id(&self) -> NamedUser<'_> {
         match &self.user {
             OwnedName::Text(name) => NamedUser::ByName(name),
@@ -694,21 +1088,25 @@ impl OwnedLookup {
     }
 
     /// Returns the transaction ID of the request.
+    #[must_use]
     pub fn transaction_id(&self) -> TransactionId {
         self.as_lookup().transaction_id()
     }
 
     /// Returns the address that the request came from, an IPv4 address as IPv4 in either spelling.
+    #[must_use]
     pub fn from(&self) -> SocketAddr {
         canonical(self.from)
     }
 
     /// Returns the time that was passed to [`Server::identify`].
+    #[must_use]
     pub fn arrived(&self) -> UnixTime {
         self.arrived
     }
 
     /// Returns the bytes of the request.
+    #[must_use]
     pub fn bytes(&self) -> &[u8] {
         &self.bytes
     }
@@ -734,37 +1132,25 @@ impl<'a> From<&'a OwnedLookup> for Lookup<'a> {
 }
 
 /// Calls the core with a buffer of the caller.
-pub(super) fn lent<R>(buffer: &mut Vec<u8>, call: impl FnOnce(&mut KitVec<u8>) -> R) -> R {
+pub(crate) fn lent<R>(buffer: &mut Vec<u8>, call: impl FnOnce(&mut KitVec<u8>) -> R) -> R {
     let mut core = KitVec::from_std(core::mem::take(buffer));
     let result = call(&mut core);
     *buffer = core.into_std();
     result
 }
 
-/// What the core returns, as this module says it.
-fn of_received(received: Result<received::Received<'_, Global>, AllocError>) -> Received<'_> {
-    let mut buffer = KitVec::new(Global);
-    let received = received.map(|received| received.into_buffer(&mut buffer));
-    of_core(received, buffer.into_std())
-}
-
 /// What the core returns, with the bytes of the response.
-fn of_core<B>(
-    received: Result<buffered::ReceivedInto<'_, Global>, AllocError>,
-    bytes: B,
-) -> Received<'_, B> {
-    use buffered::ReceivedInto;
-
+fn of_core<B>(received: Judged<'_>, bytes: B) -> Received<'_, B> {
     match received {
-        Ok(ReceivedInto::Answer(answer)) => Received::Answer(answer_of(answer, bytes)),
-        Ok(ReceivedInto::Request(request)) => match request_of(request) {
+        Ok(CoreReceived::Answer(answer)) => Received::Answer(answer_of(answer, bytes)),
+        Ok(CoreReceived::Request(request)) => match request_of(request) {
             Some(request) => Received::Request(request),
             None => Received::Dropped(DropReason::OutOfMemory),
         },
-        Ok(ReceivedInto::Indication(message)) => Received::Indication(Message(message)),
-        Ok(ReceivedInto::Response(message)) => Received::Response(Message(message)),
-        Ok(ReceivedInto::Dropped(why)) => Received::Dropped(why.into()),
-        Err(_) => Received::Dropped(DropReason::OutOfMemory),
+        Ok(CoreReceived::Indication(message)) => Received::Indication(Message(message)),
+        Ok(CoreReceived::Response(message)) => Received::Response(Message(message)),
+        Ok(CoreReceived::Dropped(why)) => Received::Dropped(why.into()),
+        Err(why) => Received::Dropped(why),
     }
 }
 
@@ -876,9 +1262,16 @@ impl From<AllocError> for UserError {
 /// use seatcrane_stun::types::message::LongTermCredentials;
 /// use std::sync::{Arc, RwLock};
 ///
-/// fn add(users: &RwLock<Arc<Users>>, name: &str, password: &str) -> Result<(), UserError> {
+/// fn add(
+///     users: &RwLock<Arc<Users>>,
+///     name: &str,
+///     password: &str,
+/// ) -> Result<(), UserError> {
 ///     let mut changed = Users::clone(&users.read().unwrap());
-///     changed.add(LongTermCredentials::new(name.to_string(), password.to_string()))?;
+///     changed.add(LongTermCredentials::new(
+///         name.to_string(),
+///         password.to_string(),
+///     ))?;
 ///     *users.write().unwrap() = Arc::new(changed);
 ///     Ok(())
 /// }
@@ -944,10 +1337,7 @@ impl Users {
     /// Derives the keys of a user, as the core does.
     fn keys_of(&self, user: &LongTermCredentials) -> StoredKeys {
         let auth = &self.core.auth;
-        let mut keys = StoredKeys {
-            sha1: None,
-            sha256: None,
-        };
+        let mut keys = StoredKeys::new();
         for algorithm in auth.supported_integrity() {
             let (name, password) = (user.username(), user.password());
             let key = long_term_key(*algorithm, name, auth.realm(), password);
@@ -975,10 +1365,16 @@ impl Users {
     ///
     /// # fn main() -> Result<(), Box<dyn std::error::Error>> {
     /// let server = Server::builder(LongTerm::new("example.org", [7; 32])).build()?;
-    /// let key = long_term_key(IntegrityAlgorithm::Sha256, "alice", "example.org", "wonderland");
-    /// let keys = StoredKeys { sha1: None, sha256: Some(key.as_bytes().try_into()?) };
+    /// let key = long_term_key(
+    ///     IntegrityAlgorithm::Sha256,
+    ///     "alice",
+    ///     "example.org",
+    ///     "wonderland",
+    /// );
+    /// let keys = StoredKeys::new().with_sha256(key.as_bytes().try_into().ok());
     /// let mut users = server.users();
     /// users.add_with_keys("alice", keys)?; // she cannot sign by HMAC-SHA1
+    ///
     /// # Ok(())
     /// # }
     /// ```
@@ -1012,6 +1408,45 @@ impl Users {
     /// Returns `true` if there is a user of this name, in logarithmic time.
     pub fn contains(&self, name: &str) -> bool {
         self.keys.contains(name)
+    }
+
+    /// Returns the user whom a request names, in logarithmic time: what [`Lookup::user_id`] returns,
+    /// for [`Server::resume`], or a name, for [`Server::receive_for`]. It prepares the user's keys, so
+    /// [`Server::resume_among`] is cheaper for a look-up in this table.
+    ///
+    /// # Examples
+    ///
+    /// ```
+    /// use seatcrane_stun::auth::NamedUser;
+    /// use seatcrane_stun::endpoint::{LongTerm, Server};
+    /// use seatcrane_stun::types::attribute::Userhash;
+    /// use seatcrane_stun::types::message::LongTermCredentials;
+    ///
+    /// let server = Server::builder(LongTerm::new("example.org", [7; 32])).build()?;
+    /// let mut users = server.users();
+    /// users.add(LongTermCredentials::new(
+    ///     "alice".to_string(),
+    ///     "wonderland".to_string(),
+    /// ))?;
+    /// assert!(users.find(NamedUser::ByName("alice")).is_some());
+    /// assert!(
+    ///     users
+    ///         .find(NamedUser::ByHash(Userhash::compute("alice", users.realm())))
+    ///         .is_some()
+    /// );
+    /// assert!(users.find(NamedUser::ByName("bob")).is_none());
+    /// # Ok::<(), Box<dyn std::error::Error>>(())
+    /// ```
+    #[must_use]
+    pub fn find(&self, user: NamedUser<'_>) -> Option<User> {
+        let auth = &self.core.auth;
+        let name = match user {
+            NamedUser::ByName(name) => name,
+            NamedUser::ByHash(hash) => auth.name_with_hash(&hash)?,
+        };
+        let keys = self.keys.get(name)?;
+        let user = granted(auth.prepare_user_with_keys(text_of(name), *keys));
+        Some(User(Arc::new(user)))
     }
 
     /// Returns the names of the users, in the order of their bytes.
@@ -1140,11 +1575,13 @@ pub struct Request<'a> {
 
 impl<'a> Request<'a> {
     /// Returns the message.
+    #[must_use]
     pub fn message(&self) -> &Message<'a> {
         &self.message
     }
 
     /// Returns the method of the request.
+    #[must_use]
     pub fn method(&self) -> Method {
         self.message.method()
     }
@@ -1152,21 +1589,25 @@ impl<'a> Request<'a> {
     /// Returns the address that the request came from, an IPv4 address as IPv4 in either spelling,
     /// `a.b.c.d` and `::ffff:a.b.c.d`. The response goes to [`Reply::to`], which is the address that
     /// you passed to `receive`: a socket of IPv6 needs it in that spelling.
+    #[must_use]
     pub fn from(&self) -> SocketAddr {
         canonical(self.reply.to())
     }
 
     /// Returns the name of the user who sent the request, also if the request has a hash of it.
+    #[must_use]
     pub fn user(&self) -> &'a str {
         self.user
     }
 
     /// Returns the algorithm that both sides agreed on.
+    #[must_use]
     pub fn algorithm(&self) -> IntegrityAlgorithm {
         self.algorithm
     }
 
     /// Returns the means to respond. Clone it to respond later.
+    #[must_use]
     pub fn reply(&self) -> &Reply {
         &self.reply
     }
@@ -1208,26 +1649,58 @@ pub struct Reply(pub(super) Arc<reply::Reply<Global>>);
 
 impl fmt::Debug for Reply {
     fn fmt(&self, f: &mut fmt::Formatter<'_>) -> fmt::Result {
-        f.write_str("Reply { .. }")
+        f.debug_struct("Reply")
+            .field("to", &self.to())
+            .field("transaction_id", &self.transaction_id())
+            .finish_non_exhaustive()
     }
 }
 
 impl Reply {
     /// Returns the address to send the response to.
+    #[must_use]
     pub fn to(&self) -> SocketAddr {
         self.0.to()
     }
 
     /// Returns the transaction ID of the request.
+    #[must_use]
     pub fn transaction_id(&self) -> TransactionId {
         TransactionId(self.0.transaction_id())
     }
 
     /// Begins a success response.
     pub fn success(&self) -> ReplyWriter {
+        self.success_in(Vec::new())
+    }
+
+    /// Begins a success response that [`finish`](ReplyWriter::finish) puts into a buffer which you keep
+    /// between responses, in place of what it has.
+    ///
+    /// # Examples
+    ///
+    /// ```
+    /// use seatcrane_stun::endpoint::Request;
+    /// use seatcrane_stun::extra::attribute::Lifetime;
+    /// use std::net::UdpSocket;
+    ///
+    /// fn refresh(request: &Request<'_>, socket: &UdpSocket, buffer: &mut Vec<u8>) {
+    ///     let reply = request.reply();
+    ///     if let Ok(bytes) = reply.success_into(buffer).add(&Lifetime::new(600)).finish() {
+    ///         drop(socket.send_to(bytes, reply.to()));
+    ///     }
+    /// }
+    /// ```
+    pub fn success_into<'b>(&self, buffer: &'b mut Vec<u8>) -> ReplyWriter<&'b mut Vec<u8>> {
+        self.success_in(buffer)
+    }
+
+    /// Begins a success response for this buffer.
+    fn success_in<B>(&self, buffer: B) -> ReplyWriter<B> {
         ReplyWriter {
             reply: self.clone(),
             page: self.0.success().map_err(StunWriteError::from),
+            buffer,
         }
     }
 
@@ -1236,31 +1709,98 @@ impl Reply {
     /// [`finish`](ReplyWriter::finish) fails if the code is not from 300 to 699, or if the reason
     /// phrase has more than 763 bytes.
     pub fn error(&self, code: u16, reason: &str) -> ReplyWriter {
+        self.error_in(code, reason, Vec::new())
+    }
+
+    /// Begins an error response like [`error`](Self::error), which [`finish`](ReplyWriter::finish)
+    /// puts into a buffer that you keep between responses, in place of what it has.
+    pub fn error_into<'b>(
+        &self,
+        code: u16,
+        reason: &str,
+        buffer: &'b mut Vec<u8>,
+    ) -> ReplyWriter<&'b mut Vec<u8>> {
+        self.error_in(code, reason, buffer)
+    }
+
+    /// Begins an error response for this buffer.
+    fn error_in<B>(&self, code: u16, reason: &str, buffer: B) -> ReplyWriter<B> {
         ReplyWriter {
             reply: self.clone(),
             page: self.0.error(code, reason),
+            buffer,
         }
+    }
+
+    /// Begins an error response with this code and the [reason phrase](reason_phrase) that is
+    /// registered for it, or an empty one if there is none. [`ErrorCode`] has names for the codes.
+    ///
+    /// [`finish`](ReplyWriter::finish) fails if the code is not from 300 to 699.
+    ///
+    /// [`ErrorCode`]: crate::types::attribute::ErrorCode
+    ///
+    /// # Examples
+    ///
+    /// ```
+    /// use seatcrane_stun::endpoint::Reply;
+    /// use seatcrane_stun::types::attribute::ErrorCode;
+    /// use seatcrane_stun::types::message::StunWriteError;
+    ///
+    /// fn full(reply: &Reply) -> Result<Vec<u8>, StunWriteError> {
+    ///     // 508 Insufficient Capacity
+    ///     reply.refuse(ErrorCode::INSUFFICIENT_CAPACITY).finish()
+    /// }
+    /// ```
+    pub fn refuse(&self, code: u16) -> ReplyWriter {
+        self.error(code, reason_phrase(code).unwrap_or_default())
+    }
+
+    /// Begins a 420 with UNKNOWN-ATTRIBUTES, for types that you do not understand in requests of
+    /// some methods, or at some times. Those that you never understand the server refuses itself.
+    ///
+    /// # Examples
+    ///
+    /// ```
+    /// use seatcrane_stun::endpoint::Request;
+    /// use seatcrane_stun::types::attribute::AttributeType;
+    ///
+    /// /// Refuses EVEN-PORT while there are no pairs of ports left.
+    /// fn refuse(request: &Request<'_>) -> Option<Vec<u8>> {
+    ///     let kind = AttributeType::EVEN_PORT;
+    ///     request.message().has_attribute(kind).then_some(())?;
+    ///     request.reply().unknown(&[kind]).finish().ok()
+    /// }
+    /// ```
+    pub fn unknown(&self, types: &[AttributeType]) -> ReplyWriter {
+        let types = types.iter().flat_map(|kind| kind.value().to_be_bytes());
+        let types: Vec<u8> = types.collect();
+        let types = RawAttribute::new(AttributeType::UNKNOWN_ATTRIBUTES, &types);
+        self.refuse(ErrorCode::UNKNOWN_ATTRIBUTE).add(&types)
     }
 }
 
 /// Adds attributes to a response. The first failure is stored, and [`finish`](Self::finish) returns
-/// it.
+/// it. The bytes are a `Vec`, or a slice of the buffer that was passed to
+/// [`success_into`](Reply::success_into) or [`error_into`](Reply::error_into).
 #[must_use = "a response is written by `finish`"]
-pub struct ReplyWriter {
+pub struct ReplyWriter<B = Vec<u8>> {
     reply: Reply,
     page: Result<Page, StunWriteError>,
+    buffer: B,
 }
 
-type Page = proved::MessageWriteVec<Global>;
+type Page = MessageWriteVec<Global>;
 type Added = Result<(), StunWriteError>;
 
-impl fmt::Debug for ReplyWriter {
+impl<B> fmt::Debug for ReplyWriter<B> {
     fn fmt(&self, f: &mut fmt::Formatter<'_>) -> fmt::Result {
-        f.write_str("ReplyWriter { .. }")
+        f.debug_struct("ReplyWriter")
+            .field("reply", &self.reply)
+            .finish_non_exhaustive()
     }
 }
 
-impl ReplyWriter {
+impl<B> ReplyWriter<B> {
     /// Adds an attribute.
     ///
     /// # Panics
@@ -1268,7 +1808,7 @@ impl ReplyWriter {
     /// If [`Attribute::write_into`] of an attribute type of your own appends something else than
     /// the attribute that `get_type` and `length` describe.
     #[allow(clippy::should_implement_trait)] // `Add` is for numbers.
-    pub fn add<A: Attribute>(self, attribute: &A) -> ReplyWriter {
+    pub fn add<A: Attribute>(self, attribute: &A) -> ReplyWriter<B> {
         self.added(attribute, |page| Proved::add_attribute(page, attribute))
     }
 
@@ -1285,7 +1825,10 @@ impl ReplyWriter {
     /// use seatcrane_stun::types::message::StunWriteError;
     /// use std::net::SocketAddr;
     ///
-    /// fn with_peers(reply: &Reply, peers: &[SocketAddr]) -> Result<Vec<u8>, StunWriteError> {
+    /// fn with_peers(
+    ///     reply: &Reply,
+    ///     peers: &[SocketAddr],
+    /// ) -> Result<Vec<u8>, StunWriteError> {
     ///     let mut response = reply.success();
     ///     for peer in peers {
     ///         let attribute = XorPeerAddress::new(*peer, reply.transaction_id());
@@ -1298,7 +1841,7 @@ impl ReplyWriter {
     /// # Panics
     ///
     /// As [`add`](Self::add) does.
-    pub fn add_another<A: Attribute>(self, attribute: &A) -> ReplyWriter {
+    pub fn add_another<A: Attribute>(self, attribute: &A) -> ReplyWriter<B> {
         self.added(attribute, |page| {
             Proved::add_another_attribute(page, attribute)
         })
@@ -1318,7 +1861,7 @@ impl ReplyWriter {
 
     /// Adds XOR-MAPPED-ADDRESS with this address. An IPv4 address is written as IPv4 in either
     /// spelling, `a.b.c.d` and `::ffff:a.b.c.d`.
-    pub fn add_xor_mapped_address(self, address: SocketAddr) -> ReplyWriter {
+    pub fn add_xor_mapped_address(self, address: SocketAddr) -> ReplyWriter<B> {
         let id = self.reply.0.transaction_id();
         self.add(&XorMappedAddress::new(canonical(address), id))
     }
@@ -1326,18 +1869,25 @@ impl ReplyWriter {
     /// Adds XOR-RELAYED-ADDRESS with this address, also if the response has one already: a server
     /// that allocates for two families returns two (RFC 8656, section 7.2). An IPv4 address is
     /// written as IPv4 in either spelling.
-    pub fn add_xor_relayed_address(self, address: SocketAddr) -> ReplyWriter {
+    pub fn add_xor_relayed_address(self, address: SocketAddr) -> ReplyWriter<B> {
         let id = self.reply.0.transaction_id();
         self.add_another(&further::XorRelayedAddress::new(canonical(address), id))
     }
 
     /// Adds XOR-PEER-ADDRESS with this address, also if the response has one already (RFC 8656,
     /// section 18.3). An IPv4 address is written as IPv4 in either spelling.
-    pub fn add_xor_peer_address(self, address: SocketAddr) -> ReplyWriter {
+    pub fn add_xor_peer_address(self, address: SocketAddr) -> ReplyWriter<B> {
         let id = self.reply.0.transaction_id();
         self.add_another(&further::XorPeerAddress::new(canonical(address), id))
     }
 
+    /// The bytes of the response.
+    fn bytes(reply: &Reply, page: Result<Page, StunWriteError>) -> Result<Vec<u8>, StunWriteError> {
+        Ok(reply.0.finish(page?)?.into_std())
+    }
+}
+
+impl ReplyWriter {
     /// Ends the response, and returns the bytes to send to [`Reply::to`].
     ///
     /// # Errors
@@ -1347,6 +1897,24 @@ impl ReplyWriter {
     ///
     /// [`MessageWriteExt::add_attribute`]: crate::types::prelude::MessageWriteExt::add_attribute
     pub fn finish(self) -> Result<Vec<u8>, StunWriteError> {
-        Ok(self.reply.0.finish(self.page?)?.into_std())
+        ReplyWriter::<Vec<u8>>::bytes(&self.reply, self.page)
+    }
+}
+
+impl<'b> ReplyWriter<&'b mut Vec<u8>> {
+    /// Ends the response, and returns the bytes to send to [`Reply::to`], which are those of the
+    /// buffer.
+    ///
+    /// # Errors
+    ///
+    /// The error of the first attribute that could not be added, SOFTWARE and the signature
+    /// included: those of [`MessageWriteExt::add_attribute`]. The buffer is then empty.
+    ///
+    /// [`MessageWriteExt::add_attribute`]: crate::types::prelude::MessageWriteExt::add_attribute
+    pub fn finish(self) -> Result<&'b [u8], StunWriteError> {
+        self.buffer.clear();
+        let bytes = ReplyWriter::<Vec<u8>>::bytes(&self.reply, self.page)?;
+        self.buffer.extend_from_slice(&bytes);
+        Ok(self.buffer)
     }
 }

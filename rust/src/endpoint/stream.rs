@@ -82,6 +82,7 @@ impl core::error::Error for StreamError {}
 
 impl FrameBuffer {
     /// Returns an empty buffer for a stream of messages.
+    #[must_use]
     pub fn new() -> FrameBuffer {
         FrameBuffer {
             bytes: Vec::new(),
@@ -106,10 +107,12 @@ impl FrameBuffer {
     /// buffer.push(b"\x40\0\0\x05media\0\0\0\x40\0\xff\xff");
     /// let frame = buffer.pop()?.and_then(ChannelData::from_bytes).unwrap();
     /// assert_eq!((frame.channel(), frame.data()), (0x4000, &b"media"[..]));
-    /// assert_eq!(buffer.pop(), Err(StreamError::TooLong)); // as soon as its length is there
+    /// // as soon as its length is there
+    /// assert_eq!(buffer.pop(), Err(StreamError::TooLong));
     /// # Ok(())
     /// # }
     /// ```
+    #[must_use]
     pub fn for_turn() -> FrameBuffer {
         FrameBuffer {
             has_channels: true,
@@ -138,6 +141,7 @@ impl FrameBuffer {
     }
 
     /// Returns how many bytes wait for the rest of their message, or for [`pop`](Self::pop).
+    #[must_use]
     pub fn waiting(&self) -> usize {
         self.bytes.len() - self.popped
     }

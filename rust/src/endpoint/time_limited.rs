@@ -29,7 +29,8 @@ use core::fmt;
 /// use std::net::SocketAddr;
 ///
 /// # let secret = [7; 32];
-/// let server = Server::builder(LongTerm::new("example.org", secret).user_hashes(false)).build()?;
+/// let settings = LongTerm::new("example.org", secret).user_hashes(false);
+/// let server = Server::builder(settings).build()?;
 /// let users = TimeLimitedUsers::new("a secret of the servers and the service");
 ///
 /// // The service:
@@ -81,12 +82,14 @@ impl TimeLimitedUsers {
     }
 
     /// Returns the name and the password of a user until this time.
+    #[must_use]
     pub fn credentials(&self, user: &str, until: UnixTime) -> LongTermCredentials {
         self.signed(alloc::format!("{}:{user}", until.as_secs()))
     }
 
     /// Returns the name and the password of the user whom a request names, or `None` if the request
     /// has a hash of the name, if the name does not begin with a time, or if that time has come.
+    #[must_use]
     pub fn find(&self, user: NamedUser<'_>, now: UnixTime) -> Option<LongTermCredentials> {
         let NamedUser::ByName(name) = user else {
             return None;
@@ -96,6 +99,7 @@ impl TimeLimitedUsers {
     }
 
     /// Returns the time until which a name is valid, or `None` if it does not begin with one.
+    #[must_use]
     pub fn expiry_in(name: &str) -> Option<UnixTime> {
         let (seconds, _) = name.split_once(':').unwrap_or((name, ""));
         let is_number = seconds.bytes().all(|byte| byte.is_ascii_digit());
@@ -104,6 +108,7 @@ impl TimeLimitedUsers {
     }
 
     /// Returns the user in a name: what follows the first colon, or all of it if it has none.
+    #[must_use]
     pub fn user_in(name: &str) -> &str {
         name.split_once(':').map_or(name, |(_, user)| user)
     }

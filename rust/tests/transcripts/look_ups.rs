@@ -143,10 +143,9 @@ impl LookupStage {
             return None;
         };
         let key = |word: &str| (word != "-").then(|| unhex(word)).flatten();
-        let keys = StoredKeys {
-            sha1: key(sha1).and_then(|key| key.try_into().ok()),
-            sha256: key(sha256).and_then(|key| key.try_into().ok()),
-        };
+        let keys = StoredKeys::new()
+            .with_sha1(key(sha1).and_then(|key| key.try_into().ok()))
+            .with_sha256(key(sha256).and_then(|key| key.try_into().ok()));
         let user = self.server?.user_with_keys(*name, keys);
         self.user = Some(Box::leak(Box::new(user)));
         Some(String::new())

@@ -18,7 +18,7 @@ use tokio::sync::{mpsc, oneshot};
 use tokio::task::JoinSet;
 use tokio::time::{Instant, sleep_until};
 
-type Answer = Result<Response, RequestError>;
+type Answer = Result<Response, Box<dyn Error + Send + Sync>>;
 type Request = (Method, Body, oneshot::Sender<Answer>);
 
 /// The side of the tasks that ask. Clones share the client.
@@ -40,7 +40,7 @@ impl Front {
     async fn ask(&self, method: Method, body: Body) -> Answer {
         let (caller, answer) = oneshot::channel();
         let _ = self.0.send((method, body, caller)).await; // if that fails, the caller is dropped
-        answer.await.unwrap_or(Err(RequestError::Cancelled))
+        answer.await.unwrap_or(Err(RequestError::Cancelled.into()))
     }
 }
 
@@ -54,6 +54,7 @@ async fn drive(mut client: Client, socket: UdpSocket, mut asked: mpsc::Receiver<
             match client.poll(clock.now()) {
                 Output::Transmit(bytes) => drop(socket.send(bytes).await), // sent again if it is lost
                 Output::Ended(request, answer) => {
+                    let answer = answer.map_err(Into::into);
                     callers.remove(&request).map(|caller| caller.send(answer));
                 }
                 Output::Wait(until) => break until,
@@ -69,7 +70,7 @@ async fn drive(mut client: Client, socket: UdpSocket, mut asked: mpsc::Receiver<
                 let Some((method, body, caller)) = request else { return };
                 match client.request(method, body, clock.now()) {
                     Ok(request) => drop(callers.insert(request, caller)),
-                    Err(error) => drop(caller.send(Err(error))),
+                    Err(error) => drop(caller.send(Err(error.into()))),
                 }
             }
             // A request may be due to be sent again, or to time out.

@@ -50,13 +50,9 @@ use std::net::SocketAddr;
 
 /// A row as a user. A key of a wrong length counts as absent.
 pub fn user_of(server: &Server, row: &Row) -> User {
-    let keys = StoredKeys {
-        sha1: row.key_sha1.as_deref().and_then(|key| key.try_into().ok()),
-        sha256: row
-            .key_sha256
-            .as_deref()
-            .and_then(|key| key.try_into().ok()),
-    };
+    let keys = StoredKeys::new()
+        .with_sha1(row.key_sha1.as_deref().and_then(|key| key.try_into().ok()))
+        .with_sha256(row.key_sha256.as_deref().and_then(|key| key.try_into().ok()));
     server.user_with_keys(row.name.as_str(), keys)
 }
 

@@ -39,6 +39,7 @@ impl CandidateKind {
     ];
 
     /// Returns the type preference that RFC 8445, section 5.1.2.2, recommends: 126, 110, 100 or 0.
+    #[must_use]
     pub fn preference(self) -> u8 {
         match self {
             CandidateKind::Host => 126,
@@ -49,6 +50,7 @@ impl CandidateKind {
     }
 
     /// Returns the word of SDP: `host`, `prflx`, `srflx` or `relay`.
+    #[must_use]
     pub fn name(self) -> &'static str {
         match self {
             CandidateKind::Host => "host",
@@ -73,6 +75,7 @@ impl CandidateKind {
 /// // What PRIORITY of a check has, which is sent from the same address:
 /// assert_eq!(priority(CandidateKind::PeerReflexive, 65535, 1), 1_862_270_975);
 /// ```
+#[must_use]
 pub fn priority(kind: CandidateKind, preference: u16, component: u8) -> u32 {
     (u32::from(kind.preference()) << 24)
         + (u32::from(preference) << 8)
@@ -92,6 +95,7 @@ pub fn priority(kind: CandidateKind, preference: u16, component: u8) -> u32 {
 /// assert_eq!(pair_priority(3, 2), (2 << 32) + 2 * 3 + 1);
 /// assert_eq!(pair_priority(2, 3), (2 << 32) + 2 * 3);
 /// ```
+#[must_use]
 pub fn pair_priority(controlling: u32, controlled: u32) -> u64 {
     let (one, other) = (controlling.min(LARGEST), controlled.min(LARGEST));
     (u64::from(one.min(other)) << 32) + 2 * u64::from(one.max(other)) + u64::from(one > other)
@@ -108,7 +112,8 @@ pub fn pair_priority(controlling: u32, controlled: u32) -> u64 {
 /// ```
 /// use seatcrane_stun::endpoint::ice::{Candidate, CandidateKind};
 ///
-/// let line = "candidate:1 1 udp 1694498815 203.0.113.9 4242 typ srflx raddr 10.0.0.1 rport 5000";
+/// let line = "candidate:1 1 udp 1694498815 203.0.113.9 4242 typ srflx \
+///             raddr 10.0.0.1 rport 5000";
 /// let candidate: Candidate = line.parse()?;
 /// assert_eq!(candidate.kind, CandidateKind::ServerReflexive);
 /// assert_eq!(candidate.address, "203.0.113.9:4242".parse()?);

@@ -35,10 +35,12 @@ use core::time::Duration;
 /// use seatcrane_stun::types::message::TransactionId;
 /// use std::net::SocketAddr;
 ///
-/// let (left, right) = (("evtj", "asd88fgpdd777uzjYhagZg"), ("h6vY", "VOkJxbRl1RmTxUk/WvJxBt"));
+/// let left = ("evtj", "asd88fgpdd777uzjYhagZg");
+/// let right = ("h6vY", "VOkJxbRl1RmTxUk/WvJxBt");
 /// let mut here = Checks::new(Checker::new(left, right, 1, Role::Controlling)?);
 /// let mut there = Checks::new(Checker::new(right, left, 2, Role::Controlled)?);
-/// let (a, b): (SocketAddr, SocketAddr) = ("192.0.2.1:5000".parse()?, "192.0.2.2:5000".parse()?);
+/// let a: SocketAddr = "192.0.2.1:5000".parse()?;
+/// let b: SocketAddr = "192.0.2.2:5000".parse()?;
 ///
 /// let id = TransactionId::from([7; 12]); // must be random: `TransactionId::generate`
 /// here.start(&NewCheck::new(id, a, b, 0x6e00_01ff).nominate(true), Instant::ZERO)?;
@@ -51,7 +53,8 @@ use core::time::Duration;
 /// };
 ///
 /// // At the peer.
-/// let ChecksInput::Check { answer, .. } = there.receive(&check, b, a, Instant::ZERO) else {
+/// let received = there.receive(&check, b, a, Instant::ZERO);
+/// let ChecksInput::Check { answer, .. } = received else {
 ///     panic!("no check")
 /// };
 ///
@@ -103,7 +106,12 @@ impl fmt::Debug for Checks {
 /// use std::net::SocketAddr;
 /// use std::time::Duration;
 ///
-/// fn consent(id: TransactionId, from: SocketAddr, to: SocketAddr, priority: u32) -> NewCheck {
+/// fn consent(
+///     id: TransactionId,
+///     from: SocketAddr,
+///     to: SocketAddr,
+///     priority: u32,
+/// ) -> NewCheck {
 ///     let seconds = Duration::from_secs;
 ///     let once = Retransmission::new(seconds(30), seconds(30), 1, seconds(30));
 ///     NewCheck::new(id, from, to, priority).retransmission(once)
@@ -169,7 +177,11 @@ impl NewCheck {
 /// use seatcrane_stun::endpoint::ice::{Checks, NewCheck, NewCheckError};
 ///
 /// /// Starts a check, unless the answer to the offer has not arrived yet.
-/// fn start(checks: &mut Checks, check: &NewCheck, now: Instant) -> Result<bool, NewCheckError> {
+/// fn start(
+///     checks: &mut Checks,
+///     check: &NewCheck,
+///     now: Instant,
+/// ) -> Result<bool, NewCheckError> {
 ///     match checks.start(check, now) {
 ///         Ok(()) => Ok(true),
 ///         Err(NewCheckError::NoRemote) => Ok(false),
@@ -306,18 +318,28 @@ pub enum ChecksInput<'a, B = Vec<u8>> {
 /// use std::net::UdpSocket;
 ///
 /// /// Sends what is due, and returns when there is more to do.
-/// fn send(checks: &mut Checks, socket: &UdpSocket, now: Instant) -> Option<Instant> {
+/// fn send(
+///     checks: &mut Checks,
+///     socket: &UdpSocket,
+///     now: Instant,
+/// ) -> Option<Instant> {
 ///     loop {
 ///         match checks.poll(now) {
-///             ChecksOutput::Transmit { to, bytes, .. } => drop(socket.send_to(bytes, to)),
-///             ChecksOutput::TimedOut { check, .. } => println!("no answer from {}", check.to()),
+///             ChecksOutput::Transmit { to, bytes, .. } => {
+///                 drop(socket.send_to(bytes, to))
+///             }
+///             ChecksOutput::TimedOut { check, .. } => {
+///                 println!("no answer from {}", check.to())
+///             }
 ///             ChecksOutput::Wait(until) => return until,
+///             _ => {}
 ///         }
 ///     }
 /// }
 /// ```
 #[must_use = "it may be a check to send, or the end of one"]
 #[derive(Debug)]
+#[non_exhaustive]
 pub enum ChecksOutput<'a> {
     /// Send these bytes.
     Transmit {
@@ -341,6 +363,7 @@ pub enum ChecksOutput<'a> {
 
 impl Checks {
     /// Creates the checks of a session, of which there are none yet.
+    #[must_use]
     pub fn new(checker: Checker) -> Checks {
         let nowhere = SocketAddr::from((Ipv4Addr::UNSPECIFIED, 0));
         Checks {

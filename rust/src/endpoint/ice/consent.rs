@@ -26,7 +26,10 @@ const LASTS: Duration = Duration::from_secs(30);
 /// let start = Instant::ZERO;
 /// let random = || 1 << 31; // yours must be random
 /// let mut consent = Consent::new(start, random());
-/// assert_eq!(consent.poll(start, random()), ConsentStep::Wait(start + Duration::from_secs(5)));
+/// assert_eq!(
+///     consent.poll(start, random()),
+///     ConsentStep::Wait(start + Duration::from_secs(5))
+/// );
 ///
 /// let now = start + Duration::from_secs(5);
 /// assert_eq!(consent.poll(now, random()), ConsentStep::Ask); // send a check
@@ -66,6 +69,7 @@ pub enum ConsentStep {
 impl Consent {
     /// Creates the timers. The answer that made the pair valid was the first consent. `random` is a
     /// random number, by which the first check is sent in 4 to 6 seconds.
+    #[must_use]
     pub fn new(now: Instant, random: u32) -> Consent {
         Consent {
             until: now + LASTS,

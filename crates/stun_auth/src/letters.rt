@@ -6,15 +6,19 @@ ghost use Rattle.stun_auth.specs.Nonces.{letter};
 
 use std::alloc::{AllocError, Allocator};
 
-/// The letters, by their numbers.
-const LETTERS: &[u8; 62] = b"ABCDEFGHIJKLMNOPQRSTUVWXYZabcdefghijklmnopqrstuvwxyz0123456789";
-
 /// Returns the letter of a number, of which only the remainder by 62 counts.
-#[tactic(auto, using(crate::proofs::LetterLemmas::table_letter))]
 fn letter(number: u32) -> u8
     ensures { result ≡ letter number }
 {
-    LETTERS[(number % 62) as usize]
+    // A compiler computes several letters at once by this, and only one by a table.
+    let n = (number % 62) as u8;
+    if n < 26 {
+        b'A' + n
+    } else if n < 52 {
+        b'a' + (n - 26)
+    } else {
+        b'0' + (n - 52)
+    }
 }
 
 /// Returns the letters of sixteen numbers.

@@ -5,8 +5,10 @@ ghost use Rattle.std.specs.Prelude.{IsOkUnless, MatchOption, OnOk, length, codes
 ghost use Rattle.std.specs.Fmt.{WritesOnOk, WritesStyledOnOk};
 ghost use Rattle.std.specs.Option.{option_map, option_map_or};
 ghost use Rattle.std.specs.String.{string_bytes};
+ghost use Rattle.stun_base.specs.Algorithm.{digest_length};
 ghost use Rattle.stun_base.specs.Header.{transaction_id_field, type_field};
 ghost use Rattle.stun_base.specs.MessageType.{method_of};
+ghost use Rattle.stun_types.specs.Attribute.{attribute_length};
 ghost use Rattle.stun_types.specs.ErrorCode.{error_refusal};
 ghost use Rattle.stun_types.specs.Message.{IsMessage};
 ghost use Rattle.stun_types.specs.Walk.{walk};
@@ -25,8 +27,8 @@ use std::net::SocketAddr;
 use stun_base::prepared_key::PreparedKey;
 use stun_buffer::writer::BufferWriter;
 use stun_extra::attribute::Software;
-use stun_extra::fingerprint::finish_with_fingerprint;
-use stun_types::attribute::ErrorCode;
+use stun_extra::fingerprint::{FINGERPRINT_LENGTH, finish_with_fingerprint};
+use stun_types::attribute::{ErrorCode, attribute_length};
 use stun_types::message::{
     IntegrityAlgorithm, Message, MessageClass, MessageType, MessageWriteVec, Method,
     StunWriteError, TransactionId,
@@ -53,6 +55,13 @@ impl<A: Allocator> Signature<A> {
         ensures { result ≡ record { algorithm = algorithm; key = key } }
     {
         Signature { algorithm, key }
+    }
+
+    /// Returns how many bytes the integrity attribute has.
+    pub(crate) fn length(&self) -> usize
+        ensures { result ≡ attribute_length (digest_length self.now.algorithm) }
+    {
+        attribute_length(self.algorithm.digest_length())
     }
 }
 
@@ -234,8 +243,14 @@ impl<A: Allocator + Copy> Reply<A> {
         ensures open { IfOk result (λ page. IsOpen page.bytes) }
         ensures empty { IfOk result (λ page. walk page.bytes ≡ []) }
     {
+        let end = end_length(&self.software, &self.signature, self.has_fingerprint);
+        let mut page = MessageWriteVec::new(self.alloc);
+        // A response with one IPv4 address, as that to Binding, is written in this one block.
+        if page.reserve(MAPPED_LENGTH.saturating_add(end)).is_err() {
+            return Err(AllocError);
+        }
         let kind = MessageType::from_class_method(class, self.method);
-        match Message::builder(kind, self.id, MessageWriteVec::new(self.alloc)) {
+        match Message::builder(kind, self.id, page) {
             Ok(page) => Ok(page),
             Err(_) => Err(AllocError),
         }
@@ -263,6 +278,35 @@ impl<A: Allocator + Copy> Reply<A> {
         let page = BufferWriter::after(page.finish());
         finish_response(page, &self.software, &self.signature, self.has_fingerprint)
     }
+}
+
+/// How many bytes a response has with its header and XOR-MAPPED-ADDRESS for an IPv4 address.
+const MAPPED_LENGTH: usize = 32;
+
+/// Returns how many bytes `finish_response` adds to a response. They are reserved before the response
+/// is written, so that it takes one allocation. If they were fewer, it would take two, and its bytes
+/// would be the same.
+pub(crate) fn end_length<A: Allocator>(
+    software: &Option<String<A>>,
+    signature: &Option<Signature<A>>,
+    has_fingerprint: bool,
+) -> usize {
+    let software = match software {
+        Some(text) => attribute_length(text.len()),
+        None => 0,
+    };
+    let integrity = match signature {
+        Some(by) => by.length(),
+        None => 0,
+    };
+    let fingerprint = if has_fingerprint {
+        FINGERPRINT_LENGTH
+    } else {
+        0
+    };
+    software
+        .saturating_add(integrity)
+        .saturating_add(fingerprint)
 }
 
 /// Ends a response.

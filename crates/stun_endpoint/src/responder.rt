@@ -13,9 +13,9 @@ ghost use Rattle.stun_endpoint.specs.Responding.{is_empty, no_message, own_answe
 ghost use Rattle.stun_endpoint.specs.Responding.{reply_by, unknown_by};
 ghost use Rattle.stun_extra.specs.Unknown.{refusing_answer, unknown_types};
 
-use crate::pages::{error_page, mapped_page};
+use crate::pages::{error_page, mapped_page, writer_with_room};
 use crate::received::{Answer, DropReason, Refusal};
-use crate::reply::{Reply, Signature, finish_response};
+use crate::reply::{Reply, Signature, end_length, finish_response};
 use crate::server::{BuildError, STUN_ATTRIBUTES};
 use crate::understood::are_understood;
 use std::alloc::{AllocError, Allocator, Global};
@@ -29,6 +29,10 @@ use stun_extra::unknown::answer_unknown;
 use stun_types::limits::TEXT_LIMIT;
 use stun_types::message::{BINDING, Message};
 use stun_types::prelude::*;
+
+/// How many bytes the attributes of a 420 have before its end: ERROR-CODE, and UNKNOWN-ATTRIBUTES with
+/// one or two types. More types may cost a second allocation.
+const UNKNOWN_LENGTH: usize = 36;
 
 /// What a server without a realm understands, and what it adds to its responses. `new` sets no
 /// further attributes and no SOFTWARE, and leaves Binding requests to you.
@@ -269,7 +273,8 @@ impl<A: Allocator + Copy> Responder<A> {
         requires { has_fingerprint ≡ is_fingerprinted request.now }
         ensures { IfOk result (λ answer. answer ≡ refusal_by self.now refusal from request.now) }
     {
-        let page = error_page(buffer, request, refusal.code(), refusal.phrase())?;
+        let more = self.end_length(&None, has_fingerprint);
+        let page = error_page(buffer, request, refusal.code(), refusal.phrase(), more)?;
         let bytes = self.end(page, &None, has_fingerprint)?;
         Ok(Answer::new(from, Some(refusal), bytes))
     }
@@ -293,6 +298,15 @@ impl<A: Allocator + Copy> Responder<A> {
             // The settings leave room in each response, so that an allocation failed.
             Err(_) => Err(AllocError),
         }
+    }
+
+    /// Returns how many bytes `end` adds to a response.
+    pub(crate) fn end_length(
+        &self,
+        signature: &Option<Signature<A>>,
+        has_fingerprint: bool,
+    ) -> usize {
+        end_length(&self.software, signature, has_fingerprint)
     }
 
     /// A copy of the text of SOFTWARE.
@@ -319,22 +333,26 @@ impl<A: Allocator + Copy> Responder<A> {
         ensures { IfOk result (λ answer. answer
             ≡ unknown_by self.now signature.now from request.now) }
     {
-        let page = self.unknown_page(request, buffer)?;
+        let more = self.end_length(signature, has_fingerprint);
+        let page = self.unknown_page(request, more, buffer)?;
         let bytes = self.end(page, signature, has_fingerprint)?;
         Ok(Answer::new(from, Some(Refusal::UnknownAttribute), bytes))
     }
 
-    /// Begins the 420 to a request.
+    /// Begins the 420 to a request, and reserves this many bytes for its end.
     fn unknown_page(
         &self,
         request: &Message<'_>,
+        more: usize,
         buffer: &mut Vec<u8, A>,
     ) -> Result<BufferWriter<A>, AllocError>
         ensures bytes { IfOk result (λ page. page.bytes
             ≡ refusing_answer self.now.known request.now) }
         ensures header { IfOk result (λ page. 20 ≤ length page.bytes) }
     {
-        let writer = BufferWriter::over(buffer);
+        let Ok(writer) = writer_with_room(buffer, UNKNOWN_LENGTH.saturating_add(more)) else {
+            return Err(AllocError);
+        };
         match answer_unknown(request, self.known.as_slice(), writer) {
             Ok(Some(page)) => Ok(page),
             _ => Err(AllocError),
@@ -355,7 +373,8 @@ impl<A: Allocator + Copy> Responder<A> {
         ensures { IfOk result (λ answer. answer
             ≡ binding_by self.now signature.now from request.now) }
     {
-        let page = mapped_page(buffer, request, from)?;
+        let more = self.end_length(signature, has_fingerprint);
+        let page = mapped_page(buffer, request, from, more)?;
         let bytes = self.end(page, signature, has_fingerprint)?;
         Ok(Answer::new(from, None, bytes))
     }

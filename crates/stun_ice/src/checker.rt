@@ -32,12 +32,16 @@ use stun_base::key::IntegrityKey;
 use stun_base::prepared_key::PreparedKey;
 use stun_extra::attribute::{IceControlled, IceControlling, Priority, UseCandidate};
 use stun_extra::fingerprint::finish_with_fingerprint;
-use stun_types::attribute::Username;
+use stun_types::attribute::{Username, attribute_length};
 use stun_types::message::{
     BINDING, IntegrityAlgorithm, Message, MessageWriteVec, StunWriteError, TransactionId,
 };
 use stun_types::prelude::*;
 use thiserror::Error;
+
+/// How many bytes a check has beside USERNAME: its header, PRIORITY, the role, USE-CANDIDATE,
+/// MESSAGE-INTEGRITY and FINGERPRINT.
+const CHECK_LENGTH: usize = 76;
 
 /// The name and the password of one side, as it sent them to the other over signalling (RFC 8445,
 /// section 5.3). `Debug` shows none of it.
@@ -505,7 +509,9 @@ impl<A: Allocator + Copy> Checker<A> {
             ≡ check_page self.now remote.now id priority nominates) }
         ensures header { IfOk result (λ page. 20 ≤ length page.bytes) }
     {
-        let writer = MessageWriteVec::new(self.alloc);
+        let mut writer = MessageWriteVec::new(self.alloc);
+        // A check is written in this one block.
+        writer.reserve(CHECK_LENGTH.saturating_add(attribute_length(remote.username.len())))?;
         let mut page = Message::builder_request(BINDING, id, writer)?;
         page.add_attribute(&Username::new(&remote.username)?)?;
         page.add_attribute(&Priority::new(priority))?;

@@ -21,7 +21,11 @@ use std::alloc::{AllocError, Allocator};
 use std::net::SocketAddr;
 use stun_auth::auth::{VerdictRefusal, told_refusal};
 use stun_buffer::writer::BufferWriter;
+use stun_types::attribute::attribute_length;
 use stun_types::message::{Message, StunWriteError};
+
+/// How many bytes an algorithm has in PASSWORD-ALGORITHMS (RFC 8489, section 14.11).
+const ALGORITHM_LENGTH: usize = 4;
 
 impl<A: Allocator + Copy> Server<A> {
     /// What a refused request comes to.
@@ -111,17 +115,35 @@ impl<A: Allocator + Copy> Server<A> {
         ensures { IfOk result (λ answer. answer
             ≡ challenge_answer self.now refusal nonce.now from request.now) }
     {
-        let page = self.challenge(request, nonce, refusal, buffer)?;
+        let more = self.challenge_length(nonce, has_fingerprint);
+        let page = self.challenge(request, nonce, refusal, more, buffer)?;
         let bytes = self.responder.end(page, &None, has_fingerprint)?;
         Ok(Answer::new(from, Some(refusal), bytes))
     }
 
-    /// Begins an error response that tells a client how to sign.
+    /// Returns how many bytes a 401 or a 438 has after its ERROR-CODE. They are reserved before it is
+    /// written, so that it takes one allocation. If they were fewer, it would take two, and its bytes
+    /// would be the same.
+    fn challenge_length(&self, nonce: &str, has_fingerprint: bool) -> usize {
+        let algorithms = match (self.hmac_sha1, self.hmac_sha256) {
+            (true, true) => attribute_length(2 * ALGORITHM_LENGTH),
+            (false, true) => attribute_length(ALGORITHM_LENGTH),
+            (_, false) => 0,
+        };
+        attribute_length(nonce.len())
+            .saturating_add(attribute_length(self.auth.realm().len()))
+            .saturating_add(algorithms)
+            .saturating_add(self.responder.end_length(&None, has_fingerprint))
+    }
+
+    /// Begins an error response that tells a client how to sign, and reserves this many bytes for
+    /// what comes after its ERROR-CODE.
     fn challenge(
         &self,
         request: &Message<'_>,
         nonce: &str,
         refusal: Refusal,
+        more: usize,
         buffer: &mut Vec<u8, A>,
     ) -> Result<BufferWriter<A>, AllocError>
         requires { asks_for_algorithms nonce.now ≡ contains Sha256 self.now.algorithms }
@@ -129,7 +151,7 @@ impl<A: Allocator + Copy> Server<A> {
             ≡ challenge_page self.now nonce.now request.now (code_of refusal) (phrase_of refusal)) }
         ensures header { IfOk result (λ page. 20 ≤ length page.bytes) }
     {
-        let page = error_page(buffer, request, refusal.code(), refusal.phrase())?;
+        let page = error_page(buffer, request, refusal.code(), refusal.phrase(), more)?;
         match self.challenged(page, nonce) {
             Ok(page) => Ok(page),
             // The settings leave room in each response, so that an allocation failed.

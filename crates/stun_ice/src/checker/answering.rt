@@ -15,10 +15,11 @@ use crate::parts::UNDERSTOOD;
 use crate::received::Refusal;
 use std::alloc::Allocator;
 use std::net::SocketAddr;
+use stun_base::header::HEADER_LENGTH;
 use stun_extra::canonical_address::mapped_address;
-use stun_extra::fingerprint::finish_with_fingerprint;
+use stun_extra::fingerprint::{FINGERPRINT_LENGTH, finish_with_fingerprint};
 use stun_extra::unknown::answer_unknown;
-use stun_types::attribute::{AttributeType, ErrorCode};
+use stun_types::attribute::{AttributeType, ErrorCode, attribute_length};
 use stun_types::message::{IntegrityAlgorithm, Message, StunWriteError};
 use stun_types::prelude::*;
 
@@ -54,7 +55,9 @@ impl<A: Allocator> Checker<A> {
         ensures { IfOk result (λ answer. W.Output.contents answer
             ≡ success_answer self.now from check.now algorithm) }
     {
-        let page = mapped_page(check, from, writer)?;
+        // The answer is written in one block.
+        let end = attribute_length(algorithm.digest_length()).saturating_add(FINGERPRINT_LENGTH);
+        let page = mapped_page(check, from, end, writer)?;
         let answer = self.end(page, Some(algorithm))?;
         Ok(answer)
     }
@@ -163,18 +166,24 @@ impl<A: Allocator> Checker<A> {
     }
 }
 
-/// Begins a success response with the address that a check came from.
+/// Begins a success response with the address that a check came from, and reserves this many bytes
+/// for what comes after it.
 fn mapped_page<W: MessageWrite>(
     check: &Message<'_>,
     from: SocketAddr,
+    more: usize,
     writer: W,
 ) -> Result<W, StunWriteError>
     requires { W.bytes writer ≡ [] }
     ensures bytes { IfOk result (λ page. W.bytes page ≡ mapped_page from check.now) }
     ensures header { IfOk result (λ page. 20 ≤ length (W.bytes page)) }
 {
+    let address = mapped_address(from, check.transaction_id());
+    let length = HEADER_LENGTH.saturating_add(address.padded_len());
+    let mut writer = writer;
+    writer.reserve(length.saturating_add(more))?;
     let mut page = Message::builder_success(check, writer)?;
-    page.add_attribute(&mapped_address(from, check.transaction_id()))?;
+    page.add_attribute(&address)?;
     Ok(page)
 }
 

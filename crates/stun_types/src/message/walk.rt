@@ -1,6 +1,6 @@
 //! Walks over the attributes of a message that read only their types and lengths.
 
-ghost use Rattle.std.specs.Prelude.{◌≡◌, true, false, drop, IfSome, IfNone, OnSome};
+ghost use Rattle.std.specs.Prelude.{◌≡◌, ◌||◌, true, false, drop, IfSome, IfNone, OnSome};
 ghost use Rattle.std.specs.Option.{option_map};
 ghost use Rattle.stun_types.specs.Attribute.{attribute_length, first_attribute};
 ghost use Rattle.stun_types.specs.Attribute.{has_attribute, kind_field};
@@ -48,6 +48,23 @@ pub(crate) fn has_attribute(message: &[u8], kind: AttributeType) -> bool
     let mut place = HEADER_LENGTH;
     while let Some((found, behind)) = kind_at(message, place) {
         if found == kind {
+            return true;
+        }
+        place = behind;
+    }
+    false
+}
+
+/// Returns `true` if a message has an attribute of one of two types, visible or not.
+pub(crate) fn has_either(message: &[u8], one: AttributeType, other: AttributeType) -> bool
+    ensures { result ≡ (has_kind one.0 (walk message.now) || has_kind other.0 (walk message.now)) }
+{
+    let mut place = HEADER_LENGTH;
+    while let Some((found, behind)) = kind_at(message, place) {
+        if found == one {
+            return true;
+        }
+        if found == other {
             return true;
         }
         place = behind;

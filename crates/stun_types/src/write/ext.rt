@@ -20,7 +20,7 @@ ghost use Rattle.stun_types.specs.Writing.{size_refusal};
 use crate::attribute::{Attribute, AttributeType, attribute_length};
 use crate::integrity::digest_key::DigestKey;
 use crate::limits::MAX_LENGTH;
-use crate::message::walk::has_attribute;
+use crate::message::walk::{has_attribute, has_either};
 use crate::write::MessageWrite;
 use crate::write::append::append_attribute;
 use std::alloc::{AllocError, Allocator};
@@ -317,8 +317,11 @@ fn has_integrity(message: &[u8]) -> bool
     requires { header_length ≤ length message.now }
     ensures { result ≡ has_integrity message.now }
 {
-    has_attribute(message, AttributeType::MESSAGE_INTEGRITY)
-        || has_attribute(message, AttributeType::MESSAGE_INTEGRITY_SHA256)
+    has_either(
+        message,
+        AttributeType::MESSAGE_INTEGRITY,
+        AttributeType::MESSAGE_INTEGRITY_SHA256,
+    )
 }
 
 /// Returns the message length after this many bytes are added, at most `usize::MAX`.

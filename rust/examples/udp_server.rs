@@ -177,14 +177,12 @@ impl Service<'_> {
         };
         let users = users.read().unwrap_or_else(PoisonError::into_inner);
         let now = UnixTime::now();
-        match server.receive(bytes, from, now, &users) {
-            Received::Answer(answer) => {
-                let refusal = answer.refusal();
-                if let Some(cause) = refusal.and_then(|_| server.cause(bytes, from, now, &users)) {
-                    self.counts.note_cause(cause);
-                }
-                Outcome::from(answer)
-            }
+        let (received, cause) = server.receive_with_cause(bytes, from, now, &users);
+        if let Some(cause) = cause {
+            self.counts.note_cause(cause);
+        }
+        match received {
+            Received::Answer(answer) => Outcome::from(answer),
             Received::Request(request) => self.respond(request.message(), request.reply(), at),
             Received::Dropped(why) => Outcome::Dropped(why),
             _ => Outcome::Other,

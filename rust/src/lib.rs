@@ -72,7 +72,8 @@
 //! | `dropped` | all | `reason` is the [`endpoint::DropReason`] or [`endpoint::ice::DropReason`] by its name |
 //!
 //! To find the cause of a refusal, the server judges the request again, so a refusal takes twice the
-//! time while somebody subscribes to these events.
+//! time while somebody subscribes to these events. The calls that return the cause, such as
+//! [`endpoint::Server::receive_with_cause`], judge it once.
 #![no_std]
 #![cfg_attr(docsrs, feature(doc_cfg))]
 #![forbid(unsafe_code)]

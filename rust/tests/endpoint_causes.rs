@@ -74,25 +74,46 @@ fn at(address: &str) -> SocketAddr {
     address.parse().unwrap()
 }
 
+fn alice() -> LongTermCredentials {
+    LongTermCredentials::new("alice".to_string(), "wonderland".to_string())
+}
+
 fn server_of(secret: u8) -> (Server, Users) {
     let server = Server::builder(LongTerm::new("example.org", [secret; 32])).build();
     let server = server.unwrap();
     let mut users = server.users();
-    let alice = LongTermCredentials::new("alice".to_string(), "wonderland".to_string());
-    users.add(alice).unwrap();
+    users.add(alice()).unwrap();
     (server, users)
 }
 
-/// The cause, which has the code of the answer.
+/// The cause, which has the code of the answer. The calls that judge a datagram once return it with
+/// the answer of the others.
 fn cause_at((server, users): &(Server, Users), bytes: &[u8], seconds: u64) -> Option<Cause> {
     let (from, now) = (at("192.0.2.1:4242"), UnixTime::from_secs(NOW + seconds));
     let cause = server.cause(bytes, from, now, users);
+    let alone = server.receive(bytes, from, now, users);
+    let (received, told) = server.receive_with_cause(bytes, from, now, users);
+    assert_eq!(told, cause);
+    assert_eq!(answered(&received), answered(&alone));
+    let alice = server.user(alice());
+    let (received, told) = server.receive_for_with_cause(bytes, from, now, Some(&alice));
+    assert_eq!(told, server.cause_for(bytes, from, now, Some(&alice)));
+    let alone = server.receive_for(bytes, from, now, Some(&alice));
+    assert_eq!(answered(&received), answered(&alone));
     let refusal = match server.receive(bytes, from, now, users) {
         Received::Answer(answer) => answer.refusal(),
         _ => None,
     };
     assert_eq!(cause.map(Cause::code), refusal.map(Refusal::code));
     cause
+}
+
+/// The bytes of the answer, if there is one.
+fn answered<'a>(received: &'a Received<'_>) -> Option<&'a [u8]> {
+    match received {
+        Received::Answer(answer) => Some(answer.bytes()),
+        _ => None,
+    }
 }
 
 #[test]

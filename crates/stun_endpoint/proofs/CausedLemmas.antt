@@ -1,7 +1,7 @@
 -- The code of a cause is that of the response, and what is not refused has no cause.
 use Rattle.std.proofs.Common.{◌≡◌, ℕ, List, [], Option, Some, None, Bool, true, false, refl, sym, ◌∙◌}
 use Rattle.std.proofs.Common.{ap, Ok, Err}
-use Rattle.std.specs.Prelude.{cond, ◌||◌, ◌&&◌}
+use Rattle.std.specs.Prelude.{cond, ◌||◌, ◌&&◌, IfOk}
 use Rattle.std.specs.Option.{is_some, option_map}
 use Rattle.std.specs.Str.{bytes_eq}
 use Rattle.std.specs.declared.net.socket_addr.SocketAddr.{SocketAddr}
@@ -25,13 +25,14 @@ use Rattle.stun_endpoint.specs.Judged.{Realm, judged, key_of_client}
 use Rattle.stun_endpoint.specs.Nonces.{current_nonce}
 use Rattle.stun_endpoint.specs.Received.{Answer, Outcome, answer_to_refused, by_class, by_verdict}
 use Rattle.stun_endpoint.specs.Received.{dropped, indicated, is_binding, is_empty}
-use Rattle.stun_endpoint.specs.Received.{or_handed, received_by, responding_of, signature_for}
+use Rattle.stun_endpoint.specs.Received.{or_handed, outcome_of_accepted, received_by}
+use Rattle.stun_endpoint.specs.Received.{responding_of, signature_for}
 use Rattle.stun_endpoint.specs.Received.{unless_dropped}
 use Rattle.stun_endpoint.specs.Refusals.{code_of}
 use Rattle.stun_endpoint.specs.Responding.{binding_by, drop_reason, unknown_by}
 use Rattle.stun_endpoint.specs.Settings.{Settings}
 use Rattle.stun_endpoint.specs.code.Refusing.{cause_told, is_unauthorized}
-use Rattle.stun_endpoint.specs.code.Refusing.{verdict_under_none}
+use Rattle.stun_endpoint.specs.code.Refusing.{unknown_among, unknown_in, verdict_under_none}
 use Rattle.stun_endpoint.specs.declared.received.DropReason.{DropReason}
 use Rattle.stun_endpoint.specs.declared.received.DropReason.TheVariants as drop
 use Rattle.stun_endpoint.specs.declared.received.Refusal.TheVariants as refused
@@ -71,6 +72,12 @@ undropped_code : (why : Option DropReason) (rest : Outcome) (cause : Option Caus
 undropped_code (Some why) rest cause h = refl
 undropped_code None rest cause h = h
 
+-- a result that has one cause has another that is equal
+pub told_cause : {X E : Type 0} (r : Result X E) (f : X → Option Cause) (a b : Option Cause)
+    → a ≡ b → IfOk r (λ x. f x ≡ a) → IfOk r (λ x. f x ≡ b)
+told_cause (Ok x) f a b e h = h ∙ e
+told_cause (Err why) f a b e h = tt
+
 module _ (s : Settings) (realm : Realm) (from : SocketAddr) (now : ℕ) (bytes : List ℕ) where
   -- what an accepted request comes to
   handed_code : (b c : Bool) (one other : Answer) (key : List ℕ) (client : ClientSeen)
@@ -81,6 +88,28 @@ module _ (s : Settings) (realm : Realm) (from : SocketAddr) (now : ℕ) (bytes :
   handed_code true true one other key client fine odd = sym (ap (option_map code_of) fine)
   handed_code true false one other key client fine odd = refl
   handed_code false c one other key client fine odd = sym (ap (option_map code_of) odd)
+
+  -- of what an accepted request comes to, the 420 alone has a cause
+  handed_unknown : (b c : Bool) (one other : Answer) (key : List ℕ) (client : ClientSeen)
+      → one.refusal ≡ None → other.refusal ≡ Some refused.UnknownAttribute
+      → unknown_in
+      (or_handed s key from bytes client (cond b (cond c (Some one) None) (Some other)))
+      ≡ cond b None (Some UnknownAttribute)
+  handed_unknown true true one other key client fine odd = ap unknown_among fine
+  handed_unknown true false one other key client fine odd = refl
+  handed_unknown false c one other key client fine odd = ap unknown_among odd
+
+  pub unknown_accepted : (key : List ℕ) (client : ClientSeen)
+      → judged s realm from now (reading_of bytes) ≡ Ok client
+      → unknown_in (outcome_of_accepted s key from bytes client)
+      ≡ or_unknown s bytes (credential_cause s realm from now (reading_of bytes))
+  unknown_accepted key client is =
+      let by = signature_for key bytes in
+      handed_unknown (is_empty (unknown_types s.known bytes))
+      (s.answers_binding && is_binding bytes) (binding_by (responding_of s) by from bytes)
+      (unknown_by (responding_of s) by from bytes) key client
+      (binding_fine (responding_of s) by from bytes) (unknown_odd (responding_of s) by from bytes)
+      ∙ sym (ap (or_unknown s bytes) (accepted_cause s realm from (reading_of bytes) now client is))
 
   indicated_code : (b : Bool)
       → None ≡ refused_code (cond b (indicated bytes) (dropped drop.UnknownAttribute))

@@ -532,14 +532,75 @@ impl Server {
         received
     }
 
+    /// Judges a datagram like [`receive`](Self::receive), and also returns why it is refused, to count
+    /// or to log it. The cause is what [`cause`](Self::cause) returns, and the datagram is judged once
+    /// for both.
+    ///
+    /// # Examples
+    ///
+    /// ```
+    /// use seatcrane_stun::endpoint::{Answer, Received, Server, UnixTime, Users};
+    /// use std::net::SocketAddr;
+    ///
+    /// fn answer(server: &Server, users: &Users, bytes: &[u8], from: SocketAddr) -> Option<Answer> {
+    ///     let (received, cause) = server.receive_with_cause(bytes, from, UnixTime::now(), users);
+    ///     if let Some(cause) = cause {
+    ///         println!("{from}: {} {cause}", cause.code());
+    ///     }
+    ///     match received {
+    ///         Received::Answer(answer) => Some(answer),
+    ///         _ => None,
+    ///     }
+    /// }
+    /// ```
+    pub fn receive_with_cause<'a>(
+        &'a self,
+        bytes: &'a [u8],
+        from: SocketAddr,
+        now: UnixTime,
+        users: &'a Users,
+    ) -> (Received<'a>, Option<Cause>) {
+        let (mut buffer, mut cause) = (KitVec::new(Global), None);
+        let received = self.judged(bytes, from, &mut buffer, |buffer| {
+            let (received, why) = self.core.receive_with_cause(bytes, from, now, &users.core)?;
+            cause = why;
+            Ok(received.into_buffer(buffer))
+        });
+        let received = of_core(received, buffer.into_std());
+        record!(bytes, from, received, || cause);
+        (received, cause)
+    }
+
+    /// Judges a datagram like [`receive_for`](Self::receive_for), and also returns why it is refused,
+    /// like [`receive_with_cause`](Self::receive_with_cause).
+    pub fn receive_for_with_cause<'a>(
+        &'a self,
+        bytes: &'a [u8],
+        from: SocketAddr,
+        now: UnixTime,
+        user: Option<&'a User>,
+    ) -> (Received<'a>, Option<Cause>) {
+        let core = user.map(|user| &*user.0);
+        let (mut buffer, mut cause) = (KitVec::new(Global), None);
+        let received = self.judged(bytes, from, &mut buffer, |buffer| {
+            let (received, why) = self.core.receive_for_with_cause(bytes, from, now, core)?;
+            cause = why;
+            Ok(received.into_buffer(buffer))
+        });
+        let received = of_core(received, buffer.into_std());
+        record!(bytes, from, received, || cause);
+        (received, cause)
+    }
+
     /// Returns why [`receive`](Self::receive) refuses a datagram, to count or to log it. Pass what you
     /// passed to `receive`, with the same time and the same users.
     ///
     /// Returns `None` if `receive` does not refuse the datagram: it is dropped, is not a request, or
     /// is accepted. It also returns `None` if an allocation failed.
     ///
-    /// It judges the request again, so call it only for an answer that refuses. The client never
-    /// learns the cause, but only its [code](Cause::code).
+    /// It judges the request again, so call it only for an answer that refuses, or call
+    /// [`receive_with_cause`](Self::receive_with_cause) in place of `receive`. The client never learns
+    /// the cause, but only its [code](Cause::code).
     ///
     /// # Examples
     ///

@@ -1,6 +1,7 @@
 -- How the code finds the cause of a refusal: by the refusal under the nonces of the server, and by the
 -- verdict under the empty nonce, which no client is ever sent.
-use Rattle.std.specs.Prelude.{ℕ, List, [], Bool, true, false, ◌||◌, if◌then◌else◌, Some}
+use Rattle.std.specs.Prelude.{ℕ, List, [], Bool, true, false, ◌||◌, if◌then◌else◌, Option, Some}
+use Rattle.std.specs.Prelude.{None}
 use Rattle.std.specs.Str.{bytes_eq}
 use Rattle.std.specs.declared.result.Result.{Result}
 use Rattle.std.specs.declared.result.Result.TheVariants.{Ok, Err}
@@ -11,12 +12,17 @@ use Rattle.stun_auth.specs.Server.{their_nonce, verdict}
 use Rattle.stun_auth.specs.Validation.{is_malformed}
 use Rattle.stun_auth.specs.declared.server.reason.VerdictRefusal.{VerdictRefusal}
 use Rattle.stun_auth.specs.declared.server.reason.VerdictRefusal.TheVariants as refused
+use Rattle.stun_endpoint.specs.Received.{Outcome, answered, dropped, indicated}
+use Rattle.stun_endpoint.specs.Received.{requested, responded}
 use Rattle.stun_endpoint.specs.Settings.{Settings, registered_of}
+use Rattle.stun_endpoint.specs.declared.received.Refusal.{Refusal}
+use Rattle.stun_endpoint.specs.declared.received.Refusal.TheVariants as told
 use Rattle.stun_endpoint.specs.declared.server.causes.Cause.{Cause}
 use Rattle.stun_endpoint.specs.declared.server.causes.Cause.TheVariants.{NoSignature, Incomplete}
 use Rattle.stun_endpoint.specs.declared.server.causes.Cause.TheVariants.{OtherAlgorithms}
 use Rattle.stun_endpoint.specs.declared.server.causes.Cause.TheVariants.{OtherFeatures, StaleNonce}
 use Rattle.stun_endpoint.specs.declared.server.causes.Cause.TheVariants.{WrongCredentials}
+use Rattle.stun_endpoint.specs.declared.server.causes.Cause.TheVariants.{UnknownAttribute}
 
 -- whether a verdict says that nobody is authorized
 abbrev pub is_unauthorized : Result ClientSeen VerdictRefusal → Bool
@@ -50,3 +56,18 @@ cause_told s ours r refused.BadRequest = bad_cause r
 -- the cause of a refusal
 abbrev pub cause_by_refusal : Settings → List ℕ → Reading → VerdictRefusal → Cause
 cause_by_refusal s ours r refusal = cause_told s ours r (told_refusal ours r refusal)
+
+-- the cause where a request is refused after it was accepted: for its attributes
+abbrev pub unknown_among : Option Refusal → Option Cause
+unknown_among None = None
+unknown_among (Some told.UnknownAttribute) = Some UnknownAttribute
+unknown_among (Some told.BadRequest) = None
+unknown_among (Some told.Unauthenticated) = None
+unknown_among (Some told.StaleNonce) = None
+
+abbrev pub unknown_in : Outcome → Option Cause
+unknown_in (answered answer) = unknown_among answer.refusal
+unknown_in (requested request) = None
+unknown_in (indicated message) = None
+unknown_in (responded message) = None
+unknown_in (dropped why) = None

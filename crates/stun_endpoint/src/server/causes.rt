@@ -78,7 +78,8 @@ impl<A: Allocator + Copy> Server<A> {
     /// and the same users.
     ///
     /// It judges the request again, so call it only for an answer that refuses, to count or to log
-    /// why. The cause is never sent: a client learns no more than the code of the response.
+    /// why, or call `receive_with_cause` in place of `receive`. The cause is never sent: a client
+    /// learns no more than the code of the response.
     ///
     /// Fails if an allocation fails. Memory is allocated for requests alone.
     ///
@@ -194,7 +195,7 @@ impl<A: Allocator + Copy> Server<A> {
 
     /// Why a request is refused that is not accepted under any nonce, of which the current one is
     /// given.
-    fn refused_cause<'a>(
+    pub(super) fn refused_cause<'a>(
         &'a self,
         request: &Message<'a>,
         nonce: &str,

@@ -327,7 +327,7 @@ impl<A: Allocator + Copy> Server<A> {
     }
 
     /// What an accepted request comes to.
-    fn accepted<'a>(
+    pub(super) fn accepted<'a>(
         &self,
         message: Message<'a>,
         from: SocketAddr,

@@ -1,0 +1,227 @@
+//! What a datagram comes to, and why it is refused, by one judgement.
+
+ghost use Rattle.std.specs.Option.{option_copied};
+ghost use Rattle.std.specs.Prelude.{◌≡◌, IfOk, IsOk, Some, false};
+ghost use Rattle.stun_auth.specs.Algorithms.{contains};
+ghost use Rattle.stun_auth.specs.Nonces.{asks_for_algorithms};
+ghost use Rattle.stun_auth.specs.Reading.{reading_of};
+ghost use Rattle.stun_base.specs.MessageType.{class_in, is_request};
+ghost use Rattle.stun_base.specs.declared.keys.algorithm.IntegrityAlgorithm.TheVariants.{Sha256};
+ghost use Rattle.stun_endpoint.specs.Answers.{is_fingerprinted};
+ghost use Rattle.stun_endpoint.specs.Causes.{cause_by_class, cause_of, credential_cause};
+ghost use Rattle.stun_endpoint.specs.Causes.{or_unknown};
+ghost use Rattle.stun_endpoint.specs.Judged.{judged, realm_of_table, realm_of_user};
+ghost use Rattle.stun_endpoint.specs.Outcomes.{outcome_of};
+ghost use Rattle.stun_endpoint.specs.Received.{by_class, by_verdict, outcome_of_accepted};
+ghost use Rattle.stun_endpoint.specs.Received.{received_by, refused_with};
+ghost use Rattle.stun_endpoint.specs.Responding.{is_undropped_request};
+ghost use Rattle.stun_endpoint.specs.code.Judges.{realm_of};
+ghost use Rattle.stun_endpoint.specs.code.Refusing.{cause_by_refusal, unknown_in};
+
+use crate::received::{Received, Refusal};
+use crate::server::Server;
+use crate::server::causes::Cause;
+use crate::server::judges::Judges;
+use crate::unix_time::UnixTime;
+use crate::users::Users;
+use std::alloc::{AllocError, Allocator};
+use std::net::SocketAddr;
+use stun_auth::auth::{Accepted, LongTermServerUser, VerdictRefusal};
+use stun_types::message::{Message, MessageClass};
+
+impl<A: Allocator + Copy> Server<A> {
+    /// Judges a datagram like `receive`, and also returns why it is refused, as `cause` does, or
+    /// `None` if it is not. The datagram is judged once for both, so a server that counts or logs
+    /// each refusal needs no second call.
+    ///
+    /// Fails if an allocation fails. Nothing is lost then, because the client sends again. Memory is
+    /// allocated for requests alone.
+    ///
+    /// Contracts: law `causes_have_their_codes`.
+    pub fn receive_with_cause<'a>(
+        &'a self,
+        bytes: &'a [u8],
+        from: SocketAddr,
+        now: UnixTime,
+        users: &'a Users<A>,
+    ) -> Result<(Received<'a, A>, Option<Cause>), AllocError>
+        ensures received { IfOk result (λ both. outcome_of both.0
+            ≡ received_by self.now (realm_of_table users.now) from now bytes.now) }
+        ensures cause { IfOk result (λ both. both.1
+            ≡ cause_of self.now (realm_of_table users.now) from now bytes.now) }
+        ensures no_memory { is_undropped_request self.now.requires_fingerprint bytes.now
+            ≡ false → IsOk result }
+    {
+        self.received_with_cause(bytes, from, now, &Judges::Table(&users.auth))
+    }
+
+    /// Judges a datagram like `receive_for`, and also returns why it is refused, as `cause_for`
+    /// does, or `None` if it is not. The datagram is judged once for both.
+    ///
+    /// Fails if an allocation fails. Nothing is lost then, because the client sends again. Memory is
+    /// allocated for requests alone.
+    ///
+    /// Contracts: law `causes_have_their_codes`.
+    pub fn receive_for_with_cause<'a>(
+        &'a self,
+        bytes: &'a [u8],
+        from: SocketAddr,
+        now: UnixTime,
+        user: Option<&'a LongTermServerUser<A>>,
+    ) -> Result<(Received<'a, A>, Option<Cause>), AllocError>
+        ensures received { IfOk result (λ both. outcome_of both.0
+            ≡ received_by self.now (realm_of_user self.now (option_copied user.entry)) from now
+            bytes.now) }
+        ensures cause { IfOk result (λ both. both.1
+            ≡ cause_of self.now (realm_of_user self.now (option_copied user.entry)) from now
+            bytes.now) }
+        ensures no_memory { is_undropped_request self.now.requires_fingerprint bytes.now
+            ≡ false → IsOk result }
+    {
+        self.received_with_cause(bytes, from, now, &self.judges(user))
+    }
+
+    /// What a datagram comes to, and why it is refused, if it is.
+    fn received_with_cause<'a>(
+        &'a self,
+        bytes: &'a [u8],
+        from: SocketAddr,
+        now: UnixTime,
+        judges: &Judges<'a, A>,
+    ) -> Result<(Received<'a, A>, Option<Cause>), AllocError>
+        ensures received { IfOk result (λ both. outcome_of both.0
+            ≡ received_by self.now (realm_of judges.now) from now bytes.now) }
+        ensures cause { IfOk result (λ both. both.1
+            ≡ cause_of self.now (realm_of judges.now) from now bytes.now) }
+        ensures no_memory { is_undropped_request self.now.requires_fingerprint bytes.now
+            ≡ false → IsOk result }
+    {
+        match self.read(bytes) {
+            Ok((message, has_fingerprint)) => {
+                self.class_with_cause(message, from, now, judges, has_fingerprint)
+            }
+            Err(reason) => Ok((Received::Dropped(reason), None)),
+        }
+    }
+
+    /// What a message comes to, and why it is refused, if it is.
+    fn class_with_cause<'a>(
+        &'a self,
+        message: Message<'a>,
+        from: SocketAddr,
+        now: UnixTime,
+        judges: &Judges<'a, A>,
+        has_fingerprint: bool,
+    ) -> Result<(Received<'a, A>, Option<Cause>), AllocError>
+        requires { has_fingerprint ≡ is_fingerprinted message }
+        ensures received { IfOk result (λ both. outcome_of both.0
+            ≡ by_class self.now (realm_of judges.now) from now message.entry (class_in message.entry)) }
+        ensures cause { IfOk result (λ both. both.1
+            ≡ cause_by_class self.now (realm_of judges.now) from now message.entry
+            (class_in message.entry)) }
+        ensures no_memory { is_request (class_in message.entry) ≡ false → IsOk result }
+    {
+        match message.class() {
+            MessageClass::Request => {
+                self.request_with_cause(message, from, now, judges, has_fingerprint)
+            }
+            MessageClass::Indication => Ok((self.indication(message), None)),
+            MessageClass::Success => Ok((Received::Response(message), None)),
+            MessageClass::Error => Ok((Received::Response(message), None)),
+        }
+    }
+
+    /// What a request comes to, and why it is refused, if it is.
+    fn request_with_cause<'a>(
+        &'a self,
+        message: Message<'a>,
+        from: SocketAddr,
+        now: UnixTime,
+        judges: &Judges<'a, A>,
+        has_fingerprint: bool,
+    ) -> Result<(Received<'a, A>, Option<Cause>), AllocError>
+        requires { has_fingerprint ≡ is_fingerprinted message }
+        ensures received { IfOk result (λ both. outcome_of both.0
+            ≡ by_verdict self.now (realm_of judges.now) from now message.entry
+            (judged self.now (realm_of judges.now) from now (reading_of message.entry))) }
+        ensures cause { IfOk result (λ both. both.1
+            ≡ or_unknown self.now message.entry
+            (credential_cause self.now (realm_of judges.now) from now (reading_of message.entry))) }
+    {
+        let mut buffer = self.responder.buffer();
+        let epoch = self.epoch(now);
+        let nonce = self.nonce_in(&self.secret, from, epoch)?;
+        match self.judged_in(judges, &message, from, epoch, &nonce)? {
+            Ok(accepted) => {
+                self.accepted_with_cause(message, from, accepted, has_fingerprint, &mut buffer)
+            }
+            Err(refusal) => {
+                let text = nonce.as_str();
+                self.refused_with_cause(&message, from, text, refusal, has_fingerprint, &mut buffer)
+            }
+        }
+    }
+
+    /// What an accepted request comes to, and why it is refused after all, if it is.
+    fn accepted_with_cause<'a>(
+        &self,
+        message: Message<'a>,
+        from: SocketAddr,
+        accepted: Accepted<'a, A>,
+        has_fingerprint: bool,
+        buffer: &mut Vec<u8, A>,
+    ) -> Result<(Received<'a, A>, Option<Cause>), AllocError>
+        requires { has_fingerprint ≡ is_fingerprinted message }
+        ensures received { IfOk result (λ both. outcome_of both.0
+            ≡ outcome_of_accepted self.now accepted.entry.key from message.entry
+            accepted.entry.client) }
+        ensures cause { IfOk result (λ both. both.1
+            ≡ unknown_in (outcome_of_accepted self.now accepted.entry.key from message.entry
+            accepted.entry.client)) }
+    {
+        let received = self.accepted(message, from, accepted, has_fingerprint, buffer)?;
+        let cause = unknown_in(&received);
+        Ok((received, cause))
+    }
+
+    /// What a refused request comes to, and why it is refused.
+    fn refused_with_cause<'a>(
+        &'a self,
+        request: &Message<'a>,
+        from: SocketAddr,
+        nonce: &str,
+        refusal: VerdictRefusal,
+        has_fingerprint: bool,
+        buffer: &mut Vec<u8, A>,
+    ) -> Result<(Received<'a, A>, Option<Cause>), AllocError>
+        requires fingerprint { has_fingerprint ≡ is_fingerprinted request.now }
+        requires offer { asks_for_algorithms nonce.now ≡ contains Sha256 self.now.algorithms }
+        ensures received { IfOk result (λ both. outcome_of both.0
+            ≡ refused_with self.now nonce.now from request.now refusal) }
+        ensures cause { IfOk result (λ both. both.1
+            ≡ Some (cause_by_refusal self.now nonce.now (reading_of request.now) refusal)) }
+    {
+        let cause = self.refused_cause(request, nonce, refusal);
+        let received = self.refused(request, from, nonce, refusal, has_fingerprint, buffer)?;
+        Ok((received, Some(cause)))
+    }
+}
+
+/// Why an accepted request is refused after all, if it is: by a 420.
+fn unknown_in<A: Allocator>(received: &Received<'_, A>) -> Option<Cause>
+    ensures { result ≡ unknown_in (outcome_of received.now) }
+{
+    match received {
+        Received::Answer(answer) => match answer.refusal() {
+            Some(Refusal::UnknownAttribute) => Some(Cause::UnknownAttribute),
+            Some(Refusal::BadRequest) => None,
+            Some(Refusal::Unauthenticated) => None,
+            Some(Refusal::StaleNonce) => None,
+            None => None,
+        },
+        Received::Request(_) => None,
+        Received::Indication(_) => None,
+        Received::Response(_) => None,
+        Received::Dropped(_) => None,
+    }
+}

@@ -570,7 +570,7 @@ static void around_checks(void) {
     size_t length = 9;
     int64_t place = stunp_ice_find_sender(BYTES(request), &length);
     want("sender", place > 0 && length == 4 && memcmp(request + place, "h6vY", 4) == 0, true);
-    want("no message", stunp_ice_find_sender(request, 7, &length), STUNP_TRUNCATED);
+    want("no message", stunp_ice_find_sender((const uint8_t *)request, 7, &length), STUNP_TRUNCATED);
     want("nobody", length, 0);
     want("no name", stunp_ice_find_sender(BYTES(response), &length), STUNP_MISSING_ATTRIBUTE);
 

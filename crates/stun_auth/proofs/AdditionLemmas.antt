@@ -25,7 +25,7 @@ use Rattle.stun_types.specs.declared.attribute.password_algorithm.PasswordAlgori
 use Rattle.stun_auth.specs.AddedAttribute.{nonce, realm, username}
 use Rattle.stun_auth.specs.Additions.{Addition, attribute, Page, growth_of}
 use Rattle.stun_auth.specs.Additions.{growth, added_all, added_one, after, is_text_too_long}
-use Rattle.stun_auth.specs.code.Additions.{IsAdded}
+use Rattle.stun_auth.specs.Outcome.{IsAdded}
 use Rattle.stun_auth.specs.ClientSigning.{algorithm_choice}
 
 -- what two lists take together

@@ -30,7 +30,7 @@ use Rattle.stun_auth.specs.Additions.{Addition, Page, UnlessMemory, WantsMemory}
 use Rattle.stun_auth.specs.Additions.{added_all, added_one, after, growth, attribute}
 use Rattle.stun_auth.specs.Additions.{growth_of, integrity, is_text_too_long, page_in}
 use Rattle.stun_auth.specs.Additions.{addition_refusal, page_unless_refused, with_addition}
-use Rattle.stun_auth.specs.code.Additions.{IsAdded, IsOutcome, outcome_of}
+use Rattle.stun_auth.specs.Outcome.{IsAdded, IsOutcome, outcome_of}
 use Rattle.stun_auth.proofs.AdditionLemmas.{added_all-append, growth-append}
 
 -- memory that is missing for a list is missing for a longer one

@@ -2,7 +2,7 @@
 -- Additions are written in this order, and refused in it. `added_by_client` in Signed.antt says
 -- what is added by attribute, which is what a reader finds. `laws::sides_add_by_attribute` says
 -- that both add the same.
-use Rattle.std.specs.Prelude.{List, [], ◌∷◌, ◌++◌, Bool, if◌then◌else◌, Option, Some, None}
+use Rattle.std.specs.Prelude.{ℕ, List, [], ◌∷◌, ◌++◌, Bool, if◌then◌else◌, Option, Some, None}
 use Rattle.std.specs.Option.{option_map}
 use Rattle.stun_base.specs.declared.keys.algorithm.IntegrityAlgorithm.{IntegrityAlgorithm}
 use Rattle.stun_types.specs.Attribute.{TypedValue}
@@ -18,10 +18,13 @@ name_attribute (plain name) = added.username name
 name_attribute (hashed hash) = added.userhash hash
 
 -- who asks: nonce, realm and name
+abbrev pub who_asks : List ℕ → List ℕ → Naming → List Addition
+who_asks nonce realm naming =
+    attribute (added.nonce nonce) ∷ attribute (added.realm realm)
+    ∷ attribute (name_attribute naming) ∷ []
+
 abbrev pub identity : Challenge → List Addition
-identity c =
-    attribute (added.nonce c.nonce) ∷ attribute (added.realm c.realm)
-    ∷ attribute (name_attribute c.naming) ∷ []
+identity c = who_asks c.nonce c.realm c.naming
 
 -- the server's list as it was sent, if there is one, and the algorithm chosen from it; SHA-256 is
 -- named in any case

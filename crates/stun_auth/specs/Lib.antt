@@ -44,8 +44,12 @@ pub mod ClientStep
 pub mod Supported
 -- what signing adds to a message (section 9)
 pub mod Additions
+-- the outcome of adding one attribute after another
+pub mod Outcome
 -- the attributes that signing adds, by type and value
 pub mod AddedAttribute
+-- the parts of an answer to a challenge, as the code has them
+pub mod Parts
 -- what a client adds (section 9.2.5)
 pub mod ClientSigning
 -- what a server adds (section 9.2.4)

@@ -1,7 +1,5 @@
 -- Definitions that no clause of a public call cites: codings of models, views of the code's own
 -- structs, steps of the code.
-pub mod AddedAttribute
-pub mod Additions
 pub mod AddressCode
 pub mod Algorithms
 pub mod Claims

@@ -2,6 +2,7 @@
 #![tactic(auto)]
 
 mod algorithm_set;
+pub mod answering;
 pub mod auth;
 mod auth_error;
 mod client;
@@ -11,6 +12,7 @@ pub mod laws;
 pub mod letters;
 mod limited_text;
 mod message;
+mod naming;
 mod server;
 mod short_term;
 mod supported;

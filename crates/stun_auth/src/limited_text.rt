@@ -7,21 +7,22 @@ use std::alloc::{AllocError, Allocator};
 
 /// A text of at most 763 bytes.
 #[derive(Drop)]
-pub(crate) struct LimitedText<A: Allocator> {
+pub struct LimitedText<A: Allocator> {
     text: String<A>,
     ghost short: { length (string_bytes text) ≤ TEXT_LIMIT },
 }
 
 impl<A: Allocator> LimitedText<A> {
-    pub(crate) fn new(text: String<A>) -> Self
+    /// Takes a text.
+    pub fn new(text: String<A>) -> Self
         requires { length (string_bytes text) ≤ TEXT_LIMIT }
         ensures { string_bytes result.text ≡ string_bytes text }
     {
         LimitedText { text }
     }
 
-    /// A copy of a text.
-    pub(crate) fn copied(alloc: A, text: &str) -> Result<Self, AllocError>
+    /// Copies a text.
+    pub fn copied(alloc: A, text: &str) -> Result<Self, AllocError>
         requires { length text.now ≤ TEXT_LIMIT }
         ensures { IfOk result (λ copy. string_bytes copy.text ≡ text.now) }
     {
@@ -29,15 +30,28 @@ impl<A: Allocator> LimitedText<A> {
         Ok(LimitedText { text })
     }
 
-    pub(crate) fn as_str(&self) -> &str
+    /// Returns the text.
+    pub fn as_str(&self) -> &str
         ensures value { result.now ≡ string_bytes self.now.text }
+        ensures short { length result.now ≤ TEXT_LIMIT }
     {
         self.text.as_str()
     }
 
+    /// Returns the number of its bytes.
     pub(crate) fn len(&self) -> usize
         ensures { result ≡ length (string_bytes self.now.text) }
     {
         self.text.len()
+    }
+}
+
+impl<A: Allocator + Copy> LimitedText<A> {
+    /// Copies the text.
+    pub fn cloned(&self) -> Result<Self, AllocError>
+        ensures { IfOk result (λ copy. string_bytes copy.text ≡ string_bytes self.now.text) }
+    {
+        let text = self.text.clone()?;
+        Ok(LimitedText { text })
     }
 }

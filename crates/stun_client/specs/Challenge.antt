@@ -13,7 +13,7 @@ use Rattle.stun_auth.specs.AddedAttribute as attributes
 use Rattle.stun_auth.specs.Additions.{Addition, attribute, integrity}
 use Rattle.stun_auth.specs.Algorithms.{is_sha256}
 use Rattle.stun_auth.specs.Client.{Naming}
-use Rattle.stun_auth.specs.ClientSigning.{name_attribute}
+use Rattle.stun_auth.specs.ClientSigning.{who_asks}
 use Rattle.stun_auth.specs.ClientStep.{naming_of}
 use Rattle.stun_auth.specs.Feature.{is_possible}
 use Rattle.stun_auth.specs.Nonces.{asks_for_userhash}
@@ -46,9 +46,7 @@ new_challenge feature user realm nonce offered algorithm = record {
 
 -- who asks: nonce, realm and name
 abbrev pub identity : Challenge → List Addition
-identity c =
-    attribute (attributes.nonce c.nonce) ∷ attribute (attributes.realm c.realm)
-    ∷ attribute (name_attribute c.naming) ∷ []
+identity c = who_asks c.nonce c.realm c.naming
 
 -- PASSWORD-ALGORITHMS with the server's list, as it came
 abbrev pub repeated_list : List ℕ → TypedValue

@@ -19,16 +19,16 @@ pub(crate) mod reading;
 mod rule;
 mod signing;
 
-use crate::challenge::kept::{KeptChallenge, UserNaming};
+use crate::challenge::kept::KeptChallenge;
 use crate::challenge::reading::{code_of, is_challenge, list_of, nonce_of, realm_of};
 use crate::challenge::rule::{
     asks_for_algorithms, chosen, has_same_bits, is_hashed, lacks_userhash,
 };
-use crate::limited_text::LimitedText;
 use crate::preferences::Preferences;
 use std::alloc::{AllocError, Allocator, Global};
 use std::fmt;
 use std::marker::Model;
+use stun_auth::answering::{LimitedText, UserNaming};
 use stun_base::key::long_term_key;
 use stun_types::attribute::ErrorCode;
 use stun_types::message::{IntegrityAlgorithm, LongTermCredentials, Message, PreparedKey};

@@ -3,14 +3,12 @@
 //! support (RFC 8489, section 9.2.5).
 #![tactic(auto)]
 
-mod addition;
 pub mod challenge;
 pub mod client;
 pub mod credentials;
 pub mod ids;
 pub mod judged;
 pub mod laws;
-mod limited_text;
 pub mod preferences;
 pub mod requests;
 mod signing;

@@ -5,16 +5,17 @@ ghost use Rattle.stun_types.specs.Limits.{TEXT_LIMIT};
 ghost use Rattle.stun_types.specs.PasswordAlgorithms.{integrity_of};
 ghost use Rattle.stun_auth.specs.ClientStep.{choose, choose_by_list, choose_without_bits};
 ghost use Rattle.stun_auth.specs.ClientStep.{first_supported, is_required, list_or_none};
-ghost use Rattle.stun_auth.specs.ClientStep.{naming_of, unless_missing};
+ghost use Rattle.stun_auth.specs.ClientStep.{unless_missing};
 ghost use Rattle.stun_auth.specs.Nonces.{asks_for_userhash};
 ghost use Rattle.stun_auth.specs.code.Supported.{in_order};
 
 use crate::feature::Feature;
 use crate::limited_text::LimitedText;
 use crate::message::nonce::NonceSecurityBits;
+use crate::naming::UserNaming;
 use crate::supported::Supported;
 use std::alloc::{AllocError, Allocator};
-use stun_base::key::{long_term_key, userhash};
+use stun_base::key::long_term_key;
 use stun_types::attribute::{PasswordAlgorithmValue, PasswordAlgorithms};
 use stun_types::message::{IntegrityAlgorithm, PreparedKey};
 
@@ -23,13 +24,6 @@ use stun_types::message::{IntegrityAlgorithm, PreparedKey};
 pub(crate) enum ChallengeRefusal {
     Unauthorized,
     UnsupportedFeature,
-}
-
-/// How a client names its user.
-#[derive(Drop)]
-pub(crate) enum UserNaming<A: Allocator> {
-    Plain(String<A>),
-    Hashed([u8; 32]),
 }
 
 /// What a client keeps of a server's challenge.
@@ -54,22 +48,6 @@ pub(crate) struct Offer<'a, 'm> {
     pub(crate) list: Option<PasswordAlgorithms<'m>>,
     pub(crate) algorithm: IntegrityAlgorithm,
     ghost short: { (length realm.now ≤ TEXT_LIMIT) × (length nonce.now ≤ TEXT_LIMIT) },
-}
-
-impl<A: Allocator + Copy> UserNaming<A> {
-    ghost use Rattle.stun_auth.specs.code.ClientKept.{naming_seen};
-
-    /// The name of a user at a realm, as it is or hashed.
-    fn new(alloc: A, hashes: bool, username: &str, realm: &str) -> Result<Self, AllocError>
-        ensures { IfOk result (λ naming. naming_seen naming
-            ≡ naming_of hashes username.now realm.now) }
-    {
-        if hashes {
-            Ok(UserNaming::Hashed(userhash(username, realm)))
-        } else {
-            Ok(UserNaming::Plain(String::from_str(alloc, username)?))
-        }
-    }
 }
 
 impl Offer<'_, '_> {
@@ -189,16 +167,11 @@ fn unless(
 ) -> Result<IntegrityAlgorithm, ChallengeRefusal>
     ensures { result ≡ unless_missing missing choice }
 {
-    match choice {
-        Err(refusal) => Err(refusal),
-        Ok(algorithm) => {
-            if missing {
-                Err(ChallengeRefusal::UnsupportedFeature)
-            } else {
-                Ok(algorithm)
-            }
-        }
+    let algorithm = choice?;
+    if missing {
+        return Err(ChallengeRefusal::UnsupportedFeature);
     }
+    Ok(algorithm)
 }
 
 /// Picks the algorithm where the nonce has no security bits: HMAC-SHA1, and no hashed name.

@@ -1,22 +1,19 @@
 //! Signing what a client sends (RFC 8489, section 9.2.5).
 ghost use Rattle.std.specs.Prelude.{◌≡◌, ◌≤◌, ◌<◌, ◌+◌, ◌-◌, ◌^◌, length, min};
-ghost use Rattle.std.specs.Prelude.{Bool, true, false, IfOk, IsOk, Ok, ◌*◌};
+ghost use Rattle.std.specs.Prelude.{Bool, true, false, IfOk, IsOk, Ok};
 ghost use Rattle.std.specs.Option.{option_map};
 ghost use Rattle.stun_base.specs.Header.{BeginsWithHeader};
 ghost use Rattle.stun_base.specs.MessageType.{class_in, is_request};
-ghost use Rattle.stun_types.specs.Attribute.{attribute_length};
-ghost use Rattle.stun_auth.specs.code.AddedAttribute.{attribute_of};
 ghost use Rattle.stun_auth.specs.Additions.{UnlessMemory, WantsMemory};
 ghost use Rattle.stun_auth.specs.Additions.{added_all, growth, page_in, written_page};
-ghost use Rattle.stun_auth.specs.code.Additions.{IsAdded, IsOutcome};
-ghost use Rattle.stun_auth.specs.code.ClientKept.{KeepsShortTexts, challenge_seen};
-ghost use Rattle.stun_auth.specs.code.ClientKept.{naming_seen, state_seen};
+ghost use Rattle.stun_auth.specs.Outcome.{IsAdded, IsOutcome};
+ghost use Rattle.stun_auth.specs.code.ClientKept.{KeepsShortTexts, challenge_seen, state_seen};
 ghost use Rattle.stun_auth.specs.ClientSigning.{algorithm_choice, challenge_additions};
 ghost use Rattle.stun_auth.specs.ClientSigning.{client_additions, identity, kept_challenge};
-ghost use Rattle.stun_auth.specs.ClientSigning.{name_attribute, signing_algorithm};
+ghost use Rattle.stun_auth.specs.ClientSigning.{signing_algorithm};
 ghost use Rattle.stun_auth.specs.Signed.{IsSignableAtClient, added_by_client};
 
-use crate::client::challenge::{KeptChallenge, UserNaming};
+use crate::client::challenge::KeptChallenge;
 use crate::client::{LongTermClientAuth, State};
 use crate::laws::sides_sign_what_is_signable;
 use crate::message::addition::{
@@ -25,28 +22,6 @@ use crate::message::addition::{
 use std::alloc::{AllocError, Allocator};
 use stun_types::message::{IntegrityAlgorithm, MessageClass, StunWriteError};
 use stun_types::prelude::*;
-
-impl<A: Allocator> UserNaming<A> {
-    /// The attribute that names the user.
-    fn attribute(&self) -> AddedAttribute<'_>
-        ensures { attribute_of result ≡ name_attribute (naming_seen self.now) }
-    {
-        match self {
-            UserNaming::Plain(name) => AddedAttribute::Username(name.as_str()),
-            UserNaming::Hashed(hash) => AddedAttribute::Userhash(*hash),
-        }
-    }
-
-    /// How many bytes that attribute takes.
-    fn bytes(&self) -> usize
-        ensures { result ≡ attribute_length (length (name_attribute (naming_seen self.now)).value) }
-    {
-        match self {
-            UserNaming::Plain(name) => attribute_bytes(name.len()),
-            UserNaming::Hashed(hash) => attribute_bytes(hash.as_slice().len()),
-        }
-    }
-}
 
 impl<A: Allocator> KeptChallenge<A> {
     /// Adds nonce, realm and the name of the user.
@@ -57,9 +32,8 @@ impl<A: Allocator> KeptChallenge<A> {
             (page_in W.bytes W.room writer.old) (W.reserved writer.old)
             result (page_in W.bytes W.room writer.new) (W.reserved writer.new) }
     {
-        add(writer, AddedAttribute::Nonce(self.nonce.as_str()))?;
-        add(writer, AddedAttribute::Realm(self.realm.as_str()))?;
-        add(writer, self.naming.attribute())
+        let (nonce, realm) = (self.nonce.as_str(), self.realm.as_str());
+        self.naming.add_identity(writer, nonce, realm)
     }
 
     /// Adds the server's list and the chosen algorithm, where they must be named.

@@ -2,9 +2,9 @@
 ghost use Rattle.std.specs.Prelude.{◌≡◌, ◌≤◌, ◌<◌, ◌+◌, ◌*◌, ◌^◌, ◌∷◌, [], false, length};
 ghost use Rattle.stun_base.specs.Algorithm.{digest_length};
 ghost use Rattle.stun_types.specs.Attribute.{attribute_length};
-ghost use Rattle.stun_auth.specs.code.AddedAttribute.{attribute_of};
+ghost use Rattle.stun_auth.specs.Parts.{attribute_of};
 ghost use Rattle.stun_auth.specs.Additions.{attribute, integrity, is_text_too_long, page_in};
-ghost use Rattle.stun_auth.specs.code.Additions.{IsAdded, IsOutcome};
+ghost use Rattle.stun_auth.specs.Outcome.{IsAdded, IsOutcome};
 
 use std::alloc::Allocator;
 use stun_types::attribute::{
@@ -15,7 +15,7 @@ use stun_types::prelude::*;
 
 /// An attribute that signing adds before the integrity attribute.
 #[derive(Clone, Copy)]
-pub(crate) enum AddedAttribute<'a> {
+pub enum AddedAttribute<'a> {
     Nonce(&'a str),
     Realm(&'a str),
     Username(&'a str),
@@ -27,10 +27,7 @@ pub(crate) enum AddedAttribute<'a> {
 }
 
 /// Adds an attribute. A text past its limit fails with `TooLarge`, before the writer is asked.
-pub(crate) fn add<W: MessageWrite>(
-    writer: &mut W,
-    added: AddedAttribute<'_>,
-) -> Result<(), StunWriteError>
+pub fn add<W: MessageWrite>(writer: &mut W, added: AddedAttribute<'_>) -> Result<(), StunWriteError>
     requires { 20 ≤ length (W.bytes writer.old) }
     ensures header { 20 ≤ length (W.bytes writer.new) }
     ensures added { IsAdded (attribute (attribute_of added.entry) ∷ [])
@@ -54,7 +51,10 @@ pub(crate) fn add<W: MessageWrite>(
 
 /// Adds an attribute that is within its limit.
 #[tactic(auto, unfolding(crate::specs::Additions::added_one))]
-fn add_made<W: MessageWrite, M: Attribute>(writer: &mut W, made: &M) -> Result<(), StunWriteError>
+pub fn add_made<W: MessageWrite, M: Attribute>(
+    writer: &mut W,
+    made: &M,
+) -> Result<(), StunWriteError>
     requires header { 20 ≤ length (W.bytes writer.old) }
     requires within_limit { is_text_too_long
         (record { kind = M.kind made.now; value = M.value made.now }) ≡ false }
@@ -69,7 +69,7 @@ fn add_made<W: MessageWrite, M: Attribute>(writer: &mut W, made: &M) -> Result<(
 
 /// Adds the integrity attribute of an algorithm under a key.
 #[tactic(auto, unfolding(crate::specs::Additions::added_one))]
-pub(crate) fn add_integrity<W: MessageWrite, A: Allocator>(
+pub fn add_integrity<W: MessageWrite, A: Allocator>(
     writer: &mut W,
     key: &PreparedKey<A>,
     algorithm: IntegrityAlgorithm,

@@ -19,7 +19,7 @@ ghost use Rattle.stun_auth.specs.Nonces.{asks_for_algorithms, nonce_of};
 ghost use Rattle.stun_auth.specs.Reading.{reading_of};
 ghost use Rattle.stun_auth.specs.Server.{verdict};
 ghost use Rattle.stun_auth.specs.ServerSigning.{challenge_under, offer};
-ghost use Rattle.stun_auth.specs.code.Additions.{IsAdded};
+ghost use Rattle.stun_auth.specs.Outcome.{IsAdded};
 
 use crate::message::nonce::{asks_for_algorithms, nonce_of_words};
 use crate::message::reading::MessageReading;

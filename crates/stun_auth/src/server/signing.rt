@@ -8,7 +8,7 @@ ghost use Rattle.stun_base.specs.MessageType.{class_in, is_response as is_respon
 ghost use Rattle.stun_types.specs.Limits.{TEXT_LIMIT};
 ghost use Rattle.stun_auth.specs.Additions.{UnlessMemory, WantsMemory, growth, page_in};
 ghost use Rattle.stun_auth.specs.Additions.{written_page};
-ghost use Rattle.stun_auth.specs.code.Additions.{IsAdded, outcome_of};
+ghost use Rattle.stun_auth.specs.Outcome.{IsAdded, outcome_of};
 ghost use Rattle.stun_auth.specs.code.Places.{client_seen, place_seen};
 ghost use Rattle.stun_auth.specs.ServerSigning.{additions_at, after_signing, algorithms_for};
 ghost use Rattle.stun_auth.specs.ServerSigning.{attributes_for, challenge, digest_for, growth_at};

@@ -63,21 +63,13 @@ pub(crate) fn agreed(
     if !asks_for_algorithms(nonce) {
         return Some(IntegrityAlgorithm::Sha1);
     }
-    match &reading.algorithms {
-        None => match reading.algorithm {
-            None => Some(IntegrityAlgorithm::Sha1),
-            Some(_) => None,
-        },
-        Some(list) => match reading.algorithm {
-            None => None,
-            Some(algorithm) => {
-                if is_offered_list(list, offered) && is_offered(algorithm, offered) {
-                    Some(algorithm)
-                } else {
-                    None
-                }
-            }
-        },
+    match (&reading.algorithms, reading.algorithm) {
+        (None, None) => Some(IntegrityAlgorithm::Sha1),
+        (Some(list), Some(algorithm))
+            if is_offered_list(list, offered) && is_offered(algorithm, offered) => {
+            Some(algorithm)
+        }
+        _ => None,
     }
 }
 
@@ -85,13 +77,13 @@ pub(crate) fn agreed(
 fn bits_differ(ours: &str, theirs: &str) -> bool
     ensures { result ≡ bits_differ (security_bits ours.now) (security_bits theirs.now) }
 {
-    match NonceSecurityBits::from_nonce(ours) {
-        None => false,
-        Some(ours) => match NonceSecurityBits::from_nonce(theirs) {
-            None => false,
-            Some(theirs) => ours.bytes() != theirs.bytes(),
-        },
-    }
+    let Some(ours) = NonceSecurityBits::from_nonce(ours) else {
+        return false;
+    };
+    let Some(theirs) = NonceSecurityBits::from_nonce(theirs) else {
+        return false;
+    };
+    ours.bytes() != theirs.bytes()
 }
 
 /// Why a nonce that is not the current one is refused.

@@ -1,14 +1,8 @@
 -- The parts of a challenge as contracts see them.
 use Rattle.std.specs.Prelude.{string_bytes}
-use Rattle.stun_auth.specs.Client.{Naming, plain, hashed}
+use Rattle.stun_auth.specs.Parts.{naming_seen}
 use Rattle.stun_client.specs.Challenge.{Challenge}
 use Rattle.stun_client.specs.declared.challenge.kept.KeptChallenge.{KeptChallenge}
-use Rattle.stun_client.specs.declared.challenge.kept.UserNaming.{UserNaming}
-use Rattle.stun_client.specs.declared.challenge.kept.UserNaming.TheVariants.{Plain, Hashed}
-
-abbrev pub naming_seen : {A : Type 0} → UserNaming A → Naming
-naming_seen (Plain name) = plain (string_bytes name)
-naming_seen (Hashed hash) = hashed hash
 
 abbrev pub challenge_seen : {A : Type 0} → KeptChallenge A → Challenge
 challenge_seen c = record {

@@ -1,38 +1,25 @@
 //! Signing what a client sends for a challenge (RFC 8489, section 9.2.5).
-ghost use Rattle.std.specs.Prelude.{◌≡◌, ◌≤◌, ◌+◌, length, true, false, IfOk, None};
+ghost use Rattle.std.specs.Prelude.{◌≡◌, ◌≤◌, ◌+◌, ◌∷◌, [], length, true, false, IfOk, None};
 ghost use Rattle.stun_base.specs.MessageType.{class_in};
 ghost use Rattle.stun_auth.specs.Additions.{UnlessMemory, WantsMemory};
-ghost use Rattle.stun_auth.specs.Additions.{added_all, growth, page_in, written_page};
-ghost use Rattle.stun_auth.specs.ClientSigning.{name_attribute};
+ghost use Rattle.stun_auth.specs.Additions.{added_all, attribute, growth, page_in, written_page};
 ghost use Rattle.stun_auth.specs.ClientStep.{is_required};
+ghost use Rattle.stun_auth.specs.Outcome.{IsAdded, IsOutcome};
 ghost use Rattle.stun_auth.specs.Reading.{error_code, reading_of};
 ghost use Rattle.stun_auth.specs.Signed.{IsText, IsUnsigned, ReadsAs};
-ghost use Rattle.stun_auth.specs.code.Additions.{IsAdded, IsOutcome};
 ghost use Rattle.stun_client.specs.Challenge.{added_under, algorithm_choice};
-ghost use Rattle.stun_client.specs.Challenge.{challenge_additions, identity};
+ghost use Rattle.stun_client.specs.Challenge.{challenge_additions, identity, repeated_list};
 ghost use Rattle.stun_client.specs.Downgrade.{IsNowhereBidDown};
-ghost use Rattle.stun_client.specs.code.AddedAttribute.{attribute_of};
-ghost use Rattle.stun_client.specs.code.Kept.{challenge_seen, naming_seen};
+ghost use Rattle.stun_client.specs.code.Kept.{challenge_seen};
 
-use crate::addition::{AddedAttribute, add, add_integrity};
 use crate::challenge::Challenge;
-use crate::challenge::kept::{KeptChallenge, UserNaming};
+use crate::challenge::kept::KeptChallenge;
+use crate::challenge::offer::Offer;
 use crate::laws::signed_requests_are_not_bid_down;
 use std::alloc::Allocator;
+use stun_auth::answering::{AddedAttribute, add, add_integrity, add_made};
 use stun_types::message::{IntegrityAlgorithm, StunWriteError};
 use stun_types::prelude::*;
-
-impl<A: Allocator> UserNaming<A> {
-    /// Returns the attribute that names the user.
-    fn attribute(&self) -> AddedAttribute<'_>
-        ensures { attribute_of result ≡ name_attribute (naming_seen self.now) }
-    {
-        match self {
-            UserNaming::Plain(name) => AddedAttribute::Username(name.as_str()),
-            UserNaming::Hashed(hash) => AddedAttribute::Userhash(*hash),
-        }
-    }
-}
 
 impl<A: Allocator> KeptChallenge<A> {
     /// Adds nonce, realm and the name of the user.
@@ -43,9 +30,8 @@ impl<A: Allocator> KeptChallenge<A> {
             (page_in W.bytes W.room writer.old) (W.reserved writer.old)
             result (page_in W.bytes W.room writer.new) (W.reserved writer.new) }
     {
-        add(writer, AddedAttribute::Nonce(self.nonce.as_str()))?;
-        add(writer, AddedAttribute::Realm(self.realm.as_str()))?;
-        add(writer, self.naming.attribute())
+        let (nonce, realm) = (self.nonce.as_str(), self.realm.as_str());
+        self.naming.add_identity(writer, nonce, realm)
     }
 
     /// Adds the server's list and the chosen algorithm, if they must be named.
@@ -64,7 +50,7 @@ impl<A: Allocator> KeptChallenge<A> {
                 IntegrityAlgorithm::Sha256 => add(writer, choice),
             },
             list => {
-                add(writer, AddedAttribute::PasswordAlgorithms(list))?;
+                add_list(writer, list)?;
                 add(writer, choice)
             }
         }
@@ -112,6 +98,17 @@ impl<A: Allocator> KeptChallenge<A> {
         self.add_all(&mut writer)?;
         Ok(writer)
     }
+}
+
+/// Adds the list that a server sent, as the bytes of its value.
+fn add_list<W: MessageWrite>(writer: &mut W, list: &[u8]) -> Result<(), StunWriteError>
+    requires { 20 ≤ length (W.bytes writer.old) }
+    ensures header { 20 ≤ length (W.bytes writer.new) }
+    ensures added { IsAdded (attribute (repeated_list list.now) ∷ [])
+        (page_in W.bytes W.room writer.old) (W.reserved writer.old)
+        result (page_in W.bytes W.room writer.new) (W.reserved writer.new) }
+{
+    add_made(writer, &Offer::new(list))
 }
 
 impl<A: Allocator> Challenge<A> {

@@ -3,7 +3,7 @@ use Rattle.std.proofs.Common.{true≢false, refl, sym, ◌∙◌, ap}
 use Rattle.std.specs.Result.{is_ok}
 use Rattle.stun_auth.specs.Additions.{Page, added_all, page_in}
 use Rattle.stun_auth.specs.ServerSigning.{challenge_under}
-use Rattle.stun_auth.specs.code.Additions.{outcome_of}
+use Rattle.stun_auth.specs.Outcome.{outcome_of}
 use Rattle.stun_auth.proofs.Growth.{grown_all, succeeds_reserved, wants_short}
 use Rattle.stun_auth.proofs.server.LongTermServerAuth.add_challenge.Goals as goal
 

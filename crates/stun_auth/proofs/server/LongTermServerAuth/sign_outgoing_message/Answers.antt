@@ -3,7 +3,7 @@ use Rattle.std.proofs.Common.{◌≤◌, Bool, refl, sym, ◌∙◌, ap, true≢
 use Rattle.std.specs.Prelude.{IsOk}
 use Rattle.std.specs.Result.{is_ok}
 use Rattle.stun_auth.specs.Additions.{Page, page_in}
-use Rattle.stun_auth.specs.code.Additions.{outcome_of}
+use Rattle.stun_auth.specs.Outcome.{outcome_of}
 use Rattle.stun_auth.specs.ServerSigning.{server_growth, server_signed}
 use Rattle.stun_auth.specs.Validation.{sight}
 use Rattle.stun_auth.proofs.Growth.{grown_by_server, server_wants_short, succeeds_reserved}

@@ -1,5 +1,6 @@
--- An attribute that signing adds, as its type and value.
-use Rattle.std.specs.Prelude.{map}
+-- The parts of an answer to a challenge, as the code has them: the name of a user, and an attribute
+-- that signing adds, as its type and value.
+use Rattle.std.specs.Prelude.{map, string_bytes}
 use Rattle.stun_types.specs.Attribute.{TypedValue}
 use Rattle.stun_types.specs.PasswordAlgorithms.{integrity_of}
 use Rattle.stun_auth.specs.declared.message.addition.AddedAttribute.{AddedAttribute}
@@ -9,6 +10,14 @@ use Rattle.stun_auth.specs.declared.message.addition.AddedAttribute.TheVariants.
 use Rattle.stun_auth.specs.declared.message.addition.AddedAttribute.TheVariants.{PasswordAlgorithm}
 use Rattle.stun_auth.specs.AddedAttribute.{nonce, password_algorithm, password_algorithms}
 use Rattle.stun_auth.specs.AddedAttribute.{realm, userhash, username}
+use Rattle.stun_auth.specs.Client.{Naming, plain, hashed}
+use Rattle.stun_auth.specs.declared.naming.UserNaming.{UserNaming}
+use Rattle.stun_auth.specs.declared.naming.UserNaming.TheVariants.{Plain, Hashed}
+
+-- how a user is named
+abbrev pub naming_seen : {A : Type 0} → UserNaming A → Naming
+naming_seen (Plain name) = plain (string_bytes name)
+naming_seen (Hashed hash) = hashed hash
 
 -- the attribute that is added
 abbrev pub attribute_of : AddedAttribute → TypedValue

@@ -1,8 +1,9 @@
 -- Over any calls, a request that is stored stays so until its end is returned, and then it is gone.
-use Rattle.std.proofs.Common.{◌≡◌, ◌∙◌, ◌⊎◌, ◌<◌, ◌≤◌, ◌+◌, ℕ, Bool, true, false, List, [], ◌∷◌}
-use Rattle.std.proofs.Common.{Option, Some, None, IsSome, ap, arith, cond, inl, inr, refl, subst, sym}
+use Rattle.std.proofs.Common.{◌≡◌, ◌∙◌, ◌⊎◌, ◌<◌, ◌≤◌, ◌+◌, ℕ, Bool, true, false, List, ◌∷◌}
+use Rattle.std.proofs.Common.{Option, Some, None, IsSome, ap, arith, cond, inl, inr, refl, subst}
+use Rattle.std.proofs.Common.{sym}
 use Rattle.std.specs.BTreeMap.{insert_entry, is_at}
-use Rattle.std.specs.Map.{lookup, remove_entry}
+use Rattle.std.specs.Map.{remove_entry}
 use Rattle.std.specs.Option.{is_some, option_and_then, option_map, option_map_or}
 use Rattle.std.specs.Cmp.{ranked}
 use Rattle.std.specs.Ordering.{nat_cmp}
@@ -12,19 +13,21 @@ use Rattle.stun_agent.proofs.Ascending.{lookup-insert_same}
 use Rattle.stun_agent.specs.Timing.{Settings}
 use Rattle.std.specs.Prelude.{◌==◌}
 use Rattle.std.proofs.lemmas.Bool.{eqb-false, eqb-true}
-use Rattle.stun_agent.specs.Tables.{TableSeen, after_transmission, datum_at, over_in, sent_in}
+use Rattle.stun_agent.specs.Tables.{TableSeen, after_transmission, datum_at, over_in}
 use Rattle.stun_agent.specs.Transactions.{Transaction}
-use Rattle.stun_client_requests.specs.Laws.{Call, Calls, Event, IsOver, IsRequests, IsStored, answers}
+use Rattle.stun_client_requests.specs.Laws.{Call, Calls, Event, IsOver, IsRequests, IsStored}
+use Rattle.stun_client_requests.specs.Laws.{answers}
 use Rattle.stun_client_requests.specs.Laws.{call, cancels, count_ends, ends, event_of, is_end_of}
-use Rattle.stun_client_requests.specs.Laws.{no_call, polls, replaces, starts, starts_one}
-use Rattle.stun_client_requests.specs.Numbers.{AllKnown, IsAt, NumbersSeen, end_in, end_of_first}
+use Rattle.stun_client_requests.specs.Laws.{no_call, polls, replaces, sends_again}
+use Rattle.stun_client_requests.specs.Laws.{starts_one}
+use Rattle.stun_client_requests.specs.Numbers.{AllKnown, NumbersSeen, end_in, end_of_first}
 use Rattle.stun_client_requests.specs.Numbers.{first_ended, first_unsent, id_at, id_in, known_at}
-use Rattle.stun_client_requests.specs.Requests.{Poll, RequestsSeen, ends_or, ends_step, number_at, over}
-use Rattle.stun_client_requests.specs.Requests.{over_or, over_step, polled, repeated, repeats_or}
-use Rattle.stun_client_requests.specs.Requests.{repeats_step, unsent_or, after_start}
+use Rattle.stun_client_requests.specs.Requests.{Poll, RequestsSeen, ends_or, number_at}
+use Rattle.stun_client_requests.specs.Requests.{over}
+use Rattle.stun_client_requests.specs.Requests.{over_or, polled, repeated, repeats_or}
+use Rattle.stun_client_requests.specs.Requests.{unsent_or, after_start}
 use Rattle.stun_client_requests.specs.declared.numbers.Known.{Known}
 use Rattle.stun_client_requests.specs.declared.numbers.Known.TheVariants.{Outstanding, Ended}
-use Rattle.stun_client_requests.specs.declared.requests.Polled.{Polled}
 use Rattle.stun_client_requests.specs.declared.requests.Request.{Request}
 use Rattle.stun_client_requests.proofs.NumberLemmas.{Ascend, apart, own_key, same_key}
 use Rattle.stun_client_requests.proofs.RequestLemmas.{at_insert, at_remove, attached_sent}
@@ -185,6 +188,13 @@ effect n r after event i low (starts_one _ _ id bytes plan datum now free made) 
           ∙ stored_other n r.next (Outstanding id) r.numbers.known (λ e. absurd (omega arith)),
       refl,
     )
+effect n r after event i low (sends_again _ _ k id response bytes plan datum now free made) =
+    inl (
+      ap (λ s. has n s.numbers.known) made
+          ∙ if_known n r _ k (λ former is.
+          stored_again n k (Outstanding id) r.numbers.known (id_has k former r.numbers is)),
+      refl,
+    )
 effect n r after event i low (replaces _ _ k datum made) =
     inl (ap (λ s. has n s.numbers.known) made ∙ if_known n r _ k (λ id is. refl), refl)
 effect n r after event i low (answers _ _ k count moment end made) =
@@ -238,6 +248,10 @@ next_up : {D E : Type 0} (r after : RequestsSeen D E) (event : Event) → Call r
     → r.next ≤ after.next
 next_up r after event (starts_one _ _ id bytes plan datum now free made) =
     let next : after.next ≡ r.next + 1 = ap (λ s. s.next) made in omega arith
+next_up r after event (sends_again _ _ k id response bytes plan datum now free made) =
+    let next : after.next ≡ r.next =
+    ap (λ s. s.next) made ∙ if_next r _ (id_at k r.numbers) (λ former. refl) in
+    omega arith
 next_up r after event (replaces _ _ k datum made) =
     let next : after.next ≡ r.next =
     ap (λ s. s.next) made ∙ if_next r _ (id_at k r.numbers) (λ id. refl) in
@@ -283,7 +297,8 @@ not_some (Some x) gone = cc
 abbrev one_if : Bool → ℕ
 one_if b = cond b 1 0
 
-pub stays_over : {D E : Type 0} (n : ℕ) (r after : RequestsSeen D E) (events : List Event) → IsOver n r
+pub stays_over : {D E : Type 0} (n : ℕ) (r after : RequestsSeen D E) (events : List Event)
+    → IsOver n r
     → Calls r events after → IsOver n after × (count_ends n events ≡ 0)
 stays_over n r after events gone (no_call _) = (gone, refl)
 stays_over {D} {E} n r after events gone (call _ next _ event others i made rest) =
@@ -323,7 +338,8 @@ ends_once {D} {E} n r after events stored (call _ next _ event others i made res
     low = stored_low n r i there
 
     later : is_end_of n event ≡ false
-        → (IsStored n after × (count_ends n others ≡ 0)) ⊎ (IsOver n after × (count_ends n others ≡ 1))
+        → (IsStored n after × (count_ends n others ≡ 0)) ⊎ (IsOver n after × (count_ends n others
+        ≡ 1))
         → (IsStored n after × (count_ends n (event ∷ others) ≡ 0))
         ⊎ (IsOver n after × (count_ends n (event ∷ others) ≡ 1))
     later is (inl s) =

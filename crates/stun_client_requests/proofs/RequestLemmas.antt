@@ -1,8 +1,8 @@
 -- The table and the numbers stay inverse to each other over each change.
-use Rattle.std.proofs.Common.{◌≡◌, ◌∙◌, ◌<◌, ◌≤◌, ◌+◌, ℕ, Bool, true, false, List, [], ◌∷◌, Option}
+use Rattle.std.proofs.Common.{[]}
+use Rattle.std.proofs.Common.{◌≡◌, ◌∙◌, ◌<◌, ◌≤◌, ◌+◌, ℕ, Bool, true, false, List, ◌∷◌, Option}
 use Rattle.std.proofs.Common.{Some, None, ap, arith, cond, refl, subst, sym}
 use Rattle.std.specs.BTreeMap.{insert_entry, is_at}
-use Rattle.std.specs.List.Sorted.{IsStrictlySortedBy}
 use Rattle.std.specs.Map.{keys_of, lookup, remove_entry, set_value}
 use Rattle.std.specs.List.{list_any}
 use Rattle.std.specs.Prelude.{◌||◌}
@@ -12,24 +12,29 @@ use Rattle.std.specs.Ordering.{is_eq, nat_cmp}
 use Rattle.std.specs.declared.cmp.Ordering.{Ordering}
 use Rattle.std.specs.declared.cmp.Ordering.TheVariants.{Less, Equal, Greater}
 use Rattle.std.proofs.lemmas.Map.Keys.{sorted_head, sorted_tail}
-use Rattle.stun_agent.proofs.Ascending.{IsAscending-insert, IsAscending-remove, IsAscending-set_value}
-use Rattle.stun_agent.proofs.Ascending.{lookup-insert_other, lookup-insert_same, lookup-remove_other}
+use Rattle.stun_agent.proofs.Ascending.{IsAscending-insert, IsAscending-remove}
+use Rattle.stun_agent.proofs.Ascending.{IsAscending-set_value}
+use Rattle.stun_agent.proofs.Ascending.{lookup-insert_other, lookup-insert_same}
+use Rattle.stun_agent.proofs.Ascending.{lookup-remove_other}
 use Rattle.stun_agent.proofs.Ascending.{lookup-set_other}
-use Rattle.stun_client_requests.specs.Numbers.{AllKnown, IsAt, NumbersSeen, id_at, id_in, known_at}
+use Rattle.stun_client_requests.specs.Numbers.{IsAt, NumbersSeen, id_at, id_in, known_at}
 use Rattle.stun_client_requests.specs.OneTable.{IsOneTable}
 use Rattle.stun_client_requests.specs.declared.numbers.Known.{Known}
 use Rattle.stun_client_requests.specs.declared.numbers.Known.TheVariants.{Outstanding, Ended}
 use Rattle.stun_client_requests.specs.declared.requests.Request.{Request}
 use Rattle.stun_client_requests.specs.declared.requests.Polled.TheVariants.{Transmit}
-use Rattle.stun_client_requests.specs.Requests.{RequestsSeen, ends_or, ends_step, number_at, over}
-use Rattle.stun_client_requests.specs.Requests.{over_step, repeated, repeats_or, repeats_step, unsent_or}
+use Rattle.stun_client_requests.specs.Requests.{RequestsSeen, datum_of, ends_or, ends_step, number_at, over}
+use Rattle.stun_client_requests.specs.Requests.{over_step, repeated, repeats_or, repeats_step}
+use Rattle.stun_client_requests.specs.Requests.{unsent_or}
 use Rattle.stun_client_requests.specs.Numbers.{end_of_first, first_unsent}
 use Rattle.stun_agent.specs.Agent.{tally_of_end}
 use Rattle.stun_agent.specs.Statistics.{request_cancelled, response_received}
-use Rattle.stun_agent.specs.Tables.{Attached, IsTable, TableSeen, after_answer, after_cancel, counted}
+use Rattle.stun_agent.specs.Tables.{Attached, IsTable, TableSeen, after_answer, after_cancel}
+use Rattle.stun_agent.specs.Tables.{counted}
 use Rattle.stun_agent.specs.Tables.{after_end as after_end_in, after_transmission, counted_sent}
 use Rattle.stun_agent.specs.Tables.{datum_at, over_in, sent_in, without_request}
-use Rattle.stun_agent.specs.Transactions.{Transaction, after_slots, at as transaction_at, round_trip}
+use Rattle.stun_agent.specs.Transactions.{Transaction, after_slots, at as transaction_at}
+use Rattle.stun_agent.specs.Transactions.{round_trip}
 use Rattle.stun_client_requests.proofs.NumberLemmas.{Ascend, apart, lookup_among, own_key, same_key}
 
 -- ---- a list after a change at one number
@@ -63,7 +68,8 @@ removed_same {X} n (e ∷ es) s =
     gone hit None is = refl
     gone hit (Some v) is =
         let above : nat_cmp e.0 n ≡ Less =
-        lookup_among (λ y. nat_cmp e.0 y ≡ Less) es n v (sorted_head nat_cmp e.0 (keys_of es) s) is in
+        lookup_among (λ y. nat_cmp e.0 y ≡ Less) es n v (sorted_head nat_cmp e.0 (keys_of es) s)
+        is in
         let own = own_key n in
         let same : is_at (nat_cmp e.0) n ≡ true =
         subst (λ k. is_at (nat_cmp k) n ≡ true) (sym (same_key n e.0 hit)) own in
@@ -164,7 +170,8 @@ out_of f f' g g' a b into here there some x y found =
 
 -- ---- the two functions of the requests
 
-pub numbers_changed : {D : Type 0} (id : ℕ) (w : Option (Request D)) (all new : Attached (Request D))
+pub numbers_changed : {D : Type 0} (id : ℕ) (w : Option (Request D)) (all new : Attached (Request
+    D))
     → IsAt id w all new
     → Changed id (option_map (λ r. r.number) w) (λ i. number_at i all) (λ i. number_at i new)
 numbers_changed {D} id w all new at q =
@@ -246,7 +253,8 @@ pub one_out : {D E : Type 0} (all new : Attached (Request D)) (old now : Numbers
     → new ≡ remove_entry (is_at (nat_cmp id)) all → option_and_then id_in w ≡ None
     → IsAt n w old.known now.known → IsOneTable new now next
 one_out all new old now next id n w i out made shut at = record {
-  in_order = subst (λ es. Ascend es) (sym made) (IsAscending-remove (is_at (nat_cmp id)) all i.in_order);
+  in_order = subst (λ es. Ascend es) (sym made) (IsAscending-remove (is_at (nat_cmp id)) all
+      i.in_order);
   named = out_of (λ k. number_at k all) (λ k. number_at k new) (λ m. id_at m old) (λ m. id_at m now)
       id n i.named here there out;
   timed = out_of (λ m. id_at m old) (λ m. id_at m now) (λ k. number_at k all) (λ k. number_at k new)
@@ -446,3 +454,132 @@ with_table r t = record r { table = t }
 
 abbrev pub all_of : {D E : Type 0} → TableSeen (Request D) → NumbersSeen E → ℕ → RequestsSeen D E
 all_of table numbers next = record { table = table; numbers = numbers; next = next }
+
+-- ---- another message
+
+-- a request has another transaction ID in place of its former one
+pub one_again : {D E : Type 0} (all sent new : Attached (Request D)) (old now : NumbersSeen E)
+    (next id former n : ℕ) (r : Request D) → IsOneTable all old next → id_at n old ≡ Some former
+    → number_at id all ≡ None → r.number ≡ n → sent ≡ insert_entry nat_cmp all id r
+    → new ≡ remove_entry (is_at (nat_cmp former)) sent
+    → IsAt n (Some (Outstanding id)) old.known now.known → IsOneTable new now next
+one_again {D} {E} all sent new old now next id former n r i out none number made gone at = record {
+  in_order = subst (λ es. Ascend es) (sym gone)
+      (IsAscending-remove (is_at (nat_cmp former)) sent in_order);
+  named = put_in f1 f2 g1 g2 id n (out_of f f1 g g1 former n i.named f_out g_out out) f_in g_in
+      (ap (λ b. cond b None (g n)) (own_key n));
+  timed = put_in g1 g2 f1 f2 n id (out_of g g1 f f1 n former i.timed g_out f_out there) g_in f_in
+      (by_former (is_at (nat_cmp former) id));
+  fresh = fresh_still n next next (Some (Outstanding id)) old now at
+      (below_next n former next old i.fresh out) (omega arith) i.fresh;
+}
+  where
+    f : ℕ → Option ℕ
+    f = λ k. number_at k all
+
+    f1 : ℕ → Option ℕ
+    f1 = λ k. cond (is_at (nat_cmp former) k) None (number_at k all)
+
+    f2 : ℕ → Option ℕ
+    f2 = λ k. number_at k new
+
+    g : ℕ → Option ℕ
+    g = λ m. id_at m old
+
+    g1 : ℕ → Option ℕ
+    g1 = λ m. cond (is_at (nat_cmp n) m) None (id_at m old)
+
+    g2 : ℕ → Option ℕ
+    g2 = λ m. id_at m now
+
+    there : number_at former all ≡ Some n
+    there = i.timed n former out
+
+    in_order : Ascend sent
+    in_order = subst (λ es. Ascend es) (sym made) (IsAscending-insert all id r i.in_order)
+
+    f_out : Changed former None f f1
+    f_out q = refl
+
+    g_out : Changed n None g g1
+    g_out m = refl
+
+    by_former : (b : Bool) → cond b None (number_at id all) ≡ None
+    by_former true = refl
+    by_former false = none
+
+    apart_ids : is_at (nat_cmp former) id ≡ false
+    apart_ids = apart former id (λ same. wrong same)
+      where
+        wrong : former ≡ id → ⊥
+        wrong same = let found = there in let missing : number_at former all ≡ None =
+            subst (λ k. number_at k all ≡ None) (sym same) none in cc
+
+    g_in : Changed n (Some id) g1 g2
+    g_in m = ids_changed n (Some (Outstanding id)) old now at m ∙ by (is_at (nat_cmp n) m) refl
+      where
+        by : (b : Bool) → is_at (nat_cmp n) m ≡ b → cond b (Some id) (id_at m old)
+            ≡ cond b (Some id) (cond (is_at (nat_cmp n) m) None (id_at m old))
+        by true is = refl
+        by false is = sym (ap (λ b. cond b None (id_at m old)) is)
+
+    sent_at : (q : ℕ) → number_at q sent ≡ cond (is_at (nat_cmp id) q) (Some n) (number_at q all)
+    sent_at q =
+        ap (λ es. number_at q es) made
+        ∙ numbers_changed id (Some r) all (insert_entry nat_cmp all id r) (at_insert id r all) q
+        ∙ ap (λ k. cond (is_at (nat_cmp id) q) (Some k) (number_at q all)) number
+
+    new_at : (q : ℕ) → number_at q new ≡ cond (is_at (nat_cmp former) q) None (number_at q sent)
+    new_at q =
+        ap (λ es. number_at q es) gone
+        ∙ numbers_changed former None sent (remove_entry (is_at (nat_cmp former)) sent)
+        (at_remove former sent in_order) q
+
+    f_in : Changed id (Some n) f1 f2
+    f_in q =
+        new_at q ∙ ap (λ o. cond (is_at (nat_cmp former) q) None o) (sent_at q)
+        ∙ by (is_at (nat_cmp former) q) (is_at (nat_cmp id) q) refl refl
+      where
+        by : (b c : Bool) → is_at (nat_cmp former) q ≡ b → is_at (nat_cmp id) q ≡ c
+            → cond b None (cond c (Some n) (number_at q all))
+            ≡ cond c (Some n) (cond b None (number_at q all))
+        by true true is here =
+            let same : is_at (nat_cmp former) id ≡ true =
+            subst (λ k. is_at (nat_cmp former) k ≡ true) (same_key id q here) is in
+            let miss = apart_ids in
+            cc
+        by true false is here = refl
+        by false true is here = refl
+        by false false is here = refl
+
+-- the former message is still in the table
+pub former_there : {D : Type 0} (all sent : Attached (Request D)) (id former n : ℕ) (r : Request D)
+    → number_at former all ≡ Some n → number_at id all ≡ None
+    → sent ≡ insert_entry nat_cmp all id r → datum_at former sent ≡ datum_at former all
+former_there all sent id former n r there none made =
+    ap (λ es. datum_at former es) made ∙ lookup-insert_other former id r all
+    (apart former id (λ same. wrong same))
+  where
+    wrong : former ≡ id → ⊥
+    wrong same =
+        let missing : number_at former all ≡ None =
+        subst (λ k. number_at k all ≡ None) (sym same) none in
+        let found = there in
+        cc
+
+pub former_kept : {D : Type 0} (all sent : Attached (Request D)) (id former n : ℕ) (r : Request D)
+    → number_at former all ≡ Some n → number_at id all ≡ None
+    → sent ≡ insert_entry nat_cmp all id r → None ≡ datum_at former sent → ⊥
+former_kept all sent id former n r there none made lost =
+    let missing : number_at former all ≡ None =
+    ap (λ o. option_map (λ q. q.number) o)
+    (sym (former_there all sent id former n r there none made) ∙ sym lost) in
+    let found = there in
+    cc
+
+pub former_datum : {D E : Type 0} (s : RequestsSeen D E) (n former : ℕ) (q : Request D)
+    → id_at n s.numbers ≡ Some former → datum_at former s.table.attached ≡ Some q
+    → datum_of n s ≡ Some q.datum
+former_datum s n former q out there =
+    ap (λ o. option_map (λ x. x.datum) (option_and_then (λ id. datum_at id s.table.attached) o)) out
+    ∙ ap (λ o. option_map (λ x. x.datum) o) there

@@ -8,6 +8,7 @@ use Rattle.std.specs.Ordering.{nat_cmp}
 use Rattle.stun_agent.specs.Timing.{Settings}
 use Rattle.stun_client_requests.specs.Numbers.{known_at}
 use Rattle.stun_client_requests.specs.OneTable.{IsOneTable}
+use Rattle.stun_client_requests.specs.Requests.{Answering, after_again, again_refusal}
 use Rattle.stun_client_requests.specs.Requests.{RequestsSeen, after_answering, after_canceling}
 use Rattle.stun_client_requests.specs.Requests.{after_replacing, after_start, polled, start_refusal}
 use Rattle.stun_client_requests.specs.declared.requests.Polled.{Polled}
@@ -19,8 +20,8 @@ pub record IsRequests {D E : Type 0} (r : RequestsSeen D E) : Type 0 where
   pub one : IsOneTable r.table.attached r.numbers r.next
   pub ascending : IsStrictlySortedBy nat_cmp (keys_of r.numbers.known)
 
--- what a call returns of requests: `start` has started the one with this number, `poll` names it, `poll`
--- returns its end, or the call returns none
+-- what a call returns of requests: `start` has started the one with this number, `poll` names it,
+-- `poll` returns its end, or the call returns none
 pub data Event : Type 0 where
   starts : ℕ → Event
   sends : ℕ → Event
@@ -38,6 +39,9 @@ pub data Call {D E : Type 0} : RequestsSeen D E → Event → RequestsSeen D E �
   starts_one : (r after : RequestsSeen D E) (id : ℕ) (bytes : List ℕ) (plan : Settings) (datum : D)
       (now : ℕ) → start_refusal r id ≡ None → after ≡ after_start id bytes plan datum now r
       → Call r (starts r.next) after
+  sends_again : (r after : RequestsSeen D E) (number id : ℕ) (response : Answering) (bytes : List ℕ)
+      (plan : Settings) (datum : D) (now : ℕ) → again_refusal r number id ≡ None
+      → after ≡ after_again number response id bytes plan datum now r → Call r silent after
   replaces : (r after : RequestsSeen D E) (number : ℕ) (datum : D)
       → after ≡ after_replacing number datum r → Call r silent after
   answers : (r after : RequestsSeen D E) (number count : ℕ) (moment : Option ℕ) (end : E)
@@ -81,8 +85,8 @@ StartsOne D E = (r : RequestsSeen D E) (id : ℕ) (bytes : List ℕ) (plan : Set
     → IsStored r.next (after_start id bytes plan datum now r)
     × (known_at r.next r.numbers.known ≡ None)
 
--- over any calls, a started request is stored and its end was not returned, or it is over and its end was
--- returned once
+-- over any calls, a started request is stored and its end was not returned, or it is over and its
+-- end was returned once
 abbrev pub EndsOnce : Type 0 → Type 0 → Type 0
 EndsOnce D E = (number : ℕ) (r after : RequestsSeen D E) (events : List Event)
     → IsStored number r → Calls r events after

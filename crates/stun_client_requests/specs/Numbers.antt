@@ -1,5 +1,5 @@
--- The requests of a client by their numbers: which are outstanding, under which transaction IDs, and
--- which have ended (RFC 8489, section 6.2).
+-- The requests of a client by their numbers: which are outstanding, under which transaction IDs,
+-- and which have ended (RFC 8489, section 6.2).
 use Rattle.std.specs.Prelude.{◌≡◌, ℕ, Bool, true, false, List, [], ◌∷◌, Option, Some, None, find}
 use Rattle.std.specs.Prelude.{if◌then◌else◌}
 use Rattle.std.specs.BTreeMap.{insert_entry, is_at}
@@ -77,6 +77,18 @@ after_end number end s = record s {
   unsent = remove_key (is_at (nat_cmp number)) s.unsent;
 }
 
+-- the bytes of a request are to be handed out, or they are not
+abbrev pub after_mark : {E : Type 0} → ℕ → NumbersSeen E → NumbersSeen E
+after_mark number s = record s { unsent = insert_key nat_cmp s.unsent number }
+
+abbrev pub after_unmark : {E : Type 0} → ℕ → NumbersSeen E → NumbersSeen E
+after_unmark number s = record s { unsent = remove_key (is_at (nat_cmp number)) s.unsent }
+
+-- the current message of a request has another transaction ID
+abbrev pub after_rename : {E : Type 0} → ℕ → ℕ → NumbersSeen E → NumbersSeen E
+after_rename number id s =
+    record s { known = insert_entry nat_cmp s.known number (Outstanding id) }
+
 -- ---- which one is next
 
 -- the first whose bytes were not handed out
@@ -113,7 +125,8 @@ end_of_first s =
 -- its end is handed out
 abbrev pub without_first : {E : Type 0} → NumbersSeen E → NumbersSeen E
 without_first s = record s {
-  known = option_map_or (λ number. remove_entry (is_at (nat_cmp number)) s.known) (first_ended s) s.known;
+  known = option_map_or (λ number. remove_entry (is_at (nat_cmp number)) s.known) (first_ended s)
+      s.known;
 }
 
 -- the first of all, if it is outstanding

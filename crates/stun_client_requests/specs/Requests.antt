@@ -1,5 +1,5 @@
--- The requests of a client, each stored once, and what each call makes of them (RFC 8489, sections 6.2,
--- 6.3 and 9.2.5).
+-- The requests of a client, each stored once, and what each call makes of them (RFC 8489, sections
+-- 6.2, 6.3 and 9.2.5).
 use Rattle.std.specs.Prelude.{ℕ, ◌+◌, ◌==◌, Bool, List, Option, Some, None, count_by}
 use Rattle.std.specs.Prelude.{if◌then◌else◌}
 use Rattle.std.specs.Map.{values_of}
@@ -12,13 +12,17 @@ use Rattle.stun_agent.specs.Tables.{sent_in, until_in, with_other_datum}
 use Rattle.stun_agent.specs.Timing.{Settings}
 use Rattle.stun_agent.specs.Transactions.{at as transaction_at}
 use Rattle.stun_client_requests.specs.Numbers.{NumbersSeen, after_end as after_end_of, after_put}
-use Rattle.stun_client_requests.specs.Numbers.{after_removal, end_of_first, first_unsent, id_at}
+use Rattle.stun_client_requests.specs.Numbers.{after_mark, after_rename, after_removal}
+use Rattle.stun_client_requests.specs.Numbers.{end_of_first, first_unsent, id_at}
 use Rattle.stun_client_requests.specs.Numbers.{is_outstanding, no_numbers, without_first}
 use Rattle.stun_client_requests.specs.Numbers.{without_first_unsent}
 use Rattle.stun_client_requests.specs.declared.requests.Polled.{Polled}
 use Rattle.stun_client_requests.specs.declared.requests.Polled.TheVariants.{Ended, TimedOut}
 use Rattle.stun_client_requests.specs.declared.requests.Polled.TheVariants.{Transmit, Wait}
 use Rattle.stun_client_requests.specs.declared.requests.Request.{Request}
+use Rattle.stun_client_requests.specs.declared.requests.AgainRefusal.{AgainRefusal}
+use Rattle.stun_client_requests.specs.declared.requests.AgainRefusal.TheVariants as Again
+use Rattle.stun_client_requests.specs.declared.requests.AgainRefusal.TheVariants.{NotOutstanding}
 use Rattle.stun_client_requests.specs.declared.requests.StartRefusal.{StartRefusal}
 use Rattle.stun_client_requests.specs.declared.requests.StartRefusal.TheVariants.{IdTaken, NoNumber}
 
@@ -32,6 +36,11 @@ pub record RequestsSeen (D E : Type 0) : Type 0 where
 abbrev pub new_requests : {D E : Type 0} → TransportType → SocketAddr → Bool → RequestsSeen D E
 new_requests transport to counts =
     record { table = new_table transport to counts; numbers = no_numbers; next = 0 }
+
+-- a response: how many bytes it has, and when it has arrived, if its round trip is measured
+pub record Answering : Type 0 where
+  pub count : ℕ
+  pub moment : Option ℕ
 
 -- the number of the outstanding request that has this transaction ID
 abbrev pub number_at : {D : Type 0} → ℕ → Attached (Request D) → Option ℕ
@@ -74,6 +83,30 @@ after_start id bytes settings datum now r = record {
   numbers = after_put r.next id r.numbers;
   next = r.next + 1;
 }
+
+-- ---- another message
+
+abbrev pub again_refusal_of : {D E : Type 0} → RequestsSeen D E → ℕ → Option ℕ → Option AgainRefusal
+again_refusal_of r id None = Some NotOutstanding
+again_refusal_of r id (Some former) =
+    if is_some (transaction_at id r.table.requests) then Some Again.IdTaken else None
+
+-- why a request is not sent by another message, the first reason that holds, if there is memory
+abbrev pub again_refusal : {D E : Type 0} → RequestsSeen D E → ℕ → ℕ → Option AgainRefusal
+again_refusal r number id = again_refusal_of r id (id_at number r.numbers)
+
+-- a request is sent by another message, under another transaction ID, and a response of so many
+-- bytes ends the former one
+abbrev pub after_again : {D E : Type 0} → ℕ → Answering → ℕ → List ℕ → Settings → D → ℕ
+    → RequestsSeen D E → RequestsSeen D E
+after_again number a id bytes settings datum now r =
+    option_map_or
+    (λ former. record r {
+      table = after_answer former a.count a.moment
+          (after_sending id bytes settings (record { number = number; datum = datum }) now r.table);
+      numbers = after_rename number id (after_mark number r.numbers);
+    })
+    (id_at number r.numbers) r
 
 -- ---- what the owner changes, and ends
 
@@ -153,7 +186,7 @@ unsent_or now r (Some number) =
     (Transmit number, record r { numbers = without_first_unsent r.numbers })
 unsent_or now r None = repeats_step now r
 
--- what a poll returns: bytes that were not handed out, then bytes that are sent again, then an end, then
--- a request whose time is over, and then until when to wait
+-- what a poll returns: bytes that were not handed out, then bytes that are sent again, then an end,
+-- then a request whose time is over, and then until when to wait
 unfoldable pub polled : {D E : Type 0} → ℕ → RequestsSeen D E → Poll D E
 polled now r = unsent_or now r (first_unsent r.numbers)

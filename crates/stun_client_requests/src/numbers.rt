@@ -1,14 +1,19 @@
-//! The numbers of requests: which are outstanding, under which transaction IDs, and which have ended.
+//! The numbers of requests: which are outstanding, under which transaction IDs, and which have
+//! ended.
 ghost use Rattle.std.specs.BTreeMap.{insert_entry, is_at};
 ghost use Rattle.std.specs.List.Sorted.{IsStrictlySortedBy};
 ghost use Rattle.std.specs.Map.{keys_of, remove_entry, values_of};
 ghost use Rattle.std.specs.Option.{is_none, option_and_then, option_map};
 ghost use Rattle.std.specs.Ordering.{nat_cmp};
-ghost use Rattle.std.specs.Prelude.{◌≡◌, IfNone, IfOk, IfSome, None, OnErr, OnOk, Some, count_by, false, true};
+ghost use Rattle.std.specs.Prelude.{◌≡◌, IfNone, IfOk, IfSome, None, OnErr, OnOk, Some, count_by};
+ghost use Rattle.std.specs.Prelude.{false, true, if◌then◌else◌};
 ghost use Rattle.stun_client_requests.specs.declared.numbers.Known.TheVariants.{Ended, Outstanding};
 ghost use Rattle.stun_client_requests.specs.Numbers.{IsAt, end_in, known_at};
-ghost use Rattle.stun_client_requests.specs.Numbers.{after_end, after_put, after_removal, end_of_first};
-ghost use Rattle.stun_client_requests.specs.Numbers.{first_outstanding, first_unsent, id_at, is_ended_at};
+ghost use Rattle.stun_client_requests.specs.Numbers.{after_mark, after_rename, after_unmark};
+ghost use Rattle.stun_client_requests.specs.Numbers.{after_end, after_put, after_removal};
+ghost use Rattle.stun_client_requests.specs.Numbers.{end_of_first};
+ghost use Rattle.stun_client_requests.specs.Numbers.{first_outstanding, first_unsent, id_at};
+ghost use Rattle.stun_client_requests.specs.Numbers.{is_ended_at};
 ghost use Rattle.stun_client_requests.specs.Numbers.{is_outstanding, is_outstanding_at, no_numbers};
 ghost use Rattle.stun_client_requests.specs.Numbers.{without_first, without_first_unsent};
 
@@ -29,8 +34,8 @@ pub enum Known<E> {
 
 /// The requests by their numbers.
 ///
-/// Contracts: they see the requests in the order of their numbers, and the numbers of those whose bytes
-/// were not handed out.
+/// Contracts: they see the requests in the order of their numbers, and the numbers of those whose
+/// bytes were not handed out.
 #[derive(Drop)]
 pub struct Numbers<A: Allocator, E> {
     known: BTreeMap<u64, Known<E>, A>,
@@ -96,8 +101,8 @@ impl<A: Allocator + Copy, E: Drop> Numbers<A, E> {
         }
     }
 
-    /// Stores that a request is sent under this transaction ID, by bytes that were not handed out. Its
-    /// number is a new one, or that of an outstanding request.
+    /// Stores that a request is sent under this transaction ID, by bytes that were not handed out.
+    /// Its number is a new one, or that of an outstanding request.
     ///
     /// Fails if an allocation fails. Nothing has changed then.
     pub fn put(&mut self, number: u64, id: TransactionId) -> Result<(), AllocError>
@@ -127,6 +132,45 @@ impl<A: Allocator + Copy, E: Drop> Numbers<A, E> {
         Ok(())
     }
 
+    /// Notes that the bytes of an outstanding request are to be handed out, and returns whether
+    /// this is new.
+    ///
+    /// Fails if an allocation fails. Nothing has changed then.
+    pub fn mark(&mut self, number: u64) -> Result<bool, AllocError>
+        requires { is_outstanding_at number self.old ≡ true }
+        ensures after { OnOk result (self.new ≡ after_mark number self.old) }
+        ensures same { OnErr result (self.new ≡ self.old) }
+        ensures back { IfOk result (λ is_new.
+            (if is_new then after_unmark number self.new else self.new) ≡ self.old) }
+    {
+        let Ok(is_new) = self.unsent.insert(number) else {
+            return Err(AllocError);
+        };
+        Ok(is_new)
+    }
+
+    /// Takes back what `mark` has noted, if it was new.
+    pub fn unmark(&mut self, number: u64, is_new: bool)
+        ensures { self.new ≡ (if is_new then after_unmark number self.old else self.old) }
+    {
+        if is_new {
+            self.unsent.remove(&number);
+        }
+    }
+
+    /// Stores another transaction ID of an outstanding request. This does not allocate.
+    pub fn rename(&mut self, number: u64, id: TransactionId)
+        requires { is_outstanding_at number self.old ≡ true }
+        ensures after { self.new ≡ after_rename number id self.old }
+        ensures changed { IsAt number (Some (Outstanding id)) self.old.known self.new.known }
+    {
+        let _stored = self.known.len();
+        // The number is stored, so this does not allocate.
+        let Ok(_before) = self.known.insert(number, Known::Outstanding(id)) else {
+            return;
+        };
+    }
+
     /// Removes an outstanding request.
     pub fn remove(&mut self, number: u64)
         requires { is_outstanding_at number self.old ≡ true }
@@ -146,7 +190,8 @@ impl<A: Allocator + Copy, E: Drop> Numbers<A, E> {
         ensures changed { IsAt number (Some (Ended end)) self.old.known self.new.known }
     {
         let _stored = self.known.len();
-        // The number is stored, so this does not allocate, and neither does `push`, because there is room.
+        // The number is stored, so this does not allocate, and neither does `push`, because there
+        // is room.
         let Ok(_before) = self.known.insert(number, Known::Ended(end)) else {
             return;
         };
@@ -179,8 +224,8 @@ impl<A: Allocator + Copy, E: Drop> Numbers<A, E> {
     }
 }
 
-/// Stores that a request is sent under this transaction ID, and returns whether its number is new. If
-/// an allocation fails, nothing changes.
+/// Stores that a request is sent under this transaction ID, and returns whether its number is new.
+/// If an allocation fails, nothing changes.
 fn store<A: Allocator + Copy, E: Drop>(
     known: &mut BTreeMap<u64, Known<E>, A>,
     number: u64,

@@ -1,12 +1,15 @@
 //! The requests of a client, each stored once.
 ghost use Rattle.std.specs.Option.{option_and_then, option_copied, option_map};
-ghost use Rattle.std.specs.Prelude.{◌≡◌, IfOk, IsOkUnless, MatchOption, None, OnErr, OnOk, Some, Err, false, true, ◌==◌, if◌then◌else◌};
+ghost use Rattle.std.specs.Prelude.{◌≡◌, IfOk, IsOkUnless, MatchOption, None, OnErr, OnOk, Some};
+ghost use Rattle.std.specs.Prelude.{Err, false, true, ◌==◌, if◌then◌else◌};
 ghost use Rattle.stun_agent.specs.Tables.{after_transmission};
 ghost use Rattle.stun_agent.specs.Timing.{settings_of};
 ghost use Rattle.stun_agent.specs.Transactions.{IsRequestOf};
 ghost use Rattle.stun_client_requests.specs.Laws.{IsRequests};
 ghost use Rattle.stun_client_requests.specs.Numbers.{id_at};
-ghost use Rattle.stun_client_requests.specs.Requests.{after_answering, after_canceling, after_replacing};
+ghost use Rattle.stun_client_requests.specs.Requests.{after_again, again_refusal};
+ghost use Rattle.stun_client_requests.specs.Requests.{after_answering, after_canceling};
+ghost use Rattle.stun_client_requests.specs.Requests.{after_replacing};
 ghost use Rattle.stun_client_requests.specs.Requests.{after_start, bytes_at, datum_of, ends_step};
 ghost use Rattle.stun_client_requests.specs.Requests.{new_requests, number_at, outstanding_count};
 ghost use Rattle.stun_client_requests.specs.Requests.{over_step, polled, repeated, repeats_step};
@@ -48,6 +51,46 @@ pub enum StartRefusal {
     OutOfMemory,
 }
 
+/// Why a request is not sent by another message. Nothing has changed then.
+#[derive(Clone, Copy, Debug, PartialEq, Eq, Error)]
+#[non_exhaustive]
+pub enum AgainRefusal {
+    /// No outstanding request has the number.
+    #[error("no outstanding request has the number")]
+    NotOutstanding,
+    /// An outstanding request has the transaction ID.
+    #[error("an outstanding request has the transaction ID")]
+    IdTaken,
+    /// An allocation failed.
+    #[error("an allocation failed")]
+    OutOfMemory,
+}
+
+/// The message that was the current one of a request: its bytes, and what the owner stored with it.
+#[derive(Drop)]
+pub struct Former<A: Allocator, D> {
+    bytes: Vec<u8, A>,
+    datum: D,
+}
+
+impl<A: Allocator, D> Model for Former<A, D> {
+    ghost use Rattle.std.specs.Prelude.{List, ℕ};
+
+    ghost Value = { List ℕ × D };
+
+    ghost view = { λ f. (f.bytes.items, f.datum) };
+}
+
+impl<A: Allocator, D> Former<A, D> {
+    /// Converts it to the bytes and the datum.
+    pub fn into_parts(self) -> (Vec<u8, A>, D)
+        ensures bytes { result.0.items ≡ self.0 }
+        ensures datum { result.1 ≡ self.1 }
+    {
+        (self.bytes, self.datum)
+    }
+}
+
 /// What to do next.
 #[derive(Drop)]
 #[non_exhaustive]
@@ -63,13 +106,14 @@ pub enum Polled<D, E> {
 }
 
 /// The requests of a client to one server. Each has a number for its whole life, and while it is
-/// outstanding a transaction ID, its bytes, its timer and a datum of the owner. Once it has ended, its
-/// end is stored under its number until `poll` returns it.
+/// outstanding a transaction ID, its bytes, its timer and a datum of the owner. Once it has ended,
+/// its end is stored under its number until `poll` returns it.
 ///
 /// `D` is what the owner stores of an outstanding request, and `E` is how a request ends, with the
 /// response.
 ///
-/// Contracts: they see the table by transaction ID, the numbers, and the number of the next request.
+/// Contracts: they see the table by transaction ID, the numbers, and the number of the next
+/// request.
 #[derive(Drop)]
 pub struct Requests<A: Allocator, D, E> {
     alloc: A,
@@ -90,8 +134,8 @@ impl<A: Allocator, D, E> Model for Requests<A, D, E> {
 }
 
 impl<A: Allocator + Copy, D: Drop, E: Drop> Requests<A, D, E> {
-    /// Creates a store without requests, all of which will go to this address. It keeps statistics if
-    /// `stats` is true. This does not allocate.
+    /// Creates a store without requests, all of which will go to this address. It keeps statistics
+    /// if `stats` is true. This does not allocate.
     pub fn new(alloc: A, transport: TransportType, to: SocketAddr, stats: bool) -> Self
         ensures { result ≡ new_requests transport to stats }
     {
@@ -148,8 +192,9 @@ impl<A: Allocator + Copy, D: Drop, E: Drop> Requests<A, D, E> {
         self.numbers.outstanding()
     }
 
-    /// Starts a request under a transaction ID, and returns its number. Its bytes are those of a message
-    /// with this ID, and `poll` then asks for them to be sent. It is sent again and ends as its plan says.
+    /// Starts a request under a transaction ID, and returns its number. Its bytes are those of a
+    /// message with this ID, and `poll` then asks for them to be sent. It is sent again and ends as
+    /// its plan says.
     ///
     /// # Errors
     ///
@@ -193,7 +238,63 @@ impl<A: Allocator + Copy, D: Drop, E: Drop> Requests<A, D, E> {
         Ok(number)
     }
 
-    /// Stores another datum of an outstanding request, and returns the one before. It does not allocate.
+    /// Sends an outstanding request by another message, under another transaction ID: because of a
+    /// challenge, or by a message that it was sent by earlier. `poll` then asks for its bytes to be
+    /// sent. A response of so many bytes ends the former message, whose bytes and datum are
+    /// returned, and is counted. No bytes are copied.
+    ///
+    /// # Errors
+    ///
+    /// The first of these that applies. Nothing has changed then.
+    ///
+    /// - `NotOutstanding`: no outstanding request has the number.
+    /// - `IdTaken`: an outstanding request has the transaction ID.
+    /// - `OutOfMemory`: an allocation failed.
+    pub fn again(
+        &mut self,
+        number: u64,
+        response: (usize, Option<Instant>),
+        id: TransactionId,
+        bytes: Vec<u8, A>,
+        plan: RequestRto,
+        datum: D,
+        now: Instant,
+    ) -> Result<Former<A, D>, AgainRefusal>
+        requires named { IsRequestOf id bytes.items }
+        ensures refused { MatchOption (again_refusal self.old number id)
+            (IsOkUnless result AgainRefusal.OutOfMemory) (λ why. result ≡ Err why) }
+        ensures former { IfOk result (λ f. datum_of number self.old ≡ Some f.1) }
+        ensures after { OnOk result (self.new ≡ after_again number
+            (record { count = response.0; moment = response.1 }) id bytes.items (settings_of plan) datum
+            now self.old) }
+        ensures same { OnErr result (self.new ≡ self.old) }
+    {
+        let Some(former) = self.numbers.id_of(number) else {
+            return Err(AgainRefusal::NotOutstanding);
+        };
+        if self.table.has(id) {
+            return Err(AgainRefusal::IdTaken);
+        }
+        let Ok(is_new) = self.numbers.mark(number) else {
+            return Err(AgainRefusal::OutOfMemory);
+        };
+        let request = Request { number, datum };
+        let Ok(()) = self.table.send(self.alloc, id, bytes, plan, request, now) else {
+            self.numbers.unmark(number, is_new);
+            return Err(AgainRefusal::OutOfMemory);
+        };
+        self.numbers.rename(number, id);
+        let Some(ended) = self.table.answer(former, response.0, response.1) else {
+            return Err(AgainRefusal::NotOutstanding);
+        };
+        Ok(Former {
+            bytes: ended.0,
+            datum: ended.1.datum,
+        })
+    }
+
+    /// Stores another datum of an outstanding request, and returns the one before. It does not
+    /// allocate.
     pub fn replace(&mut self, number: u64, datum: D) -> Option<D>
         ensures before { result ≡ datum_of number self.old }
         ensures after { self.new ≡ after_replacing number datum self.old }
@@ -203,9 +304,9 @@ impl<A: Allocator + Copy, D: Drop, E: Drop> Requests<A, D, E> {
         Some(before.datum)
     }
 
-    /// Ends a request by a response of so many bytes, which is counted, and returns what its owner stored
-    /// of it. `poll` then returns the end. The round trip is measured if the time is given, and nothing
-    /// was sent again.
+    /// Ends a request by a response of so many bytes, which is counted, and returns what its owner
+    /// stored of it. `poll` then returns the end. The round trip is measured if the time is given,
+    /// and nothing was sent again.
     ///
     /// Returns `None` if no outstanding request has the number. It does not allocate.
     pub fn answer(
@@ -224,8 +325,8 @@ impl<A: Allocator + Copy, D: Drop, E: Drop> Requests<A, D, E> {
         Some(request.datum)
     }
 
-    /// Ends a request without a response, and returns what its owner stored of it. `poll` then returns
-    /// the end.
+    /// Ends a request without a response, and returns what its owner stored of it. `poll` then
+    /// returns the end.
     ///
     /// Returns `None` if no outstanding request has the number. It does not allocate.
     pub fn cancel(&mut self, number: u64, end: E) -> Option<D>
@@ -240,9 +341,9 @@ impl<A: Allocator + Copy, D: Drop, E: Drop> Requests<A, D, E> {
 
     /// Returns the next thing to do. Call it until it returns `Wait`. It does not allocate.
     ///
-    /// First come the bytes that were not returned yet, by the numbers of their requests, then those that
-    /// are due to be sent again, by transaction ID, then the requests that have ended, by number, and then
-    /// those whose time is over, by transaction ID.
+    /// First come the bytes that were not returned yet, by the numbers of their requests, then
+    /// those that are due to be sent again, by transaction ID, then the requests that have ended,
+    /// by number, and then those whose time is over, by transaction ID.
     #[tactic(auto, unfolding(crate::specs::Requests::polled))]
     pub fn poll(&mut self, now: Instant) -> Polled<D, E>
         ensures { (result, self.new) ≡ polled now self.old }

@@ -1,12 +1,13 @@
 -- One outstanding request less, and one more that has ended. There was room for it in the heap.
 use Rattle.std.proofs.Common.{◌≡◌, ◌∙◌, IsOk, ap, sym, subst, true, refl, arith}
 use Rattle.stun_client_requests.specs.Numbers.{is_outstanding_at}
-use Rattle.stun_client_requests.proofs.NumberLemmas.{ended_so, removed_one}
+use Rattle.stun_client_requests.proofs.IndexLemmas.{ended_so, removed_one}
 use Rattle.stun_client_requests.proofs.numbers.Numbers.end.Goals as goal
 
 pub invariant_of-self-in_default-push : goal.invariant_of-self-in_default-push
 invariant_of-self-in_default-push g c =
-    let some = removed_one c.args.number c.self.inside.known.entries _ _ _ _ c.self.inside.outstanding
+    let some = removed_one c.args.number c.self.inside.known.entries _ _ _ _
+    c.self.inside.outstanding
     c.self.invariant (ap (λ s. is_outstanding_at c.args.number s) c.self.view_is ∙ c.requires) in
     let fits = c.self.invariant.fits in
     let wrong = subst (λ r. IsOk r) c.in_default-push.is (c.push.ensures.succeeds (omega arith)) in

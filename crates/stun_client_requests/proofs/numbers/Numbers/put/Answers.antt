@@ -6,8 +6,9 @@ use Rattle.std.specs.Set.{remove_key}
 use Rattle.std.specs.Map.{remove_entry}
 use Rattle.stun_client_requests.specs.Numbers.{is_ended_at, known_at}
 use Rattle.stun_client_requests.specs.declared.numbers.Known.TheVariants.{Outstanding}
-use Rattle.stun_client_requests.proofs.NumberLemmas.{new_is_open, none_unsent, old_is_open, put_so}
-use Rattle.stun_client_requests.proofs.NumberLemmas.{seen_same, take_back, take_out}
+use Rattle.stun_client_requests.proofs.IndexLemmas.{new_is_open, none_unsent, old_is_open, put_so}
+use Rattle.stun_client_requests.proofs.IndexLemmas.{seen_same}
+use Rattle.stun_client_requests.proofs.NumberLemmas.{take_back, take_out}
 use Rattle.stun_client_requests.proofs.numbers.Numbers.put.Goals as goal
 
 pub returns-in_default-store-clause-same : goal.returns-in_default-store-clause-same

@@ -1,7 +1,7 @@
 -- One outstanding request less.
 use Rattle.std.proofs.Common.{◌≡◌, ◌∙◌, ap, sym, true}
 use Rattle.stun_client_requests.specs.Numbers.{is_outstanding_at}
-use Rattle.stun_client_requests.proofs.NumberLemmas.{removed_one, removed_so}
+use Rattle.stun_client_requests.proofs.IndexLemmas.{removed_one, removed_so}
 use Rattle.stun_client_requests.proofs.numbers.Numbers.remove.Goals as goal
 
 pub overflow_sub-self : goal.overflow_sub-self

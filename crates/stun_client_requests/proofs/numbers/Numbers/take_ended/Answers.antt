@@ -1,9 +1,12 @@
 -- The number that comes first in the heap is the first whose request has ended.
 use Rattle.std.proofs.Common.{◌≡◌, ◌∙◌, Some, None, ap, sym, refl}
 use Rattle.stun_client_requests.specs.Numbers.{end_of_first, first_ended, without_first}
-use Rattle.stun_client_requests.proofs.NumberLemmas.{end_none, end_some, first_popped, has_end, none_popped}
-use Rattle.stun_client_requests.proofs.NumberLemmas.{popped_so, seen, seen_same, without_none}
-use Rattle.stun_client_requests.proofs.NumberLemmas.{taken_ended, without_some}
+use Rattle.stun_client_requests.proofs.IndexLemmas.{end_none, end_some, has_end}
+use Rattle.stun_client_requests.proofs.NumberLemmas.{first_popped}
+use Rattle.stun_client_requests.proofs.NumberLemmas.{none_popped}
+use Rattle.stun_client_requests.proofs.IndexLemmas.{popped_so, seen, seen_same, without_none}
+use Rattle.stun_client_requests.proofs.IndexLemmas.{without_some}
+use Rattle.stun_client_requests.proofs.NumberLemmas.{taken_ended}
 use Rattle.stun_client_requests.proofs.numbers.Numbers.take_ended.Goals as goal
 
 pub returns-in_err-first-clause-after : goal.returns-in_err-first-clause-after
@@ -28,7 +31,8 @@ returns-clause-ended g c =
     c.self.invariant.listed c.in_ok-first.ensures.permutation
     (c.in_ok-first.ensures.heap_order c.self.invariant.in_order).1 in
     c.take_end.ensures.end
-    ∙ end_some (seen c.self.inside.known.entries c.self.inside.unsent.keys) c.in_ok-first.first.0 first
+    ∙ end_some (seen c.self.inside.known.entries c.self.inside.unsent.keys) c.in_ok-first.first.0
+    first
     ∙ ap (λ s. end_of_first s) c.self.view_is
 
 pub returns-clause-after : goal.returns-clause-after

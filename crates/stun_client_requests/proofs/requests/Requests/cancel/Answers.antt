@@ -15,7 +15,8 @@ returns-in_err-_bytes-clause-after g c =
 
 pub invariant_of-self-2 : goal.invariant_of-self-2
 invariant_of-self-2 g c =
-    one_out c.self.inside.table.attached c.cancel.new.self.attached c.self.inside.numbers c.end.new.self
+    one_out c.self.inside.table.attached c.cancel.new.self.attached c.self.inside.numbers
+    c.end.new.self
     c.self.inside.next c.in_ok-id.id c.args.number (Some (Ended c.args.end)) c.self.invariant
     (sym c.in_ok-id.ensures)
     (ap (λ t. t.attached) c.cancel.ensures.after

@@ -2,7 +2,7 @@
 use Rattle.std.proofs.Common.{◌≡◌, ◌∙◌, None, Some, ap, refl, sym}
 use Rattle.stun_client_requests.specs.Numbers.{first_unsent}
 use Rattle.stun_client_requests.specs.Requests.{polled, repeats_step, unsent_or}
-use Rattle.stun_client_requests.proofs.NumberLemmas.{unsent_none}
+use Rattle.stun_client_requests.proofs.IndexLemmas.{unsent_none}
 use Rattle.stun_client_requests.proofs.RequestLemmas.{all_of, unsent_first}
 use Rattle.stun_client_requests.proofs.requests.Requests.poll.Goals as goal
 

@@ -1,7 +1,7 @@
 -- A request whose time is over is outstanding, and it leaves the table and the numbers.
 use Rattle.std.proofs.Common.{◌≡◌, ◌∙◌, None, Some, ap, refl, sym}
 use Rattle.std.specs.Option.{option_map}
-use Rattle.stun_client_requests.proofs.NumberLemmas.{open_at}
+use Rattle.stun_client_requests.proofs.IndexLemmas.{open_at}
 use Rattle.stun_client_requests.proofs.RequestLemmas.{attached_over, one_out}
 use Rattle.stun_client_requests.proofs.requests.Requests.poll_timers.Goals as goal
 

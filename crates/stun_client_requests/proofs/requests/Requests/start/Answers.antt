@@ -7,5 +7,6 @@ pub invariant_of-self-2 : goal.invariant_of-self-2
 invariant_of-self-2 g c =
     one_started c.self.inside.table.attached c.send.new.self.attached c.self.inside.numbers
     c.put.new.self c.self.inside.next c.args.id _ c.self.invariant refl
-    (no_number c.self.inside.table c.args.id c.has.ensures.table (sym c.if-has.false ∙ c.has.ensures.has))
+    (no_number c.self.inside.table c.args.id c.has.ensures.table (sym c.if-has.false ∙
+    c.has.ensures.has))
     (ap (λ t. t.attached) c.in-Ok-send.ensures.ok) c.in-Ok.ensures.changed

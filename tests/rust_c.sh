@@ -67,7 +67,10 @@ ${CC:-cc} -std=c99 -Os -Wall -Wextra -Wpedantic -Werror -Iinclude tests/c/three_
     "$out/libstunp.a" -Wl,--gc-sections -o "$out/three_calls"
 three=$(size_of "$out/three_calls") shared=$(size_of "$out/libstunp.so")
 [ "$three" -le 20000 ] || fail "a program of three calls has $three bytes"
-[ "$shared" -le 260000 ] || fail "the shared library has $shared bytes"
+# The least Rust makes it larger than the newest.
+most=230000
+case $("${RUSTC:-rustc}" --version) in 'rustc 1.8'* | 'rustc 1.90'*) most=250000 ;; esac
+[ "$shared" -le $most ] || fail "the shared library has $shared bytes"
 echo "rust_c: a program of three calls has $three bytes, the shared library $shared"
 case $(uname -sm)$guarded in
 'Linux x86_64' | 'Linux aarch64')

@@ -17,12 +17,15 @@ case ${1-} in
 esac
 mkdir -p "$out"
 rm -f "$out"/libstunp*
-# Fewer functions are copied to where they are called than by default, fewer loops are unrolled, and
-# functions begin at multiples of 4 bytes and not of 16: the shared library is a fifth smaller, and
-# calls take 3 to 9 percent more instructions (bench/README.md).
+# All functions but those of the hash crates are optimized for size, and loops over whole vectors
+# are still done by vectors, in contrast to `opt-level = "s"`. Fewer functions than by default are
+# copied to where they are called, fewer loops are unrolled, no value is computed early, functions
+# begin at multiples of 4 bytes and not of 16, and loops anywhere: the shared library is a quarter
+# smaller, and calls take 4 to 11 percent more instructions (docs/maintainers/DECISIONS.md).
 [ "${1-}" = --link ] || (cd target/export && cargo rustc --quiet --release -p seatcrane-stun-c -- \
-    -C llvm-args='-inline-threshold=70 -unroll-threshold=30 -unroll-runtime=0
-    -unroll-allow-partial=0 -align-all-functions=2')
+    -C llvm-args='-force-attribute=optsize -inline-threshold=70 -unroll-threshold=30
+    -unroll-runtime=0 -unroll-allow-partial=0 -enable-pre=false -enable-load-pre=false
+    -align-all-functions=2 -align-loops=1')
 built=${CARGO_TARGET_DIR:-target/export/target}
 built=$built/${CARGO_BUILD_TARGET:+$CARGO_BUILD_TARGET/}release/libstunp.a
 # What programs in C have from the headers is here for others: small, and without tables to unwind.

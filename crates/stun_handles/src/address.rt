@@ -38,6 +38,8 @@ fn ipv6(octets: &[u8; 16], port: u16) -> SocketAddr
 impl Address {
     /// Converts the address of a caller. Fails with `BadArgument` if its length is neither 4 nor
     /// 16.
+    // Not inlined, because some thirty calls for C begin with it.
+    #[inline(never)]
     pub fn socket(&self) -> Result<SocketAddr, Refusal>
         ensures ok { IfOk result (λ address. socket_address self.now ≡ Some address) }
         ensures err { IfErr result (λ refusal. (socket_address self.now ≡ None)

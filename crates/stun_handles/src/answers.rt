@@ -19,6 +19,8 @@ pub fn done(answer: Result<(), Refusal>) -> i64
 }
 
 /// Returns a small number, or the number of the error.
+// Not inlined, because some twenty calls for C end with it.
+#[inline(never)]
 pub fn number(answer: Result<u32, Refusal>) -> i64
     ensures { result ≡ number_answer answer }
 {

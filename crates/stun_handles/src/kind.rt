@@ -24,6 +24,8 @@ pub const USER: u32 = 1_398_035_797;
 
 /// Returns what a call returns if its handle has another kind than the call needs: the number of
 /// `EmptyHandle` if the handle is empty, and otherwise that of `WrongHandle`.
+// Not inlined, because some forty calls for C have it.
+#[inline(never)]
 pub fn missing(kind: u32) -> i64
     ensures { result ≡ missing kind }
 {

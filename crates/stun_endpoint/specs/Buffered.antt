@@ -2,6 +2,7 @@
 use Rattle.std.specs.Prelude.{◌≡◌, ℕ, List, []}
 use Rattle.stun_endpoint.specs.Received.{Answer, Outcome}
 use Rattle.stun_endpoint.specs.Received as long_term
+use Rattle.stun_endpoint.specs.Lookups.{Identification, done, looked_up}
 use Rattle.stun_endpoint.specs.Open.{OpenOutcome}
 use Rattle.stun_endpoint.specs.Open as openly
 use Rattle.stun_endpoint.specs.ShortTerm.{ShortTermOutcome}
@@ -9,6 +10,8 @@ use Rattle.stun_endpoint.specs.ShortTerm as signed
 use Rattle.stun_endpoint.specs.declared.buffered.BufferedAnswer.{BufferedAnswer}
 use Rattle.stun_endpoint.specs.declared.buffered.ReceivedInto.{ReceivedInto}
 use Rattle.stun_endpoint.specs.declared.buffered.ReceivedInto.TheVariants as code
+use Rattle.stun_endpoint.specs.declared.buffered.IdentifiedInto.{IdentifiedInto}
+use Rattle.stun_endpoint.specs.declared.buffered.IdentifiedInto.TheVariants as known_code
 use Rattle.stun_endpoint.specs.declared.buffered.OpenReceivedInto.{OpenReceivedInto}
 use Rattle.stun_endpoint.specs.declared.buffered.OpenReceivedInto.TheVariants as open_code
 use Rattle.stun_endpoint.specs.declared.buffered.ShortTermReceivedInto.{ShortTermReceivedInto}
@@ -34,6 +37,15 @@ LeavesNothing (code.Request request) bytes = bytes ≡ []
 LeavesNothing (code.Indication message) bytes = bytes ≡ []
 LeavesNothing (code.Response message) bytes = bytes ≡ []
 LeavesNothing (code.Dropped reason) bytes = bytes ≡ []
+
+abbrev pub identification_in : {A : Type 0} → IdentifiedInto A → List ℕ → Identification
+identification_in (known_code.Done received) bytes = done (outcome_in received bytes)
+identification_in (known_code.Lookup lookup) bytes = looked_up lookup
+
+-- the buffer is empty if there is no response, as while the request waits for its user
+abbrev pub LeavesNothingKnown : {A : Type 0} → IdentifiedInto A → List ℕ → Type 0
+LeavesNothingKnown (known_code.Done received) bytes = LeavesNothing received bytes
+LeavesNothingKnown (known_code.Lookup lookup) bytes = bytes ≡ []
 
 -- ---- no credentials
 

@@ -2,12 +2,15 @@
 
 ghost use Rattle.std.specs.Prelude.{◌≡◌};
 ghost use Rattle.stun_endpoint.specs.Buffered.{LeavesNothing, outcome_in};
+ghost use Rattle.stun_endpoint.specs.Buffered.{LeavesNothingKnown, identification_in};
 ghost use Rattle.stun_endpoint.specs.Buffered.{LeavesNothingOpenly, open_outcome_in};
 ghost use Rattle.stun_endpoint.specs.Buffered.{LeavesNothingSigned, short_term_outcome_in};
+ghost use Rattle.stun_endpoint.specs.Identified.{identification_of};
 ghost use Rattle.stun_endpoint.specs.OpenOutcomes.{open_outcome_of};
 ghost use Rattle.stun_endpoint.specs.Outcomes.{outcome_of};
 ghost use Rattle.stun_endpoint.specs.ShortTermOutcomes.{short_term_outcome_of};
 
+use crate::lookup::{Identified, Lookup};
 use crate::open::{OpenReceived, OpenRequest};
 use crate::received::{Answer, DropReason, Received, Refusal, Request};
 use crate::short_term::{ShortTermIndication, ShortTermReceived};
@@ -38,6 +41,16 @@ pub enum ReceivedInto<'a, A: Allocator = Global> {
     Response(Message<'a>),
     /// The datagram is dropped, for this reason.
     Dropped(DropReason),
+}
+
+/// What `Server::identify_into` says of a datagram.
+#[derive(Debug, Drop)]
+#[non_exhaustive]
+pub enum IdentifiedInto<'a, A: Allocator = Global> {
+    /// What the datagram comes to, whoever the users are.
+    Done(ReceivedInto<'a, A>),
+    /// The request waits for its user. Look that user up, and pass both to `Server::resume_into`.
+    Lookup(Lookup<'a>),
 }
 
 /// What a datagram comes to at a server without credentials.
@@ -111,6 +124,23 @@ impl<'a, A: Allocator> Received<'a, A> {
             Received::Dropped(reason) => {
                 buffer.clear();
                 ReceivedInto::Dropped(reason)
+            }
+        }
+    }
+}
+
+impl<'a, A: Allocator> Identified<'a, A> {
+    /// Puts the bytes of a response into a buffer, which is empty if there is no response.
+    pub(crate) fn into_buffer(self, buffer: &mut Vec<u8, A>) -> IdentifiedInto<'a, A>
+        ensures identified { identification_in result buffer.new.items
+            ≡ identification_of self.entry }
+        ensures rest { LeavesNothingKnown result buffer.new.items }
+    {
+        match self {
+            Identified::Done(received) => IdentifiedInto::Done(received.into_buffer(buffer)),
+            Identified::Lookup(lookup) => {
+                buffer.clear();
+                IdentifiedInto::Lookup(lookup)
             }
         }
     }

@@ -275,7 +275,75 @@ impl<A: Allocator + Copy> Reply<A> {
         ensures refused { IfErr result (λ why. (why ≡ StunWriteError.OutOfMemory)
             ⊎ (finish_refusal self.now.ending page.bytes ≡ Some why)) }
     {
-        let page = BufferWriter::after(page.finish());
+        self.finish_over(BufferWriter::after(page.finish()))
+    }
+
+    /// Begins a success response like `success`, in the memory of a buffer, which is empty and without
+    /// memory afterwards. `finish_over` returns a vector with that memory. Nothing is allocated for a
+    /// response that it has the capacity for.
+    ///
+    /// Fails if an allocation fails.
+    pub fn success_over(&self, buffer: &mut Vec<u8, A>) -> Result<BufferWriter<A>, AllocError>
+        ensures bytes { IfOk result (λ page. page.bytes
+            ≡ empty_message MessageClass.Success self.now.method self.now.id) }
+        ensures open { IfOk result (λ page. IsOpen page.bytes) }
+    {
+        self.begin_over(MessageClass::Success, buffer)
+    }
+
+    /// Begins an error response like `error`, in the memory of a buffer, as `success_over` does. It
+    /// fails with the errors of `error`, in their order.
+    pub fn error_over(
+        &self,
+        code: u16,
+        reason: &str,
+        buffer: &mut Vec<u8, A>,
+    ) -> Result<BufferWriter<A>, StunWriteError>
+        ensures refused { MatchOption (error_refusal (record { code = code; reason = reason.now }))
+            (IsOkUnless result StunWriteError.OutOfMemory) (λ why. result ≡ Err why) }
+        ensures bytes { IfOk result (λ page. page.bytes
+            ≡ with_attribute (empty_message MessageClass.Error self.now.method self.now.id)
+            (error_code_attribute code reason.now)) }
+        ensures open { IfOk result (λ page. IsOpen page.bytes) }
+    {
+        let error_code = ErrorCode::builder(code).reason(reason).build()?;
+        let mut page = self.begin_over(MessageClass::Error, buffer)?;
+        page.add_attribute(&error_code)?;
+        Ok(page)
+    }
+
+    /// Begins a response of a class in the memory of a buffer.
+    fn begin_over(
+        &self,
+        class: MessageClass,
+        buffer: &mut Vec<u8, A>,
+    ) -> Result<BufferWriter<A>, AllocError>
+        ensures bytes { IfOk result (λ page. page.bytes
+            ≡ empty_message class self.now.method self.now.id) }
+        ensures open { IfOk result (λ page. IsOpen page.bytes) }
+        ensures empty { IfOk result (λ page. walk page.bytes ≡ []) }
+    {
+        let kind = MessageType::from_class_method(class, self.method);
+        match Message::builder(kind, self.id, BufferWriter::over(buffer)) {
+            Ok(page) => Ok(page),
+            Err(_) => Err(AllocError),
+        }
+    }
+
+    /// Ends a response like `finish`, which `success_over` or `error_over` began. It fails with the
+    /// errors of `finish`, in their order.
+    pub fn finish_over(&self, page: BufferWriter<A>) -> Result<Vec<u8, A>, StunWriteError>
+        requires { 20 ≤ length page.bytes }
+        ensures bytes { IfOk result (λ response. response.items
+            ≡ with_end self.now.ending page.bytes) }
+        ensures verifies { IfOk result (λ response. IsOpen page.bytes
+            → VerifiesBy self.now.ending.signature response.items) }
+
+        // The error is the first reason that holds, unless an allocation failed.
+        ensures ok { OnOk result (finish_refusal self.now.ending page.bytes ≡ None) }
+        ensures refused { IfErr result (λ why. (why ≡ StunWriteError.OutOfMemory)
+            ⊎ (finish_refusal self.now.ending page.bytes ≡ Some why)) }
+    {
         finish_response(page, &self.software, &self.signature, self.has_fingerprint)
     }
 }

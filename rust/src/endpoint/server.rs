@@ -10,14 +10,14 @@ use crate::exported::stun_auth::auth::{
     LongTermServerAuth, LongTermServerUser, NamedUser, StoredKeys,
 };
 use crate::exported::stun_base::attribute_type::AttributeType;
+use crate::exported::stun_buffer::writer::BufferWriter;
 use crate::exported::stun_endpoint::{buffered, lookup, open, received, reply, server, users};
 use crate::exported::stun_extra::canonical_address::canonical;
 use crate::exported::stun_types::attribute::{
     Attribute, ErrorCode, RawAttribute, XorMappedAddress,
 };
 use crate::exported::stun_types::message::{
-    BINDING, IntegrityAlgorithm, MessageClass, MessageWriteVec, Method, StunWriteError,
-    deciding_algorithm,
+    BINDING, IntegrityAlgorithm, MessageClass, Method, StunWriteError, deciding_algorithm,
 };
 use crate::exported::stun_types::prelude::{MessageWrite, MessageWriteExt as Proved};
 use crate::extra::reason_phrase;
@@ -751,10 +751,9 @@ impl Server {
     ) -> Known<'a> {
         let mut waiting = None;
         let judged = self.judged(bytes, from, buffer, |buffer| {
-            match self.core.identify(bytes, from, now)? {
-                lookup::Identified::Done(received) => Ok(received.into_buffer(buffer)),
-                lookup::Identified::Lookup(lookup) => {
-                    buffer.clear();
+            match self.core.identify_into(bytes, from, now, buffer)? {
+                buffered::IdentifiedInto::Done(received) => Ok(received),
+                buffered::IdentifiedInto::Lookup(lookup) => {
                     waiting = Some(lookup);
                     Err(AllocError) // which nobody sees
                 }
@@ -810,7 +809,7 @@ impl Server {
         let core = user.map(|user| &*user.0);
         let mut buffer = KitVec::new(Global);
         let (looked_up, received) = self.resumed(lookup, |lookup| {
-            Ok(self.core.resume(lookup, core)?.into_buffer(&mut buffer))
+            self.core.resume_into(lookup, core, &mut buffer)
         });
         let received = of_core(received, buffer.into_std());
         looked_up.record(&received, |bytes, from, now| self.cause_for(bytes, from, now, user));
@@ -828,9 +827,7 @@ impl Server {
     ) -> Received<'a, &'b [u8]> {
         let core = user.map(|user| &*user.0);
         let (looked_up, received) = lent(buffer, |buffer| {
-            self.resumed(lookup, |lookup| {
-                Ok(self.core.resume(lookup, core)?.into_buffer(buffer))
-            })
+            self.resumed(lookup, |lookup| self.core.resume_into(lookup, core, buffer))
         });
         let received = of_core(received, buffer.as_slice());
         looked_up.record(&received, |bytes, from, now| self.cause_for(bytes, from, now, user));
@@ -883,7 +880,8 @@ impl Server {
     ) -> Received<'a> {
         let mut buffer = KitVec::new(Global);
         let (looked_up, received) = self.resumed(lookup, |lookup| {
-            self.among(&lookup, users, &mut buffer)
+            let received = self.core.resume_among(lookup, &users.core)?;
+            Ok(received.into_buffer(&mut buffer))
         });
         let received = of_core(received, buffer.into_std());
         looked_up.record(&received, |bytes, from, now| self.cause(bytes, from, now, users));
@@ -900,23 +898,14 @@ impl Server {
         buffer: &'b mut Vec<u8>,
     ) -> Received<'a, &'b [u8]> {
         let (looked_up, received) = lent(buffer, |buffer| {
-            self.resumed(lookup, |lookup| self.among(&lookup, users, buffer))
+            self.resumed(lookup, |lookup| {
+                let received = self.core.resume_among(lookup, &users.core)?;
+                Ok(received.into_buffer(buffer))
+            })
         });
         let received = of_core(received, buffer.as_slice());
         looked_up.record(&received, |bytes, from, now| self.cause(bytes, from, now, users));
         received
-    }
-
-    /// What the request of a look-up comes to with a table: what `receive` says of it at the time at
-    /// which it arrived.
-    fn among<'a>(
-        &'a self,
-        lookup: &lookup::Lookup<'a>,
-        users: &'a Users,
-        buffer: &mut KitVec<u8>,
-    ) -> Result<CoreReceived<'a>, AllocError> {
-        let (bytes, arrived) = (lookup.message().as_bytes(), lookup.arrived());
-        self.core.receive_into(bytes, lookup.source(), arrived, &users.core, buffer)
     }
 
     /// What the request of a look-up comes to by this call of the core, and what is recorded of it.
@@ -1732,11 +1721,12 @@ impl Reply {
 
     /// Begins a success response.
     pub fn success(&self) -> ReplyWriter {
-        self.success_in(Vec::new())
+        self.success_in(&mut Vec::new(), Vec::new())
     }
 
-    /// Begins a success response that [`finish`](ReplyWriter::finish) puts into a buffer which you keep
-    /// between responses, in place of what it has.
+    /// Begins a success response in a buffer that you keep between responses, in place of what it has.
+    /// A response that it has the capacity for is written without an allocation, apart from what
+    /// you add to it.
     ///
     /// # Examples
     ///
@@ -1753,14 +1743,16 @@ impl Reply {
     /// }
     /// ```
     pub fn success_into<'b>(&self, buffer: &'b mut Vec<u8>) -> ReplyWriter<&'b mut Vec<u8>> {
-        self.success_in(buffer)
+        let mut memory = core::mem::take(buffer);
+        self.success_in(&mut memory, buffer)
     }
 
-    /// Begins a success response for this buffer.
-    fn success_in<B>(&self, buffer: B) -> ReplyWriter<B> {
+    /// Begins a success response in this memory.
+    fn success_in<B>(&self, memory: &mut Vec<u8>, buffer: B) -> ReplyWriter<B> {
+        let page = lent(memory, |memory| self.0.success_over(memory));
         ReplyWriter {
             reply: self.clone(),
-            page: self.0.success().map_err(StunWriteError::from),
+            page: page.map_err(StunWriteError::from),
             buffer,
         }
     }
@@ -1770,25 +1762,32 @@ impl Reply {
     /// [`finish`](ReplyWriter::finish) fails if the code is not from 300 to 699, or if the reason
     /// phrase has more than 763 bytes.
     pub fn error(&self, code: u16, reason: &str) -> ReplyWriter {
-        self.error_in(code, reason, Vec::new())
+        self.error_in(code, reason, &mut Vec::new(), Vec::new())
     }
 
-    /// Begins an error response like [`error`](Self::error), which [`finish`](ReplyWriter::finish)
-    /// puts into a buffer that you keep between responses, in place of what it has.
+    /// Begins an error response like [`error`](Self::error), in a buffer that you keep between
+    /// responses, in place of what it has.
     pub fn error_into<'b>(
         &self,
         code: u16,
         reason: &str,
         buffer: &'b mut Vec<u8>,
     ) -> ReplyWriter<&'b mut Vec<u8>> {
-        self.error_in(code, reason, buffer)
+        let mut memory = core::mem::take(buffer);
+        self.error_in(code, reason, &mut memory, buffer)
     }
 
-    /// Begins an error response for this buffer.
-    fn error_in<B>(&self, code: u16, reason: &str, buffer: B) -> ReplyWriter<B> {
+    /// Begins an error response in this memory.
+    fn error_in<B>(
+        &self,
+        code: u16,
+        reason: &str,
+        memory: &mut Vec<u8>,
+        buffer: B,
+    ) -> ReplyWriter<B> {
         ReplyWriter {
             reply: self.clone(),
-            page: self.0.error(code, reason),
+            page: lent(memory, |memory| self.0.error_over(code, reason, memory)),
             buffer,
         }
     }
@@ -1850,7 +1849,7 @@ pub struct ReplyWriter<B = Vec<u8>> {
     buffer: B,
 }
 
-type Page = MessageWriteVec<Global>;
+type Page = BufferWriter<Global>;
 type Added = Result<(), StunWriteError>;
 
 impl<B> fmt::Debug for ReplyWriter<B> {
@@ -1944,7 +1943,7 @@ impl<B> ReplyWriter<B> {
 
     /// The bytes of the response.
     fn bytes(reply: &Reply, page: Result<Page, StunWriteError>) -> Result<Vec<u8>, StunWriteError> {
-        Ok(reply.0.finish(page?)?.into_std())
+        Ok(reply.0.finish_over(page?)?.into_std())
     }
 }
 
@@ -1973,9 +1972,7 @@ impl<'b> ReplyWriter<&'b mut Vec<u8>> {
     ///
     /// [`MessageWriteExt::add_attribute`]: crate::types::prelude::MessageWriteExt::add_attribute
     pub fn finish(self) -> Result<&'b [u8], StunWriteError> {
-        self.buffer.clear();
-        let bytes = ReplyWriter::<Vec<u8>>::bytes(&self.reply, self.page)?;
-        self.buffer.extend_from_slice(&bytes);
+        *self.buffer = ReplyWriter::<Vec<u8>>::bytes(&self.reply, self.page)?;
         Ok(self.buffer)
     }
 }

@@ -1,15 +1,17 @@
 //! The two steps of a server whose users are looked up elsewhere (RFC 8489, section 9.2.4).
 
 ghost use Rattle.std.specs.Option.{is_some, option_copied, option_map};
-ghost use Rattle.std.specs.Prelude.{◌≡◌, ◌&&◌, IfOk, IsOk, None, Some, false, not};
+ghost use Rattle.std.specs.Prelude.{◌≡◌, ◌&&◌, [], IfOk, IsOk, None, OnErr, Some, false, not};
 ghost use Rattle.stun_auth.specs.Handed.{named_seen};
 ghost use Rattle.stun_auth.specs.Judged.{client_judged};
 ghost use Rattle.stun_auth.specs.Reading.{reading_of};
 ghost use Rattle.stun_auth.specs.Server.{verdict};
 ghost use Rattle.stun_base.specs.MessageType.{class_in, is_request};
 ghost use Rattle.stun_endpoint.specs.Answers.{is_fingerprinted};
+ghost use Rattle.stun_endpoint.specs.Buffered.{LeavesNothing, outcome_in};
+ghost use Rattle.stun_endpoint.specs.Buffered.{LeavesNothingKnown, identification_in};
 ghost use Rattle.stun_endpoint.specs.Identified.{identification_of};
-ghost use Rattle.stun_endpoint.specs.Judged.{realm_of_user};
+ghost use Rattle.stun_endpoint.specs.Judged.{realm_of_table, realm_of_user};
 ghost use Rattle.stun_endpoint.specs.Lookups.{accepted_nonces, has_one_of, identified_as};
 ghost use Rattle.stun_endpoint.specs.Lookups.{identified_by, nonces_of, previous_nonces};
 ghost use Rattle.stun_endpoint.specs.Lookups.{waiting_by_class, waits_for};
@@ -22,11 +24,13 @@ ghost use Rattle.stun_endpoint.specs.code.Judges.{realm_of};
 ghost use Rattle.stun_endpoint.specs.code.Found.{waiting_claim};
 ghost use Rattle.stun_endpoint.specs.code.Waiting.{IsWaiting};
 
+use crate::buffered::{IdentifiedInto, ReceivedInto};
 use crate::lookup::{Identified, Lookup};
 use crate::received::{DropReason, Received};
 use crate::server::Server;
 use crate::server::judges::Judges;
 use crate::unix_time::UnixTime;
+use crate::users::Users;
 use std::alloc::{AllocError, Allocator};
 use std::net::SocketAddr;
 use stun_auth::auth::{Accepted, LongTermServerUser, NamedUser, UserClaim, VerdictRefusal};
@@ -63,9 +67,58 @@ impl<A: Allocator + Copy> Server<A> {
         ensures no_memory { is_undropped_request self.now.requires_fingerprint bytes.now
             ≡ false → IsOk result }
     {
+        let mut buffer = Vec::new(self.alloc);
+        self.identified_in(bytes, from, now, &mut buffer)
+    }
+
+    /// Judges a datagram like `identify`, and writes the response into a buffer, in place of what it
+    /// has. The buffer is empty afterwards if there is no response, or if the call fails. Its memory
+    /// is used again, so that a response that it has the capacity for needs no other.
+    ///
+    /// Fails if an allocation fails. Nothing is lost then, because the client sends again. Memory is
+    /// allocated for requests alone.
+    pub fn identify_into<'a>(
+        &'a self,
+        bytes: &'a [u8],
+        from: SocketAddr,
+        now: UnixTime,
+        buffer: &mut Vec<u8, A>,
+    ) -> Result<IdentifiedInto<'a, A>, AllocError>
+        // With the bytes in the buffer, the result is that of `identify`.
+        ensures identified { IfOk result (λ identified.
+            identification_in identified buffer.new.items
+            ≡ identified_by self.now from now bytes.now) }
+        ensures rest { IfOk result (λ identified. LeavesNothingKnown identified buffer.new.items) }
+        ensures no_memory { is_undropped_request self.now.requires_fingerprint bytes.now
+            ≡ false → IsOk result }
+        ensures err { OnErr result (buffer.new.items ≡ []) }
+    {
+        match self.identified_in(bytes, from, now, buffer) {
+            Ok(identified) => Ok(identified.into_buffer(buffer)),
+            Err(_) => {
+                buffer.clear();
+                Err(AllocError)
+            }
+        }
+    }
+
+    /// Judges a datagram as far as that is possible without its user. A response has the memory of
+    /// the buffer.
+    fn identified_in<'a>(
+        &'a self,
+        bytes: &'a [u8],
+        from: SocketAddr,
+        now: UnixTime,
+        buffer: &mut Vec<u8, A>,
+    ) -> Result<Identified<'a, A>, AllocError>
+        ensures identified { IfOk result (λ identified. identification_of identified
+            ≡ identified_by self.now from now bytes.now) }
+        ensures no_memory { is_undropped_request self.now.requires_fingerprint bytes.now
+            ≡ false → IsOk result }
+    {
         match self.read(bytes) {
             Ok((message, has_fingerprint)) => {
-                self.identified(message, from, now, has_fingerprint)
+                self.identified(message, from, now, has_fingerprint, buffer)
             }
             Err(reason) => Ok(Identified::Done(Received::Dropped(reason))),
         }
@@ -88,10 +141,50 @@ impl<A: Allocator + Copy> Server<A> {
             ≡ received_by self.now (realm_of_user self.now (option_copied user.entry))
             lookup.entry.from lookup.entry.arrived lookup.entry.message) }
     {
-        self.resumed(lookup, &self.judges(user))
+        let mut buffer = Vec::new(self.alloc);
+        self.resumed(lookup, &self.judges(user), &mut buffer)
     }
 
-    /// What a message comes to that is not dropped.
+    /// Judges the request of a look-up like `resume`, by the one of these users whom it names, or by
+    /// nobody if there is no such user. The result is that of `receive` at the time at which the
+    /// request arrived.
+    ///
+    /// Fails if an allocation fails. Nothing is lost then, because the client sends again.
+    pub fn resume_among<'a>(
+        &'a self,
+        lookup: Lookup<'a>,
+        users: &'a Users<A>,
+    ) -> Result<Received<'a, A>, AllocError>
+        ensures { IfOk result (λ received. outcome_of received
+            ≡ received_by self.now (realm_of_table users.now) lookup.entry.from lookup.entry.arrived
+            lookup.entry.message) }
+    {
+        let mut buffer = Vec::new(self.alloc);
+        self.resumed(lookup, &Judges::Table(&users.auth), &mut buffer)
+    }
+
+    /// Judges the request of a look-up like `resume`, and writes the response into a buffer, in place
+    /// of what it has. The buffer is empty afterwards if there is no response, or if the call fails.
+    /// Its memory is used again, so that a response that it has the capacity for needs no other.
+    ///
+    /// Fails if an allocation fails. Nothing is lost then, because the client sends again.
+    pub fn resume_into<'a>(
+        &'a self,
+        lookup: Lookup<'a>,
+        user: Option<&'a LongTermServerUser<A>>,
+        buffer: &mut Vec<u8, A>,
+    ) -> Result<ReceivedInto<'a, A>, AllocError>
+        // With the bytes in the buffer, the result is that of `resume`.
+        ensures received { IfOk result (λ received. outcome_in received buffer.new.items
+            ≡ received_by self.now (realm_of_user self.now (option_copied user.entry))
+            lookup.entry.from lookup.entry.arrived lookup.entry.message) }
+        ensures rest { IfOk result (λ received. LeavesNothing received buffer.new.items) }
+        ensures err { OnErr result (buffer.new.items ≡ []) }
+    {
+        self.resumed_into(lookup, &self.judges(user), buffer)
+    }
+
+    /// What a message comes to that is not dropped. A response has the memory of the buffer.
     #[tactic(auto, using(crate::proofs::DroppedLemmas::undropped_anywhere))]
     fn identified<'a>(
         &'a self,
@@ -99,6 +192,7 @@ impl<A: Allocator + Copy> Server<A> {
         from: SocketAddr,
         now: UnixTime,
         has_fingerprint: bool,
+        buffer: &mut Vec<u8, A>,
     ) -> Result<Identified<'a, A>, AllocError>
         requires undropped { drop_reason self.now.requires_fingerprint message ≡ None }
         requires fingerprint { has_fingerprint ≡ is_fingerprinted message }
@@ -108,20 +202,23 @@ impl<A: Allocator + Copy> Server<A> {
         ensures no_memory { is_request (class_in message.entry) ≡ false → IsOk result }
     {
         match message.class() {
-            MessageClass::Request => self.identified_request(message, from, now, has_fingerprint),
+            MessageClass::Request => {
+                self.identified_request(message, from, now, has_fingerprint, buffer)
+            }
             MessageClass::Indication => Ok(Identified::Done(self.indication(message))),
             MessageClass::Success => Ok(Identified::Done(Received::Response(message))),
             MessageClass::Error => Ok(Identified::Done(Received::Response(message))),
         }
     }
 
-    /// What a request comes to, or whom it waits for.
+    /// What a request comes to, or whom it waits for. A response has the memory of the buffer.
     fn identified_request<'a>(
         &'a self,
         message: Message<'a>,
         from: SocketAddr,
         now: UnixTime,
         has_fingerprint: bool,
+        buffer: &mut Vec<u8, A>,
     ) -> Result<Identified<'a, A>, AllocError>
         requires undropped { drop_reason self.now.requires_fingerprint message ≡ None }
         requires waits { IsWaiting message }
@@ -140,7 +237,14 @@ impl<A: Allocator + Copy> Server<A> {
             None => {
                 // No other nonce is the request's, so that the current one tells what it comes to.
                 let verdict = self.judged_by_nobody(&message, &nonce);
-                let received = self.judged(message, from, &nonce, verdict, has_fingerprint)?;
+                let received = self.judged_into(
+                    message,
+                    from,
+                    &nonce,
+                    verdict,
+                    has_fingerprint,
+                    buffer,
+                )?;
                 Ok(Identified::Done(received))
             }
         }
@@ -265,12 +369,13 @@ impl<A: Allocator + Copy> Server<A> {
         Ok(claim.has_nonce(&before))
     }
 
-    /// What the request of a look-up comes to.
+    /// What the request of a look-up comes to. A response has the memory of the buffer.
     #[tactic(auto, using(crate::proofs::JudgementLemmas::resumed_received, crate::proofs::JudgementLemmas::resumed_dropped))]
     fn resumed<'a>(
         &self,
         lookup: Lookup<'a>,
         judges: &Judges<'a, A>,
+        buffer: &mut Vec<u8, A>,
     ) -> Result<Received<'a, A>, AllocError>
         ensures { IfOk result (λ received. outcome_of received
             ≡ received_by self.now (realm_of judges.now) lookup.entry.from lookup.entry.arrived
@@ -284,7 +389,29 @@ impl<A: Allocator + Copy> Server<A> {
         if self.lacks_fingerprint(has_fingerprint) {
             return Ok(Received::Dropped(DropReason::MissingFingerprint));
         }
-        self.request(message, from, now, judges, has_fingerprint)
+        self.request_into(message, from, now, judges, has_fingerprint, buffer)
+    }
+
+    /// What the request of a look-up comes to, with the bytes of a response in the buffer.
+    fn resumed_into<'a>(
+        &self,
+        lookup: Lookup<'a>,
+        judges: &Judges<'a, A>,
+        buffer: &mut Vec<u8, A>,
+    ) -> Result<ReceivedInto<'a, A>, AllocError>
+        ensures received { IfOk result (λ received. outcome_in received buffer.new.items
+            ≡ received_by self.now (realm_of judges.now) lookup.entry.from lookup.entry.arrived
+            lookup.entry.message) }
+        ensures rest { IfOk result (λ received. LeavesNothing received buffer.new.items) }
+        ensures err { OnErr result (buffer.new.items ≡ []) }
+    {
+        match self.resumed(lookup, judges, buffer) {
+            Ok(received) => Ok(received.into_buffer(buffer)),
+            Err(_) => {
+                buffer.clear();
+                Err(AllocError)
+            }
+        }
     }
 
     /// Whether a message is dropped because it has no FINGERPRINT.

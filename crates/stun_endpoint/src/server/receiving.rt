@@ -240,26 +240,8 @@ impl<A: Allocator + Copy> Server<A> {
         }
     }
 
-    /// What a request comes to.
-    pub(super) fn request<'a>(
-        &self,
-        message: Message<'a>,
-        from: SocketAddr,
-        now: UnixTime,
-        judges: &Judges<'a, A>,
-        has_fingerprint: bool,
-    ) -> Result<Received<'a, A>, AllocError>
-        requires { has_fingerprint ≡ is_fingerprinted message }
-        ensures { IfOk result (λ received. outcome_of received
-            ≡ by_verdict self.now (realm_of judges.now) from now message.entry
-            (judged self.now (realm_of judges.now) from now (reading_of message.entry))) }
-    {
-        let mut buffer = Vec::new(self.alloc);
-        self.request_into(message, from, now, judges, has_fingerprint, &mut buffer)
-    }
-
     /// What a request comes to. A response has the memory of the buffer.
-    fn request_into<'a>(
+    pub(super) fn request_into<'a>(
         &self,
         message: Message<'a>,
         from: SocketAddr,
@@ -299,7 +281,7 @@ impl<A: Allocator + Copy> Server<A> {
 
     /// What a judged request comes to. The nonce is the one to send with a refusal. A response has
     /// the memory of the buffer.
-    fn judged_into<'a>(
+    pub(super) fn judged_into<'a>(
         &self,
         message: Message<'a>,
         from: SocketAddr,

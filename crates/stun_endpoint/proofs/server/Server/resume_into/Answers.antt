@@ -1,0 +1,14 @@
+-- It is resumed by the realm of the one user.
+use Rattle.std.proofs.Common.{◌≡◌, subst}
+use Rattle.std.specs.Prelude.{IfOk}
+use Rattle.stun_endpoint.specs.Judged.{Realm}
+use Rattle.stun_endpoint.specs.Buffered.{outcome_in}
+use Rattle.stun_endpoint.specs.Received.{received_by}
+use Rattle.stun_endpoint.proofs.server.Server.resume_into.Goals as goal
+
+pub returns-clause-received : goal.returns-clause-received
+returns-clause-received g c =
+    subst (λ (realm : Realm). IfOk c.resumed_into.result (λ received.
+    outcome_in received c.resumed_into.new.buffer.items
+    ≡ received_by c.args.self.now realm c.args.lookup.from c.args.lookup.arrived c.args.lookup.message))
+    c.judges.ensures c.resumed_into.ensures.received

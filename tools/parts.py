@@ -42,7 +42,7 @@ HEADERS = (*(f"include/{name}.h" for name in ("stunp", "stunp_endpoint", "stunp_
                                               "stunp_state", "stunp_state_inline")), "examples/c")
 PARTS = {
     # What needs no proof.
-    "rooms": (), "printed": (), "names": (), "lines": (), "links": (), "version": (),
+    "rooms": (), "printed": (), "clauses": (), "names": (), "lines": (), "links": (), "version": (),
     "licenses": (), "trusted": (), "exports": (), "refusals": (),
     "refusals-plants": ("tools/refusals.py", "tools/refusals.txt", "tests/refusals_plants.py"),
     "edits-look": (), "plants-look": (), "proof-record": (), "gate": (),

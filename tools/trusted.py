@@ -59,7 +59,7 @@ def closed(repository, crates):
 
 def definitions():
     repository = Repository(".")
-    found = {"The three sentences, of calls":
+    found = {"The three theorems, of calls":
              repository.closure([repository.named[name] for name in HEADLINE])}
     found |= {name: closed(repository, crates) for name, crates in ENDPOINTS.items()}
     return {name: (len(set(of)), sum(len([line for line in one.code if line.strip()])

@@ -85,8 +85,8 @@ pub record ComesWithin (late due now : ℕ) : Type 0 where
 
 -- What is said of a request after k timeouts, the last of which passed at `last`, up to its end. Each
 -- is said once the request is due, and at most so late. In the plan of the request, transmission k,
--- counted from 0, is at most k times as late, and the end at most once more than the last one. Of what
--- is due before `next` nothing is missing
+-- from 1 on, is at most k times as late, and the end at most once more than the last one. Of what is
+-- due before `next` nothing is missing
 pub data GoesOnByPlan (late : ℕ) (a : Agent) (start number next : ℕ) :
     ℕ → ℕ → List (ℕ × Told) → Type 0 where
   awaits : (k last : ℕ) → next ≤ request_due a k last

@@ -13,7 +13,7 @@ pub fn clients_stay_on_time()
 /// default 0, 500, 1500 ms and so on), and its end once, at the end of its plan, whatever else is
 /// called between. Nothing is early. If each poll comes at most `late` after the time that the client
 /// has asked for, each retransmission and the end come at most `late` after they are due, which is
-/// one timeout after the transmission before. So transmission k, counted from 0, is at most k times
+/// one timeout after the transmission before. So transmission k, from 1 on, is at most k times
 /// `late` after its sum, and the end at most once more. If no poll is late, all are exact. Up to the
 /// time at which the client asks to be polled next, nothing is missing, and nothing else is said of
 /// the request.

@@ -35,8 +35,8 @@ pub fn written_requests_are_not_bid_down()
     stun_client::laws::signed_requests_are_not_bid_down();
 }
 
-/// A server answers the first datagram of each request with a 401 that has the nonce which is
-/// current at its source, whatever method and body the request has, and whoever its users are.
+/// A server answers each request without a signature with a 401 that has the nonce which is current
+/// at its source, whatever method and body the request has, and whoever its users are.
 ///
 /// Premises: those of `requests_are_read_back`; and if the server requires FINGERPRINT, the client
 /// sends it.

@@ -95,8 +95,9 @@ pub mod types {
     pub use crate::types::{ICE, TURN};
 }
 
-/// Returns 32 random bytes of the operating system: the seed of a [`Client`], or the secret of a
-/// server with [`LongTerm`] credentials.
+/// Returns 32 random bytes of the operating system: the seed of a [`Client`], the secret of a server
+/// with [`LongTerm`] credentials, or what an agent of [`ice`] draws, such as its password and its
+/// tie-breaker. Never use the same bytes for two of these.
 ///
 /// # Panics
 ///

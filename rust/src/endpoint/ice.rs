@@ -753,8 +753,8 @@ impl fmt::Display for Judged {
 pub enum Failure {
     /// The answer is an error with this code.
     Error(u16),
-    /// The answer did not come from the address that the check was sent to (RFC 8445, section
-    /// 7.2.5.2.1).
+    /// The answer did not come from the address that the check was sent to, or, with [`Checks`], did
+    /// not arrive at the address that it was sent from (RFC 8445, section 7.2.5.2.1).
     OtherPath,
     /// The answer has an attribute of this type, which must be understood and is not.
     NotUnderstood(AttributeType),
@@ -778,7 +778,7 @@ impl fmt::Display for Failure {
     fn fmt(&self, f: &mut fmt::Formatter<'_>) -> fmt::Result {
         match self {
             Failure::Error(code) => write!(f, "the peer answered with the error {code}"),
-            Failure::OtherPath => f.write_str("the answer came from another address"),
+            Failure::OtherPath => f.write_str("the answer came by another path than the check"),
             Failure::NotUnderstood(kind) => {
                 write!(
                     f,
@@ -815,7 +815,7 @@ pub enum DropReason {
     OtherMethod,
     /// It is an indication with an attribute that must be understood and is not.
     UnknownAttribute,
-    /// It is a response, and not to the check that was passed.
+    /// It is a response, and not to the check that was passed, or to no check of these [`Checks`].
     NotAsked,
     /// It is a response whose signature is missing or invalid, or arrives before the credentials of
     /// the peer are known. A refusal by 400 or 401 is not signed, so such a check ends by its

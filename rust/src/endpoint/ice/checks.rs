@@ -24,7 +24,7 @@ use core::time::Duration;
 /// Call [`poll`](Self::poll) until it returns [`ChecksOutput::Wait`]: after each other call, and when
 /// that time has come.
 ///
-/// Candidates, pairs, their order, the pace of new checks (one every 50 ms at most, RFC 8445, section
+/// Candidates, pairs, their order, the pace of new checks (at most one every 50 ms, RFC 8445, section
 /// 14.2) and nomination are yours. This is tested, and not proved; what it is made of is.
 ///
 /// # Examples
@@ -130,7 +130,10 @@ pub struct NewCheck {
 }
 
 impl NewCheck {
-    /// Returns a check from an address of this agent to one of the peer. The transaction ID must be
+    /// Returns a check from an address of this agent to one of the peer. `from` is the base of the
+    /// local candidate: its own address, or for a relayed candidate the relayed address. It only has
+    /// to be what you pass to [`Checks::receive`] as `at` when a datagram arrives there, so for a
+    /// socket that is bound to all addresses any one of them will do. The transaction ID must be
     /// random and new. `priority` is the one that a peer-reflexive candidate would have that the peer
     /// learns from this check (RFC 8445, section 7.1.1).
     pub fn new(id: TransactionId, from: SocketAddr, to: SocketAddr, priority: u32) -> NewCheck {
@@ -405,7 +408,8 @@ impl Checks {
     ///   [`Checker::set_remote`].
     /// - [`NewCheckError::Attribute`]: one of the further attributes cannot be added, such as one of a
     ///   type that each check has.
-    /// - [`NewCheckError::IdInUse`]: a check with this transaction ID is outstanding. Use a new
+    /// - [`NewCheckError::IdInUse`]: a check with this transaction ID is outstanding, or was canceled
+    ///   since the last [`poll`](Self::poll). Use a new
     ///   random one.
     /// - [`NewCheckError::OutOfMemory`]: an allocation failed.
     pub fn start(&mut self, new: &NewCheck, now: Instant) -> Result<(), NewCheckError> {

@@ -496,7 +496,8 @@ pub enum Input<'a> {
     /// A response to a request of this client. `poll` returns what comes of it.
     Consumed,
     /// An indication from the server. Neither signature, FINGERPRINT nor unknown attributes are
-    /// checked: drop it if [`extra::has_unknown`](crate::extra::has_unknown) says so.
+    /// checked: drop it if [`extra::has_unknown`](crate::extra::has_unknown) says so of the types that
+    /// you understand, such as [`types::TURN`](crate::endpoint::types::TURN).
     Indication(Message<'a>),
     /// Not for this client: no STUN message (such as ChannelData or media), a message from another
     /// address, a request, or a response to no outstanding request. Offer it to the next client on

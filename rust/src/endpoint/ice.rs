@@ -89,8 +89,9 @@
 //! and keep the old one until a pair of the new session is selected. Both receive on the same
 //! sockets. A check belongs to the one whose name begins its USERNAME, and the other would answer
 //! it 401: pass a datagram to the new `Checker` first, and to the old one if it returns
-//! [`Judged::Refused`]`(`[`Refusal::Unauthenticated`]`)`, and send the answer of the last. A
-//! response belongs to the `Checker` that wrote the check. Roles and the tie-breaker stay: begin
+//! [`Judged::Refused`]`(`[`Refusal::Unauthenticated`]`)`. Send only the answer of the old one then. A
+//! response belongs to the `Checker` that wrote the check: with [`Checks`], to the one that does not
+//! drop it as [`DropReason::NotAsked`]. Roles and the tie-breaker stay: begin
 //! the new one with [`Checker::role`] and [`Checker::tie_breaker`] of the old.
 //!
 //! # In a program
@@ -284,7 +285,7 @@ impl Checker {
     }
 
     /// Sets the credentials of the peer, in place of those that were set before. Answers to checks
-    /// that were written with those are then dropped.
+    /// that were written with those are then dropped: cancel such checks if they are outstanding.
     ///
     /// # Errors
     ///
@@ -743,10 +744,10 @@ impl fmt::Display for Judged {
 /// use seatcrane_stun::endpoint::ice::{Failure, Outcome};
 ///
 /// /// Whether to try the pair again, as after an error that may pass.
-/// fn is_passing(outcome: Outcome) -> bool {
+/// fn is_temporary(outcome: Outcome) -> bool {
 ///     matches!(outcome, Outcome::Failed(Failure::Error(500)))
 /// }
-/// # assert!(!is_passing(Outcome::Failed(Failure::OtherPath)));
+/// # assert!(!is_temporary(Outcome::Failed(Failure::OtherPath)));
 /// ```
 #[derive(Clone, Copy, Debug, PartialEq, Eq, Hash)]
 #[non_exhaustive]

@@ -21,7 +21,7 @@ use core::time::Duration;
 ///
 /// Each check that is started ends exactly once: [`receive`](Self::receive) returns how its answer
 /// ends it, or [`poll`](Self::poll) that no answer came, or [`cancel`](Self::cancel) takes it back.
-/// Call [`poll`](Self::poll) until it returns [`ChecksOutput::Wait`]: after each other call, and when
+/// Call [`poll`](Self::poll) until it returns [`ChecksOutput::Wait`]: after any other call, and when
 /// that time has come.
 ///
 /// Candidates, pairs, their order, the pace of new checks (at most one every 50 ms, RFC 8445, section

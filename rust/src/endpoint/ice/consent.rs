@@ -77,8 +77,8 @@ impl Consent {
         }
     }
 
-    /// Returns the next thing to do. `random` is a random number, by which the next check is sent 4
-    /// to 6 seconds after this one.
+    /// Returns the next thing to do. `random` is a random number. It is used only if the result is
+    /// [`ConsentStep::Ask`], and says when the next check is due, 4 to 6 seconds after this one.
     pub fn poll(&mut self, now: Instant, random: u32) -> ConsentStep {
         if now >= self.until {
             ConsentStep::Over

@@ -52,8 +52,8 @@
  *   header of a message has no other fields, and only stunp_walk reads a cursor. stunp_address has
  *   no scope of an IPv6 address and will get none. The scope says by which interface an address is
  *   reached and not whose address it is, so it stays in the socket address to which you send.
- * - stunp_reply and stunp_ice_check of stunp_endpoint.h are final too. Another kind of reply would
- *   be a struct of its own.
+ * - stunp_reply, stunp_ice_check and the other structs of ICE without a size in stunp_endpoint.h are
+ *   final too. Another kind of reply would be a struct of its own.
  * - The handles are final. What they refer to is the library's.
  *
  *

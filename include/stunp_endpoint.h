@@ -10,6 +10,8 @@
  *   stunp_reply            answers an accepted request, now or later, on any thread
  *   stunp_ice_checker      an agent of ICE: its credentials, those of its peer, and its role
  *   stunp_ice_check        a check that the agent sent, as it is stored with its pair
+ *   stunp_ice_checks       the outstanding checks of the agent, with their timers
+ *   stunp_ice_candidate    a candidate, as a line of SDP has it
  *   stunp_endpoint_client  a client of one server, with any number of requests
  *   stunp_body             the attributes of a request of a client
  *
@@ -136,7 +138,8 @@
  * A connectivity check of ICE, both ways
  *
  * An agent sends a check on a pair of candidates, and answers those of its peer (RFC 8445, sections
- * 7.2 and 7.3). Candidates, pairs, their order and pacing, and retransmissions are yours.
+ * 7.2 and 7.3). Candidates, pairs, their order and pacing are yours. So are retransmissions, unless
+ * you leave them to stunp_ice_checks, as most agents do; what follows does without.
  *
  *     // The remote candidate of a pair, and the check of it that is in progress.
  *     struct ice_pair {
@@ -149,7 +152,7 @@
  *     // 12 random bytes that no other check has.
  *     int64_t check_pair(stunp_ice_checker *agent, struct ice_pair *pair, const uint8_t *id,
  *                        bool nominate, uint8_t *out, size_t room) {
- *         const uint32_t priority = (110u << 24) + (65535u << 8) + 255; // section 5.1.2.1
+ *         const uint32_t priority = stunp_ice_priority(STUNP_ICE_PEER_REFLEXIVE, 65535, 1);
  *         int64_t length = stunp_ice_checker_check(agent, id, &pair->remote, priority, nominate, out,
  *                                                  room, &pair->check);
  *         if (length >= 0) pair->is_checking = true, pair->is_to_be_checked = false;
@@ -175,7 +178,9 @@
  *         return kind == STUNP_ANSWER ? got.length : 0;
  *     }
  *
- * examples/c/ice_check.c has candidates, pairs and pacing around it.
+ * examples/c/ice_check.c has candidates, pairs and pacing around it, and examples/c/ice_pair.c has two
+ * agents of one pair over stunp_ice_checks. docs/ICE.md of the repository has the steps of an agent,
+ * from the offer to consent.
  *
  * The side that makes an offer often gets checks before the answer to the offer, and has to answer
  * them at once (section 7.3). Leave `peer_name` and `peer_password` of its settings null, and call
@@ -277,6 +282,11 @@
  *    stunp_endpoint_client_poll_with, stunp_endpoint_client_poll, stunp_poll_timeout,
  *    stunp_endpoint_client_cancel, stunp_endpoint_client_try_cancel, stunp_endpoint_client_dropped,
  *    stunp_result_text
+ *   ICE, checks with their timers: stunp_ice_checks_on, stunp_ice_checks_start,
+ *    stunp_ice_checks_receive, stunp_ice_checks_poll, stunp_ice_checks_until, stunp_ice_checks_find,
+ *    stunp_ice_checks_outstanding, stunp_ice_checks_stop_sending, stunp_ice_checks_cancel
+ *   ICE, lines of candidates: stunp_ice_candidate_read, stunp_ice_candidate_extension,
+ *    stunp_ice_candidate_write
  *   keepalives: stunp_keepalive_every, stunp_keepalive_before, stunp_keepalive_is_due,
  *    stunp_keepalive_until
  *   versions: stunp_endpoint_version, stunp_endpoint_release_0_2
@@ -532,13 +542,16 @@ typedef enum stunp_ice_outcome {
     /* Of a check of the peer, whose kind is STUNP_ANSWER: */
     STUNP_ICE_ACCEPTED = 1,      /* it is accepted. Send a check on the same pair, if none of yours
                                   * has succeeded there (RFC 8445, section 7.3.1.4) */
-    STUNP_ICE_PEER_SWITCHES = 2, /* both have one role, and the 487 tells the peer to switch */
+    STUNP_ICE_PEER_SWITCHES = 2, /* both have one role, and the 487 tells the peer to switch. Once it
+                                  * has, its next check is accepted */
     STUNP_ICE_REFUSED = 3,       /* it is refused by `code` */
     /* Of the answer to a check of yours, whose kind is STUNP_IS_RESPONSE: */
     STUNP_ICE_VALID = 4,          /* it succeeded, and the pair is valid. The peer saw it come from
                                    * `mapped` */
-    STUNP_ICE_CONFLICT = 5,       /* both had one role, and this agent has the other one now. Set a new
-                                   * random tie-breaker, and send a new check (section 7.2.5.1) */
+    STUNP_ICE_CONFLICT = 5,       /* the peer has the role that the check says, and keeps it. This
+                                   * agent has the other one now, or had it before (`switched` is
+                                   * then false). Set a new random tie-breaker, and send a new check
+                                   * (section 7.2.5.1) */
     STUNP_ICE_ERROR = 6,          /* it failed by the error `code` */
     STUNP_ICE_OTHER_PATH = 7,     /* it failed, because the answer came from another address than the
                                    * check went to */
@@ -687,7 +700,8 @@ typedef struct {
  *   priority        STUNP_ICE_ACCEPTED: the priority in the check, which a peer-reflexive candidate
  *                   gets if the address that the check came from is new (RFC 8445, section 7.3.1.3)
  *   not_understood  STUNP_ICE_NOT_UNDERSTOOD: the type of the attribute
- *   nominated       STUNP_ICE_ACCEPTED: whether the peer, which controls, nominates the pair
+ *   nominated       STUNP_ICE_ACCEPTED: whether the peer, which controls, nominates the pair. It is
+ *                   selected once a check of yours has succeeded there too (section 7.3.1.5)
  *   switched        STUNP_ICE_ACCEPTED, STUNP_ICE_CONFLICT: whether this agent has switched its role
  *                   because of the datagram. The priorities of pairs depend on the role
  *   length          STUNP_ANSWER: how many bytes are to be sent
@@ -1259,9 +1273,10 @@ int64_t stunp_ice_checker_receive_with(stunp_ice_checker *checker,
  *   - A check is accepted if its USERNAME begins with your name and a colon, and it is signed with
  *     your password: the credentials of the peer do not count. It is answered 400 if it is not
  *     signed, or has no USERNAME or no PRIORITY; 401 if the name or the signature is wrong; and 420
- *     if it has an attribute that must be understood and is not. If it says that the peer has the role of this agent, the one with the
- *     larger tie-breaker is to control, and this agent's counts as the larger if they are equal
- *     (section 7.3.1.1): either this agent switches its role, or the check is answered 487.
+ *     if it has an attribute that must be understood and is not. If it says that the peer has the
+ *     role of this agent, the one with the larger tie-breaker is to control, and this agent's counts
+ *     as the larger if they are equal (section 7.3.1.1): either this agent switches its role, or the
+ *     check is answered 487.
  *   - A response is dropped if it does not answer `check`, or is not signed by the peer. Otherwise it
  *     ends the check. After a 487 this agent has the other role than the one that the check was sent
  *     in (section 7.2.5.1).
@@ -1503,8 +1518,9 @@ typedef enum stunp_result {
                                       * leads to this result too, such as the 401 to a wrong
                                       * short-term password: see `dropped.code`. With long-term
                                       * credentials a 401 or 438 is a challenge instead */
-    STUNP_RESULT_UNAUTHORIZED = 5,   /* it was challenged or refused too often: the password is wrong,
-                                      * or somebody forges challenges */
+    STUNP_RESULT_UNAUTHORIZED = 5,   /* the server refuses the credentials, or challenges too
+                                      * often: the user name or the password is wrong, or
+                                      * somebody forges challenges */
     STUNP_RESULT_NOT_UNDERSTOOD = 6, /* the response has an attribute of the type `not_understood` that
                                       * must be understood and is not (section 6.3.3) */
     STUNP_RESULT_MALFORMED = 7,      /* the response is an error without a code */
@@ -1824,6 +1840,278 @@ int64_t stunp_endpoint_client_dropped(stunp_endpoint_client *client, uint64_t re
 /* Returns a text for a stunp_result, as stunp_strerror does for an error. */
 STUNP_INLINED const char *stunp_result_text(stunp_result result);
 
+/* ---- Checks of ICE with their timers
+ *
+ * A stunp_ice_checks has the outstanding checks of an agent: when each is sent again, when it times
+ * out, and between which addresses. Its memory is yours, and it takes no other. Each check that is
+ * started ends exactly once: by stunp_ice_checks_receive, if its answer arrives; by
+ * stunp_ice_checks_poll, if none comes in time; or by stunp_ice_checks_cancel. The order and the pace
+ * of new checks, at most one every 50 ms (section 14.2), are yours.
+ *
+ *     // Sends what is due. `send` sends from an address of this agent to one of the peer.
+ *     void send_checks(stunp_ice_checks *checks, uint64_t now,
+ *                      void (*send)(const stunp_address *from, const stunp_address *to,
+ *                                   const uint8_t *bytes, size_t length)) {
+ *         stunp_ice_event event;
+ *         stunp_event_kind kind;
+ *         while ((kind = stunp_ice_checks_poll(checks, now, &event)) != STUNP_WAIT) {
+ *             if (kind == STUNP_TRANSMIT) send(&event.from, &event.to, event.bytes, event.length);
+ *             // else STUNP_ENDED: nobody has answered event.check, so its pair fails
+ *         }
+ *     }
+ *
+ * Then wait for a datagram until stunp_ice_checks_until, and pass each to stunp_ice_checks_receive.
+ * These calls are done in C over those of the agent: they are tested, and not proved. */
+
+enum {
+    /* The bytes of a check that a stunp_ice_outstanding has room for, which is more than
+     * STUNP_ICE_CHECK_MAX. */
+    STUNP_ICE_STORED_MAX = 1024,
+    /* The most transmissions of a check. */
+    STUNP_ICE_TRANSMISSIONS_MAX = 255
+};
+
+/* The memory of one outstanding check. The fields are not yours to write. */
+typedef struct {
+    stunp_ice_check check;
+    stunp_address from;
+    uint64_t started;
+    uint64_t next;
+    uint64_t wait;
+    uint64_t longest;
+    uint64_t last;
+    uint32_t left;
+    bool is_outstanding;
+    size_t length;
+    uint8_t bytes[STUNP_ICE_STORED_MAX];
+} stunp_ice_outstanding;
+
+/* The outstanding checks of an agent. One thread at a time uses it. The fields are not yours to
+ * write. */
+typedef struct {
+    stunp_ice_checker *checker;
+    stunp_ice_outstanding *stored;
+    size_t count;
+} stunp_ice_checks;
+
+/* A check to start. A field that is 0 or null takes its default.
+ *
+ *   size           sizeof (stunp_ice_new_check), set by STUNP_INIT
+ *   id             12 random bytes that no other check has. It has no default
+ *   from           the base of the local candidate: the address of its socket, or of a relayed
+ *                  candidate the relayed address. It only has to be what you pass to
+ *                  stunp_ice_checks_receive as `at` when a datagram arrives there, so for a socket
+ *                  that is bound to all addresses any one of them will do
+ *   to             the address of the remote candidate
+ *   priority       what a peer-reflexive candidate would have that the peer learns from this check
+ *                  (section 7.1.1): stunp_ice_priority
+ *   nominates      whether the check nominates its pair, if this agent controls
+ *   initial        how long to wait after the first transmission, in nanoseconds. Each further wait is
+ *                  twice the wait before (RFC 8489, section 6.2.1). By default 500000000 (500 ms); it
+ *                  grows with the number of pairs (section 14.3)
+ *   longest        the longest of these waits, in nanoseconds. By default they have no bound
+ *   last           how long to wait after the last transmission, in nanoseconds. By default 8000000000
+ *                  (8 s)
+ *   transmissions  how often the check is sent, up to STUNP_ICE_TRANSMISSIONS_MAX times. By default 7.
+ *                  A check for consent is sent once, and answered within 30 s (RFC 7675, section 5.1) */
+typedef struct {
+    size_t size;
+    uint8_t id[12];
+    stunp_address from;
+    stunp_address to;
+    uint32_t priority;
+    bool nominates;
+    uint64_t initial;
+    uint64_t longest;
+    uint64_t last;
+    uint32_t transmissions;
+} stunp_ice_new_check;
+
+/* A check that its answer has ended. The stunp_ice_received says how.
+ *
+ *   check    the check
+ *   from     the address of this agent that it was sent from
+ *   elapsed  the nanoseconds since it was started: the round trip, if it was sent once */
+typedef struct {
+    stunp_ice_check check;
+    stunp_address from;
+    uint64_t elapsed;
+} stunp_ice_ended;
+
+/* What to do next for the checks.
+ *
+ *   kind    STUNP_TRANSMIT: send the bytes. STUNP_ENDED: the check has timed out. STUNP_WAIT: nothing
+ *           yet, and all other fields are 0 or null
+ *   from    the address of this agent that the check is sent from
+ *   check   the check, whose `to` is the address that it is sent to
+ *   to      that address
+ *   bytes   STUNP_TRANSMIT: the check, until the next call with these checks
+ *   length  STUNP_TRANSMIT: how many bytes that are */
+typedef struct {
+    stunp_event_kind kind;
+    stunp_address from;
+    stunp_address to;
+    stunp_ice_check check;
+    const uint8_t *bytes;
+    size_t length;
+} stunp_ice_event;
+
+/* Returns the checks of an agent, of which none is outstanding yet. `stored` is room for `count` of
+ * them, and it and the agent must outlive the checks. A list has 100 pairs by default (section
+ * 6.1.2.5), each with one check, or more if triggered checks replace some. */
+STUNP_NOT_NULL(1)
+STUNP_INLINED stunp_ice_checks stunp_ice_checks_on(stunp_ice_checker *checker,
+                                                   stunp_ice_outstanding *stored, size_t count);
+
+/* Starts a check, which stunp_ice_checks_poll then sends.
+ *
+ * Returns 0. Errors, after which nothing has changed:
+ *   STUNP_BAD_ARGUMENT         `size` is wrong, `from` is not an IPv4 or IPv6 address, or
+ *                              `transmissions` is above STUNP_ICE_TRANSMISSIONS_MAX
+ *   STUNP_ALREADY_IN_PROGRESS  a check with this ID is outstanding: use a new random one
+ *   STUNP_BUFFER_TOO_SMALL     `count` checks are outstanding
+ * and then those of stunp_ice_checker_check, such as STUNP_BAD_ARGUMENT if `to` is not an IPv4 or
+ * IPv6 address, and STUNP_CANNOT_SIGN if the credentials of the peer are not known yet. */
+STUNP_NOT_NULL(1, 2)
+STUNP_INLINED int64_t stunp_ice_checks_start(stunp_ice_checks *checks,
+                                             const stunp_ice_new_check *check, uint64_t now);
+
+/* Judges the datagram that arrived at the address `at` of this agent from the address `from`, like
+ * stunp_ice_checker_receive, which is told the check that it may answer. Send the answer to a check
+ * from `at` to `from`.
+ *
+ * The answer to a check must come from where the check went, to where it was sent from. Otherwise the
+ * check fails with STUNP_ICE_OTHER_PATH (section 7.2.5.2.1), if the answer is signed by the peer. An
+ * IPv4 address and the same address mapped into IPv6 count as one.
+ *
+ * If it returns STUNP_IS_RESPONSE, a check has ended, and `*ended` is that check; otherwise `*ended` is
+ * not written. `received` and `ended` may be null.
+ *
+ * Returns and fails as stunp_ice_checker_receive does, with STUNP_BAD_ARGUMENT also if `at` is not an
+ * IPv4 or IPv6 address. After an error, and if the datagram is dropped, each check goes on. */
+STUNP_USE_RESULT STUNP_NOT_NULL(1, 4, 5)
+STUNP_INLINED int64_t stunp_ice_checks_receive(stunp_ice_checks *checks,
+                                               const uint8_t *STUNP_RESTRICT bytes, size_t length,
+                                               const stunp_address *at, const stunp_address *from,
+                                               uint64_t now, uint8_t *STUNP_RESTRICT out,
+                                               size_t room, stunp_ice_received *received,
+                                               stunp_ice_ended *ended);
+
+/* Finds the next thing to do, and writes it to `*event`. Call it after each start and when the time of
+ * stunp_ice_checks_until has come, and repeat it until it returns STUNP_WAIT. Otherwise checks are not
+ * sent, and you do not learn which have timed out.
+ *
+ * Returns `event->kind`: STUNP_WAIT, STUNP_TRANSMIT, or STUNP_ENDED for a check that has timed out. */
+STUNP_USE_RESULT STUNP_NOT_NULL(1, 3)
+STUNP_INLINED stunp_event_kind stunp_ice_checks_poll(stunp_ice_checks *checks, uint64_t now,
+                                                     stunp_ice_event *event);
+
+/* Returns the earlier of `until` and the time at which there is something to do for the checks:
+ * UINT64_MAX if you pass that, and no check is outstanding. For the milliseconds of poll(): write it
+ * to the `until` of a stunp_event for stunp_poll_timeout. */
+STUNP_USE_RESULT STUNP_NOT_NULL(1)
+STUNP_INLINED uint64_t stunp_ice_checks_until(const stunp_ice_checks *checks, uint64_t until);
+
+/* Returns the outstanding check with this ID, until the next call with these checks, or null if it has
+ * ended or was never started. */
+STUNP_USE_RESULT STUNP_NOT_NULL(1, 2)
+STUNP_INLINED const stunp_ice_check *stunp_ice_checks_find(const stunp_ice_checks *checks,
+                                                           const uint8_t id[12]);
+
+/* Returns how many checks are outstanding. */
+STUNP_USE_RESULT STUNP_NOT_NULL(1)
+STUNP_INLINED size_t stunp_ice_checks_outstanding(const stunp_ice_checks *checks);
+
+/* Stops sending a check again, although its answer still ends it: for one that has become pointless,
+ * as when a triggered check takes its place (section 7.3.1.4). Without an answer it times out when it
+ * would have anyway. Returns false if no outstanding check has this ID. */
+STUNP_NOT_NULL(1, 2)
+STUNP_INLINED bool stunp_ice_checks_stop_sending(stunp_ice_checks *checks, const uint8_t id[12]);
+
+/* Ends a check, of which nothing more is returned: an answer to it is dropped. Returns false if no
+ * outstanding check has this ID. */
+STUNP_NOT_NULL(1, 2)
+STUNP_INLINED bool stunp_ice_checks_cancel(stunp_ice_checks *checks, const uint8_t id[12]);
+
+/* ---- Lines of candidates (RFC 8839, section 5.1)
+ *
+ *     // `line` is what the peer has sent, as "candidate:1 1 udp 2130706431 192.0.2.1 5000 typ host".
+ *     stunp_ice_candidate candidate;
+ *     if (stunp_ice_candidate_read(&candidate, line, strlen(line)) == STUNP_ICE_LINE_READ)
+ *         add_remote_candidate(&candidate.address, candidate.priority);
+ *     // Otherwise skip the line: it may be over TCP, or have a name in place of an address.
+ *
+ * These calls are done in C: they are tested, and not proved. */
+
+/* A candidate over UDP. After stunp_ice_candidate_read its texts are parts of the line, which do not
+ * end with a zero byte.
+ *
+ *   kind               how it was found
+ *   component          the number of the component, from 1 on
+ *   has_related        whether the line has the related address
+ *   priority           from 1 to 2147483647 (stunp_ice_priority)
+ *   foundation         1 to 32 letters, digits, `+` and `/`, equal for candidates of one kind, base and
+ *   foundation_length  server (section 5.1.1.3)
+ *   extensions         pairs of words that end the line, such as `ufrag h6vY`, with a space between any
+ *   extensions_length  two words (stunp_ice_candidate_extension). Null and 0 if there are none
+ *   address            where the peer sends checks to
+ *   related            the base of a reflexive candidate, or the mapped address of a relayed one */
+typedef struct {
+    stunp_ice_candidate_kind kind;
+    uint8_t component;
+    bool has_related;
+    uint32_t priority;
+    const char *foundation;
+    size_t foundation_length;
+    const char *extensions;
+    size_t extensions_length;
+    stunp_address address;
+    stunp_address related;
+} stunp_ice_candidate;
+
+/* Why a line is no candidate of use: the first of these that applies. */
+typedef enum stunp_ice_line {
+    STUNP_ICE_LINE_READ = 0,          /* it is one */
+    STUNP_ICE_LINE_NO_CANDIDATE = 1,  /* it does not begin with `candidate:` and its eight words, or its
+                                       * foundation is none */
+    STUNP_ICE_LINE_NOT_UDP = 2,       /* the transport is not UDP */
+    STUNP_ICE_LINE_NO_COMPONENT = 3,  /* the component is not a number from 1 to 255 */
+    STUNP_ICE_LINE_NO_PRIORITY = 4,   /* the priority is not a number from 1 to 2147483647 */
+    STUNP_ICE_LINE_NO_ADDRESS = 5,    /* the address is not an IP address with a port: it may be a name
+                                       * that ends with `.local`, by which browsers hide addresses */
+    STUNP_ICE_LINE_NO_KIND = 6        /* the type is not host, prflx, srflx or relay */
+} stunp_ice_line;
+
+/* Reads the value of an `a=candidate` line of SDP, with or without `a=` in front, which is what
+ * browsers have in RTCIceCandidate.candidate. Words are separated by spaces or tabs, and may end with
+ * CR and LF. A related address that is not an IP address with a port counts as none, and extensions
+ * are kept, whatever their names are.
+ *
+ * Returns STUNP_ICE_LINE_READ, or why the line is no candidate; then `*candidate` is all 0. */
+STUNP_USE_RESULT STUNP_READS(2, 3) STUNP_NOT_NULL(1)
+STUNP_INLINED stunp_ice_line stunp_ice_candidate_read(stunp_ice_candidate *candidate,
+                                                      const char *line, size_t length);
+
+/* Returns the value of the extension with this name, which ends with a zero byte, and writes its length
+ * to `*length`; or null, if the candidate has none or it has no value. `ufrag` has the username
+ * fragment of the agent that the candidate belongs to, which tells a candidate of a restarted session
+ * from one of the session before (RFC 8840). */
+STUNP_USE_RESULT STUNP_NOT_NULL(1, 2, 3)
+STUNP_INLINED const char *stunp_ice_candidate_extension(const stunp_ice_candidate *candidate,
+                                                        const char *name, size_t *length);
+
+/* Writes the line of a candidate to the front of `out`, without `a=`, and a zero byte after it. 256
+ * bytes are room enough without extensions, which are written as they are, and not tested.
+ *
+ * Returns the length without the zero byte. Errors, after which nothing was written:
+ *   STUNP_BAD_ARGUMENT      the kind is none of stunp_ice_candidate_kind, the foundation is none, the
+ *                           component or the priority is out of range, or `address`, or `related` if
+ *                           it counts, is not an IPv4 or IPv6 address
+ *   STUNP_BUFFER_TOO_SMALL  the line and the zero byte do not fit into `room` bytes */
+STUNP_USE_RESULT STUNP_WRITES(2, 3) STUNP_NOT_NULL(1)
+STUNP_INLINED int64_t stunp_ice_candidate_write(const stunp_ice_candidate *candidate, char *out,
+                                                size_t room);
+
 /* ---- Keepalives
  *
  * An allocation, a permission, a channel and the path through a NAT end unless something is sent in
@@ -1885,6 +2173,7 @@ static int64_t (*const stunp_endpoint_release_wanted)(void) __attribute__((used)
 
 #if STUNP_INLINE_CALLS
 #include "stunp_endpoint_inline.h"
+#include "stunp_ice_inline.h"
 #endif
 
 #ifdef __cplusplus

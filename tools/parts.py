@@ -38,8 +38,9 @@ EXPORT = ("tools/export", "tools/rust.sh", "rust/Cargo.toml", "rust/capi/Cargo.t
 # Calls for C that are proved, each with all crates below it, and what they are tested with.
 C_CRATES = ("crate stun_c", "crate stun_state", "crate stun_c_endpoint", "tools/archives.sh")
 HEADERS = (*(f"include/{name}.h" for name in ("stunp", "stunp_endpoint", "stunp_endpoint_inline",
-                                              "stunp_inline", "stunp_log", "stunp_sockaddr",
-                                              "stunp_state", "stunp_state_inline")), "examples/c")
+                                              "stunp_ice_inline", "stunp_inline", "stunp_log",
+                                              "stunp_sockaddr", "stunp_state",
+                                              "stunp_state_inline")), "examples/c")
 PARTS = {
     # What needs no proof.
     "rooms": (), "printed": (), "clauses": (), "names": (), "lines": (), "links": (), "version": (),

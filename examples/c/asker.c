@@ -55,7 +55,7 @@ static bool is_success(struct asker *asker, const stunp_event *event) {
     switch (event->result) {
     case STUNP_RESULT_SUCCESS: return true;
     case STUNP_RESULT_REFUSED: case STUNP_RESULT_REDIRECTED: return fails(asker, "refused ", code);
-    case STUNP_RESULT_UNAUTHORIZED: return fails(asker, "refused: ", "challenged too often");
+    case STUNP_RESULT_UNAUTHORIZED: return fails(asker, "refused: ", stunp_result_text(event->result));
     case STUNP_RESULT_TIMED_OUT: return no_answer(asker, &event->dropped, 0);
     default: return fails(asker, "failed: ", stunp_result_text(event->result));
     }

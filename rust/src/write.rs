@@ -3,12 +3,10 @@
 use crate::copies::granted;
 use crate::credentials::MessageIntegrityCredentials;
 use crate::exported::stun_base::header::HEADER_LENGTH;
-use crate::exported::stun_extra::crc32::crc32;
-use crate::exported::stun_extra::fingerprint::{FINGERPRINT_LENGTH, FINGERPRINT_XOR};
+use crate::exported::stun_extra::fingerprint::finish_with_fingerprint;
 use crate::exported::stun_types::attribute::{
-    Attribute, AttributeType, ErrorCode, RawAttribute, attribute_length,
+    Attribute, AttributeType, ErrorCode, attribute_length,
 };
-use crate::exported::stun_types::limits::MAX_LENGTH;
 use crate::exported::stun_types::message::{
     self as proved, IntegrityAlgorithm, MessageClass, MessageType, MessageWriteMutSlice, Method,
     StunWriteError,
@@ -356,25 +354,42 @@ pub trait MessageWriteExt: MessageWrite + Sized {
     /// # Ok::<(), StunWriteError>(())
     /// ```
     fn add_fingerprint(&mut self) -> Result<(), StunWriteError> {
-        MessageHeader::from_bytes(self.data()).map_err(|_| StunWriteError::NotAllowed)?;
-        let kind = AttributeType::FINGERPRINT;
-        if Proved::has_attribute(self, kind) {
-            return Err(StunWriteError::AttributeExists(kind));
-        }
-        let length = self.data().len() - HEADER_LENGTH + FINGERPRINT_LENGTH;
-        if length > MAX_LENGTH {
-            return Err(StunWriteError::TooLarge);
-        }
-        let length = u16::try_from(length).map_err(|_| StunWriteError::TooLarge)?;
-        self.reserve(FINGERPRINT_LENGTH)?;
-        self.set_length(length);
-        let value = (crc32(self.data()) ^ FINGERPRINT_XOR).to_be_bytes();
-        RawAttribute::new(kind, &value).write_into(self);
-        Ok(())
+        finish_with_fingerprint(with_header(Lent(self))?).map(|_| ())
     }
 }
 
 impl<W: MessageWrite> MessageWriteExt for W {}
+
+/// A writer that a call of the core may finish, while the writer that it borrows can go on.
+struct Lent<'w, W>(&'w mut W);
+
+impl<'w, W: MessageWrite> MessageWrite for Lent<'w, W> {
+    type Output = &'w [u8];
+
+    fn data(&self) -> &[u8] {
+        self.0.data()
+    }
+
+    fn room(&self) -> usize {
+        self.0.room()
+    }
+
+    fn reserve(&mut self, additional: usize) -> Result<(), StunWriteError> {
+        self.0.reserve(additional)
+    }
+
+    fn append(&mut self, tail: &[u8]) {
+        self.0.append(tail);
+    }
+
+    fn set_length(&mut self, message_length: u16) {
+        self.0.set_length(message_length);
+    }
+
+    fn finish(self) -> &'w [u8] {
+        self.0.data()
+    }
+}
 
 /// Panics unless the message ends with this attribute, whole, from the offset `at` on.
 ///

@@ -815,9 +815,21 @@ fn candidates_are_read_and_written() {
     ] {
         let candidate: Candidate = line.parse().unwrap();
         assert_eq!(candidate.to_string(), line);
+        assert_eq!(candidate.extension("ufrag"), None);
         let further = format!("a={line} generation 0 ufrag evtj network-cost 999");
-        assert_eq!(further.replace(" udp ", " UDP ").parse(), Ok(candidate));
+        let read: Candidate = further.replace(" udp ", " UDP ").parse().unwrap();
+        assert_eq!(read.extension("ufrag"), Some("evtj"));
+        assert_eq!(read.extension("network-cost"), Some("999"));
+        assert_eq!(read.extension("evtj"), None);
+        assert_eq!(read.to_string(), further[2..]);
+        let extensions = Vec::new();
+        assert_eq!(Candidate { extensions, ..read }, candidate);
     }
+    // A related address that is none is passed over, and so is a name without a value.
+    let line = "candidate:1 1 udp 1 192.0.2.1 5 typ relay raddr a.local rport 9 ufrag x y";
+    let read: Candidate = line.parse().unwrap();
+    assert_eq!((read.related, read.extension("ufrag")), (None, Some("x")));
+    assert_eq!(read.extensions.len(), 1);
     for (line, why) in [
         (
             "candidat:1 1 udp 1 192.0.2.1 5000 typ host",

@@ -260,6 +260,10 @@ fn a_check_has_the_attributes_that_it_is_given() {
     for (kind, why) in [
         (AttributeType::USERNAME, exists(AttributeType::USERNAME)),
         (AttributeType::FINGERPRINT, NewCheckError::Attribute(StunWriteError::NotAllowed)),
+        // USE-CANDIDATE, ICE-CONTROLLED and ICE-CONTROLLING
+        (AttributeType(0x0025), NewCheckError::Attribute(StunWriteError::NotAllowed)),
+        (AttributeType(0x8029), NewCheckError::Attribute(StunWriteError::NotAllowed)),
+        (AttributeType(0x802a), NewCheckError::Attribute(StunWriteError::NotAllowed)),
     ] {
         let check = new(3).attribute(kind, []);
         assert_eq!(checks.start(&check, ms(1)), Err(why));

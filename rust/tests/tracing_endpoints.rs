@@ -326,7 +326,7 @@ fn clients_record_each_end(trace: &Trace) {
         &mut mallory,
         Instant::ZERO,
         0,
-        "result=challenged too often",
+        "result=the server refuses the credentials, or challenges too often",
     );
 
     let mut anybody = Client::builder(there()).build([77; 32]).unwrap();

@@ -18,6 +18,8 @@ use stun_base::instant::Instant;
 pub(crate) mod reads;
 pub(crate) mod table;
 
+// These bodies know of the allocator only that it is one. All calls that can search the requests
+// without a count want `A: Copy`, so a call of theirs from here does not compile.
 impl<A: Allocator> StunAgent<A> {
     /// Ends at most one request, or returns how long to wait.
     ///

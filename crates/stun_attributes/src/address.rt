@@ -12,8 +12,7 @@ use byteorder::{BigEndian, ByteOrder};
 use std::marker::Model;
 use std::net::{IpAddr, Ipv4Addr, Ipv6Addr, SocketAddr};
 use stun_base::error::StunParseError;
-use stun_extra::attribute::append_header;
-use stun_types::attribute::{AttributeType, RawAttribute};
+use stun_types::attribute::{AttributeType, RawAttribute, append_header};
 use stun_types::prelude::*;
 
 /// The number of bytes of the value before the port: one that is reserved, and the family.

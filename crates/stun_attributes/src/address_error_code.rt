@@ -16,8 +16,7 @@ use crate::address_family::AddressFamily;
 use std::alloc::AllocError;
 use std::marker::Model;
 use stun_base::error::{StunParseError, StunWriteError};
-use stun_extra::attribute::append_header;
-use stun_types::attribute::{AttributeType, ErrorCode, RawAttribute};
+use stun_types::attribute::{AttributeType, ErrorCode, RawAttribute, append_header};
 use stun_types::prelude::*;
 
 /// The number of bytes before the reason phrase: the family, reserved bits, class and number.

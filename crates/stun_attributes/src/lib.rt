@@ -124,7 +124,7 @@ pub type ResponsePort = Short<0x0027>;
 /// sent in fragments.
 pub type Padding<'a> = Bytes<'a, 0x0026>;
 
-/// The types of the aliases above, in their order.
+/// Returns the types of the aliases above, in their order.
 pub fn types() -> [u16; 18]
     ensures { result
         ≡ MAPPED_ADDRESS ∷ ALTERNATE_SERVER ∷ ALTERNATE_DOMAIN ∷ LIFETIME ∷ DATA ∷

@@ -72,7 +72,7 @@ pub length_of_signed : (message signed : List ℕ) (algorithm : IntegrityAlgorit
 length_of_signed message signed algorithm key long is =
     ap (λ (bytes : List ℕ). length bytes) is ∙ length-with_integrity message algorithm key long
 
-length-with_addition : (x : Addition) (message : List ℕ) → 20 ≤ length message
+pub length-with_addition : (x : Addition) (message : List ℕ) → 20 ≤ length message
     → length (with_addition x message) ≡ length message + growth_of x
 length-with_addition (attribute a) message long = length-with_attribute message a _ long
 length-with_addition (integrity algorithm key) message long =

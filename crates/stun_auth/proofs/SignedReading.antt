@@ -231,7 +231,7 @@ typed-additions a =
 
 -- ---- what an attribute of a type reads as
 
-by_value : {A : Type 0} (reading : TypedValue → Option A) (found : Option Member)
+pub by_value : {A : Type 0} (reading : TypedValue → Option A) (found : Option Member)
     → option_and_then (λ (m : Member). reading m.1) found
     ≡ option_and_then reading (option_map (λ (m : Member). m.1) found)
 by_value reading None = refl
@@ -245,14 +245,14 @@ none_last kind (m ∷ members) none =
     let parts = or_none (m.1.kind == kind) (has_kind kind members) none in
     last_of-cons kind m members ∙ rw (parts.0, none_last kind members parts.1) refl
 
-none_before : WritingLaws → (kind : ℕ) (message : List ℕ) → IsOpen message
+pub none_before : WritingLaws → (kind : ℕ) (message : List ℕ) → IsOpen message
     → has_kind kind (walk message) ≡ false → last_value kind message ≡ None
 none_before laws kind message is_open none =
     ap (option_map (λ (m : Member). m.1))
     (ap (last_of kind) (laws.shown message is_open) ∙ none_last kind (walk message) none)
 
 -- an attribute that was not there before is read as what was added
-read_added : {A : Type 0} (reading : TypedValue → Option A) (kind : ℕ) (message : List ℕ)
+pub read_added : {A : Type 0} (reading : TypedValue → Option A) (kind : ℕ) (message : List ℕ)
     (list : List Addition) (bytes : List ℕ) (o : Option TypedValue)
     → IsReadBack message list bytes → is_set_apart kind ≡ false → last_value kind message ≡ None
     → added_last kind list ≡ o
@@ -290,7 +290,7 @@ list_again (Some list) =
     (password_algorithms_in-written (map password_algorithm_of list) tt)
     ∙ ap (λ xs. Some xs) (integrity_again list)
 
-algorithm_again : (o : Option IntegrityAlgorithm)
+pub algorithm_again : (o : Option IntegrityAlgorithm)
     → option_map integrity_of
     (option_and_then password_algorithm_in (option_map password_algorithm o)) ≡ o
 algorithm_again None = refl

@@ -17,7 +17,7 @@ pub(crate) enum AlgorithmSet {
 impl AlgorithmSet {
     ghost use Rattle.stun_auth.specs.Algorithms.{contains, only, with_algorithm};
 
-    /// The set of one algorithm.
+    /// Returns the set of one algorithm.
     pub(crate) fn only(algorithm: IntegrityAlgorithm) -> AlgorithmSet
         ensures { result ≡ only algorithm }
     {
@@ -27,7 +27,7 @@ impl AlgorithmSet {
         }
     }
 
-    /// The set with one more algorithm.
+    /// Returns the set with one more algorithm.
     pub(crate) fn with(self, algorithm: IntegrityAlgorithm) -> AlgorithmSet
         ensures { result ≡ with_algorithm algorithm self }
     {
@@ -38,7 +38,7 @@ impl AlgorithmSet {
         }
     }
 
-    /// Whether the algorithm is in the set.
+    /// Returns whether the algorithm is in the set.
     pub(crate) fn contains(self, algorithm: IntegrityAlgorithm) -> bool
         ensures { result ≡ contains algorithm self }
     {
@@ -48,7 +48,7 @@ impl AlgorithmSet {
         }
     }
 
-    /// The password algorithms that make the keys, the strongest first.
+    /// Returns the password algorithms that make the keys, the strongest first.
     pub(crate) fn password_algorithms(self) -> &'static [PasswordAlgorithmValue]
         ensures { map integrity_of result.now ≡ algorithms_of self }
     {
@@ -59,7 +59,7 @@ impl AlgorithmSet {
         }
     }
 
-    /// The algorithms, the strongest first.
+    /// Returns the algorithms, the strongest first.
     pub(crate) fn as_slice(self) -> &'static [IntegrityAlgorithm]
         ensures { result.now ≡ algorithms_of self }
     {

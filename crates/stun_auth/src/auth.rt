@@ -9,6 +9,7 @@ pub use crate::message::nonce::{LONG_TERM_RFC8489_NONCE_COOKIE, NonceSecurityBit
 pub use crate::server::accepted::Accepted;
 pub use crate::server::found::{FoundUser, UserClaim};
 pub use crate::server::named_user::NamedUser;
+pub use crate::server::read_message::ReadMessage;
 pub use crate::server::reason::{
     LongTermServerAuthError, LongTermServerAuthErrorReason, LongTermServerValidation,
     VerdictRefusal,

@@ -25,7 +25,7 @@ impl<R: Debug + Display> Model for LongTermAuthError<R> {
 }
 
 impl<R: Copy + Debug + Display> LongTermAuthError<R> {
-    /// The refusal of this reason.
+    /// Creates the error of this reason.
     pub(crate) fn new(reason: R) -> Self
         ensures { result ≡ reason }
     {

@@ -81,7 +81,7 @@ impl<A: Allocator> State<A> {
     }
 }
 
-/// Whether an error has a code.
+/// Returns whether an error has a code.
 fn is_code(code: u16, error: Option<u16>) -> bool
     ensures { result ≡ is_code code error }
 {
@@ -272,14 +272,14 @@ impl<A: Allocator> LongTermClientAuth<A> {
         self.feature = feature;
     }
 
-    /// Whether a success has confirmed the kept key.
+    /// Returns whether a success has confirmed the stored key.
     fn is_authenticated(&self) -> bool
         ensures { result ≡ is_authenticated self.now.state }
     {
         matches!(&self.state, State::Authenticated(_))
     }
 
-    /// The algorithm whose digest verifies under the kept key.
+    /// Returns the algorithm whose digest verifies under the stored key.
     fn verified_under_kept(&self, reading: &MessageReading<'_, '_>) -> Option<IntegrityAlgorithm>
         ensures { result ≡ verified_under_kept self.now.state (reading_seen reading.now) }
     {
@@ -290,7 +290,8 @@ impl<A: Allocator> LongTermClientAuth<A> {
         }
     }
 
-    /// Whether a challenge has the realm and the nonce of the one that the client is answering.
+    /// Returns whether a challenge has the realm and the nonce of the one that the client is
+    /// answering.
     fn is_repeated(&self, realm: &str, nonce: &str) -> bool
         ensures { result ≡ is_repeated self.now.state realm.now nonce.now }
     {
@@ -303,7 +304,7 @@ impl<A: Allocator> LongTermClientAuth<A> {
         }
     }
 
-    /// The challenge that a message brings, or the reason to refuse it.
+    /// Returns the challenge that a message brings, or the reason to refuse it.
     fn offer<'a, 'm>(
         &'a self,
         reading: MessageReading<'m, '_>,
@@ -339,7 +340,7 @@ impl<A: Allocator> LongTermClientAuth<A> {
         }
     }
 
-    /// The answer by the digest alone.
+    /// Judges a message by its digest alone.
     fn settle(
         &mut self,
         is_success: bool,
@@ -494,7 +495,7 @@ impl<A: Allocator + Copy> LongTermClientAuth<A> {
     }
 }
 
-/// The error of a challenge that is refused.
+/// Returns the error of a challenge that is refused.
 fn refused(refusal: ChallengeRefusal) -> LongTermClientAuthError
     ensures { result ≡ client_reason refusal }
 {

@@ -17,7 +17,7 @@ pub enum Feature {
 impl Feature {
     ghost use Rattle.stun_auth.specs.Feature.{is_possible};
 
-    /// Whether the feature may be used at all.
+    /// Returns whether the feature may be used at all.
     pub(crate) fn is_possible(self) -> bool
         ensures { result ≡ is_possible self }
     {

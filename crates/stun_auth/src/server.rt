@@ -44,6 +44,7 @@ mod judged;
 pub(crate) mod name_index;
 pub(crate) mod named_user;
 pub(crate) mod places;
+pub(crate) mod read_message;
 pub(crate) mod reason;
 pub(crate) mod registry;
 mod signing;

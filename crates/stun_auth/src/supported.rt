@@ -14,14 +14,14 @@ pub(crate) enum Supported {
 }
 
 impl Supported {
-    /// One algorithm alone.
+    /// Creates the set of one algorithm.
     pub(crate) fn only(algorithm: IntegrityAlgorithm) -> Self
         ensures { in_order result ≡ algorithm ∷ [] }
     {
         Supported::Only(algorithm)
     }
 
-    /// These, with one more at the end unless it is among them.
+    /// Adds an algorithm at the end, unless it is in the set.
     pub(crate) fn with(self, algorithm: IntegrityAlgorithm) -> Self
         ensures { in_order result ≡ with_supported algorithm (in_order self) }
     {
@@ -42,7 +42,7 @@ impl Supported {
         }
     }
 
-    /// Whether an algorithm is among these.
+    /// Returns whether the algorithm is in the set.
     pub(crate) fn contains(self, algorithm: IntegrityAlgorithm) -> bool
         ensures { result ≡ has algorithm (in_order self) }
     {
@@ -55,7 +55,7 @@ impl Supported {
         }
     }
 
-    /// These, in the order in which they were added.
+    /// Returns the algorithms in the order in which they were added.
     pub(crate) fn as_slice(&self) -> &'static [IntegrityAlgorithm]
         ensures { result.now ≡ in_order self.now }
     {

@@ -1,4 +1,5 @@
 mod Appended
+mod CarriedLemmas
 mod Channels
 mod Ending
 mod ErrorTexts

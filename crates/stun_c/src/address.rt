@@ -67,7 +67,7 @@ fn write_hidden(value: &mut [u8], octets: &[u8], port: u16, id: TransactionId)
     xor_with(back, &xor_key(id));
 }
 
-/// Whether there are the octets of an address and a port.
+/// Returns whether these are the octets of an address and a port.
 fn is_address(octets: &[u8], port: u32) -> bool
     ensures answer { result ≡ is_address octets.now port }
     ensures limits { result ≡ true → (port < 65536) × (length octets.now ≤ 16) }
@@ -82,8 +82,8 @@ fn is_address(octets: &[u8], port: u32) -> bool
     }
 }
 
-/// The transaction id of the message at the front of the buffer, where an attribute may be added to
-/// it.
+/// Returns the transaction ID of the message at the front of the buffer, if an attribute may be
+/// added to it.
 fn base_id(buffer: &[u8], count: usize) -> Result<TransactionId, Refusal>
     ensures ok { IfOk result (λ id. id ≡ transaction_id_field (take count buffer.now)) }
     ensures err { IfErr result (λ refusal. base_refusal buffer.now count ≡ Some refusal) }

@@ -3,7 +3,7 @@
 ghost use Rattle.std.specs.Prelude.{◌≡◌};
 ghost use Rattle.stun_c.specs.Codes.{error_text, refusal_text};
 
-/// What the refusal of this number says, without its sign, and a zero byte.
+/// Returns what the refusal of this number says, without its sign, and a zero byte.
 #[tactic(auto, unfolding(crate::specs::Codes::refusal_text))]
 fn refusal_text(number: u64) -> &'static [u8]
     ensures { result.now ≡ refusal_text number }

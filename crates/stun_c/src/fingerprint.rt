@@ -19,7 +19,7 @@ use stun_types::message::Message;
 /// What the CRC-32 of a message is XORed with.
 const FINGERPRINT_XOR: u32 = 0x5354_554E;
 
-/// What a FINGERPRINT is, as a number.
+/// Returns what a FINGERPRINT is, as a number.
 fn fingerprint_number(fingerprint: Fingerprint) -> i64
     ensures { result ≡ pos (fingerprint_number fingerprint) }
 {
@@ -42,8 +42,8 @@ pub fn check(message: &[u8]) -> i64
     }
 }
 
-/// Whether FINGERPRINT can be added to the message at the front of the buffer, or the first reason
-/// against it.
+/// Returns whether FINGERPRINT can be added to the message at the front of the buffer, or the first
+/// reason against it.
 fn endable(buffer: &[u8], count: usize) -> Result<(), Refusal>
     ensures ok { OnOk result (ending_refusal buffer.now count ≡ None) }
     ensures room { OnOk result (HasRoom count 4 (length buffer.now)) }
@@ -59,7 +59,7 @@ fn endable(buffer: &[u8], count: usize) -> Result<(), Refusal>
     fits(&message, buffer.len() - count, 4)
 }
 
-/// The four bytes of the FINGERPRINT after these bytes of a message.
+/// Returns the four bytes of the FINGERPRINT after these bytes of a message.
 #[tactic(auto, unfolding(crate::specs::code::Ended::fingerprint_value))]
 fn value_after(bytes: &[u8]) -> [u8; 4]
     ensures { result ≡ fingerprint_value bytes.now }

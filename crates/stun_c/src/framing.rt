@@ -21,7 +21,8 @@ fn bytes_fit(bytes: &[u8])
     ensures { (i : ℕ) → slice_index bytes.now i < 2 ^ 8 }
 {}
 
-/// How many bytes the whole has, or must be there to tell, where so many are there; or `NotStun`.
+/// Returns how many bytes the whole frame has, or how many are needed to tell, of which `there`
+/// have arrived; or `NotStun`.
 fn wanted_number(there: usize, frame: Frame) -> i64
     requires { wanted_bytes there frame < 2 ^ 63 }
     ensures { result ≡ wanted_number there frame }

@@ -36,7 +36,7 @@ pub fn class_number(class: MessageClass) -> u32
     }
 }
 
-/// The header that these bytes begin with.
+/// Reads the header that these bytes begin with.
 fn fields_of(bytes: &[u8]) -> Result<Header, StunParseError>
     ensures ok { IfOk result (λ header. header ≡ header_in bytes.now) }
     ensures accepted { OnOk result (header_refusal bytes.now ≡ None) }

@@ -1,32 +1,54 @@
 //! What `include/stunp.h` says of several calls: numbers of bytes, a whole walk, and what the calls
 //! over `stun_extra` refuse and write.
 
-ghost use Rattle.std.specs.Prelude.{◌≡◌, ◌≤◌, ◌<◌, ◌^◌, ◌+◌, ℕ, ℤ, suc, Bool, List, [], ◌∷◌, ◌++◌};
-ghost use Rattle.std.specs.Prelude.{drop, take, length};
-ghost use Rattle.std.specs.Prelude.{slice_get, cond, IfOk, Some, true};
+ghost use Rattle.std.specs.Prelude.{◌≡◌, ◌≤◌, ◌<◌, ◌^◌, ◌+◌, ◌⊎◌, ℕ, ℤ, pos, suc, Bool, List, []};
+ghost use Rattle.std.specs.Prelude.{◌∷◌, ◌++◌, drop, take, length};
+ghost use Rattle.std.specs.Prelude.{slice_get, cond, IfOk, Some, None, Result, Ok, true};
 ghost use Rattle.std.specs.Option.{option_map};
+ghost use Rattle.std.specs.Str.{is_utf8};
+ghost use Rattle.byteorder.specs.Endian.{big_bytes, big_number};
 ghost use Rattle.stun_base.specs.Algorithm.{digest_length};
-ghost use Rattle.stun_base.specs.Attributes.{FINGERPRINT};
-ghost use Rattle.stun_base.specs.Header.{transaction_id_field, type_field};
+ghost use Rattle.stun_base.specs.Attributes.{ERROR_CODE, FINGERPRINT, XOR_MAPPED_ADDRESS};
+ghost use Rattle.stun_base.specs.Header.{header_refusal, transaction_id_field, type_field};
 ghost use Rattle.stun_base.specs.Keys.{long_term_key, userhash_of};
-ghost use Rattle.stun_base.specs.MessageType.{method_of, type_number};
+ghost use Rattle.stun_base.specs.MessageType.{class_in, class_number, class_of_bits, method_of};
+ghost use Rattle.stun_base.specs.MessageType.{type_number};
 ghost use Rattle.stun_base.specs.declared.wire.attribute_type.AttributeType.{AttributeType};
 ghost use Rattle.stun_base.specs.declared.wire.message_type.MessageClass.{MessageClass};
 ghost use Rattle.stun_types.specs.Attribute.{padded_length};
+ghost use Rattle.stun_types.specs.ErrorCode.{CodeAndReason, error_value};
 ghost use Rattle.stun_types.specs.Grammar.{spelled_message};
+ghost use Rattle.stun_types.specs.Integrity.{verified_algorithm};
+ghost use Rattle.stun_types.specs.Message.{refusal};
 ghost use Rattle.stun_types.specs.Visible.{visible};
-ghost use Rattle.stun_types.specs.Writing.{with_integrity};
-ghost use Rattle.stun_extra.specs.Fingerprint.{fingerprint_refusal};
+ghost use Rattle.stun_types.specs.Writing.{with_attribute, with_integrity};
+ghost use Rattle.stun_types.specs.XorMappedAddress.{XoredAddress, xor_bytes, xor_key, xor_port};
+ghost use Rattle.stun_types.specs.XorMappedAddress.{xored_of};
+ghost use Rattle.stun_extra.specs.Fingerprint.{fingerprint_in, fingerprint_refusal};
+ghost use Rattle.stun_extra.specs.Fingerprint.{with_fingerprint};
 ghost use Rattle.stun_extra.specs.Unknown.{unknown_attribute_error};
+ghost use Rattle.stun_extra.specs.declared.fingerprint.Fingerprint.TheVariants.{Right};
+ghost use Rattle.stun_numbers.specs.Algorithms.{algorithm_number};
 ghost use Rattle.stun_numbers.specs.Refusals.{refusal_of_write};
 ghost use Rattle.stun_c.specs.declared.walk.Cursor.{Cursor};
+ghost use Rattle.stun_c.specs.Answers.{Writes, parse_answer, verify_answer};
 ghost use Rattle.stun_c.specs.Codes.{error_text};
-ghost use Rattle.stun_c.specs.Extra.{types_attribute, unknown_answer};
-ghost use Rattle.stun_c.specs.Reading.{attribute_place, value_at};
-ghost use Rattle.stun_c.specs.Requests.{binding_request, key_length};
-ghost use Rattle.stun_c.specs.Turn.{IsReadAs, channel_item};
+ghost use Rattle.stun_c.specs.Extra.{fingerprint_answer, fingerprinted_message, types_at};
+ghost use Rattle.stun_c.specs.Extra.{types_attribute, types_of_value, unknown_answer, unknown_made};
+ghost use Rattle.stun_c.specs.Extra.{unknown_of};
+ghost use Rattle.stun_c.specs.Reading.{address_at, address_in, attribute_place, class_answer};
+ghost use Rattle.stun_c.specs.Reading.{error_answer, error_in, header_after, header_answer};
+ghost use Rattle.stun_c.specs.Reading.{header_in, id_of_message, method_answer, octets_at};
+ghost use Rattle.stun_c.specs.Reading.{octets_of_message, port_after, sized_at, text_at, value_at};
+ghost use Rattle.stun_c.specs.Requests.{binding_request, key_length, key_of_texts, signed_request};
+ghost use Rattle.stun_c.specs.Requests.{userhash_of_texts};
+ghost use Rattle.stun_c.specs.Turn.{IsReadAs, built_channel_data, channel_in, channel_item};
+ghost use Rattle.stun_c.specs.Turn.{channel_number_answer, transport_answer, transport_in};
 ghost use Rattle.stun_c.specs.Walking.{ahead};
-ghost use Rattle.stun_c.specs.Writing.{fit_refusal, shows_kind};
+ghost use Rattle.stun_c.specs.Writing.{added_error, added_number, added_numbered_address};
+ghost use Rattle.stun_c.specs.Writing.{added_plain_address, added_sized, begun_message, fit_refusal};
+ghost use Rattle.stun_c.specs.Writing.{hidden_value, plain_value, shows_kind, signed_message};
+ghost use Rattle.stun_c.specs.declared.header.Header.{Header};
 
 use stun_base::algorithm::IntegrityAlgorithm;
 use stun_numbers::refusal::Refusal;
@@ -83,4 +105,122 @@ pub fn channel_data_is_read_back()
     ensures { (padded : Bool) (channel : ℕ) (data_bytes rest : List ℕ) → 0x4000 ≤ channel
         → channel < 0x8000 → length data_bytes < 2 ^ 16
         → IsReadAs channel data_bytes (channel_item padded channel data_bytes ++ rest) }
+{}
+
+/// A call that verifies, parses or checks returns a number of success only for what the library finds
+/// so: a signature that is valid under the key, by the algorithm of the number; a message; a message
+/// with a right FINGERPRINT.
+pub fn verdicts_are_those_of_the_library()
+    ensures valid { (bytes key : List ℕ) (n : ℕ) → verify_answer bytes key ≡ pos n
+        → (algorithm : IntegrityAlgorithm) × (refusal bytes ≡ None)
+        × (verified_algorithm bytes key ≡ Some algorithm) × (n ≡ algorithm_number algorithm) }
+    ensures message { (bytes : List ℕ) → parse_answer bytes ≡ pos 0 → refusal bytes ≡ None }
+    ensures fingerprint { (bytes : List ℕ) → fingerprint_answer bytes ≡ pos 1
+        → (refusal bytes ≡ None) × (fingerprint_in bytes ≡ Right) }
+{}
+
+/// What the calls that sign, and those that make keys, write is what the library makes of the same
+/// arguments.
+pub fn signatures_are_those_of_the_library()
+    ensures request { (algorithm : IntegrityAlgorithm) (id username key bytes : List ℕ)
+        → signed_request (Some algorithm) id username key ≡ Ok bytes
+        → bytes ≡ with_integrity (binding_request id username) algorithm key }
+    ensures message { (buffer : List ℕ) (count : ℕ) (algorithm : IntegrityAlgorithm)
+        (key bytes : List ℕ) → signed_message buffer count (Some algorithm) key ≡ Ok bytes
+        → bytes ≡ with_integrity (take count buffer) algorithm key }
+    ensures key { (algorithm : IntegrityAlgorithm) (username realm password key : List ℕ)
+        → key_of_texts (Some algorithm) username realm password ≡ Ok key
+        → key ≡ long_term_key algorithm username realm password }
+    ensures userhash { (username realm hash : List ℕ)
+        → userhash_of_texts username realm ≡ Ok hash → hash ≡ userhash_of username realm }
+    ensures fingerprint { (buffer : List ℕ) (count : ℕ) (bytes : List ℕ)
+        → fingerprinted_message buffer count ≡ Ok bytes
+        → bytes ≡ with_fingerprint (take count buffer) }
+{}
+
+/// A call that adds an attribute leaves the message in the buffer as it was, with this attribute
+/// behind it; and a call that is refused leaves the whole buffer.
+pub fn attributes_are_added_behind_the_message()
+    ensures any { (buffer : List ℕ) (count attribute : ℕ) (value bytes : List ℕ)
+        → added_number buffer count attribute value ≡ Ok bytes
+        → bytes ≡ with_attribute (take count buffer)
+        (record { kind = attribute; value = value }) }
+    ensures hidden { (buffer : List ℕ) (count attribute : ℕ) (octets : List ℕ) (port : ℕ)
+        (bytes : List ℕ) → added_numbered_address buffer count attribute octets port ≡ Ok bytes
+        → bytes ≡ with_attribute (take count buffer) (record {
+          kind = attribute;
+          value = hidden_value octets port (transaction_id_field (take count buffer));
+        }) }
+    ensures plain { (buffer : List ℕ) (count attribute : ℕ) (octets : List ℕ) (port : ℕ)
+        (bytes : List ℕ) → added_plain_address buffer count attribute octets port ≡ Ok bytes
+        → bytes ≡ with_attribute (take count buffer)
+        (record { kind = attribute; value = plain_value octets port }) }
+    ensures number { (buffer : List ℕ) (count attribute size number : ℕ) (bytes : List ℕ)
+        → added_sized buffer count attribute size number ≡ Ok bytes
+        → bytes ≡ with_attribute (take count buffer)
+        (record { kind = attribute; value = big_bytes size number }) }
+    ensures error { (buffer : List ℕ) (count code : ℕ) (reason bytes : List ℕ)
+        → added_error buffer count code reason ≡ Ok bytes
+        → bytes ≡ with_attribute (take count buffer) (record {
+          kind = ERROR_CODE;
+          value = error_value (record { code = code; reason = reason });
+        }) }
+    ensures buffer { (made : Result (List ℕ) Refusal) (before after : List ℕ) (result : ℤ)
+        → Writes made before result after
+        → ((bytes rest : List ℕ) × (made ≡ Ok bytes) × (result ≡ pos (length bytes))
+        × (after ≡ bytes ++ rest)) ⊎ (after ≡ before) }
+{}
+
+/// A message that is begun has its class, its method and its ID, and no attribute; ChannelData is
+/// that of the library; and the answer to a request is refused by the types that the caller does not
+/// name as known.
+pub fn what_is_begun_is_what_was_asked_for()
+    ensures message { (class method : ℕ) (id bytes : List ℕ)
+        → begun_message class method id ≡ Ok bytes
+        → bytes ≡ spelled_message (type_number (class_of_bits class) method)
+        (big_number 12 id) [] }
+    ensures channel { (channel : ℕ) (data_bytes : List ℕ) (padded : Bool) (bytes : List ℕ)
+        → built_channel_data channel data_bytes padded ≡ Ok bytes
+        → bytes ≡ channel_item padded channel data_bytes }
+    ensures unknown { (request known bytes : List ℕ) → unknown_made request known ≡ Ok bytes
+        → (bytes ≡ []) ⊎ (bytes ≡ unknown_answer request (unknown_of request known)) }
+{}
+
+/// What a call reads is in the message that it reads: the class, the method and the ID of a message
+/// that is one, and the value of an attribute that is whole.
+pub fn what_is_read_is_in_the_message()
+    ensures class { (bytes : List ℕ) (n : ℕ) → class_answer bytes ≡ pos n
+        → (refusal bytes ≡ None) × (n ≡ class_number (class_in bytes)) }
+    ensures method { (bytes : List ℕ) (n : ℕ) → method_answer bytes ≡ pos n
+        → (refusal bytes ≡ None) × (n ≡ method_of (type_field bytes)) }
+    ensures header { (bytes : List ℕ) (header : Header) → header_answer bytes ≡ pos 0
+        → header_after (header_refusal bytes) bytes header ≡ header_in bytes }
+    ensures id { (bytes id : List ℕ) → id_of_message bytes ≡ Ok id
+        → (refusal bytes ≡ None) × (id ≡ take 12 (drop 8 bytes)) }
+    ensures error { (bytes : List ℕ) (n : ℕ) → error_answer bytes ≡ pos n
+        → (error : CodeAndReason) × (error_in bytes ≡ Ok error) × (n ≡ error.code) }
+    ensures address { (bytes octets : List ℕ) (port : ℕ) → octets_of_message bytes ≡ Ok octets
+        → (a : XoredAddress) × (address_in bytes ≡ Ok a)
+        × (octets ≡ xor_bytes a.octets (xor_key (transaction_id_field bytes)))
+        × (port_after (octets_of_message bytes) (address_in bytes) port ≡ xor_port a.port) }
+    ensures channel { (bytes : List ℕ) (n : ℕ) → channel_number_answer bytes ≡ pos n
+        → channel_in bytes ≡ Ok n }
+    ensures transport { (bytes : List ℕ) (n : ℕ) → transport_answer bytes ≡ pos n
+        → transport_in bytes ≡ Ok n }
+{}
+
+/// The calls that read the attribute at an offset read one value, as a number, a text, types or an
+/// address.
+pub fn attributes_are_read_from_their_value()
+    ensures number { (bytes value : List ℕ) (place : ℕ) → sized_at bytes place ≡ Ok value
+        → value_at bytes place ≡ Ok value }
+    ensures text { (bytes text : List ℕ) (place : ℕ) → text_at bytes place ≡ Ok text
+        → (value_at bytes place ≡ Ok text) × (is_utf8 text ≡ true) }
+    ensures types { (bytes : List ℕ) (place : ℕ)
+        → types_at bytes place ≡ types_of_value (value_at bytes place) }
+    ensures address { (bytes octets : List ℕ) (place : ℕ) → octets_at bytes place ≡ Ok octets
+        → (a : XoredAddress) × (address_at bytes place ≡ Ok a)
+        × ((value : List ℕ) × (value_at bytes place ≡ Ok value)
+        × (xored_of (record { kind = XOR_MAPPED_ADDRESS; value = value }) ≡ Some a))
+        × (octets ≡ xor_bytes a.octets (xor_key (transaction_id_field bytes))) }
 {}

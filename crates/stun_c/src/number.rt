@@ -12,7 +12,7 @@ use stun_base::header::HEADER_LENGTH;
 use stun_numbers::refusal::Refusal;
 use stun_types::attribute::RawAttribute;
 
-/// Whether numbers are written in so many bytes.
+/// Returns whether numbers are written in this many bytes.
 fn is_size(size: usize) -> bool
     ensures { result ≡ is_size size }
 {
@@ -25,7 +25,7 @@ fn is_size(size: usize) -> bool
     }
 }
 
-/// Whether this number fits into so many bytes, and numbers are written in so many.
+/// Returns whether numbers are written in this many bytes, and this one fits.
 fn has_size(size: usize, number: u64) -> bool
     ensures { result ≡ has_size size number }
 {
@@ -38,7 +38,7 @@ fn has_size(size: usize, number: u64) -> bool
     }
 }
 
-/// A number in one byte.
+/// Writes a number in one byte.
 fn one_byte(number: u64) -> [u8; 1]
     requires { number < 256 }
     ensures { result ≡ big_bytes 1 number }
@@ -62,7 +62,8 @@ pub fn add_number(buffer: &mut [u8], count: usize, kind: u32, number: u64, size:
     }
 }
 
-/// The bytes of the number in the attribute at a place of a message, or why there are none.
+/// Returns the bytes of the number in the attribute at an offset of a message, or why there are
+/// none.
 fn sized_at(message: &[u8], place: usize) -> Result<&[u8], Refusal>
     ensures ok { IfOk result (λ value. sized_at message.now place ≡ Ok value.now) }
     ensures size { IfOk result (λ value. is_size (length value.now) ≡ true) }
@@ -81,7 +82,7 @@ fn sized_at(message: &[u8], place: usize) -> Result<&[u8], Refusal>
     Ok(value)
 }
 
-/// The number in these bytes.
+/// Returns the number in these bytes.
 fn number_of(value: &[u8]) -> u64
     requires { is_size (length value.now) ≡ true }
     ensures { result ≡ big_number (length value.now) value.now }

@@ -51,7 +51,7 @@ pub fn method(message: &[u8]) -> i64
     }
 }
 
-/// The bytes of a message's transaction id.
+/// Returns the bytes of a message's transaction ID.
 fn id_bytes(message: &[u8]) -> Result<&[u8], Refusal>
     ensures ok { IfOk result (λ id. id_of_message message.now ≡ Ok id.now) }
     ensures err { IfErr result (λ refusal. id_of_message message.now ≡ Err refusal) }
@@ -71,7 +71,7 @@ pub fn id(message: &[u8], out: &mut [u8]) -> i64
     }
 }
 
-/// The first visible attribute that comes after a place, with its own place.
+/// Returns the first visible attribute after an offset, with its own offset.
 fn member_after<'a>(message: &Message<'a>, place: usize) -> Option<(usize, RawAttribute<'a>)>
     ensures first { result ≡ next_member place message.now }
     ensures within { IfSome result (λ m. m.0 + 4 ≤ length message.now) }
@@ -103,7 +103,7 @@ pub fn next(message: &[u8], place: usize, kind: &mut u16, value_length: &mut usi
     }
 }
 
-/// The error that a message reports.
+/// Returns the error that a message reports.
 fn error_in<'a>(message: &Message<'a>) -> Result<ErrorCode<'a>, StunParseError>
     ensures { result ≡ error_in message.now }
 {
@@ -123,7 +123,7 @@ pub fn error_code(message: &[u8]) -> i64
     }
 }
 
-/// Whether an address of this family has so many octets.
+/// Returns whether an address of this family has this many octets.
 fn has_octets(family: u8, count: usize) -> bool
     ensures answer { result ≡ has_octets family count }
     ensures short { result ≡ true → count ≤ 16 }
@@ -135,7 +135,7 @@ fn has_octets(family: u8, count: usize) -> bool
     }
 }
 
-/// The first visible attribute of a type, with its place.
+/// Returns the first visible attribute of a type, with its offset.
 fn first_of<'a>(message: &Message<'a>, kind: AttributeType) -> Option<(usize, RawAttribute<'a>)>
     ensures first { result ≡ first_member_of kind.0 (visible message.now) }
     ensures within { IfSome result (λ m. m.0 + 4 ≤ length message.now) }
@@ -169,7 +169,7 @@ pub fn find(message: &[u8], kind: u32, value_length: &mut usize) -> i64
     }
 }
 
-/// The port and the octets of an XOR-MAPPED-ADDRESS, still hidden, where it is well formed.
+/// Returns the port and the octets of an XOR-MAPPED-ADDRESS, still XORed, if it is well formed.
 fn hidden_parts<'a>(attribute: &RawAttribute<'a>) -> Option<(u16, &'a [u8])>
     ensures none { IfNone result (xored_of attribute.now ≡ None) }
     ensures some { IfSome result (λ parts. xored_of attribute.now ≡ Some (record {
@@ -189,8 +189,8 @@ fn hidden_parts<'a>(attribute: &RawAttribute<'a>) -> Option<(u16, &'a [u8])>
     Some((BigEndian::read_u16(&value[2..]), &value[4..]))
 }
 
-/// The port and the octets of the address that a message reports, still hidden, or why it reports
-/// none.
+/// Returns the port and the octets of the address that a message reports, still XORed, or why it
+/// reports none.
 fn address_in<'a>(message: &Message<'a>) -> Result<(u16, &'a [u8]), Refusal>
     ensures ok { IfOk result (λ parts. (id : ℕ)
         → shown_octets (address_in message.now) id ≡ Ok (xor_bytes parts.1.now (xor_key id))) }
@@ -208,8 +208,8 @@ fn address_in<'a>(message: &Message<'a>) -> Result<(u16, &'a [u8]), Refusal>
     }
 }
 
-/// The port and the octets of the address that a message reports, shown in a place for sixteen, or
-/// why it reports none.
+/// Returns the port and the octets of the address that a message reports, with the XOR undone in
+/// memory of 16 bytes, or why it reports none.
 fn shown_in<'a>(message: &Message<'_>, place: &'a mut [u8]) -> Result<(u16, &'a [u8]), Refusal>
     requires { length place.old ≡ 16 }
     ensures ok { IfOk result (λ parts. shown_octets (address_in message.now)
@@ -226,7 +226,7 @@ fn shown_in<'a>(message: &Message<'_>, place: &'a mut [u8]) -> Result<(u16, &'a 
     Ok((port ^ PORT_KEY, shown))
 }
 
-/// The same of a message in bytes.
+/// Like `shown_in`, but for the bytes of a message.
 fn shown_address<'a>(message: &[u8], place: &'a mut [u8]) -> Result<(u16, &'a [u8]), Refusal>
     requires { length place.old ≡ 16 }
     ensures ok { IfOk result (λ parts. octets_of_message message.now ≡ Ok parts.1.now) }
@@ -259,8 +259,8 @@ pub fn mapped_address(message: &[u8], out: &mut [u8], port: &mut u16) -> i64
     }
 }
 
-/// The port and the octets in the attribute at a place of a message, still hidden, or why there are
-/// none.
+/// Returns the port and the octets in the attribute at an offset of a message, still XORed, or why
+/// there are none.
 #[tactic(auto, using(crate::proofs::Members::header_before))]
 fn hidden_at(message: &[u8], place: usize) -> Result<(u16, &[u8]), Refusal>
     ensures ok { IfOk result (λ parts. octets_at message.now place
@@ -288,7 +288,7 @@ fn hidden_at(message: &[u8], place: usize) -> Result<(u16, &[u8]), Refusal>
     }
 }
 
-/// The transaction id in a header.
+/// Returns the transaction ID in a header.
 fn id_in(message: &[u8]) -> TransactionId
     requires { 20 ≤ length message.now }
     ensures { result ≡ transaction_id_field message.now }
@@ -296,7 +296,7 @@ fn id_in(message: &[u8]) -> TransactionId
     transaction_id(&message[8..20]).unwrap()
 }
 
-/// What hides addresses under the id in a header.
+/// Returns what addresses are XORed with under the ID in a header.
 fn key_in(message: &[u8]) -> [u8; 16]
     requires { 20 ≤ length message.now }
     ensures { result ≡ xor_key (transaction_id_field message.now) }
@@ -305,8 +305,8 @@ fn key_in(message: &[u8]) -> [u8; 16]
     xor_key(id)
 }
 
-/// The port and the octets in the attribute at a place of a message, shown in a place for sixteen,
-/// or why there are none.
+/// Returns the port and the octets in the attribute at an offset of a message, with the XOR undone
+/// in memory of 16 bytes, or why there are none.
 fn shown_at<'a>(
     message: &[u8],
     place: usize,

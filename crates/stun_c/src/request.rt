@@ -18,7 +18,7 @@ use stun_types::prelude::*;
 /// digest of 32 bytes.
 pub const LONGEST_REQUEST: usize = 20 + 4 + 516 + 4 + 32;
 
-/// The user name in these bytes: `NotText` where they are not UTF-8, `TextTooLong` where they are
+/// Returns the user name in these bytes: `NotText` if they are not UTF-8, `TextTooLong` if they are
 /// more than 513.
 fn username(bytes: &[u8]) -> Result<Username<'_>, Refusal>
     ensures ok { IfOk result (λ username. (username_refusal bytes.now ≡ None)

@@ -22,14 +22,14 @@ use stun_types::message::Message;
 /// The most bytes of data that the length in front of them can state.
 const MOST_DATA: usize = 65535;
 
-/// Whether a number is one of a channel of RFC 5766, whose range includes that of RFC 8656.
+/// Returns whether a number is one of a channel of RFC 5766, whose range includes that of RFC 8656.
 fn is_channel_number(number: u32) -> bool
     ensures { result ≡ is_any_channel_number number }
 {
     0x4000 <= number && number < 0x8000
 }
 
-/// How many zero bytes follow data of this length.
+/// Returns how many zero bytes follow data of this length.
 fn padding_length(data_length: usize, is_padded: bool) -> usize
     ensures length { result ≡ padding_length data_length is_padded }
     ensures short { result < 4 }
@@ -85,7 +85,8 @@ pub fn build_channel_data(channel: u32, data: &[u8], is_padded: bool, out: &mut 
     whole as i64
 }
 
-/// The channel and the length of the data, or why the bytes do not begin with whole ChannelData.
+/// Returns the channel and the length of the data, or why the bytes do not begin with whole
+/// ChannelData.
 fn channel_data_in(bytes: &[u8]) -> Result<(u16, usize), Refusal>
     ensures ok { OnOk result (channel_refusal bytes.now ≡ None) }
     ensures channel { IfOk result (λ parts. parts.0 ≡ big_number 2 bytes.now) }
@@ -124,7 +125,7 @@ pub fn read_channel_data(bytes: &[u8], channel: &mut u16, data_length: &mut usiz
     }
 }
 
-/// The channel that a message names, or why there is none.
+/// Returns the channel that a message names, or why there is none.
 fn channel_in(message: &Message<'_>) -> Result<ChannelNumber, StunParseError>
     ensures { result ≡ channel_in message.now }
 {
@@ -144,7 +145,7 @@ pub fn channel_number(message: &[u8]) -> i64
     }
 }
 
-/// The protocol that a message asks for, or why there is none.
+/// Returns the protocol that a message asks for, or why there is none.
 fn transport_in(message: &Message<'_>) -> Result<RequestedTransport, StunParseError>
     ensures { result ≡ transport_in message.now }
 {

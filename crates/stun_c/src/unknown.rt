@@ -26,6 +26,7 @@ use stun_types::message::{Message, MessageWriteMutSlice};
 use stun_types::prelude::*;
 
 /// The most types that a caller may name as known.
+// They are copied to the stack, because these calls have no allocator.
 const MOST_KNOWN: usize = 256;
 
 /// Makes types of numbers.
@@ -38,8 +39,8 @@ fn copy_types(types: &mut [AttributeType], numbers: &[u16])
     }
 }
 
-/// The types of these numbers, in a place that has room for the most, or `BadArgument` where they
-/// are more.
+/// Returns the types of these numbers, in memory that has room for the most, or `BadArgument` if
+/// there are more.
 fn known_types<'a>(
     numbers: &[u16],
     place: &'a mut [AttributeType],
@@ -83,7 +84,7 @@ fn tell(message: &Message<'_>, known: &[AttributeType], types: &mut [u16]) -> us
     count
 }
 
-/// A message and the types that its reader knows, or the number of the refusal.
+/// Returns a message and the types that its reader knows, or the number of the refusal.
 fn readable<'a, 'b>(
     bytes: &'a [u8],
     known: &[u16],
@@ -120,7 +121,7 @@ const PHRASE: &[u8] = b"Unknown Attribute";
 /// The number of bytes of the answer's header and its ERROR-CODE.
 const FRONT_LENGTH: usize = 48;
 
-/// The header of an error response to a message.
+/// Returns the header of an error response to a message.
 fn header<'a>(request: &Message<'_>, buffer: &'a mut [u8]) -> &'a [u8]
     requires { 20 ≤ length buffer.old }
     ensures { result.now ≡ empty_answer MessageClass.Error request.now }
@@ -233,7 +234,7 @@ fn write_answer(request: &Message<'_>, known: &[AttributeType], count: usize, ou
     append_types(request, known, count, out)
 }
 
-/// How many unknown types a message has.
+/// Returns how many unknown types a message has.
 fn count_types(message: &Message<'_>, known: &[AttributeType]) -> usize
     ensures count { result ≡ length (unknown_types known.now message.now) }
     ensures few { result < 2 ^ 14 }

@@ -20,7 +20,7 @@ pub fn attribute_place(place: usize) -> usize
     place.saturating_sub(ATTRIBUTE_HEADER_LENGTH)
 }
 
-/// The value of the attribute at a place of a message, or why there is none.
+/// Returns the value of the attribute at an offset of a message, or why there is none.
 fn value_at(message: &[u8], place: usize) -> Result<&[u8], Refusal>
     ensures ok { IfOk result (λ value. value_at message.now place ≡ Ok value.now) }
     ensures within { OnOk result (place + 4 ≤ length message.now) }
@@ -36,7 +36,7 @@ fn value_at(message: &[u8], place: usize) -> Result<&[u8], Refusal>
     }
 }
 
-/// The text in the attribute at a place of a message, or why there is none.
+/// Returns the text in the attribute at an offset of a message, or why there is none.
 fn text_at(message: &[u8], place: usize) -> Result<&str, Refusal>
     ensures ok { IfOk result (λ text. text_at message.now place ≡ Ok text.now) }
     ensures within { OnOk result (place + 4 ≤ length message.now) }
@@ -62,7 +62,7 @@ pub fn read_text(message: &[u8], place: usize, text_length: &mut usize) -> i64
     }
 }
 
-/// The types that the attribute at a place of a message holds, or why there are none.
+/// Returns the types that the attribute at an offset of a message holds, or why there are none.
 #[tactic(auto, using(crate::proofs::Told::held_few))]
 fn types_at(message: &[u8], place: usize) -> Result<UnknownAttributes<'_>, Refusal>
     ensures ok { IfOk result (λ types. types_at message.now place ≡ Ok types) }

@@ -11,7 +11,7 @@ use stun_base::error::{StunParseError, ValidateError};
 use stun_numbers::refusal::Refusal;
 use stun_types::message::Message;
 
-/// The refusal for an error of reading the integrity attribute that decides.
+/// Returns the refusal for an error of reading the integrity attribute that decides.
 fn integrity_refusal(error: StunParseError) -> Refusal
     ensures { result ≡ refusal_of_integrity error }
 {
@@ -24,7 +24,7 @@ fn integrity_refusal(error: StunParseError) -> Refusal
     }
 }
 
-/// The refusal for an error of a verdict.
+/// Returns the refusal for an error of a verdict.
 fn verdict_refusal(error: ValidateError) -> Refusal
     ensures { result ≡ refusal_of_verdict error }
 {

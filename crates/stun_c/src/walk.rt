@@ -23,7 +23,7 @@ pub struct Cursor {
     pub hidden: u32,
 }
 
-/// What is visible ahead of a cursor, by its number.
+/// Returns what is visible ahead of a cursor, by its number.
 fn visibility_from(hidden: u32) -> Visibility
     ensures { result ≡ visibility_from hidden }
 {
@@ -35,7 +35,7 @@ fn visibility_from(hidden: u32) -> Visibility
     }
 }
 
-/// The number of what is visible in a cursor.
+/// Returns the number of what is visible in a cursor.
 fn hidden_number(visibility: Visibility) -> u32
     ensures { visibility_from result ≡ visibility }
 {
@@ -47,8 +47,8 @@ fn hidden_number(visibility: Visibility) -> u32
     }
 }
 
-/// The first attribute that is visible from a cursor, with its place. The cursor comes to stand
-/// after it, or at the end.
+/// Returns the first attribute that is visible from a cursor, with its offset, and moves the cursor
+/// after it, or to the end.
 fn advance<'a>(message: &'a [u8], cursor: &mut Cursor) -> Option<(usize, RawAttribute<'a>)>
     requires behind { 20 ≤ cursor.old.place }
     requires within { cursor.old.place ≤ length message.now }
@@ -76,8 +76,8 @@ fn advance<'a>(message: &'a [u8], cursor: &mut Cursor) -> Option<(usize, RawAttr
     None
 }
 
-/// The cursor at which a walk goes on: that of the caller, or for one at 0 that after the header of
-/// a message.
+/// Returns the cursor at which a walk goes on: that of the caller, or for one at 0 that after the
+/// header of a message.
 #[tactic(auto, using(crate::proofs::Walking::shown_visible))]
 fn begun(message: &[u8], cursor: Cursor) -> Result<Cursor, Refusal>
     ensures ok { IfOk result

@@ -69,7 +69,7 @@ pub fn fits(message: &Message<'_>, room: usize, value_length: usize) -> Result<(
     Ok(())
 }
 
-/// Why an attribute of this type and so many bytes is not added, the first reason that holds.
+/// Returns why an attribute of this type and length is not added: the first reason that holds.
 fn addable(
     buffer: &[u8],
     count: usize,
@@ -192,14 +192,14 @@ fn spell_digest(buffer: &mut [u8], algorithm: IntegrityAlgorithm, key: &[u8], te
     }
 }
 
-/// HMAC-SHA1 of a text.
+/// Returns the HMAC-SHA1 of a text.
 fn digest_sha1(key: &[u8], text: &[u8]) -> [u8; SHA1_LENGTH]
     ensures { result ≡ digest IntegrityAlgorithm.Sha1 key.now text.now }
 {
     hmac_sha1(key, &[text])
 }
 
-/// HMAC-SHA256 of a text.
+/// Returns the HMAC-SHA256 of a text.
 fn digest_sha256(key: &[u8], text: &[u8]) -> [u8; SHA256_LENGTH]
     ensures { result ≡ digest IntegrityAlgorithm.Sha256 key.now text.now }
 {
@@ -226,8 +226,8 @@ fn append_integrity(
     end as i64
 }
 
-/// The algorithm of this number, where its attribute can be added to the message at the front of
-/// the buffer.
+/// Returns the algorithm of this number, if its attribute can be added to the message at the front
+/// of the buffer.
 fn signable(buffer: &[u8], count: usize, algorithm: u32) -> Result<IntegrityAlgorithm, Refusal>
     ensures ok { IfOk result (λ algorithm'. (algorithm_numbered algorithm ≡ Some algorithm')
         × (digest_refusal buffer.now count algorithm' ≡ None)
@@ -253,7 +253,7 @@ pub fn sign(buffer: &mut [u8], count: usize, algorithm: u32, key: &[u8]) -> i64
     }
 }
 
-/// The class of these two bits.
+/// Returns the class of these two bits.
 fn class_numbered(number: u32) -> Result<MessageClass, Refusal>
     ensures ok { IfOk result (λ class. (nat_lt number 4 ≡ true) × (class ≡ class_of_bits number)) }
     ensures err { IfErr result (λ refusal. (nat_lt number 4 ≡ false)
@@ -268,7 +268,7 @@ fn class_numbered(number: u32) -> Result<MessageClass, Refusal>
     }
 }
 
-/// The method of this number, which has 12 bits.
+/// Returns the method of this number, which has 12 bits.
 fn method_numbered(number: u32) -> Result<Method, Refusal>
     ensures ok { IfOk result (λ method. (nat_lt number 4096 ≡ true) × (method ≡ number)) }
     ensures err { IfErr result (λ refusal. (nat_lt number 4096 ≡ false)
@@ -318,7 +318,8 @@ pub fn write_error(value: &mut [u8], code: u16, reason: &[u8])
     back.copy_from_slice(reason);
 }
 
-/// The code of an error that can be written with this reason, or the first reason against it.
+/// Returns the code of an error that can be written with this reason, or the first reason against
+/// it.
 fn error_arguments(code: u32, reason: &[u8]) -> Result<u16, Refusal>
     ensures ok { IfOk result (λ code'. (code' ≡ code) × (code < 700) ×
         (length reason.now ≤ TEXT_LIMIT)) }

@@ -18,7 +18,7 @@ use Rattle.stun_client.specs.Judging.{judged_by_long_term, judged_read, long_ter
 use Rattle.stun_client.specs.Judging.{unless_faulty}
 use Rattle.stun_client.specs.Offers.{algorithms_in}
 use Rattle.stun_client.specs.Preferences.{supports}
-use Rattle.stun_client.specs.Rule.{chosen, lacks_userhash}
+use Rattle.stun_client.specs.Rule.{chosen}
 use Rattle.stun_client.specs.Standing.{StandingSeen, is_ignored}
 use Rattle.stun_client.specs.declared.judged.Distrust.TheVariants.{NotVerified, WeakerChallenge}
 use Rattle.stun_client.specs.declared.preferences.Preferences.{Preferences}
@@ -86,7 +86,7 @@ pub sent_again : (required : Bool) (who : NameAndPassword) (p : Preferences) (ac
     (standing : StandingSeen) (before : Option Answered) (bytes : List ℕ) (c : Answered)
     → fault_in required bytes ≡ None → answered_in p who before bytes ≡ Some c
     → is_one (Some c) before ≡ false → is_ignored standing c ≡ false
-    → judged required (long_term who p accepts) standing before bytes ≡ sent_for before bytes c
+    → judged required true (long_term who p accepts) standing before bytes ≡ sent_for before bytes c
 sent_again required who p accepts standing before bytes c whole read new strong =
     ap (unless_faulty (judged_by_long_term accepts p who standing before bytes)) whole
     ∙ ap (λ b. cond b (judged_read accepts standing before bytes (answered_in p who before bytes))

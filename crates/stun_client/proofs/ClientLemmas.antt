@@ -52,7 +52,7 @@ module _ (c : EndpointClient) (from : SocketAddr) (bytes : List ℕ) (number : �
         named = cc;
         answers = asked.1;
         believable =
-            believable c.requires_fingerprint c.identity c.standing a.signed_for bytes signed cc;
+            believable c.requires_fingerprint true c.identity c.standing a.signed_for bytes signed cc;
       }
 
   pub ends : heard c from bytes ≡ responded bytes number (believed signed)

@@ -49,7 +49,7 @@ abbrev pub by_asked : EndpointClient → List ℕ → Option AskedSeen → Given
 by_asked c bytes None = not_ours
 by_asked c bytes (Some a) =
     responded bytes a.number
-    (judged c.requires_fingerprint c.identity c.standing a.signed_for bytes)
+    (judged c.requires_fingerprint true c.identity c.standing a.signed_for bytes)
 
 abbrev pub by_class : EndpointClient → List ℕ → MessageClass → Given
 by_class c bytes Request = not_ours

@@ -1,6 +1,7 @@
 -- What a response to an outstanding request comes to (RFC 8489, sections 9.1.4 and 9.2.5).
 use Rattle.std.specs.Prelude.{◌≡◌, ℕ, List, Bool, true, false, if◌then◌else◌, Option, Some, None}
 use Rattle.std.specs.Prelude.{◌&&◌, string_bytes}
+use Rattle.std.specs.Prelude.{◌||◌, ⊤}
 use Rattle.std.specs.Option.{is_none, is_some, option_map}
 use Rattle.stun_base.specs.Credentials.{NameAndPassword}
 use Rattle.stun_base.specs.declared.keys.algorithm.IntegrityAlgorithm.{IntegrityAlgorithm}
@@ -23,7 +24,8 @@ use Rattle.stun_client.specs.declared.judged.Distrust.TheVariants.{UnanswerableC
 use Rattle.stun_client.specs.declared.judged.Distrust.TheVariants.{WrongFingerprint}
 use Rattle.stun_client.specs.declared.judged.Distrust.TheVariants.{MissingFingerprint}
 use Rattle.stun_client.specs.declared.judged.Judged.{Judged}
-use Rattle.stun_client.specs.declared.judged.Judged.TheVariants.{Believed, Anew, Refused, Dropped}
+use Rattle.stun_client.specs.declared.judged.Judged.TheVariants.{Believed, Anew, Refused, Doubted}
+use Rattle.stun_client.specs.declared.judged.Judged.TheVariants.{Dropped}
 use Rattle.stun_client.specs.declared.preferences.Preferences.{Preferences}
 
 -- how a client proves who it is: not at all; by name and password of a session, with the algorithm of
@@ -40,12 +42,13 @@ identity_of (ShortTerm s) = short_term (string_bytes s.name) s.password s.algori
 identity_of (LongTerm l) = long_term l.user l.preferences l.accepts_unsigned
 
 -- it ends its request and is signed so, its request is sent again for a challenge, it refuses its
--- request, or it is dropped. A refusal is the challenge that the request was signed for, or another one
--- that asks for the same credentials
+-- request, it throws doubt on the message that it answers, or it is dropped. A refusal is the challenge
+-- that the request was signed for, or another one that asks for the same credentials
 pub data Verdict : Type 0 where
   believed : Option IntegrityAlgorithm → Verdict
   anew : Answered → Verdict
   refused : Option Answered → Verdict
+  doubted : Verdict
   dropped : Distrust → Verdict
 
 -- what the result of `judge` says
@@ -53,6 +56,7 @@ abbrev pub verdict_of : {A : Type 0} → Judged A → Verdict
 verdict_of (Believed by) = believed by
 verdict_of (Anew challenge) = anew challenge
 verdict_of (Refused challenge) = refused challenge
+verdict_of Doubted = doubted
 verdict_of (Dropped why) = dropped why
 
 -- ---- FINGERPRINT (sections 7.3 and 14.7)
@@ -73,9 +77,9 @@ fault_in required bytes = fault_of required (fingerprint_in bytes)
 -- ---- signatures
 
 -- a response is believed if its signature is valid
-abbrev pub by_key : Option IntegrityAlgorithm → Distrust → Verdict
-by_key None why = dropped why
-by_key (Some a) why = believed (Some a)
+abbrev pub by_key : Option IntegrityAlgorithm → Verdict → Verdict
+by_key None otherwise = otherwise
+by_key (Some a) otherwise = believed (Some a)
 
 -- with short-term credentials it must be by the algorithm of the request (section 9.1.4)
 abbrev pub by_sole_algorithm : IntegrityAlgorithm → Option IntegrityAlgorithm → Verdict
@@ -83,13 +87,39 @@ by_sole_algorithm asked None = dropped NotVerified
 by_sole_algorithm asked (Some a) =
     if same_algorithm asked a then believed (Some a) else dropped NotVerified
 
--- with long-term credentials by the key that the request was signed with. The response to a request
+-- Bad Request (RFC 8489, section 14.8)
+abbrev pub BAD_REQUEST : ℕ
+BAD_REQUEST = 400
+
+-- Allocation Mismatch (RFC 8656, section 19)
+abbrev pub ALLOCATION_MISMATCH : ℕ
+ALLOCATION_MISMATCH = 437
+
+-- Wrong Credentials (RFC 8656, section 19)
+abbrev pub WRONG_CREDENTIALS : ℕ
+WRONG_CREDENTIALS = 441
+
+-- whether an error without a valid signature throws doubt on a message that was signed for this
+-- challenge. Servers answer so, unsigned, a message that was signed for a challenge which is not
+-- theirs, and a server of TURN any message under another transaction ID than the one that it has
+-- accepted (437)
+abbrev pub is_doubt : Option Answered → Option ℕ → Bool
+is_doubt None code = is_code ALLOCATION_MISMATCH code
+is_doubt (Some c) code =
+    is_code BAD_REQUEST code || is_code ALLOCATION_MISMATCH code || is_code WRONG_CREDENTIALS code
+
+-- a response whose signature is not valid
+abbrev pub unbelieved : Option Answered → Distrust → List ℕ → Verdict
+unbelieved before why bytes =
+    if is_doubt before (code_in bytes) then doubted else dropped why
+
+-- with long-term credentials by the key that the message was signed with. The response to a message
 -- that was not signed is believed only if unsigned responses are accepted
 abbrev pub by_signature : Bool → Option Answered → Distrust → List ℕ → Verdict
 by_signature accepts_unsigned None why bytes =
-    if accepts_unsigned then believed None else dropped why
+    if accepts_unsigned then believed None else unbelieved None why bytes
 by_signature accepts_unsigned (Some c) why bytes =
-    by_key (verified_algorithm bytes c.challenge.key) why
+    by_key (verified_algorithm bytes c.challenge.key) (unbelieved (Some c) why bytes)
 
 -- ---- challenges (section 9.2.5)
 
@@ -131,10 +161,27 @@ judged_by_long_term accepts_unsigned p who standing before bytes =
     then judged_read accepts_unsigned standing before bytes (answered_in p who before bytes)
     else by_signature accepts_unsigned before NotVerified bytes
 
+-- ---- earlier messages
+
+-- a response to a message of the request that is not the current one is believed if it is signed with
+-- the key of that message. Nothing else comes of it, whatever it says. A 401 or a 438 is dropped even
+-- if it is signed, because the request was sent again since
+abbrev pub by_own_key : Option Answered → List ℕ → Verdict
+by_own_key None bytes = dropped NotVerified
+by_own_key (Some c) bytes = by_key (verified_algorithm bytes c.challenge.key) (dropped NotVerified)
+
+-- without credentials no message is signed
+abbrev pub judged_earlier : Identity → Option Answered → List ℕ → Verdict
+judged_earlier unsigned before bytes = dropped NotVerified
+judged_earlier (short_term name password algorithm) before bytes =
+    by_sole_algorithm algorithm (verified_algorithm bytes password)
+judged_earlier (long_term who p accepts_unsigned) before bytes =
+    if is_challenge bytes then dropped NotVerified else by_own_key before bytes
+
 -- ---- memory
 
--- whether judging a response needs memory: with long-term credentials, if it is a challenge that the
--- rule does not ignore, and is not dropped for its FINGERPRINT
+-- whether judging a response to the current message needs memory: with long-term credentials, if it is
+-- a challenge that the rule does not ignore, and is not dropped for its FINGERPRINT
 abbrev pub needs_memory : Bool → Identity → Option Answered → List ℕ → Bool
 needs_memory required unsigned before bytes = false
 needs_memory required (short_term name password algorithm) before bytes = false
@@ -155,11 +202,17 @@ abbrev pub unless_faulty : Verdict → Option Distrust → Verdict
 unless_faulty verdict None = verdict
 unless_faulty verdict (Some why) = dropped why
 
--- what a response comes to, whose request was signed for this challenge, at a client that requires
--- FINGERPRINT or does not
-abbrev pub judged : Bool → Identity → StandingSeen → Option Answered → List ℕ → Verdict
-judged required identity standing before bytes =
-    unless_faulty (judged_by identity standing before bytes) (fault_in required bytes)
+-- of the current message of a request, or of an earlier one
+abbrev pub judged_as : Bool → Identity → StandingSeen → Option Answered → List ℕ → Verdict
+judged_as is_current identity standing before bytes =
+    if is_current then judged_by identity standing before bytes
+    else judged_earlier identity before bytes
+
+-- what a response comes to at a client that requires FINGERPRINT or does not. It answers a message that
+-- was signed for this challenge, and that is the current one of its request or an earlier one
+abbrev pub judged : Bool → Bool → Identity → StandingSeen → Option Answered → List ℕ → Verdict
+judged required is_current identity standing before bytes =
+    unless_faulty (judged_as is_current identity standing before bytes) (fault_in required bytes)
 
 -- ---- what follows
 
@@ -175,11 +228,37 @@ IsBelievable (long_term who p accepts_unsigned) None bytes by =
 IsBelievable (long_term who p accepts_unsigned) (Some c) bytes by =
     (a : IntegrityAlgorithm) × ((by ≡ Some a) × (verified_algorithm bytes c.challenge.key ≡ Some a))
 
+-- the algorithm of the response's signature, if that is valid under the key of the message which it
+-- answers. A message that was not signed has no key
+abbrev pub signed_with : Identity → Option Answered → List ℕ → Option IntegrityAlgorithm
+signed_with unsigned before bytes = None
+signed_with (short_term name password algorithm) before bytes = verified_algorithm bytes password
+signed_with (long_term who p accepts_unsigned) None bytes = None
+signed_with (long_term who p accepts_unsigned) (Some c) bytes =
+    verified_algorithm bytes c.challenge.key
+
+-- whether an unsigned response to a message is accepted: without credentials, or if the message was not
+-- signed and the client accepts unsigned responses
+abbrev pub takes_unsigned : Identity → Option Answered → Bool
+takes_unsigned unsigned before = true
+takes_unsigned (short_term name password algorithm) before = false
+takes_unsigned (long_term who p accepts_unsigned) None = accepts_unsigned
+takes_unsigned (long_term who p accepts_unsigned) (Some c) = false
+
+-- a response ends its request, or nothing comes of it
+abbrev pub IsEndOrNothing : Verdict → Type 0
+IsEndOrNothing (believed by) = ⊤
+IsEndOrNothing (anew challenge) = ⊥
+IsEndOrNothing (refused challenge) = ⊥
+IsEndOrNothing doubted = ⊥
+IsEndOrNothing (dropped why) = ⊤
+
 -- a request is to be sent again for a challenge
 abbrev pub IsSentAgain : Verdict → Answered → Type 0
 IsSentAgain (believed by) c = ⊥
 IsSentAgain (anew challenge) c = challenge ≡ c
 IsSentAgain (refused challenge) c = challenge ≡ Some c
+IsSentAgain doubted c = ⊥
 IsSentAgain (dropped why) c = ⊥
 
 -- a request is sent again for a challenge: the one of the response by the rule and by the client's own

@@ -163,7 +163,7 @@ impl<A: Allocator + Copy> Client<A> {
         let credentials = &self.credentials;
         let standing = &self.standing;
         let required = self.requires_fingerprint;
-        match credentials.judge(self.alloc, required, standing, signed_for, &response) {
+        match credentials.judge(self.alloc, required, true, standing, signed_for, &response) {
             Ok(judged) => Ok(Heard::Response(response, asked.number(), judged)),
             Err(error) => Err(error),
         }

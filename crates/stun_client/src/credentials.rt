@@ -1,11 +1,14 @@
 //! How a client proves who it is, and which responses it believes (RFC 8489, sections 9.1.4 and
 //! 9.2.5).
 ghost use Rattle.std.specs.Prelude.{◌≡◌, false, IfOk, IsOk, None, Some};
+ghost use Rattle.std.specs.String.{string_bytes};
 ghost use Rattle.stun_types.specs.Integrity.{verified_algorithm};
-ghost use Rattle.stun_client.specs.Judging.{answered_in, by_key, by_signature, by_sole_algorithm};
-ghost use Rattle.stun_client.specs.Judging.{fault_in, identity_of, is_refusal, judged};
-ghost use Rattle.stun_client.specs.Judging.{judged_by_long_term, judged_challenge, needs_memory};
-ghost use Rattle.stun_client.specs.Judging.{verdict_of};
+ghost use Rattle.stun_client.specs.Challenging.{code_in};
+ghost use Rattle.stun_client.specs.Judging.{answered_in, by_key, by_own_key, by_signature};
+ghost use Rattle.stun_client.specs.Judging.{by_sole_algorithm, fault_in, identity_of, is_doubt};
+ghost use Rattle.stun_client.specs.Judging.{is_refusal, judged, judged_by_long_term};
+ghost use Rattle.stun_client.specs.Judging.{judged_challenge, judged_earlier, needs_memory};
+ghost use Rattle.stun_client.specs.Judging.{short_term, unbelieved, verdict_of};
 
 use crate::challenge::Challenge;
 use crate::challenge::reading::{code_of, is_challenge};
@@ -13,9 +16,16 @@ use crate::judged::{Distrust, Judged};
 use crate::preferences::Preferences;
 use crate::standing::Standing;
 use std::alloc::{AllocError, Allocator, Global};
+use stun_base::key::IntegrityKey;
 use stun_extra::fingerprint::{Fingerprint, check_fingerprint};
 use stun_types::attribute::ErrorCode;
 use stun_types::message::{IntegrityAlgorithm, LongTermCredentials, Message, PreparedKey};
+
+/// Allocation Mismatch (RFC 8656, section 19).
+const ALLOCATION_MISMATCH: u16 = 437;
+
+/// Wrong Credentials (RFC 8656, section 19).
+const WRONG_CREDENTIALS: u16 = 441;
 
 /// A name and a password that client and server have agreed on for one session (RFC 8489, section
 /// 9.1).
@@ -66,7 +76,27 @@ fn fault_in(message: &Message<'_>, is_required: bool) -> Option<Distrust>
 }
 
 impl<A: Allocator + Copy> Credentials<A> {
-    /// Judges a response to an outstanding request, which was signed for this challenge.
+    /// Creates short-term credentials: each request is signed with this password, as the key, and
+    /// this algorithm (RFC 8489, section 9.1). Fails if an allocation fails.
+    pub fn short_term(
+        alloc: A,
+        name: String<A>,
+        password: &str,
+        algorithm: IntegrityAlgorithm,
+    ) -> Result<Credentials<A>, AllocError>
+        ensures { IfOk result (λ made. identity_of made
+            ≡ short_term (string_bytes name) password.now algorithm) }
+    {
+        let key = IntegrityKey::from_bytes(alloc, password.as_bytes())?;
+        Ok(Credentials::ShortTerm(ShortTerm {
+            name,
+            password: PreparedKey::new(key, algorithm),
+            algorithm,
+        }))
+    }
+
+    /// Judges a response to a message of an outstanding request, which was signed for this challenge.
+    /// `is_current` says whether the message is the one that the request sent last.
     ///
     /// - A response is dropped if its FINGERPRINT is wrong, is not the last attribute or does not
     ///   have 4 bytes, or if it has none and `requires_fingerprint` is true.
@@ -79,31 +109,57 @@ impl<A: Allocator + Copy> Credentials<A> {
     ///   confirmed is dropped. One that the rule ignores is judged as any other response.
     /// - Any other response is believed if it is signed with the key that the request was signed
     ///   with (section 9.2.5). If the request was not signed, the response is dropped, unless
-    ///   unsigned responses are accepted.
+    ///   unsigned responses are accepted. A 400, a 437 or a 441 that would be dropped throws doubt on
+    ///   a signed message, and a 437 on an unsigned one.
     ///
-    /// Fails if an allocation fails. It allocates only with long-term credentials, for a challenge
-    /// that is not dropped for its FINGERPRINT and that the rule does not ignore (see `Challenge`).
+    /// A response to an earlier message of the request is believed if it is signed with the key of that
+    /// message and is neither a 401 nor a 438. Otherwise it is dropped.
+    ///
+    /// Fails if an allocation fails. It allocates only with long-term credentials, for a challenge to
+    /// the current message that is not dropped for its FINGERPRINT and that the rule does not ignore
+    /// (see `Challenge`).
     pub fn judge(
         &self,
         alloc: A,
         requires_fingerprint: bool,
+        is_current: bool,
         standing: &Standing<A>,
         signed_for: &Option<Challenge<A>>,
         response: &Message<'_>,
     ) -> Result<Judged<A>, AllocError>
         ensures judged { IfOk result (λ verdict. verdict_of verdict
-            ≡ judged requires_fingerprint (identity_of self.now) standing.now signed_for.now
-            response.now) }
+            ≡ judged requires_fingerprint is_current (identity_of self.now) standing.now
+            signed_for.now response.now) }
         ensures no_memory { needs_memory requires_fingerprint (identity_of self.now) signed_for.now
             response.now ≡ false → IsOk result }
+        ensures no_memory_earlier { is_current ≡ false → IsOk result }
     {
         if let Some(why) = fault_in(response, requires_fingerprint) {
             return Ok(Judged::Dropped(why));
+        }
+        if !is_current {
+            return Ok(self.judge_earlier(signed_for, response));
         }
         match self {
             Credentials::Unsigned => Ok(Judged::Believed(None)),
             Credentials::ShortTerm(short) => Ok(short.judge(response)),
             Credentials::LongTerm(long) => long.judge(alloc, standing, signed_for, response),
+        }
+    }
+
+    /// Judges a response to an earlier message of a request.
+    fn judge_earlier(&self, signed_for: &Option<Challenge<A>>, response: &Message<'_>) -> Judged<A>
+        ensures { verdict_of result
+            ≡ judged_earlier (identity_of self.now) signed_for.now response.now }
+    {
+        match self {
+            Credentials::Unsigned => Judged::Dropped(Distrust::NotVerified),
+            Credentials::ShortTerm(short) => short.judge(response),
+            // The request was sent again since, so another challenge would only send it back and forth.
+            Credentials::LongTerm(_) if is_challenge(response) => {
+                Judged::Dropped(Distrust::NotVerified)
+            }
+            Credentials::LongTerm(_) => by_own_key(signed_for, response),
         }
     }
 }
@@ -193,20 +249,66 @@ impl<A: Allocator + Copy> LongTerm<A> {
             response.now }
     {
         match signed_for {
-            Some(challenge) => by_key(challenge.verifies(response), otherwise),
+            Some(challenge) => by_key(
+                challenge.verifies(response),
+                unbelieved(signed_for, response, otherwise),
+            ),
             None if self.accepts_unsigned => Judged::Believed(None),
-            None => Judged::Dropped(otherwise),
+            None => unbelieved(signed_for, response, otherwise),
         }
     }
 }
 
 /// Judges a response by the algorithm that its signature is valid by, if it is.
-fn by_key<A: Allocator>(signed_by: Option<IntegrityAlgorithm>, otherwise: Distrust) -> Judged<A>
-    ensures { verdict_of result ≡ by_key signed_by otherwise }
+fn by_key<A: Allocator>(signed_by: Option<IntegrityAlgorithm>, otherwise: Judged<A>) -> Judged<A>
+    ensures { verdict_of result ≡ by_key signed_by (verdict_of otherwise) }
 {
     match signed_by {
         Some(algorithm) => Judged::Believed(Some(algorithm)),
-        None => Judged::Dropped(otherwise),
+        None => otherwise,
+    }
+}
+
+/// Judges a response to an earlier message by the key of that message.
+fn by_own_key<A: Allocator>(signed_for: &Option<Challenge<A>>, response: &Message<'_>) -> Judged<A>
+    ensures { verdict_of result ≡ by_own_key signed_for.now response.now }
+{
+    match signed_for {
+        Some(challenge) => by_key(
+            challenge.verifies(response),
+            Judged::Dropped(Distrust::NotVerified),
+        ),
+        None => Judged::Dropped(Distrust::NotVerified),
+    }
+}
+
+/// Judges a response whose signature is not valid: it throws doubt on its message, or is dropped.
+fn unbelieved<A: Allocator>(
+    signed_for: &Option<Challenge<A>>,
+    response: &Message<'_>,
+    otherwise: Distrust,
+) -> Judged<A>
+    ensures { verdict_of result ≡ unbelieved signed_for.now otherwise response.now }
+{
+    if is_doubt(signed_for, response) {
+        Judged::Doubted
+    } else {
+        Judged::Dropped(otherwise)
+    }
+}
+
+/// Returns whether an error throws doubt on a message that was signed for this challenge.
+fn is_doubt<A: Allocator>(signed_for: &Option<Challenge<A>>, response: &Message<'_>) -> bool
+    ensures { result ≡ is_doubt signed_for.now (code_in response.now) }
+{
+    match (signed_for, code_of(response)) {
+        (Some(_), Some(code)) => {
+            code == ErrorCode::BAD_REQUEST
+                || code == ALLOCATION_MISMATCH
+                || code == WRONG_CREDENTIALS
+        }
+        (None, Some(code)) => code == ALLOCATION_MISMATCH,
+        (_, None) => false,
     }
 }
 

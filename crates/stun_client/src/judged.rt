@@ -18,7 +18,8 @@ pub enum Distrust {
     WrongFingerprint,
     /// The client requires a FINGERPRINT, and the response has none (RFC 8489, section 7.3).
     MissingFingerprint,
-    /// The response is not signed with the key of the request.
+    /// The response is not signed with the key of the message that it answers, or it is a 401 or a 438
+    /// to an earlier message of the request.
     NotVerified,
     /// The response is a 401 or a 438 that the client cannot answer, and is not signed.
     UnanswerableChallenge,
@@ -38,6 +39,10 @@ pub enum Judged<A: Allocator = Global> {
     /// (`None`), or a 401 for the same realm and security bits with another nonce or list. The
     /// password is wrong, or somebody forges challenges.
     Refused(Option<Challenge<A>>),
+    /// The response is a 400, a 437 or a 441 without a valid signature to a signed message, or such a
+    /// 437 to an unsigned one. It is not believed, but the message may be signed for a forged
+    /// challenge.
+    Doubted,
     /// The response is dropped, for this reason.
     Dropped(Distrust),
 }

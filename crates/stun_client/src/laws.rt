@@ -16,9 +16,9 @@ ghost use Rattle.stun_client.specs.Challenges.{Answered, IsAnswerable, IsOfMessa
 ghost use Rattle.stun_client.specs.Challenges.{challenge_of, is_one};
 ghost use Rattle.stun_client.specs.Clients.{EndpointClient, IsAnswer, heard, responded};
 ghost use Rattle.stun_client.specs.Downgrade.{IsNowhereBidDown, IsUpToDate};
-ghost use Rattle.stun_client.specs.Judging.{IsAnsweredAnew, IsBelievable, IsSentAgain, Identity};
-ghost use Rattle.stun_client.specs.Judging.{answered_in, believed, fault_in, judged, long_term};
-ghost use Rattle.stun_client.specs.Judging.{sent_for};
+ghost use Rattle.stun_client.specs.Judging.{IsAnsweredAnew, IsBelievable, IsEndOrNothing, IsSentAgain};
+ghost use Rattle.stun_client.specs.Judging.{Identity, answered_in, believed, fault_in, judged, long_term};
+ghost use Rattle.stun_client.specs.Judging.{sent_for, signed_with, takes_unsigned};
 ghost use Rattle.stun_client.specs.Rule.{IsByRule, IsChosen};
 ghost use Rattle.stun_client.specs.Standing.{AreUsualEvents, StandingEvent, StandingSeen};
 ghost use Rattle.stun_client.specs.Standing.{is_ignored, standing_after_all};
@@ -47,7 +47,7 @@ pub fn answerable_challenges_are_answered()
         (bytes : List ℕ) (c : Answered) → fault_in required bytes ≡ None
         → answered_in p who before bytes ≡ Some c → is_one (Some c) before ≡ false
         → is_ignored standing c ≡ false
-        → judged required (long_term who p accepts_unsigned) standing before bytes
+        → judged required true (long_term who p accepts_unsigned) standing before bytes
         ≡ sent_for before bytes c }
 {}
 
@@ -79,39 +79,66 @@ pub fn nonces_of_a_server_are_up_to_date()
 /// A response is believed only if it may be: without credentials, or signed as its request was
 /// (`signed`). Its FINGERPRINT is right, or it has none and the client requires none (`whole`).
 pub fn believed_responses_are_believable()
+    ensures signed { (required is_current : Bool) (identity : Identity) (standing : StandingSeen)
+        (before : Option Answered) (bytes : List ℕ) (by : Option IntegrityAlgorithm)
+        → judged required is_current identity standing before bytes ≡ believed by
+        → IsBelievable identity before bytes by }
+    ensures whole { (required is_current : Bool) (identity : Identity) (standing : StandingSeen)
+        (before : Option Answered) (bytes : List ℕ) (by : Option IntegrityAlgorithm)
+        → judged required is_current identity standing before bytes ≡ believed by
+        → fault_in required bytes ≡ None }
+{}
+
+/// A response to an earlier message of a request, which the request has been sent again after, is
+/// believed only if it is signed with the key of that message (`signed`). Otherwise nothing comes of
+/// it, whatever it says: the request is not sent again, is not refused, and no message is doubted
+/// (`only`).
+pub fn earlier_messages_end_by_signature_alone()
     ensures signed { (required : Bool) (identity : Identity) (standing : StandingSeen)
         (before : Option Answered) (bytes : List ℕ) (by : Option IntegrityAlgorithm)
-        → judged required identity standing before bytes ≡ believed by
-        → IsBelievable identity before bytes by }
-    ensures whole { (required : Bool) (identity : Identity) (standing : StandingSeen)
+        → judged required false identity standing before bytes ≡ believed by
+        → IsSome by × (signed_with identity before bytes ≡ by) }
+    ensures only { (required : Bool) (identity : Identity) (standing : StandingSeen)
+        (before : Option Answered) (bytes : List ℕ)
+        → IsEndOrNothing (judged required false identity standing before bytes) }
+{}
+
+/// A response that is not signed with the key of the message which it answers is not believed, be it
+/// an error or a success. The exception is a response to the current message that the client accepts
+/// unsigned: it has no credentials, or it accepts unsigned responses and the message was not signed.
+pub fn unsigned_errors_end_nothing()
+    ensures { (required is_current : Bool) (identity : Identity) (standing : StandingSeen)
         (before : Option Answered) (bytes : List ℕ) (by : Option IntegrityAlgorithm)
-        → judged required identity standing before bytes ≡ believed by
-        → fault_in required bytes ≡ None }
+        → signed_with identity before bytes ≡ None
+        → judged required is_current identity standing before bytes ≡ believed by
+        → (takes_unsigned identity before ≡ true) × (is_current ≡ true) }
 {}
 
 /// A request is sent again only for the challenge that its response is by the rule, also if that is a
 /// refusal. That challenge is neither the one that the request was signed for nor one that is ignored.
 pub fn requests_are_sent_again_for_new_challenges()
-    ensures { (required : Bool) (who : NameAndPassword) (p : ThePreferences)
+    ensures { (required is_current : Bool) (who : NameAndPassword) (p : ThePreferences)
         (accepts_unsigned : Bool) (standing : StandingSeen) (before : Option Answered)
         (bytes : List ℕ) (c : Answered)
-        → IsSentAgain (judged required (long_term who p accepts_unsigned) standing before bytes) c
+        → IsSentAgain (judged required is_current (long_term who p accepts_unsigned) standing before
+        bytes) c
         → IsAnsweredAnew p who standing before bytes c }
 {}
 
 /// With long-term credentials a response that nobody signed ends no request by what it says: it is not
 /// believed if the request was signed (`signed`), nor if unsigned responses are not accepted
-/// (`first`). The request is sent again for it, or it is a refusal, or it is dropped.
+/// (`first`). The request is sent again for it, or it is a refusal, or it throws doubt on its message,
+/// or it is dropped.
 pub fn unsigned_responses_are_not_believed()
-    ensures signed { (required : Bool) (who : NameAndPassword) (p : ThePreferences)
+    ensures signed { (required is_current : Bool) (who : NameAndPassword) (p : ThePreferences)
         (accepts_unsigned : Bool) (standing : StandingSeen) (before : Answered) (bytes : List ℕ)
         (by : Option IntegrityAlgorithm)
         → verified_algorithm bytes before.challenge.key ≡ None
-        → judged required (long_term who p accepts_unsigned) standing (Some before) bytes
+        → judged required is_current (long_term who p accepts_unsigned) standing (Some before) bytes
         ≡ believed by → ⊥ }
-    ensures first { (required : Bool) (who : NameAndPassword) (p : ThePreferences)
+    ensures first { (required is_current : Bool) (who : NameAndPassword) (p : ThePreferences)
         (standing : StandingSeen) (bytes : List ℕ) (by : Option IntegrityAlgorithm)
-        → judged required (long_term who p false) standing None bytes ≡ believed by → ⊥ }
+        → judged required is_current (long_term who p false) standing None bytes ≡ believed by → ⊥ }
 {}
 
 /// From a success until a request under the confirmed challenge times out, a challenge that is

@@ -23,7 +23,7 @@ use Rattle.stun_agent.proofs.TimingLemmas.{sum_of_timeouts-zero}
 use Rattle.stun_client.specs.Clients.{Given, heard, indicated, not_ours, responded}
 use Rattle.stun_client.specs.Ids.{id_of}
 use Rattle.stun_client.specs.Challenging.{code_in}
-use Rattle.stun_client.specs.Judging.{Identity, Verdict, anew, believed, dropped, refused}
+use Rattle.stun_client.specs.Judging.{Identity, Verdict, anew, believed, doubted, dropped, refused}
 use Rattle.stun_client.specs.Requests.{AskedSeen, at}
 use Rattle.stun_client_loop.specs.Loops.{after_timers, after_transmit, again_refused, timed_of}
 use Rattle.stun_client_loop.specs.declared.client_loop.Timed.{Timed}
@@ -432,6 +432,7 @@ received_keeps is_heard from bytes now e = by (heard e.state.client from bytes)
     by_its message number (refused (Some c)) =
         challenged_keeps is_heard number (record { challenge = c; is_refusal = true }) message now e
         (at (transaction_id_field message) e.state.client.requests.asked)
+    by_its message number doubted = dropping_keeps number _ message e
     by_its message number (dropped why) = dropping_keeps number _ message e
 
     by : (g : Given) → KeepsPlans e (by_given is_heard now e g).1

@@ -29,7 +29,7 @@ use Rattle.stun_client.specs.Clients.{EndpointClient, Given, by_asked, by_class,
 use Rattle.stun_client.specs.Clients.{responded}
 use Rattle.stun_client.specs.Ids.{id_of}
 use Rattle.stun_agent.proofs.OnceLemmas.{ascending_none}
-use Rattle.stun_client.specs.Judging.{Identity, Verdict, anew, believed, dropped, refused}
+use Rattle.stun_client.specs.Judging.{Identity, Verdict, anew, believed, doubted, dropped, refused}
 use Rattle.stun_client.specs.Requests.{AskedSeen, LAST_NUMBER, answered, at, if_answered, is_answer}
 use Rattle.stun_client.specs.Requests.{renewal_refusal, renewal_refusal_of, start_refusal}
 use Rattle.stun_client.specs.declared.requests.RequestRefusal.{RequestRefusal}
@@ -725,6 +725,7 @@ module _ (number now : ℕ) (bytes : List ℕ) (e : Endpoint) (a : AskedSeen) (i
       refused_is (is_reliable e.state.agent.transport || was_refused (request_at number e.requests))
   verdict_is is_heard (refused (Some c)) =
       answered_is is_heard (record { challenge = c; is_refusal = true })
+  verdict_is is_heard doubted = dropping_is number _ bytes e is
   verdict_is is_heard (dropped why) = dropping_is number _ bytes e is
 
 -- the request that a response is to

@@ -17,7 +17,7 @@ use Rattle.stun_client.specs.Challenging.{code_in}
 use Rattle.stun_client.specs.Clients.{Given, heard, indicated, needs_memory_for, not_ours}
 use Rattle.stun_client.specs.Clients.{responded}
 use Rattle.stun_client.specs.Ids.{id_of}
-use Rattle.stun_client.specs.Judging.{Identity, Verdict, anew, believed, dropped, refused}
+use Rattle.stun_client.specs.Judging.{Identity, Verdict, anew, believed, doubted, dropped, refused}
 use Rattle.stun_client.specs.Outcomes.{outcome_of}
 use Rattle.stun_client.specs.Requests.{AskedSeen, answered, at, new_requests}
 use Rattle.stun_client.specs.Standing.{new_standing}
@@ -39,8 +39,9 @@ use Rattle.stun_client_endpoint.specs.Pendings.{noting, outstanding_at, overdue,
 use Rattle.stun_client_endpoint.specs.Pendings.{timed_out, with_request, without_first, without_request}
 use Rattle.stun_client_endpoint.specs.Written.{Form, Page?, is_text_too_long, request_bytes}
 use Rattle.stun_client_endpoint.specs.declared.ended.DropReason.{DropReason}
-use Rattle.stun_client_endpoint.specs.declared.ended.DropReason.TheVariants.{LateChallenge, OutOfMemory}
-use Rattle.stun_client_endpoint.specs.declared.ended.DropReason.TheVariants.{Refused, UnanswerableChallenge}
+use Rattle.stun_client_endpoint.specs.declared.ended.DropReason.TheVariants.{LateChallenge, NotVerified}
+use Rattle.stun_client_endpoint.specs.declared.ended.DropReason.TheVariants.{OutOfMemory, Refused}
+use Rattle.stun_client_endpoint.specs.declared.ended.DropReason.TheVariants.{UnanswerableChallenge}
 use Rattle.stun_client_endpoint.specs.declared.ended.RequestEnd.{RequestEnd}
 use Rattle.stun_client_endpoint.specs.declared.ended.RequestEnd.TheVariants as how
 use Rattle.stun_client_endpoint.specs.declared.told.Polled.{Polled}
@@ -319,6 +320,7 @@ by_verdict is_heard number bytes now e (anew c) =
 by_verdict is_heard number bytes now e (refused None) = refused_by number bytes now e
 by_verdict is_heard number bytes now e (refused (Some c)) =
     challenged is_heard number (record { challenge = c; is_refusal = true }) bytes now e
+by_verdict is_heard number bytes now e doubted = dropping number NotVerified bytes e
 by_verdict is_heard number bytes now e (dropped why) = dropping number (reason_of why) bytes e
 
 abbrev pub by_given : Bool → ℕ → Endpoint → Given → Answer
@@ -340,11 +342,13 @@ abbrev pub IsIndicated : SocketAddr → List ℕ → Endpoint → Answer → Typ
 IsIndicated from bytes e answer = (message : List ℕ)
     → heard e.state.client from bytes ≡ indicated message → answer ≡ (Indication message, e)
 
--- a response whose verdict is a drop is dropped for that reason
+-- a response whose verdict is a drop is dropped for that reason, and one that throws doubt because it
+-- is not signed
 abbrev pub DropsBy : ℕ → List ℕ → Endpoint → Answer → Verdict → Type 0
 DropsBy number bytes e answer (believed by) = ⊤
 DropsBy number bytes e answer (anew challenge) = ⊤
 DropsBy number bytes e answer (refused challenge) = ⊤
+DropsBy number bytes e answer doubted = answer ≡ dropping number NotVerified bytes e
 DropsBy number bytes e answer (dropped why) = answer ≡ dropping number (reason_of why) bytes e
 
 -- a response is dropped for the reason that its verdict gives, if judging it needs no memory

@@ -2,6 +2,8 @@
 
 -- the body of a request
 pub mod Bodies
+-- of which settings no client is to be made
+pub mod Settings
 -- the bytes of a request
 pub mod Written
 -- the transaction ID of the next request

@@ -71,7 +71,7 @@ impl Drops {
     }
 
     /// Returns what was dropped once one more response is.
-    pub(crate) fn noted(self, why: DropReason, code: Option<u16>) -> Drops
+    pub fn noted(self, why: DropReason, code: Option<u16>) -> Drops
         ensures { result ≡ after_drop why code self }
     {
         Drops {
@@ -91,8 +91,8 @@ pub enum RequestEnd {
     Answered(Outcome, Option<IntegrityAlgorithm>),
     /// No acceptable response arrived in time.
     TimedOut(Drops),
-    /// The request was challenged or refused too often: the password is wrong, or somebody forges
-    /// challenges.
+    /// The server refuses the credentials, or challenges too often: the user name or the password is
+    /// wrong, or somebody forges challenges.
     Unauthorized,
     /// It was canceled.
     Cancelled,

@@ -13,5 +13,6 @@ pub mod numbers;
 mod pending;
 mod piece;
 mod reading;
-mod refusals;
+pub mod refusals;
+pub mod settings;
 pub mod told;

@@ -5,7 +5,7 @@ ghost use Rattle.stun_client_endpoint.specs.Refusals.{no_refusals};
 
 /// What of the refusals of a request counts.
 #[derive(Clone, Copy)]
-pub(crate) struct Refusals {
+pub struct Refusals {
     /// Whether the request was refused since it was sent last.
     is_recent: bool,
     /// Whether it was refused before it was sent last.
@@ -16,7 +16,7 @@ pub(crate) struct Refusals {
 
 impl Refusals {
     /// Returns that the request was not refused.
-    pub(crate) fn none() -> Refusals
+    pub fn none() -> Refusals
         ensures { result ≡ no_refusals }
     {
         Refusals {
@@ -27,7 +27,7 @@ impl Refusals {
     }
 
     /// Returns what counts once the request is refused.
-    pub(crate) fn noted(self) -> Refusals
+    pub fn noted(self) -> Refusals
         ensures { result ≡ after_refusal self }
     {
         Refusals {
@@ -39,7 +39,7 @@ impl Refusals {
 
     /// Returns what counts once the request is sent again, by its timer or for another challenge.
     /// That challenge may be a refusal.
-    pub(crate) fn sent(self, is_refusal: bool) -> Refusals
+    pub fn sent(self, is_refusal: bool) -> Refusals
         ensures { result ≡ after_sending is_refusal self }
     {
         let others = if is_refusal {
@@ -55,14 +55,14 @@ impl Refusals {
     }
 
     /// Returns whether the request was refused before it was sent last.
-    pub(crate) fn is_earlier(self) -> bool
+    pub fn is_earlier(self) -> bool
         ensures { result ≡ self.is_earlier }
     {
         self.is_earlier
     }
 
     /// Returns whether the request was sent again for as many refusals as it may be.
-    pub(crate) fn is_last(self) -> bool
+    pub fn is_last(self) -> bool
         ensures { result ≡ nat_le OTHERS self.others }
     {
         self.others >= 2

@@ -1,8 +1,11 @@
 -- What is not stale is not judged again, and the epoch before is one less.
 use Rattle.std.proofs.Common.{◌≡◌, ◌-◌, ◌<◌, ℕ, zero, suc, List, Option, Some, None, refl, ◌∙◌}
-use Rattle.std.proofs.Common.{ap, arith, sym, [], Ok, Err}
+use Rattle.std.proofs.Common.{ap, arith, sym, [], Ok, Err, Bool, true, false}
+use Rattle.std.proofs.lemmas.Slice.Eq.{bytes_eq-Decides}
 use Rattle.std.specs.Prelude.{unwrap_or}
+use Rattle.std.specs.Str.{bytes_eq}
 use Rattle.std.specs.declared.net.socket_addr.SocketAddr.{SocketAddr}
+use Rattle.std.specs.declared.result.Result.{Result}
 use Rattle.stun_auth.specs.declared.server.reason.VerdictRefusal.{VerdictRefusal}
 use Rattle.stun_auth.specs.declared.server.reason.VerdictRefusal.TheVariants.{Unauthorized}
 use Rattle.stun_auth.specs.declared.server.reason.VerdictRefusal.TheVariants.{BadRequest}
@@ -11,6 +14,8 @@ use Rattle.stun_auth.specs.Epochs.{or_before}
 use Rattle.stun_auth.specs.Judged.{AcceptedSeen, HasVerifyingKey}
 use Rattle.stun_auth.specs.Reading.{Reading, reading_of}
 use Rattle.stun_auth.specs.Seen.{ClientSeen}
+use Rattle.stun_auth.specs.Server.{their_nonce}
+use Rattle.stun_auth.proofs.Accepting.{accepted_from_verdict}
 use Rattle.stun_endpoint.specs.Judged.{Realm, judged, judged_under, key_of_client, or_previous}
 use Rattle.stun_endpoint.specs.Judged.{verdict_under}
 use Rattle.stun_endpoint.specs.Nonces.{current_nonce, nonce_in}
@@ -34,6 +39,27 @@ pub bad_stays : (s : Settings) (realm : Realm) (previous : Option (List ℕ))
     → or_previous s realm previous from epoch r (Err BadRequest) ≡ Err BadRequest
 bad_stays s realm None from epoch r = refl
 bad_stays s realm (Some secret) from epoch r = refl
+
+-- under a nonce that a request does not have it is accepted from nobody
+pub other_nonce_is_stale : (realm : Realm) (nonce : List ℕ) (r : Reading)
+    → bytes_eq (their_nonce r) nonce ≡ false
+    → or_before (Err StaleNonce) (verdict_under realm nonce r) ≡ Err StaleNonce
+other_nonce_is_stale realm nonce r other = by (verdict_under realm nonce r) refl
+  where
+    unless_both : (b : Bool) (client : ClientSeen) → b ≡ false → b ≡ true
+        → or_before (Err StaleNonce) (Ok client) ≡ Err StaleNonce
+    unless_both true client other same = cc
+    unless_both false client other same = cc
+
+    by : (v : Result ClientSeen VerdictRefusal) → verdict_under realm nonce r ≡ v
+        → or_before (Err StaleNonce) v ≡ Err StaleNonce
+    by (Err refusal) is = refl
+    by (Ok client) is =
+        let one =
+        accepted_from_verdict realm.users realm.feature nonce (Some realm.offered) r client is in
+        let has : their_nonce r ≡ nonce = ap (λ o. unwrap_or o []) one.nonce in
+        unless_both (bytes_eq (their_nonce r) nonce) client other
+        ((bytes_eq-Decides (their_nonce r) nonce).1 has)
 
 -- where the nonce of an epoch is stale, that of the epoch before is tried
 pub stale_in_epoch : (s : Settings) (realm : Realm) (secret : List ℕ) (from : SocketAddr)

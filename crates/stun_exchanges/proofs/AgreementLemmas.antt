@@ -22,7 +22,8 @@ use Rattle.stun_client.specs.Challenge.{new_challenge}
 use Rattle.stun_client.specs.Challenges.{Answered, by_rule}
 use Rattle.stun_client.specs.Downgrade.{IsStrongestOfBoth, IsUpToDate}
 use Rattle.stun_client.specs.Judging.{answered_in, believed, by_key, by_signature, judged}
-use Rattle.stun_client.specs.Judging.{judged_by_long_term, judged_read, long_term, unless_faulty}
+use Rattle.stun_client.specs.Judging.{judged_by_long_term, judged_read, long_term, unbelieved}
+use Rattle.stun_client.specs.Judging.{unless_faulty}
 use Rattle.stun_client.specs.Offers.{algorithms_in}
 use Rattle.stun_client.specs.Preferences.{supports}
 use Rattle.stun_client.specs.Rule.{chosen}
@@ -151,10 +152,10 @@ answered_by_rule p who users feature nonce a current agree =
 pub ended_by_answer : (required : Bool) (who : NameAndPassword) (p : Preferences) (accepts : Bool)
     (standing : StandingSeen) (c : Answered) (bytes : List ℕ) (a : IntegrityAlgorithm)
     → IsSignedAnswer required bytes c.challenge.key a
-    → judged required (long_term who p accepts) standing (Some c) bytes ≡ believed (Some a)
+    → judged required true (long_term who p accepts) standing (Some c) bytes ≡ believed (Some a)
 ended_by_answer required who p accepts standing c bytes a is =
     ap (unless_faulty (judged_by_long_term accepts p who standing (Some c) bytes)) is.whole
     ∙ ap (λ b. cond b
     (judged_read accepts standing (Some c) bytes (answered_in p who (Some c) bytes))
     (by_signature accepts (Some c) NotVerified bytes)) is.final
-    ∙ ap (λ v. by_key v NotVerified) is.signed
+    ∙ ap (λ v. by_key v (unbelieved (Some c) NotVerified bytes)) is.signed

@@ -67,8 +67,8 @@ use Rattle.stun_endpoint.specs.declared.received.Refusal.TheVariants.{Unauthenti
 use Rattle.stun_endpoint.specs.declared.received.Refusal.TheVariants.{UnknownAttribute}
 use Rattle.stun_exchanges.specs.Exchange.{IsReadAsMeant, IsResponseTo, IsServer, SendsRequired}
 use Rattle.stun_exchanges.specs.Exchange.{is_asking}
-use Rattle.stun_exchanges.proofs.FingerprintLemmas.{HasOneMore-fingerprint, IsFree}
-use Rattle.stun_exchanges.proofs.FingerprintLemmas.{fingerprint_in-added, first_of-other}
+use Rattle.stun_extra.proofs.FingerprintLemmas.{HasOneMore-fingerprint, IsFree}
+use Rattle.stun_extra.proofs.FingerprintLemmas.{fingerprint_in-added, first_of-other}
 use Rattle.stun_exchanges.proofs.ChallengeParts.{is_fit, error_for, added_for, added_bytes}
 use Rattle.stun_exchanges.proofs.ChallengeParts.{not_protected, few, shown_list, first_code}
 use Rattle.stun_exchanges.proofs.ChallengeParts.{first_nonce, first_realm, first_list, no_digest}

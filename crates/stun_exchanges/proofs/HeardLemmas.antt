@@ -39,7 +39,7 @@ of_response c method bytes Error is = refl
 pub heard_is : (c : EndpointClient) (from : SocketAddr) (request response : List ℕ)
     (asked : AskedSeen) → IsAwaitedResponse c from request response asked
     → heard c from response
-    ≡ responded response asked.number (judged c.requires_fingerprint
+    ≡ responded response asked.number (judged c.requires_fingerprint true
     c.identity c.standing asked.signed_for response)
 heard_is c from request response asked is =
     let method = method_of (type_field request) in

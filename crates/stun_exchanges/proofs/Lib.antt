@@ -11,7 +11,6 @@ pub mod UnsignedLemmas
 pub mod InTimeLemmas
 pub mod OtherSecretLemmas
 -- a challenge that the server writes
-pub mod FingerprintLemmas
 pub mod ChallengeParts
 pub mod ChallengeLemmas
 -- a signed request

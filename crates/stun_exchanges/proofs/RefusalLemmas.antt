@@ -12,9 +12,9 @@ use Rattle.stun_auth.specs.Nonces.{asks_for_algorithms, asks_for_userhash}
 use Rattle.stun_client.specs.Challenges.{Answered, is_alike, is_one, is_same_bit}
 use Rattle.stun_client.specs.Challenging.{code_in, is_challenge}
 use Rattle.stun_client.specs.Judging.{answered_in, anew, believed, by_key, by_signature, dropped}
-use Rattle.stun_client.specs.Judging.{fault_in, is_refusal, judged, judged_by_long_term}
-use Rattle.stun_client.specs.Judging.{judged_read, long_term, refused, sent_for}
-use Rattle.stun_client.specs.Judging.{unless_faulty}
+use Rattle.stun_client.specs.Judging.{doubted, fault_in, is_doubt, is_refusal, judged}
+use Rattle.stun_client.specs.Judging.{judged_by_long_term, judged_read, long_term, refused, sent_for}
+use Rattle.stun_client.specs.Judging.{unbelieved, unless_faulty}
 use Rattle.stun_client.specs.Standing.{StandingSeen, is_ignored}
 use Rattle.stun_client.specs.declared.judged.Distrust.{Distrust}
 use Rattle.stun_client.specs.declared.judged.Distrust.TheVariants.{NotVerified, UnanswerableChallenge}
@@ -94,15 +94,22 @@ module _ (accepts_unsigned : Bool) (standing : StandingSeen) (before : Option An
     (bytes : List ℕ) (c : Answered) where
   by_signature_not : (o : Option Answered) (why : Distrust)
       → by_signature accepts_unsigned o why bytes ≡ refused (Some c) → ⊥
-  by_signature_not None why is = by accepts_unsigned is
+  by_signature_not None why is = by accepts_unsigned (is_doubt None (code_in bytes)) is
     where
-      by : (b : Bool) → cond b (believed None) (dropped why) ≡ refused (Some c) → ⊥
-      by true is = cc
-      by false is = cc
+      by : (b doubts : Bool) → cond b (believed None) (cond doubts doubted (dropped why))
+          ≡ refused (Some c) → ⊥
+      by true doubts is = cc
+      by false true is = cc
+      by false false is = cc
   by_signature_not (Some d) why is = by (verified_algorithm bytes d.challenge.key) is
     where
-      by : (o : Option IntegrityAlgorithm) → by_key o why ≡ refused (Some c) → ⊥
-      by None is = cc
+      unbelieved_not : (doubts : Bool) → cond doubts doubted (dropped why) ≡ refused (Some c) → ⊥
+      unbelieved_not true is = cc
+      unbelieved_not false is = cc
+
+      by : (o : Option IntegrityAlgorithm)
+          → by_key o (unbelieved (Some d) why bytes) ≡ refused (Some c) → ⊥
+      by None is = unbelieved_not (is_doubt (Some d) (code_in bytes)) is
       by (Some a) is = cc
 
   sent_so : (d : Answered) (b : Bool) → is_refusal before bytes d ≡ b
@@ -126,7 +133,7 @@ module _ (accepts_unsigned : Bool) (standing : StandingSeen) (before : Option An
   read_so (Some d) is = challenge_so d (is_one (Some d) before) (is_ignored standing d) is
 
   pub refusal_of : (required : Bool) (who : NameAndPassword) (p : Preferences)
-      → judged required (long_term who p accepts_unsigned) standing before bytes ≡ refused (Some c)
+      → judged required true (long_term who p accepts_unsigned) standing before bytes ≡ refused (Some c)
       → IsRefusal before bytes c
   refusal_of required who p is = by_fault (fault_in required bytes) is
     where

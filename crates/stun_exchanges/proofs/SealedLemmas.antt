@@ -38,9 +38,9 @@ use Rattle.stun_endpoint.specs.Answers.{Signature, is_fingerprinted, with_last, 
 use Rattle.stun_endpoint.specs.Settings.{Settings}
 use Rattle.stun_exchanges.specs.Exchange.{IsPage, IsResponseTo, IsServer, SendsRequired}
 use Rattle.stun_exchanges.proofs.ChallengeLemmas.{no_fault}
-use Rattle.stun_exchanges.proofs.FingerprintLemmas.{HasOneMore-fingerprint, IsFree}
-use Rattle.stun_exchanges.proofs.FingerprintLemmas.{fingerprint_in-added, first_of-other}
-use Rattle.stun_exchanges.proofs.FingerprintLemmas.{verified_by-fingerprint}
+use Rattle.stun_extra.proofs.FingerprintLemmas.{HasOneMore-fingerprint, IsFree}
+use Rattle.stun_extra.proofs.FingerprintLemmas.{fingerprint_in-added, first_of-other}
+use Rattle.stun_extra.proofs.FingerprintLemmas.{verified_by-fingerprint}
 
 -- what the laws of the crates below say of writing
 pub record SealingLaws : Type 0 where

@@ -25,7 +25,7 @@ abbrev pub RefusalsAreOfTheSameCredentials : Type 0
 RefusalsAreOfTheSameCredentials =
     (required : Bool) (who : NameAndPassword) (p : Preferences) (accepts_unsigned : Bool)
     (standing : StandingSeen) (before : Option Answered) (bytes : List ℕ) (c : Answered)
-    → judged required (long_term who p accepts_unsigned) standing before bytes ≡ refused (Some c)
+    → judged required true (long_term who p accepts_unsigned) standing before bytes ≡ refused (Some c)
     → IsRefusal before bytes c
 
 -- and of those challenges that a request is sent again for, each that is one counts

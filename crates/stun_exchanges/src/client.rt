@@ -49,7 +49,7 @@ pub fn signed_answers_are_believed()
     ensures { (required : Bool) (who : NameAndPassword) (p : Preferences)
         (accepts_unsigned : Bool) (standing : StandingSeen) (c : Answered) (bytes : List ℕ)
         (a : IntegrityAlgorithm) → IsSignedAnswer required bytes c.challenge.key a
-        → judged required (long_term who p accepts_unsigned) standing (Some c) bytes
+        → judged required true (long_term who p accepts_unsigned) standing (Some c) bytes
         ≡ believed (Some a) }
 {}
 

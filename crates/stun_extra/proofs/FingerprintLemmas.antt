@@ -239,7 +239,7 @@ fingerprint_in-added message free =
 -- ---- the digest before it
 
 -- the last attribute is of another type
-first_of-other : (kind : ℕ) (members : List Member) (last : Member) → (last.1.kind == kind) ≡ false
+pub first_of-other : (kind : ℕ) (members : List Member) (last : Member) → (last.1.kind == kind) ≡ false
     → first_of kind (members ++ last ∷ []) ≡ first_of kind members
 first_of-other kind members last other =
     let none : (found : Option Member) → option_or found None ≡ found =

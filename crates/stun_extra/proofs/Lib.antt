@@ -5,7 +5,7 @@ mod BeginLemmas
 mod ChangedLemmas
 mod Crc32Lemmas
 mod CuttingLemmas
-mod FingerprintLemmas
+pub mod FingerprintLemmas
 mod FramingLemmas
 mod OnceLemmas
 mod PacketLemmas
@@ -13,4 +13,4 @@ mod SpelledLemmas
 mod ToldLemmas
 mod TurnLemmas
 mod TypesLemmas
-mod UnknownLemmas
+pub mod UnknownLemmas

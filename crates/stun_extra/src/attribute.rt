@@ -17,7 +17,6 @@ mod number;
 mod requested_transport;
 mod text;
 mod tie_breaker;
-mod value;
 mod xored;
 
 pub use algorithm_list::{AlgorithmEntries, AlgorithmEntry, AlgorithmList};
@@ -29,7 +28,6 @@ use stun_types::limits::TEXT_LIMIT;
 use stun_types::prelude::*;
 pub use text::Text;
 pub use tie_breaker::TieBreaker;
-pub use value::append_header;
 pub use xored::XorAddress;
 
 /// SOFTWARE (RFC 8489, section 14.14): a description of the software that the sender uses, UTF-8 of
@@ -75,7 +73,7 @@ pub type IceControlling = TieBreaker<0x802A>;
 /// XOR-MAPPED-ADDRESS.
 pub type XorPeerAddress = XorAddress<0x0012>;
 
-/// The types of the aliases above, in their order.
+/// Returns the types of the aliases above, in their order.
 pub fn types() -> [u16; 6]
     ensures { result
         ≡ SOFTWARE ∷ PRIORITY ∷ USE_CANDIDATE ∷ ICE_CONTROLLED ∷ ICE_CONTROLLING ∷

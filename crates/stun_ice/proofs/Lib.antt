@@ -4,3 +4,5 @@ pub mod NameLemmas
 pub mod AcceptingLemmas
 pub mod EarlyLemmas
 pub mod RoleLemmas
+pub mod BufferLemmas
+pub mod CredentialLemmas

@@ -147,6 +147,7 @@ ended_page password page = with_fingerprint (with_integrity page Sha1 password)
 
 -- why a check cannot be ended: the first of the integrity attribute and FINGERPRINT that it does not
 -- take
+-- its own law: it is the first of two refusals that have their laws, in the order of section 7.1
 abbrev pub ending_refusal : List ℕ → List ℕ → Option StunWriteError
 ending_refusal password page =
     let signed = with_integrity page Sha1 password in

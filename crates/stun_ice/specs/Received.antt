@@ -106,6 +106,7 @@ given a from (Keepalive bytes) = indicated bytes
 given a from (Dropped reason) = dropped reason
 
 -- what the result of `receive` says
+-- its own law: each variant has the parts of the same name
 abbrev pub given_of : {A : Type 0} → Received A → Given
 given_of (code.Check message answer judged) = checked message answer.items judged
 given_of (code.Response outcome) = responded outcome

@@ -150,21 +150,21 @@ impl<A: Allocator> fmt::Debug for Checker<A> {
     }
 }
 
-/// Whether two texts have at least and at most so many bytes each.
+/// Returns whether two texts have at least `least` and at most `most` bytes each.
 fn are_within(one: &str, other: &str, least: usize, most: usize) -> bool
     ensures { result ≡ is_within least most one.now && is_within least most other.now }
 {
     least <= one.len() && one.len() <= most && least <= other.len() && other.len() <= most
 }
 
-/// Whether a name has a colon.
+/// Returns whether a name has a colon.
 fn has_colon(name: &str) -> bool
     ensures { result ≡ has_colon name.now }
 {
     name.as_bytes().contains(&b':')
 }
 
-/// Why these credentials make no checker, if they make none.
+/// Returns why these credentials are not accepted, if they are not.
 fn refusal(local: &Credentials<'_>, remote: &Credentials<'_>) -> Option<BuildError>
     ensures { result ≡ build_refusal local.now.name.now remote.now.name.now local.now.password.now
         remote.now.password.now }
@@ -181,7 +181,7 @@ fn refusal(local: &Credentials<'_>, remote: &Credentials<'_>) -> Option<BuildErr
     None
 }
 
-/// Why the credentials of one side are not accepted, if they are not.
+/// Returns why the credentials of one side are not accepted, if they are not.
 fn side_refusal(side: &Credentials<'_>) -> Option<BuildError>
     ensures { result ≡ side_refusal side.now.name.now side.now.password.now }
 {
@@ -197,7 +197,7 @@ fn side_refusal(side: &Credentials<'_>) -> Option<BuildError>
     None
 }
 
-/// Two names with a colon between them.
+/// Joins two names with a colon.
 fn joined<A: Allocator + Copy>(alloc: A, front: &str, back: &str) -> Result<String<A>, AllocError>
     ensures { IfOk result (λ text. string_bytes text ≡ with_colon front.now back.now) }
 {
@@ -207,7 +207,7 @@ fn joined<A: Allocator + Copy>(alloc: A, front: &str, back: &str) -> Result<Stri
     Ok(text)
 }
 
-/// A password, prepared for HMAC-SHA1.
+/// Prepares a password for HMAC-SHA1.
 fn prepared<A: Allocator>(alloc: A, password: &str) -> Result<PreparedKey<A>, AllocError>
     ensures { IfOk result (λ key. key ≡ password.now) }
 {
@@ -216,7 +216,7 @@ fn prepared<A: Allocator>(alloc: A, password: &str) -> Result<PreparedKey<A>, Al
 }
 
 impl<A: Allocator> Remote<A> {
-    /// The credentials of a peer, for an agent with this name.
+    /// Prepares the credentials of a peer, for an agent with this name.
     fn new(alloc: A, name: &str, remote: &Credentials<'_>) -> Result<Remote<A>, AllocError>
     where
         A: Copy,
@@ -470,7 +470,7 @@ impl<A: Allocator + Copy> Checker<A> {
         }
     }
 
-    /// Whether a check that is to nominate does.
+    /// Returns whether a check may nominate, if it is asked to.
     fn can_nominate(&self, nominate: bool) -> bool
         ensures { result ≡ can_nominate self.now.role nominate }
     {

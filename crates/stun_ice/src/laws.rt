@@ -1,22 +1,27 @@
 //! Laws over the definitions that the contracts of this crate cite. They do nothing when they run.
 
-ghost use Rattle.std.specs.Prelude.{◌≡◌, ◌⊎◌, ◌↔◌, ◌∷◌, [], ℕ, List, Option, Some, true, false};
+ghost use Rattle.std.specs.Prelude.{◌≡◌, ◌⊎◌, ◌↔◌, ◌∷◌, [], ℕ, List, Option, Some, None};
+ghost use Rattle.std.specs.Prelude.{Bool, true, false};
 ghost use Rattle.std.specs.declared.net.socket_addr.SocketAddr.{SocketAddr};
 ghost use Rattle.stun_base.specs.Keys.{with_colon};
-ghost use Rattle.stun_ice.specs.Agent.{Agent, Peer, SentCheck};
+ghost use Rattle.stun_ice.specs.Agent.{Agent, Peer, SentCheck, build_refusal, can_nominate};
+ghost use Rattle.stun_ice.specs.Agent.{check_page, sent_check, sent_page, side_refusal};
+ghost use Rattle.stun_ice.specs.Buffered.{LeavesNoAnswer, given_in};
 ghost use Rattle.stun_ice.specs.Checks.{Accepts, sender_in};
 ghost use Rattle.stun_ice.specs.Conflicts.{AreSettled, Happening, after_all, arrives, beginning};
 ghost use Rattle.stun_ice.specs.Conflicts.{hears, of_left, sends};
 ghost use Rattle.stun_ice.specs.Parts.{username_in};
-ghost use Rattle.stun_ice.specs.Received.{checked, given, judgement_of, role_left};
+ghost use Rattle.stun_ice.specs.Received.{checked, given, is_check, judgement_of, role_left};
 ghost use Rattle.stun_ice.specs.Responses.{IsValid};
 ghost use Rattle.stun_ice.specs.Roles.{opposite};
+ghost use Rattle.stun_ice.specs.Told.{IsAcceptedCheck, IsValidAnswer, TellsAccepted, TellsValid};
 ghost use Rattle.stun_ice.specs.declared.checker.judging.Acceptance.{Acceptance};
 ghost use Rattle.stun_ice.specs.declared.checker.judging.Verdict.TheVariants as Verdict;
 ghost use Rattle.stun_ice.specs.declared.checker.receiving.Judgement.TheVariants as Judgement;
 ghost use Rattle.stun_ice.specs.declared.received.Judged.{Judged};
 ghost use Rattle.stun_ice.specs.declared.received.Mapped.{Mapped};
 ghost use Rattle.stun_ice.specs.declared.received.Outcome.TheVariants as Outcome;
+ghost use Rattle.stun_ice.specs.declared.received.ReceivedInto.{ReceivedInto};
 ghost use Rattle.stun_ice.specs.declared.role.Role.{Role};
 ghost use Rattle.stun_ice.specs.declared.role.Role.TheVariants.{Controlling, Controlled};
 
@@ -87,4 +92,50 @@ pub fn pairs_are_valid_exactly()
         (mapped : Mapped)
         → (judgement_of a (Some check) from bytes ≡ Judgement.Response (Outcome.Valid mapped))
         ↔ IsValid a check from bytes mapped }
+{}
+
+/// What the caller is told of a datagram is true: a check is reported as accepted if and only if the
+/// agent accepts it, and a pair as valid if and only if the datagram answers the check that was
+/// passed and makes its pair valid.
+pub fn callers_are_told_what_is_so()
+    ensures accepted { (a : Agent) (c : Option SentCheck) (from : SocketAddr) (bytes : List ℕ)
+        → TellsAccepted (given a from (judgement_of a c from bytes)) ↔ IsAcceptedCheck a bytes }
+    ensures valid { (a : Agent) (c : Option SentCheck) (from : SocketAddr) (bytes : List ℕ)
+        → TellsValid (given a from (judgement_of a c from bytes)) ↔ IsValidAnswer a c from bytes }
+{}
+
+/// An answer is given to a check alone. So for any other datagram the buffer of `receive_into` is
+/// empty afterwards, and a program that sends what is in it sends nothing.
+pub fn only_checks_are_answered()
+    ensures answered { (a : Agent) (c : Option SentCheck) (from : SocketAddr)
+        (bytes message answer : List ℕ) (judged : Judged)
+        → given a from (judgement_of a c from bytes) ≡ checked message answer judged
+        → is_check (judgement_of a c from bytes) ≡ true }
+    ensures empty { (a : Agent) (c : Option SentCheck) (from : SocketAddr)
+        (bytes buffer : List ℕ) (received : ReceivedInto)
+        → given_in received buffer ≡ given a from (judgement_of a c from bytes)
+        → LeavesNoAnswer received buffer
+        → is_check (judgement_of a c from bytes) ≡ false → buffer ≡ [] }
+{}
+
+/// The credentials of two agents are accepted together if and only if those of each are accepted
+/// alone. Names that are accepted have no colon, so no two pairs of them have the same USERNAME: a
+/// check names its receiver and its sender, and nobody else.
+pub fn usernames_name_both()
+    ensures sides { (name peer password peer_password : List ℕ)
+        → (build_refusal name peer password peer_password ≡ None)
+        ↔ ((side_refusal name password ≡ None) × (side_refusal peer peer_password ≡ None)) }
+    ensures names { (name peer password other another other_password : List ℕ)
+        → side_refusal name password ≡ None → side_refusal other other_password ≡ None
+        → with_colon name peer ≡ with_colon other another → (name ≡ other) × (peer ≡ another) }
+{}
+
+/// A check that a program begins, adds no attributes to and finishes is the one that `check` writes,
+/// to the byte.
+pub fn checks_in_two_steps_are_checks()
+    ensures { (a : Agent) (peer : Peer) (id : ℕ) (to : SocketAddr) (priority : ℕ)
+        (nominate : Bool)
+        → sent_page a peer id to nominate
+        (check_page a peer id priority (can_nominate a.role nominate))
+        ≡ sent_check a peer id to priority nominate }
 {}

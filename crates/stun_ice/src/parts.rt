@@ -41,7 +41,7 @@ pub(crate) const UNDERSTOOD: [AttributeType; 13] = [
 /// USE-CANDIDATE (RFC 8445, section 16.1).
 const USE_CANDIDATE: AttributeType = AttributeType(0x0025);
 
-/// The first visible USERNAME, with its offset.
+/// Returns the first visible USERNAME, with its offset.
 fn first_username<'a>(message: &Message<'a>) -> Option<(usize, RawAttribute<'a>)>
     ensures { result ≡ first_of USERNAME (visible message.now) }
 {
@@ -50,7 +50,7 @@ fn first_username<'a>(message: &Message<'a>) -> Option<(usize, RawAttribute<'a>)
         .find(|found| found.1.get_type() == AttributeType::USERNAME)
 }
 
-/// The first visible USE-CANDIDATE, with its offset.
+/// Returns the first visible USE-CANDIDATE, with its offset.
 fn first_use_candidate<'a>(message: &Message<'a>) -> Option<(usize, RawAttribute<'a>)>
     ensures { result ≡ first_of USE_CANDIDATE_TYPE (visible message.now) }
 {
@@ -59,14 +59,14 @@ fn first_use_candidate<'a>(message: &Message<'a>) -> Option<(usize, RawAttribute
         .find(|found| found.1.get_type() == USE_CANDIDATE)
 }
 
-/// Whether a message has the method Binding.
+/// Returns whether a message has the method Binding.
 pub(crate) fn is_binding(message: &Message<'_>) -> bool
     ensures { result ≡ is_binding message.now }
 {
     message.method() == BINDING
 }
 
-/// The bytes of USERNAME.
+/// Returns the bytes of USERNAME.
 pub(crate) fn username<'a>(message: &Message<'a>) -> Option<&'a [u8]>
     ensures { option_copied result ≡ username_in message.now }
 {
@@ -76,14 +76,14 @@ pub(crate) fn username<'a>(message: &Message<'a>) -> Option<&'a [u8]>
     }
 }
 
-/// What follows a front of bytes, if they begin with it.
+/// Returns what follows `front` in the bytes, if they begin with it.
 fn after_front<'a>(front: &[u8], bytes: &'a [u8]) -> Option<&'a [u8]>
     ensures { option_copied result ≡ after_front front.now bytes.now }
 {
     bytes.strip_prefix(front)
 }
 
-/// The name of the peer in a USERNAME that an agent with this name receives.
+/// Returns the name of the peer in a USERNAME that an agent with this name receives.
 pub(crate) fn peer_name<'a>(name: &str, username: &'a [u8]) -> Option<&'a [u8]>
     ensures { option_copied result ≡ peer_name_in name.now username.now }
 {
@@ -93,7 +93,7 @@ pub(crate) fn peer_name<'a>(name: &str, username: &'a [u8]) -> Option<&'a [u8]>
     }
 }
 
-/// The number in PRIORITY, if it is well formed.
+/// Returns the number in PRIORITY, if it is well formed.
 pub(crate) fn priority(message: &Message<'_>) -> Option<u32>
     ensures { result ≡ priority_in message.now }
 {
@@ -103,14 +103,14 @@ pub(crate) fn priority(message: &Message<'_>) -> Option<u32>
     }
 }
 
-/// Whether a message has USE-CANDIDATE.
+/// Returns whether a message has USE-CANDIDATE.
 pub(crate) fn has_use_candidate(message: &Message<'_>) -> bool
     ensures { result ≡ has_use_candidate message.now }
 {
     first_use_candidate(message).is_some()
 }
 
-/// The tie-breaker of the sender of a check, if the check says that it has this role.
+/// Returns the tie-breaker of the sender of a check, if the check says that it has this role.
 pub(crate) fn rival(role: Role, message: &Message<'_>) -> Option<u64>
     ensures { result ≡ rival role message.now }
 {
@@ -120,7 +120,7 @@ pub(crate) fn rival(role: Role, message: &Message<'_>) -> Option<u64>
     }
 }
 
-/// The tie-breaker in ICE-CONTROLLING, if it is well formed.
+/// Returns the tie-breaker in ICE-CONTROLLING, if it is well formed.
 fn controlling(message: &Message<'_>) -> Option<u64>
     ensures { result ≡ rival Role.Controlling message.now }
 {
@@ -130,7 +130,7 @@ fn controlling(message: &Message<'_>) -> Option<u64>
     }
 }
 
-/// The tie-breaker in ICE-CONTROLLED, if it is well formed.
+/// Returns the tie-breaker in ICE-CONTROLLED, if it is well formed.
 fn controlled(message: &Message<'_>) -> Option<u64>
     ensures { result ≡ rival Role.Controlled message.now }
 {
@@ -140,7 +140,7 @@ fn controlled(message: &Message<'_>) -> Option<u64>
     }
 }
 
-/// XOR-MAPPED-ADDRESS, if it is well formed.
+/// Returns XOR-MAPPED-ADDRESS, if it is well formed.
 pub(crate) fn mapped_address_in(message: &Message<'_>) -> Option<XorMappedAddress>
     ensures { result ≡ mapped_address_in message.now }
 {
@@ -150,7 +150,7 @@ pub(crate) fn mapped_address_in(message: &Message<'_>) -> Option<XorMappedAddres
     }
 }
 
-/// Whether the attributes of a message are understood, as far as they must be.
+/// Returns whether the attributes of a message are understood, as far as they must be.
 pub(crate) fn is_understood(message: &Message<'_>) -> bool
     ensures { result ≡ is_empty (unknown_types UNDERSTOOD_TYPES message.now) }
 {

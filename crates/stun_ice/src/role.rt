@@ -24,7 +24,7 @@ impl Role {
         }
     }
 
-    /// Whether the roles are the same.
+    /// Returns whether the roles are the same.
     pub(crate) fn is(self, other: Role) -> bool
         ensures { result ≡ is_same_role self other }
     {
@@ -36,9 +36,9 @@ impl Role {
         }
     }
 
-    /// The role of an agent that receives a check whose sender has the tie-breaker `theirs` and the
-    /// same role, or `None` for the sender if it has another role. Returns `None` if the sender has
-    /// to switch.
+    /// Returns the role of an agent that receives a check whose sender has the tie-breaker `theirs`
+    /// and the same role, or `None` for the sender if it has another role. Returns `None` if the
+    /// sender has to switch.
     pub(crate) fn after_check(self, ours: u64, theirs: Option<u64>) -> Option<Role>
         ensures { result ≡ role_after_check self ours theirs }
     {

@@ -23,7 +23,8 @@ use Rattle.stun_client.specs.Challenges.{Answered}
 use Rattle.stun_client.specs.Clients.{EndpointClient, Given, after_cancelling, after_ending}
 use Rattle.stun_client.specs.Clients.{after_renewing, after_starting, after_timing_out, by_asked}
 use Rattle.stun_client.specs.Clients.{by_class, heard, indicated, not_ours, responded}
-use Rattle.stun_client.specs.Judging.{IsSentAgain, Verdict, anew, believed, dropped, judged, refused}
+use Rattle.stun_client.specs.Judging.{IsSentAgain, Verdict, anew, believed, doubted, dropped, judged}
+use Rattle.stun_client.specs.Judging.{refused}
 use Rattle.stun_client.specs.Requests.{AskedSeen, answered, at, if_answered, is_answer}
 use Rattle.stun_client_loop.specs.Calls.{poll_timers, poll_transmit}
 use Rattle.stun_client_loop.specs.Loops.{after_hearing, after_timers, after_transmit, again_refused}
@@ -67,7 +68,7 @@ pub record IsKept (Lets : EndpointClient → ℕ → Type 0) (Holds : EndpointCl
   pub begins : (c : EndpointClient) (method id : ℕ) → Holds c → Holds (after_starting c method id)
   pub again : (c : EndpointClient) (bytes : List ℕ) (id new_id : ℕ) (a : AskedSeen) (x : Answered)
       → AreSorted c → at id c.requests.asked ≡ Some a
-      → IsSentAgain (judged c.requires_fingerprint c.identity c.standing a.signed_for bytes) x
+      → IsSentAgain (judged c.requires_fingerprint true c.identity c.standing a.signed_for bytes) x
       → Holds c → Holds (after_renewing c id new_id (Some x))
   pub ends : (c : EndpointClient) (is_success : Bool) (id : ℕ) → AreSorted c → Holds c
       → Holds (after_ending c is_success id)
@@ -89,7 +90,7 @@ record IsOf (c : EndpointClient) (bytes message : List ℕ) (number : ℕ) (v : 
   same : message ≡ bytes
   request : AskedSeen
   here : at (transaction_id_field bytes) c.requests.asked ≡ Some request
-  verdict : v ≡ judged c.requires_fingerprint c.identity c.standing request.signed_for bytes
+  verdict : v ≡ judged c.requires_fingerprint true c.identity c.standing request.signed_for bytes
 
 found_asked : (bytes : List ℕ) (found : Option AskedSeen) (a : AskedSeen)
     → if_answered bytes found ≡ Some a → found ≡ Some a
@@ -285,7 +286,7 @@ module _ (Lets : EndpointClient → ℕ → Type 0) (Holds : EndpointClient → 
     sorted_now = is.loop.timed.asked_ascend
 
     abbrev verdict_here : Verdict
-    verdict_here = judged e.state.client.requires_fingerprint e.state.client.identity
+    verdict_here = judged e.state.client.requires_fingerprint true e.state.client.identity
         e.state.client.standing a.signed_for bytes
 
     over : Holds (after_ending e.state.client (is_success_class (class_in bytes))
@@ -354,6 +355,7 @@ module _ (Lets : EndpointClient → ℕ → Type 0) (Holds : EndpointClient → 
         challenged_keeps (record { challenge = c; is_refusal = true })
         (subst (λ (v : Verdict). IsSentAgain v c) is refl)
         (at (transaction_id_field bytes) e.state.client.requests.asked)
+    verdict_keeps doubted is = holds
     verdict_keeps (dropped why) is = holds
 
   received_keeps : (is_heard : Bool) (from : SocketAddr) (bytes : List ℕ) (now : ℕ) (e : Endpoint)

@@ -24,7 +24,7 @@ use Rattle.stun_client.specs.Challenges.{Answered}
 use Rattle.stun_client.specs.Challenging.{code_in}
 use Rattle.stun_client.specs.Clients.{EndpointClient, Given, after_renewing, heard, indicated, not_ours}
 use Rattle.stun_client.specs.Clients.{responded}
-use Rattle.stun_client.specs.Judging.{Identity, Verdict, anew, believed, dropped, refused}
+use Rattle.stun_client.specs.Judging.{Identity, Verdict, anew, believed, doubted, dropped, refused}
 use Rattle.stun_client.specs.Outcomes.{outcome_of}
 use Rattle.stun_client.specs.Requests.{AskedSeen, after_replacing, at, renewed}
 use Rattle.stun_client_loop.specs.Loops.{LoopSeen, after_answer, after_cancel, after_hearing}
@@ -56,8 +56,8 @@ use Rattle.stun_client_endpoint.specs.Runs.{Call, Calls, Event, call, changes_no
 use Rattle.stun_client_endpoint.specs.Runs.{no_call, polls, receives, requests}
 use Rattle.stun_client_endpoint.specs.Written.{Page?}
 use Rattle.stun_client_endpoint.specs.declared.ended.DropReason.{DropReason}
-use Rattle.stun_client_endpoint.specs.declared.ended.DropReason.TheVariants.{LateChallenge, OutOfMemory}
-use Rattle.stun_client_endpoint.specs.declared.ended.DropReason.TheVariants.{UnanswerableChallenge}
+use Rattle.stun_client_endpoint.specs.declared.ended.DropReason.TheVariants.{LateChallenge, NotVerified}
+use Rattle.stun_client_endpoint.specs.declared.ended.DropReason.TheVariants.{OutOfMemory, UnanswerableChallenge}
 use Rattle.stun_client_endpoint.specs.declared.ended.RequestEnd.{RequestEnd}
 use Rattle.stun_client_endpoint.specs.declared.ended.RequestEnd.TheVariants as how
 use Rattle.stun_client_endpoint.proofs.LawLemmas.{stays_kept, started_is}
@@ -324,6 +324,7 @@ module _ (is_heard : Bool) (number now : ℕ) (bytes : List ℕ) (e : Endpoint) 
   verdict_same (refused (Some c)) =
       challenged_same (record { challenge = c; is_refusal = true })
       (at (transaction_id_field bytes) e.state.client.requests.asked)
+  verdict_same doubted = dropped_same number NotVerified bytes e
   verdict_same (dropped why) = dropped_same number (reason_of why) bytes e
 
 received_same : (is_heard : Bool) (from : SocketAddr) (bytes : List ℕ) (now : ℕ) (e : Endpoint)

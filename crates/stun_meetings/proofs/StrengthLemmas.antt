@@ -50,10 +50,10 @@ pub record AreRules (identity : Identity) (Stands : StandingSeen → Type 0)
         challenges = 0;
       })
   pub answers : (s : StandingSeen) (required : Bool) (before : Option Answered) (bytes : List ℕ)
-      (x : Answered) → IsSentAgain (judged required identity s before bytes) x → Stands s
+      (x : Answered) → IsSentAgain (judged required true identity s before bytes) x → Stands s
       → Stands (after_answer s x)
   pub renews : (s : StandingSeen) (required : Bool) (a : AskedSeen) (bytes : List ℕ) (x : Answered)
-      (id : ℕ) → IsSentAgain (judged required identity s a.signed_for bytes) x → Stands s
+      (id : ℕ) → IsSentAgain (judged required true identity s a.signed_for bytes) x → Stands s
       → Asked id (renewed a (Some x))
   pub succeeds : (s : StandingSeen) (o : Option Answered) → Stands s → Stands (after_success s o)
   pub lapses : (s : StandingSeen) (o : Option Answered) → Lapses s o → Stands s
@@ -100,7 +100,7 @@ module _ (identity : Identity) (Stands : StandingSeen → Type 0) (Asked : ℕ �
 
   again : (c : EndpointClient) (bytes : List ℕ) (id new_id : ℕ) (a : AskedSeen) (x : Answered)
       → AreSorted c → at id c.requests.asked ≡ Some a
-      → IsSentAgain (judged c.requires_fingerprint c.identity c.standing a.signed_for bytes) x
+      → IsSentAgain (judged c.requires_fingerprint true c.identity c.standing a.signed_for bytes) x
       → Held c → Held (after_renewing c id new_id (Some x))
   again c bytes id new_id a x sorted here sent held = record {
     identity_is = held.identity_is;
@@ -113,9 +113,9 @@ module _ (identity : Identity) (Stands : StandingSeen → Type 0) (Asked : ℕ �
         (sym (ap (at q) moved) ∙ found)).1;
   }
     where
-      anew : IsSentAgain (judged c.requires_fingerprint identity c.standing a.signed_for bytes) x
+      anew : IsSentAgain (judged c.requires_fingerprint true identity c.standing a.signed_for bytes) x
       anew = subst (λ (i : Identity).
-          IsSentAgain (judged c.requires_fingerprint i c.standing a.signed_for bytes) x)
+          IsSentAgain (judged c.requires_fingerprint true i c.standing a.signed_for bytes) x)
           held.identity_is sent
 
       moved : (after_renewal c.requests id new_id (Some x)).asked
@@ -218,7 +218,7 @@ always s o = ⊤
 pub record ChallengeLaws : Type 0 where
   pub anew : (required : Bool) (who : NameAndPassword) (p : Preferences) (accepts : Bool)
       (standing : StandingSeen) (before : Option Answered) (bytes : List ℕ) (x : Answered)
-      → IsSentAgain (judged required (long_term who p accepts) standing before bytes) x
+      → IsSentAgain (judged required true (long_term who p accepts) standing before bytes) x
       → IsAnsweredAnew p who standing before bytes x
   pub by_rule : (p : Preferences) (who : NameAndPassword) (before : Option Challenge)
       (bytes : List ℕ) (c : Challenge) → challenge_of p who before bytes ≡ Some c → IsByRule p who c
@@ -235,7 +235,7 @@ mapped p (Some c) x is =
 module _ (laws : ChallengeLaws) (p : Preferences) (who : NameAndPassword) (accepts : Bool)
     (name : IsUtf8 who.username) where
   fine_again : (s : StandingSeen) (required : Bool) (before : Option Answered) (bytes : List ℕ)
-      (x : Answered) → IsSentAgain (judged required (long_term who p accepts) s before bytes) x
+      (x : Answered) → IsSentAgain (judged required true (long_term who p accepts) s before bytes) x
       → IsFine p who x
   fine_again s required before bytes x sent =
       let challenge = x.challenge in
@@ -377,7 +377,7 @@ its_own o c is = record { challenge = c; is = is; strong = not_weaker_itself c.c
 
 module _ (laws : ChallengeLaws) (p : Preferences) (who : NameAndPassword) (accepts : Bool) where
   strong_again : (s : StandingSeen) (required : Bool) (before : Option Answered) (bytes : List ℕ)
-      (x : Answered) → IsSentAgain (judged required (long_term who p accepts) s before bytes) x
+      (x : Answered) → IsSentAgain (judged required true (long_term who p accepts) s before bytes) x
       → is_ignored s x ≡ false
   strong_again s required before bytes x sent =
       (laws.anew required who p accepts s before bytes x sent).strong

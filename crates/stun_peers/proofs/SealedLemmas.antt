@@ -28,8 +28,8 @@ use Rattle.stun_types.proofs.VisibleLemmas.{has_kind-append}
 use Rattle.stun_base.specs.code.Algorithm.{length-digest}
 use Rattle.stun_extra.specs.Fingerprint.{fingerprint_attribute, fingerprint_in, with_fingerprint}
 use Rattle.stun_extra.specs.declared.fingerprint.Fingerprint.TheVariants.{Right}
-use Rattle.stun_exchanges.proofs.FingerprintLemmas.{HasOneMore-fingerprint, IsFree}
-use Rattle.stun_exchanges.proofs.FingerprintLemmas.{fingerprint_in-added, verified_by-fingerprint}
+use Rattle.stun_extra.proofs.FingerprintLemmas.{HasOneMore-fingerprint, IsFree}
+use Rattle.stun_extra.proofs.FingerprintLemmas.{fingerprint_in-added, verified_by-fingerprint}
 
 -- ---- a page: a message that is not signed yet
 

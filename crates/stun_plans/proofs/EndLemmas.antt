@@ -13,7 +13,7 @@ use Rattle.stun_agent.proofs.Ascending.{find-none}
 use Rattle.stun_client.specs.Challenging.{code_in}
 use Rattle.stun_client.specs.Clients.{Given, heard, indicated, not_ours, responded}
 use Rattle.stun_client.specs.Ids.{id_of}
-use Rattle.stun_client.specs.Judging.{Verdict, anew, believed, dropped, refused}
+use Rattle.stun_client.specs.Judging.{Verdict, anew, believed, doubted, dropped, refused}
 use Rattle.stun_client.specs.Outcomes.{outcome_of}
 use Rattle.stun_client.specs.Requests.{AskedSeen, at}
 use Rattle.stun_client_loop.specs.Loops.{after_transmit, again_refused}
@@ -312,6 +312,7 @@ module _ (ended : Ended) where
           refused_leaves (is_reliable e.state.agent.transport || was_refused (request_at m e.requests))
       verdict_leaves is_heard (refused (Some c)) =
           challenged_leaves is_heard (record { challenge = c; is_refusal = true })
+      verdict_leaves is_heard doubted = dropping_leaves m _ bytes
       verdict_leaves is_heard (dropped why) = dropping_leaves m _ bytes
 
     received_leaves : (is_heard : Bool) (from : SocketAddr) (bytes : List ℕ) (now : ℕ)

@@ -22,7 +22,7 @@ use Rattle.stun_agent.specs.Transactions.{without}
 use Rattle.stun_agent.specs.Transactions.{at as transaction_at}
 use Rattle.stun_agent.proofs.Ascending.{IsAscending-insert, lookup-insert_same}
 use Rattle.stun_client.specs.Clients.{Given, heard, indicated, not_ours, responded}
-use Rattle.stun_client.specs.Judging.{Identity, Verdict, anew, believed, dropped, refused}
+use Rattle.stun_client.specs.Judging.{Identity, Verdict, anew, believed, doubted, dropped, refused}
 use Rattle.stun_client.specs.Requests.{AskedSeen, at}
 use Rattle.stun_client_loop.specs.Calls.{poll_timers, poll_transmit, time_out}
 use Rattle.stun_client_loop.specs.Loops.{LoopSeen}
@@ -330,6 +330,7 @@ module _ (is_heard : Bool) (number now : ℕ) (bytes : List ℕ) (e : Endpoint)
   verdict_keeps (refused (Some c)) =
       challenged_keeps (record { challenge = c; is_refusal = true })
       (at (transaction_id_field bytes) e.state.client.requests.asked)
+  verdict_keeps doubted = record { plan = refl; agent = follows_itself e.state.agent }
   verdict_keeps (dropped why) = record { plan = refl; agent = follows_itself e.state.agent }
 
 received_keeps : (is_heard : Bool) (from : SocketAddr) (bytes : List ℕ) (now : ℕ) (e : Endpoint)

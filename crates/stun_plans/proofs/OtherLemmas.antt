@@ -22,7 +22,7 @@ use Rattle.stun_agent.proofs.LookupLemmas.{at-changed_other}
 use Rattle.stun_client.specs.Challenging.{code_in}
 use Rattle.stun_client.specs.Clients.{Given, heard, indicated, not_ours, responded}
 use Rattle.stun_client.specs.Ids.{id_of}
-use Rattle.stun_client.specs.Judging.{Verdict, anew, believed, dropped, refused}
+use Rattle.stun_client.specs.Judging.{Verdict, anew, believed, doubted, dropped, refused}
 use Rattle.stun_client.specs.Requests.{AskedSeen, at}
 use Rattle.stun_client_loop.specs.Loops.{after_hearing_of, again_refused, withdrawn}
 use Rattle.stun_client_loop.proofs.NumberLemmas.{not_same}
@@ -372,6 +372,7 @@ module _ (n : ℕ) (p : Pending) (e : Endpoint) (is : IsEndpoint e)
         refused_rests (is_reliable e.state.agent.transport || was_refused (request_at m e.requests))
     verdict_rests is_heard (refused (Some c)) =
         challenged_rests is_heard (record { challenge = c; is_refusal = true })
+    verdict_rests is_heard doubted = λ its. dropping_rests m _ bytes
     verdict_rests is_heard (dropped why) = λ its. dropping_rests m _ bytes
 
   received_rests : (is_heard : Bool) (from : SocketAddr) (bytes : List ℕ) (now : ℕ)

@@ -25,7 +25,7 @@ use Rattle.stun_auth.specs.Joined.{HasAdded, IsTyped, added_members}
 use Rattle.stun_extra.specs.AttributeTypes.{SOFTWARE}
 use Rattle.stun_extra.specs.Fingerprint.{fingerprint_attribute, fingerprint_refusal}
 use Rattle.stun_extra.specs.Fingerprint.{with_fingerprint}
-use Rattle.stun_exchanges.proofs.FingerprintLemmas.{HasOneMore-fingerprint, IsFree}
+use Rattle.stun_extra.proofs.FingerprintLemmas.{HasOneMore-fingerprint, IsFree}
 use Rattle.stun_client.specs.Challenges.{Answered}
 use Rattle.stun_client.specs.Judging.{long_term}
 use Rattle.stun_client.specs.Signing.{additions_of as additions_for}

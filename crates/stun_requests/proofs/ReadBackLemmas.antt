@@ -54,8 +54,8 @@ use Rattle.stun_extra.specs.Fingerprint.{fingerprint_attribute, fingerprint_if, 
 use Rattle.stun_extra.specs.Fingerprint.{with_fingerprint}
 use Rattle.stun_auth.specs.Client.{Naming, hashed, plain}
 use Rattle.stun_auth.specs.ClientSigning.{name_attribute}
-use Rattle.stun_exchanges.proofs.FingerprintLemmas.{HasOneMore-fingerprint, IsFree}
-use Rattle.stun_exchanges.proofs.FingerprintLemmas.{fingerprint_in-added, verified_by-fingerprint}
+use Rattle.stun_extra.proofs.FingerprintLemmas.{HasOneMore-fingerprint, IsFree}
+use Rattle.stun_extra.proofs.FingerprintLemmas.{fingerprint_in-added, verified_by-fingerprint}
 use Rattle.stun_client.specs.Challenges.{Answered}
 use Rattle.stun_client.specs.Challenge.{Challenge, added_under, algorithm_choice}
 use Rattle.stun_client.specs.Challenge.{challenge_additions}

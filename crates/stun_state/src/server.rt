@@ -281,6 +281,7 @@ pub fn measure(
         IfErr result (λ refusal. (refusal ≡ Refusal.BufferTooSmall)
         × (nat_lt room (length message.now + more) ≡ true)) }
 {
+    // Before anything is signed, because signing changes what the server has offered the address.
     let more = server.message_signature_bytes(to, !is_response(message));
     let whole = message.as_bytes().len().saturating_add(more);
     if room < whole {

@@ -201,6 +201,8 @@ pub(crate) fn sign_within<const N: usize, U: Users>(
         (is_response (class_in (take count buffer.old)))) server.old) result }
     ensures users { users.new ≡ users.old }
 {
+    // A call that fails leaves the caller's buffer as it was, so the message is signed elsewhere.
+    // On the stack no allocation can fail.
     let mut memory = [0; N];
     let signed = sign_in(server, &buffer[..count], to, is_long, &mut memory, users)?;
     put(buffer, signed);

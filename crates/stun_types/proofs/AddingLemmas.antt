@@ -213,7 +213,7 @@ or_none false b none = (refl, none)
 or_none true b none = cc
 
 -- a type that is not among attributes is not among those before a place
-has_kind-before : (kind place : ℕ) (members : List Member) → has_kind kind members ≡ false
+pub has_kind-before : (kind place : ℕ) (members : List Member) → has_kind kind members ≡ false
     → has_kind kind (before place members) ≡ false
 has_kind-before kind place [] none = refl
 has_kind-before kind place (m ∷ members) none =

@@ -167,7 +167,7 @@ read_again attribute padding rest bytes begins =
     })
 
 -- spelled attributes from a place to the end are found, and nothing else is
-walked_again : (attributes : List TypedValue) (place : ℕ) (bytes : List ℕ) → place ≤ length bytes
+pub walked_again : (attributes : List TypedValue) (place : ℕ) (bytes : List ℕ) → place ≤ length bytes
     → AreSpelled attributes (drop place bytes) →
     (attributes_of (walk_from place bytes) ≡ attributes)
     × (place + attributes_length (walk_from place bytes) ≡ length bytes)
@@ -208,7 +208,7 @@ finds_what_is_spelled bytes attributes header stated spelled =
     (record { header = header; stated = stated; filled = found.1 }, found.0)
 
 -- written attributes are spelled
-AreSpelled-spelled_attributes : (attributes : List TypedValue)
+pub AreSpelled-spelled_attributes : (attributes : List TypedValue)
     → AllByRecursion IsSpellable attributes → AreSpelled attributes (spelled_attributes attributes)
 AreSpelled-spelled_attributes [] fit = refl
 AreSpelled-spelled_attributes (attribute ∷ others) fit =

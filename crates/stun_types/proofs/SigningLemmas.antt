@@ -35,7 +35,7 @@ with_length-again (x ∷ y ∷ []) n m long = refl
 with_length-again (x ∷ y ∷ z ∷ []) n m long = refl
 with_length-again (x ∷ y ∷ z ∷ w ∷ bytes) n m long = refl
 
-length-with_length : (bytes : List ℕ) (n : ℕ) → 20 ≤ length bytes
+pub length-with_length : (bytes : List ℕ) (n : ℕ) → 20 ≤ length bytes
     → length (with_length bytes n) ≡ length bytes
 length-with_length [] n long = absurd (omega (arith, long))
 length-with_length (x ∷ []) n long = absurd (omega (arith, long))

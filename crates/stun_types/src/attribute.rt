@@ -11,6 +11,7 @@ ghost use Rattle.stun_types.specs.Limits.{max_length};
 
 use crate::write::MessageWrite;
 use crate::write::append::append_attribute;
+pub use crate::write::append::append_header;
 use byteorder::{BigEndian, ByteOrder};
 use std::alloc::AllocError;
 use std::marker::Model;

@@ -28,9 +28,10 @@ use core::net::SocketAddr;
 /// [`Output::Ended`]. Take every `now` from one clock that never goes back, such as
 /// [`Clock`](super::Clock).
 ///
-/// A request without an answer ends after its plan, 39.5 seconds by default, and one that is challenged
-/// within twice that, 79 seconds, at the first `poll` from then on (see
-/// [`Retransmission`](super::Retransmission)).
+/// Each request ends in the end, at the latest at the first [`poll`](Self::poll) after its time is
+/// over. If nothing answers, that is after its plan, 39.5 seconds by default. If the server
+/// challenges it, the request is sent again, with a plan of its own: such a request ends after at most
+/// two plans, 79 seconds by default. [`Retransmission`](super::Retransmission) sets the plan.
 ///
 /// The algorithm is chosen by the challenge that is answered. Earlier messages count in two cases: a
 /// signed 438 without a list is judged by the list of the challenge before, and a challenge that is

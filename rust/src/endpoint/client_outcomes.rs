@@ -300,8 +300,8 @@ pub enum RequestError {
     Redirected(Redirect),
     /// No acceptable response arrived in time.
     TimedOut(Drops),
-    /// The request was challenged or refused too often: the password is wrong, or somebody forges
-    /// challenges.
+    /// The server refuses the credentials, or challenges too often: the user name or the password is
+    /// wrong, or somebody forges challenges.
     Unauthorized,
     /// The response has an attribute that must be understood and is not.
     NotUnderstood(AttributeType),
@@ -372,7 +372,9 @@ impl fmt::Display for RequestError {
             },
             RequestError::TimedOut(drops) if drops.count == 0 => f.write_str("no answer in time"),
             RequestError::TimedOut(drops) => write!(f, "no answer in time; {drops}"),
-            RequestError::Unauthorized => f.write_str("challenged too often"),
+            RequestError::Unauthorized => {
+                f.write_str("the server refuses the credentials, or challenges too often")
+            },
             RequestError::NotUnderstood(kind) => {
                 write!(
                     f,

@@ -11,9 +11,9 @@ use crate::exported::stun_client::credentials as core_credentials;
 use crate::exported::stun_client::preferences::Preferences;
 use crate::exported::stun_client_endpoint::endpoint::Settings;
 use crate::exported::stun_client_endpoint::form::Form;
-use crate::exported::stun_extra::attribute::Software;
-use crate::exported::stun_types::attribute::{AttributeType, Username};
-use crate::exported::stun_types::message::{IntegrityAlgorithm, IntegrityKey, PreparedKey};
+use crate::exported::stun_client_endpoint::settings::{SettingsError, settings_refusal};
+use crate::exported::stun_types::attribute::AttributeType;
+use crate::exported::stun_types::message::IntegrityAlgorithm;
 use crate::kit::alloc::Global;
 use crate::kit::prelude::Vec as KitVec;
 use crate::ported::STUN;
@@ -88,13 +88,10 @@ impl Credentials {
         match self.0 {
             Kind::None => core_credentials::Credentials::Unsigned,
             Kind::Short(name, password, algorithm) => {
-                let password = password.password().as_bytes();
-                let key = granted(IntegrityKey::from_bytes(Global, password));
-                core_credentials::Credentials::ShortTerm(core_credentials::ShortTerm {
-                    name: text(name),
-                    password: PreparedKey::new(key, algorithm),
-                    algorithm,
-                })
+                let (name, password) = (text(name), password.password());
+                granted(core_credentials::Credentials::short_term(
+                    Global, name, password, algorithm,
+                ))
             }
             Kind::Long(user) => {
                 core_credentials::Credentials::LongTerm(core_credentials::LongTerm {
@@ -136,8 +133,17 @@ pub struct Retransmission {
 }
 
 impl Retransmission {
-    /// Returns a plan: the wait after the first transmission, which doubles with each, the longest
-    /// wait, the number of transmissions, and the wait after the last of them.
+    /// Returns a plan.
+    ///
+    /// - `first`: the time between the first and the second transmission (RTO, at least 500 ms by RFC
+    ///   8489). The time after each further transmission is twice the one before.
+    /// - `most`: the longest of these times. `Duration::MAX` means no bound.
+    /// - `sends`: how often a message is sent in all, the first time included (Rc). 0 counts as 1.
+    /// - `last`: the time from the last transmission to the end of the request (Rm times RTO). `first`
+    ///   does not change it.
+    ///
+    /// The default is 500 ms, no bound, 7 transmissions and 8 s (RFC 8489, section 6.2.1): the message
+    /// is sent after 0, 0.5, 1.5, 3.5, 7.5, 15.5 and 31.5 s, and the request ends after 39.5 s.
     pub fn new(first: Duration, most: Duration, sends: u32, last: Duration) -> Retransmission {
         Retransmission {
             first,
@@ -252,6 +258,16 @@ impl fmt::Display for ClientBuildError {
 }
 
 impl core::error::Error for ClientBuildError {}
+
+impl From<SettingsError> for ClientBuildError {
+    fn from(why: SettingsError) -> ClientBuildError {
+        match why {
+            SettingsError::NameTooLong => ClientBuildError::NameTooLong,
+            SettingsError::SoftwareTooLong => ClientBuildError::SoftwareTooLong,
+            SettingsError::NoAlgorithm => ClientBuildError::NoAlgorithm,
+        }
+    }
+}
 
 impl ClientBuilder {
     pub(super) fn new(server: SocketAddr) -> ClientBuilder {
@@ -376,18 +392,9 @@ impl ClientBuilder {
             Kind::Short(name, ..) => name,
             Kind::Long(user) => user.username(),
         };
-        if Username::new(name).is_err() {
-            return Err(ClientBuildError::NameTooLong);
-        }
-        if self
-            .software
-            .as_deref()
-            .is_some_and(|text| Software::new(text).is_err())
-        {
-            return Err(ClientBuildError::SoftwareTooLong);
-        }
-        if !self.preferences.hmac_sha1 && !self.preferences.hmac_sha256 {
-            return Err(ClientBuildError::NoAlgorithm);
+        let software = self.software.as_deref().unwrap_or("");
+        if let Some(why) = settings_refusal(name, software, &self.preferences) {
+            return Err(why.into());
         }
         let (agent, timeouts) = (self.agent(), self.timeouts());
         let indications = self.indications(seed);

@@ -7,6 +7,10 @@
 //! Candidates, pairs, their order and pacing are yours. For them there are [`priority`],
 //! [`pair_priority`], [`Candidate`] with its line in SDP, and [`Consent`].
 //!
+//! `docs/ICE.md` of the repository is a guide to writing an agent, step by step, with restarts and
+//! consent. The example `ice_agent` of this crate (`examples/ice_agent`) is a whole agent for one
+//! component over UDP, whose core owns no socket, and `examples/ice_check.rs` checks one pair.
+//!
 //! # Examples
 //!
 //! Two agents, a check of one at the other, and its answer:
@@ -161,7 +165,7 @@ use crate::kit::prelude::Vec as KitVec;
 use crate::message::Message;
 use crate::trace::{event, record};
 use crate::transaction::TransactionId;
-use crate::types::message::BINDING;
+use crate::types::message::{BINDING, StunWriteError};
 use crate::types::attribute::RawAttribute;
 use crate::write::{MessageWriteExt, MessageWriteVec};
 use alloc::vec::Vec;
@@ -178,6 +182,11 @@ pub use crate::exported::stun_ice::role::Role;
 pub use candidate::{Candidate, CandidateError, CandidateKind, pair_priority, priority};
 pub use checks::{Checks, ChecksInput, ChecksOutput, EndedCheck, NewCheck, NewCheckError};
 pub use consent::{Consent, ConsentStep};
+
+/// USE-CANDIDATE, ICE-CONTROLLED and ICE-CONTROLLING, by which a check says what the agent is asked
+/// to say.
+const OWN: [AttributeType; 3] =
+    [AttributeType(0x0025), AttributeType(0x8029), AttributeType(0x802a)];
 
 /// The username fragment and the password of one side (RFC 8445, section 5.3). It is also made of a
 /// pair of them, in this order.
@@ -316,7 +325,10 @@ impl Checker {
     }
 
     /// Sets the role. For an agent that learns from the answer to its offer that its peer is lite,
-    /// and so has to control (RFC 8445, section 6.1.1).
+    /// and so has to control (RFC 8445, section 6.1.1), and for one that cannot send the answer with
+    /// which it has switched its role, and so takes the switch back. A conflict needs no call: the
+    /// agent switches by itself. A check that is outstanding still says the role in which it was
+    /// written.
     pub fn set_role(&mut self, role: Role) {
         self.0.set_role(role);
     }
@@ -358,15 +370,17 @@ impl Checker {
     }
 
     /// Writes a check like [`check`](Self::check), with further attributes before its signature. The
-    /// peer refuses the check if it does not know the type of one that is below 0x8000.
+    /// peer refuses the check with a 420 if it does not know the type of one that is below 0x8000.
     ///
     /// # Errors
     ///
     /// The first of these that applies:
     ///
     /// - [`NewCheckError::NoRemote`]: the credentials of the peer are not known yet.
-    /// - [`NewCheckError::Attribute`]: one of the attributes cannot be added, such as one of a type
-    ///   that the check has already.
+    /// - [`NewCheckError::Attribute`]: one of the attributes cannot be added. It has a type that the
+    ///   check has already; it is USE-CANDIDATE, ICE-CONTROLLED or ICE-CONTROLLING, which say what the
+    ///   agent is asked to say; it signs the check, or is FINGERPRINT; or the check does not fit into a
+    ///   message.
     /// - [`NewCheckError::OutOfMemory`]: an allocation failed.
     ///
     /// # Examples
@@ -401,6 +415,9 @@ impl Checker {
         let page = self.0.begin_check(id.0, priority, nominate)?;
         let mut page = MessageWriteVec::of_core(page);
         for attribute in attributes {
+            if OWN.contains(&attribute.get_type()) {
+                return Err(NewCheckError::Attribute(StunWriteError::NotAllowed));
+            }
             page.add_attribute(attribute)?;
         }
         let check = Check(self.0.finish_check(page.into_core(), id.0, to, nominate)?);

@@ -138,6 +138,7 @@ impl<A: Allocator + Copy> StunAgent<A> {
         let id = self.keep_request(msg.bytes(), to, now)?;
         let transport = self.outstanding.transport();
         let from = self.local_addr;
+        // Borrows the stored copy: the exact clause has no proof for a result that may own memory.
         let request = self.outstanding.get(id, Uncounted::new()).unwrap();
         Ok(Transmit {
             data: request.bytes(),

@@ -207,6 +207,7 @@ impl<A: Allocator + Copy, D: Drop> Outstanding<A, D> {
             (λ e. r < length e.1.bytes))) }
         ensures same { OnErr result (self.new ≡ self.old) }
     {
+        // The request is found before a slot passes: if its bytes do not fit, nothing has changed.
         let sent = lookups::length_sent(&self.root, now, leave);
         if !fits(room, &sent) {
             return Err(NoRoom);

@@ -73,6 +73,7 @@ fn wake_up<A: Allocator, D, L: Ledger>(
 /// Returns the least ID among the requests that are over, and whether its request was still being
 /// retransmitted. Goes only to links that tell of a request that is over, so it reads one entry,
 /// and only if it finds one. Otherwise it looks at this link alone.
+// Inlined into the search of the fork above, so that a link with nothing to find costs no call.
 #[cycle(find_ended)]
 #[inline(always)]
 fn find_ended<A: Allocator, D, L: Ledger>(

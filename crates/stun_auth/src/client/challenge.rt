@@ -53,7 +53,7 @@ pub(crate) struct Offer<'a, 'm> {
 impl Offer<'_, '_> {
     ghost use Rattle.stun_auth.specs.code.ClientKept.{challenge_seen, offer_kept};
 
-    /// What is kept of the challenge.
+    /// Copies what the client stores of the challenge.
     pub(crate) fn kept<A: Allocator + Copy>(
         &self,
         alloc: A,
@@ -84,7 +84,7 @@ impl Offer<'_, '_> {
     }
 }
 
-/// A copy of a server's list, empty where there is none.
+/// Copies a server's list. The copy is empty if there is none.
 fn copied<A: Allocator>(
     alloc: A,
     list: &Option<PasswordAlgorithms>,
@@ -98,7 +98,7 @@ fn copied<A: Allocator>(
     }
 }
 
-/// A copy of a list.
+/// Copies a list.
 fn listed<A: Allocator>(
     alloc: A,
     list: &PasswordAlgorithms,
@@ -120,7 +120,7 @@ fn is_required(feature: Feature) -> bool
     matches!(feature, Feature::Required)
 }
 
-/// The first algorithm of a server's list that the client supports.
+/// Returns the first algorithm of a server's list that the client supports.
 fn first_supported(supported: Supported, list: &PasswordAlgorithms) -> Option<IntegrityAlgorithm>
     ensures { result ≡ first_supported (in_order supported) (map integrity_of list.now) }
 {
@@ -210,7 +210,7 @@ pub(crate) fn choose(
     }
 }
 
-/// Whether a nonce allows hashed user names.
+/// Returns whether a nonce allows hashed user names.
 fn asks_for_userhash(nonce: &str) -> bool
     ensures { result ≡ asks_for_userhash nonce.now }
 {

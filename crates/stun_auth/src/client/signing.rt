@@ -84,7 +84,7 @@ impl<A: Allocator> KeptChallenge<A> {
         add_integrity(writer, &self.key, self.algorithm)
     }
 
-    /// How many bytes signing adds to a request, at most 2^64 - 1.
+    /// Returns how many bytes signing adds to a request, at most 2^64 - 1.
     fn signature_bytes(&self) -> usize
         ensures { result ≡ min (growth (challenge_additions true (challenge_seen self.now)))
             (2 ^ 64 - 1) }
@@ -94,7 +94,7 @@ impl<A: Allocator> KeptChallenge<A> {
             .saturating_add(integrity_bytes(self.algorithm))
     }
 
-    /// How many bytes nonce, realm and the name of the user take, at most 2^64 - 1.
+    /// Returns how many bytes nonce, realm and the name of the user take, at most 2^64 - 1.
     fn identity_bytes(&self) -> usize
         ensures { result ≡ min (growth (identity (challenge_seen self.now))) (2 ^ 64 - 1) }
     {
@@ -103,7 +103,7 @@ impl<A: Allocator> KeptChallenge<A> {
             .saturating_add(self.naming.bytes())
     }
 
-    /// How many bytes the choice of the algorithm takes, at most 2^64 - 1.
+    /// Returns how many bytes the choice of the algorithm takes, at most 2^64 - 1.
     fn choice_bytes(&self) -> usize
         ensures { result ≡ min (growth (algorithm_choice
             (challenge_seen self.now).algorithms self.now.algorithm)) (2 ^ 64 - 1) }
@@ -119,7 +119,7 @@ impl<A: Allocator> KeptChallenge<A> {
 }
 
 impl<A: Allocator> State<A> {
-    /// The challenge that the client keeps.
+    /// Returns the challenge that the client has stored.
     fn kept(&self) -> Option<&KeptChallenge<A>>
         ensures { option_map (λ kept. challenge_seen kept.now) result
             ≡ kept_challenge (state_seen self.now) }
@@ -132,7 +132,7 @@ impl<A: Allocator> State<A> {
     }
 }
 
-/// Whether the message in a writer is a request.
+/// Returns whether the message in a writer is a request.
 fn is_request<W: MessageWrite>(writer: &W) -> bool
     requires { BeginsWithHeader (W.bytes writer.now) }
     ensures { result ≡ is_request (class_in (W.bytes writer.now)) }
@@ -221,7 +221,7 @@ impl<A: Allocator> LongTermClientAuth<A> {
         let _ = &self.state;
     }
 
-    /// The message with what the kept challenge asks for.
+    /// Adds to a message what the stored challenge asks for.
     fn signed<W: MessageWrite>(&self, writer: W) -> Result<W, StunWriteError>
         requires { BeginsWithHeader (W.bytes writer) }
         ensures { let additions = client_additions

@@ -82,7 +82,7 @@ pub fn add_integrity<W: MessageWrite, A: Allocator>(
     writer.add_message_integrity_with_prepared_key(key, algorithm)
 }
 
-/// How many bytes the integrity attribute of an algorithm takes.
+/// Returns how many bytes the integrity attribute of an algorithm takes.
 pub(crate) fn integrity_bytes(algorithm: IntegrityAlgorithm) -> usize
     ensures { result ≡ attribute_length (digest_length algorithm) }
 {
@@ -92,7 +92,7 @@ pub(crate) fn integrity_bytes(algorithm: IntegrityAlgorithm) -> usize
     }
 }
 
-/// How many bytes an attribute takes whose value has `length` bytes.
+/// Returns how many bytes an attribute takes whose value has `length` bytes.
 pub(crate) fn attribute_bytes(length: usize) -> usize
     requires { length < 2 ^ 63 }
     ensures { result ≡ attribute_length length }

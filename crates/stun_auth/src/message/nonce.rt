@@ -150,7 +150,7 @@ impl NonceSecurityBits {
     }
 }
 
-/// Whether a nonce asks for a choice of password algorithms.
+/// Returns whether a nonce asks for a choice of password algorithms.
 pub(crate) fn asks_for_algorithms(nonce: &str) -> bool
     ensures { result ≡ asks_for_algorithms nonce.now }
 {
@@ -166,7 +166,7 @@ fn begins_with_cookie(text: &[u8]) -> bool
     text.starts_with(LONG_TERM_RFC8489_NONCE_COOKIE.as_bytes())
 }
 
-/// The next sixteen words of a source.
+/// Returns the next sixteen random numbers of a source.
 fn draw_words<R: Rng>(rng: &mut R) -> [u32; 16]
     ensures words { result ≡ next_words 16 (R.stream rng.old) }
     ensures source { R.stream rng.new ≡ after_words 16 (R.stream rng.old) }
@@ -178,7 +178,7 @@ fn draw_words<R: Rng>(rng: &mut R) -> [u32; 16]
     words
 }
 
-/// The first security byte of a server with these settings.
+/// Returns the first security byte of a server with these settings.
 fn security_byte(algorithms: AlgorithmSet, feature: Feature) -> u8
     ensures { result ≡ security_byte algorithms feature }
 {
@@ -195,7 +195,7 @@ fn security_byte(algorithms: AlgorithmSet, feature: Feature) -> u8
     for_algorithms + for_userhash
 }
 
-/// The nonce that is made of sixteen random words. It allocates once.
+/// Makes a nonce of sixteen random numbers. Allocates once.
 pub(crate) fn nonce_of_words<A: Allocator + Copy>(
     alloc: A,
     algorithms: AlgorithmSet,
@@ -225,7 +225,7 @@ pub(crate) fn nonce_of_words<A: Allocator + Copy>(
     Ok(text)
 }
 
-/// A new nonce, made of the next sixteen words of the source.
+/// Makes a new nonce of the next sixteen random numbers of the source.
 ///
 /// It asks for password algorithms if and only if HMAC-SHA256 is supported. It allows hashed names
 /// if and only if the feature does. Where it does neither, it carries no security bits.

@@ -7,7 +7,7 @@ ghost use Rattle.std.specs.Prelude.{◌≡◌, ◌≤◌, Option, length};
 ghost use Rattle.std.specs.Option.{is_some, option_and_then, option_copied};
 ghost use Rattle.std.specs.Option.{option_map, option_map_or};
 ghost use Rattle.stun_base.specs.Attributes.{NONCE, REALM, USERNAME};
-ghost use Rattle.stun_types.specs.Integrity.{verified_algorithm};
+ghost use Rattle.stun_types.specs.Integrity.{deciding_algorithm, verified_algorithm};
 ghost use Rattle.stun_types.specs.Limits.{TEXT_LIMIT, USERNAME_LIMIT};
 ghost use Rattle.stun_types.specs.PasswordAlgorithms.{password_algorithm_in, integrity_of};
 ghost use Rattle.stun_types.specs.Text.{text_of};
@@ -47,7 +47,7 @@ struct LastAttributes<'a> {
 }
 
 impl<'a> LastAttributes<'a> {
-    /// The last attributes of a message, in one walk of it.
+    /// Finds the last attributes of a message, in one walk of it.
     fn of(message: &Message<'a>) -> Self
         ensures { result ≡ last_attributes (visible message.now) }
     {
@@ -121,7 +121,23 @@ impl<'a, 'm> Model for Signature<'a, 'm> {
 }
 
 impl Signature<'_, '_> {
-    /// The algorithm whose digest verifies under a key.
+    /// Returns the algorithm of the attribute whose digest decides.
+    fn algorithm(&self) -> Option<IntegrityAlgorithm>
+        ensures { result ≡ deciding_algorithm self.now }
+    {
+        match &self.decides {
+            Some((_, attribute)) => {
+                if attribute.get_type() == AttributeType::MESSAGE_INTEGRITY_SHA256 {
+                    Some(IntegrityAlgorithm::Sha256)
+                } else {
+                    Some(IntegrityAlgorithm::Sha1)
+                }
+            }
+            None => None,
+        }
+    }
+
+    /// Returns the algorithm whose digest verifies under a key.
     fn verified_under<A: Allocator>(&self, key: &PreparedKey<A>) -> Option<IntegrityAlgorithm>
         ensures { result ≡ verified_algorithm self.now key.now }
     {
@@ -136,7 +152,7 @@ impl Signature<'_, '_> {
     }
 }
 
-/// An attribute as a value of type `A`, if it is there and well formed.
+/// Reads an attribute as a value of type `A`, if it is there and well formed.
 fn read<'a, A: AttributeFromRaw<'a>>(attribute: Option<RawAttribute<'a>>) -> Option<A>
     ensures { result ≡ option_and_then A.reading attribute.entry }
 {
@@ -146,7 +162,7 @@ fn read<'a, A: AttributeFromRaw<'a>>(attribute: Option<RawAttribute<'a>>) -> Opt
     }
 }
 
-/// The code of an error response.
+/// Returns the code of an error response.
 fn error(class: MessageClass, attribute: Option<RawAttribute<'_>>) -> Option<u16>
     ensures { result ≡ last_error_code class attribute.entry }
 {
@@ -159,7 +175,7 @@ fn error(class: MessageClass, attribute: Option<RawAttribute<'_>>) -> Option<u16
     }
 }
 
-/// The text of a REALM.
+/// Returns the text of a REALM.
 fn realm<'a>(attribute: Option<RawAttribute<'a>>) -> Option<&'a str>
     ensures text { option_copied result
         ≡ option_and_then (text_of REALM TEXT_LIMIT) attribute.entry }
@@ -171,7 +187,7 @@ fn realm<'a>(attribute: Option<RawAttribute<'a>>) -> Option<&'a str>
     }
 }
 
-/// The text of a NONCE.
+/// Returns the text of a NONCE.
 fn nonce<'a>(attribute: Option<RawAttribute<'a>>) -> Option<&'a str>
     ensures text { option_copied result
         ≡ option_and_then (text_of NONCE TEXT_LIMIT) attribute.entry }
@@ -183,7 +199,7 @@ fn nonce<'a>(attribute: Option<RawAttribute<'a>>) -> Option<&'a str>
     }
 }
 
-/// The text of a USERNAME.
+/// Returns the text of a USERNAME.
 fn username<'a>(attribute: Option<RawAttribute<'a>>) -> Option<&'a str>
     ensures { option_copied result
         ≡ option_and_then (text_of USERNAME USERNAME_LIMIT) attribute.entry }
@@ -194,7 +210,7 @@ fn username<'a>(attribute: Option<RawAttribute<'a>>) -> Option<&'a str>
     }
 }
 
-/// The hash of a USERHASH.
+/// Returns the hash of a USERHASH.
 fn userhash(attribute: Option<RawAttribute<'_>>) -> Option<[u8; 32]>
     ensures { result ≡ option_and_then hash_of attribute.entry }
 {
@@ -204,7 +220,7 @@ fn userhash(attribute: Option<RawAttribute<'_>>) -> Option<[u8; 32]>
     }
 }
 
-/// The algorithm whose key the chosen password algorithm makes.
+/// Returns the algorithm whose key the chosen password algorithm makes.
 fn algorithm(attribute: Option<RawAttribute<'_>>) -> Option<IntegrityAlgorithm>
     ensures { result
         ≡ option_map integrity_of (option_and_then password_algorithm_in attribute.entry) }
@@ -243,7 +259,8 @@ impl<'a, 'm> MessageReading<'a, 'm> {
     /// Reads a message, in one walk of its attributes.
     #[tactic(auto, unfolding(crate::specs::Reading::reading_of))]
     pub(crate) fn of(message: &'m Message<'a>) -> Self
-        ensures { reading_seen result ≡ reading_of message.now }
+        ensures reading { reading_seen result ≡ reading_of message.now }
+        ensures message { result.signature ≡ message.now }
     {
         let last = LastAttributes::of(message);
         let class = message.class();
@@ -264,21 +281,28 @@ impl<'a, 'm> MessageReading<'a, 'm> {
         }
     }
 
-    /// Whether the message is a response.
+    /// Returns whether the message is a response.
     pub(crate) fn is_response(&self) -> bool
         ensures { result ≡ is_response (reading_seen self.now).class }
     {
         matches!(self.class, MessageClass::Success | MessageClass::Error)
     }
 
-    /// Whether the message is a success response.
+    /// Returns whether the message is a success response.
     pub(crate) fn is_success(&self) -> bool
         ensures { result ≡ is_success (reading_seen self.now).class }
     {
         matches!(self.class, MessageClass::Success)
     }
 
-    /// The algorithm whose digest verifies under a key.
+    /// Returns the algorithm of the attribute whose digest decides.
+    pub(crate) fn deciding_algorithm(&self) -> Option<IntegrityAlgorithm>
+        ensures { result ≡ deciding_algorithm self.now.signature }
+    {
+        self.signature.algorithm()
+    }
+
+    /// Returns the algorithm whose digest verifies under a key.
     pub(crate) fn verified_under<A: Allocator>(
         &self,
         key: &PreparedKey<A>,

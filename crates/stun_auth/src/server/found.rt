@@ -2,8 +2,9 @@
 //! looks its users up elsewhere and keeps none of them (RFC 8489, section 9.2.4).
 //!
 //! ```text
-//! let Some(claim) = server.claim_in(&message) else { .. judge .. };
-//! if !claim.has_nonce(&nonce) { .. judge .. }
+//! let read = ReadMessage::of(&message);
+//! let Some(claim) = server.claim_in(&read) else { .. judge_read .. };
+//! if !claim.has_nonce(&nonce) { .. judge_read .. }
 //! match server.verify_found(&claim, &look_up(claim.user())?) {
 //!     Some((algorithm, key)) => .. accepted: sign the response by both ..,
 //!     None => .. refused ..,
@@ -21,10 +22,10 @@ ghost use Rattle.stun_auth.specs.Registered.{key_from, key_if, user_by_keys, use
 ghost use Rattle.stun_auth.specs.Server.{their_nonce};
 
 use crate::algorithm_set::AlgorithmSet;
-use crate::message::reading::MessageReading;
 use crate::server::LongTermServerAuth;
 use crate::server::handed::named_in;
 use crate::server::named_user::NamedUser;
+use crate::server::read_message::ReadMessage;
 use crate::server::stored_keys::StoredKeys;
 use crate::server::verdict::{agreed, is_same_nonce};
 use std::alloc::Allocator;
@@ -34,44 +35,40 @@ use stun_base::algorithm::IntegrityAlgorithm;
 use stun_base::compare::is_same_text;
 use stun_base::key::{IntegrityKey, long_term_key, userhash};
 use stun_base::prepared_key::PreparedKey;
-use stun_types::message::Message;
 
 /// What a signed message claims: the user whom it names, under which nonce, and the algorithm that
 /// both sides agree on. Whether that nonce is current, whether there is such a user, and whether the
 /// signature is that user's, is left to look at.
 ///
-/// `LongTermServerAuth::claim_in` makes one, and reads the message once for all of it.
+/// `LongTermServerAuth::claim_in` makes one.
 ///
 /// Contracts: they see the message, the user and the algorithm.
 #[derive(Drop)]
-pub struct UserClaim<'a, 'm> {
-    message: &'m Message<'a>,
-    reading: MessageReading<'a, 'm>,
+pub struct UserClaim<'a, 'm, 'r> {
+    read: &'r ReadMessage<'a, 'm>,
     nonce: &'a str,
     user: NamedUser<'a>,
     algorithm: IntegrityAlgorithm,
 }
 
-impl<'a, 'm> Model for UserClaim<'a, 'm> {
+impl<'a, 'm, 'r> Model for UserClaim<'a, 'm, 'r> {
     ghost use Rattle.std.specs.Prelude.{◌≡◌, Some};
     ghost use Rattle.stun_auth.specs.Found.{ClaimSeen};
     ghost use Rattle.stun_auth.specs.Handed.{named_seen};
     ghost use Rattle.stun_auth.specs.Reading.{reading_of};
-    ghost use Rattle.stun_auth.specs.code.ReadingSeen.{reading_seen};
 
     ghost Value = { ClaimSeen };
 
     ghost view = { λ claim. record {
-      message = claim.message.now;
+      message = claim.read.now;
       user = named_seen claim.user;
       algorithm = claim.algorithm;
     } };
 
-    ghost invariant = { λ claim. (reading_seen claim.reading ≡ reading_of claim.message.now)
-        × ((reading_of claim.message.now).nonce ≡ Some claim.nonce.now) };
+    ghost invariant = { λ claim. (reading_of claim.read.now).nonce ≡ Some claim.nonce.now };
 }
 
-impl<'a, 'm> UserClaim<'a, 'm> {
+impl<'a, 'm, 'r> UserClaim<'a, 'm, 'r> {
     /// Returns the user whom the message names. Anybody can name anybody, because the signature is
     /// not checked yet.
     pub fn user(&self) -> NamedUser<'a>
@@ -231,21 +228,22 @@ impl<A: Allocator + Copy> LongTermServerAuth<A> {
     ///
     /// Otherwise `judge` refuses the message, whoever the users are. Look at the class first, because
     /// a response is read like a request. It does not allocate.
-    pub fn claim_in<'a, 'm>(&self, message: &'m Message<'a>) -> Option<UserClaim<'a, 'm>>
-        ensures { result ≡ claim_of self.now.registered.algorithms self.now.feature
-            message.now }
+    pub fn claim_in<'a, 'm, 'r>(
+        &self,
+        read: &'r ReadMessage<'a, 'm>,
+    ) -> Option<UserClaim<'a, 'm, 'r>>
+        ensures { result ≡ claim_of self.now.registered.algorithms self.now.feature read.now }
     {
-        let reading = MessageReading::of(message);
+        let reading = &read.reading;
         if !reading.has_integrity {
             return None;
         }
         reading.realm?;
         let nonce = reading.nonce?;
-        let user = named_in(&reading, self.feature)?;
-        let algorithm = agreed(&reading, nonce, Some(self.registry.supported()))?;
+        let user = named_in(reading, self.feature)?;
+        let algorithm = agreed(reading, nonce, Some(self.registry.supported()))?;
         Some(UserClaim {
-            message,
-            reading,
+            read,
             nonce,
             user,
             algorithm,
@@ -263,7 +261,7 @@ impl<A: Allocator + Copy> LongTermServerAuth<A> {
     /// Contracts: law `found_users_are_judged_as_prepared_ones`.
     pub fn verify_found(
         &self,
-        claim: &UserClaim<'_, '_>,
+        claim: &UserClaim<'_, '_, '_>,
         user: &FoundUser<'_>,
     ) -> Option<(IntegrityAlgorithm, PreparedKey<A>)>
         ensures { result ≡ found_key self.now.registered claim.now user.now }
@@ -274,7 +272,7 @@ impl<A: Allocator + Copy> LongTermServerAuth<A> {
         }
         let supported = self.registry.supported();
         let key = user.key(self.alloc, supported, claim.algorithm, realm)?;
-        match claim.reading.verified_under(&key) {
+        match claim.read.verified_under(&key) {
             Some(by) => Some((by, key)),
             None => None,
         }

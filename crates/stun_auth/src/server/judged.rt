@@ -22,10 +22,10 @@ ghost use Rattle.stun_auth.specs.ServerSigning.{challenge_under, offer};
 ghost use Rattle.stun_auth.specs.Outcome.{IsAdded};
 
 use crate::message::nonce::{asks_for_algorithms, nonce_of_words};
-use crate::message::reading::MessageReading;
 use crate::server::LongTermServerAuth;
 use crate::server::accepted::Accepted;
 use crate::server::claim::JudgeableMessage;
+use crate::server::read_message::ReadMessage;
 use crate::server::reason::VerdictRefusal;
 use crate::server::registry::Registry;
 use crate::server::user::LongTermServerUser;
@@ -87,7 +87,7 @@ impl<A: Allocator + Copy> LongTermServerAuth<A> {
         ensures key { IfOk result
             (HasVerifyingKey self.now.registered (reading_of message.now)) }
     {
-        self.judge_by(message, nonce, &self.registry)
+        self.judge_by(&ReadMessage::of(message), nonce, &self.registry)
     }
 
     /// Like `judge`, on a server whose only user is `user`. The server's own users are ignored. The
@@ -110,23 +110,52 @@ impl<A: Allocator + Copy> LongTermServerAuth<A> {
             self.now.registered.algorithms (reading_of message.now) result }
         ensures key { IfOk result (HasVerifyingKey user.now (reading_of message.now)) }
     {
-        self.judge_by(message, nonce, &user.registry)
+        self.judge_by(&ReadMessage::of(message), nonce, &user.registry)
+    }
+
+    /// Like `judge`, for a message that was read before. A server that accepts several nonces of an
+    /// address calls it for each of them.
+    pub fn judge_read<'a>(
+        &'a self,
+        read: &ReadMessage<'a, '_>,
+        nonce: &str,
+    ) -> Result<Accepted<'a, A>, VerdictRefusal>
+        ensures verdict { client_judged result
+            ≡ verdict self.now.registered self.now.feature nonce.now
+            (Some self.now.registered.algorithms) (reading_of read.now) }
+        ensures key { IfOk result (HasVerifyingKey self.now.registered (reading_of read.now)) }
+    {
+        self.judge_by(read, nonce, &self.registry)
+    }
+
+    /// Like `judge_of`, for a message that was read before.
+    pub fn judge_read_of<'a>(
+        &'a self,
+        read: &ReadMessage<'a, '_>,
+        nonce: &str,
+        user: &'a LongTermServerUser<A>,
+    ) -> Result<Accepted<'a, A>, VerdictRefusal>
+        ensures verdict { client_judged result
+            ≡ verdict user.now self.now.feature nonce.now
+            (Some self.now.registered.algorithms) (reading_of read.now) }
+        ensures key { IfOk result (HasVerifyingKey user.now (reading_of read.now)) }
+    {
+        self.judge_by(read, nonce, &user.registry)
     }
 
     /// Judges a message with these users, where all algorithms that the server supports were
     /// offered.
     fn judge_by<'a>(
         &self,
-        message: &Message<'a>,
+        read: &ReadMessage<'a, '_>,
         nonce: &str,
         users: &'a Registry<A>,
     ) -> Result<Accepted<'a, A>, VerdictRefusal>
         ensures verdict { client_judged result ≡ verdict users.now self.now.feature nonce.now
-            (Some self.now.registered.algorithms) (reading_of message.now) }
-        ensures key { IfOk result (HasVerifyingKey users.now (reading_of message.now)) }
+            (Some self.now.registered.algorithms) (reading_of read.now) }
+        ensures key { IfOk result (HasVerifyingKey users.now (reading_of read.now)) }
     {
-        let reading = MessageReading::of(message);
-        let Some(message) = JudgeableMessage::of(&reading) else {
+        let Some(message) = JudgeableMessage::of(&read.reading) else {
             return Err(VerdictRefusal::BadRequest);
         };
         let offered = Some(self.registry.supported());

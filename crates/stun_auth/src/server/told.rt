@@ -9,9 +9,9 @@ ghost use Rattle.stun_auth.specs.code.ReadingSeen.{reading_seen};
 
 use crate::message::reading::MessageReading;
 use crate::server::claim::JudgeableMessage;
+use crate::server::read_message::ReadMessage;
 use crate::server::reason::VerdictRefusal;
 use crate::server::verdict::is_same_nonce;
-use stun_types::message::Message;
 
 /// Returns the refusal to answer a request with that was refused under every nonce that the server
 /// accepts. `nonce` is the current one.
@@ -20,13 +20,17 @@ use stun_types::message::Message;
 /// client that repeats what a server offered it long ago, or with other settings, then learns how
 /// to continue, because clients drop an unsigned 400. Other refusals stay as they are. It does not
 /// allocate.
-pub fn told_refusal(refusal: VerdictRefusal, message: &Message<'_>, nonce: &str) -> VerdictRefusal
-    ensures { result ≡ told_refusal nonce.now (reading_of message.now) refusal }
+pub fn told_refusal(
+    refusal: VerdictRefusal,
+    read: &ReadMessage<'_, '_>,
+    nonce: &str,
+) -> VerdictRefusal
+    ensures { result ≡ told_refusal nonce.now (reading_of read.now) refusal }
 {
     match refusal {
         VerdictRefusal::Unauthorized => VerdictRefusal::Unauthorized,
         VerdictRefusal::StaleNonce => VerdictRefusal::StaleNonce,
-        VerdictRefusal::BadRequest => told_bad_request(&MessageReading::of(message), nonce),
+        VerdictRefusal::BadRequest => told_bad_request(&read.reading, nonce),
     }
 }
 
@@ -47,10 +51,10 @@ fn told_bad_request(reading: &MessageReading<'_, '_>, nonce: &str) -> VerdictRef
 ///
 /// A server that looks its users up elsewhere calls it first, so that only requests with a nonce of
 /// its own cause a look-up.
-pub fn has_nonce(message: &Message<'_>, nonce: &str) -> bool
-    ensures { result ≡ bytes_eq (their_nonce (reading_of message.now)) nonce.now }
+pub fn has_nonce(read: &ReadMessage<'_, '_>, nonce: &str) -> bool
+    ensures { result ≡ bytes_eq (their_nonce (reading_of read.now)) nonce.now }
 {
-    reads_nonce(&MessageReading::of(message), nonce)
+    reads_nonce(&read.reading, nonce)
 }
 
 /// Whether a message has this nonce.

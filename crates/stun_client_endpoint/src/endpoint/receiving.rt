@@ -113,6 +113,7 @@ impl<A: Allocator + Copy> ClientEndpoint<A> {
                 self.challenged(number, challenge, true, message, now)
             }
             Judged::Refused(None) => self.refused(number, message, now),
+            Judged::Doubted => self.drop_for(number, DropReason::NotVerified, message),
             Judged::Dropped(why) => self.drop_for(number, reason_of(why), message),
         }
     }

@@ -26,7 +26,7 @@ use crate::unix_time::UnixTime;
 use crate::users::Users;
 use std::alloc::{AllocError, Allocator};
 use std::net::SocketAddr;
-use stun_auth::auth::{Accepted, LongTermServerUser, VerdictRefusal};
+use stun_auth::auth::{Accepted, LongTermServerUser, ReadMessage, VerdictRefusal};
 use stun_types::message::{Message, MessageClass};
 
 impl<A: Allocator + Copy> Server<A> {
@@ -123,7 +123,8 @@ impl<A: Allocator + Copy> Server<A> {
     {
         match message.class() {
             MessageClass::Request => {
-                self.request_with_cause(message, from, now, judges, has_fingerprint)
+                let read = ReadMessage::of(&message);
+                self.request_with_cause(&read, from, now, judges, has_fingerprint)
             }
             MessageClass::Indication => Ok((self.indication(message), None)),
             MessageClass::Success => Ok((Received::Response(message), None)),
@@ -134,30 +135,30 @@ impl<A: Allocator + Copy> Server<A> {
     /// What a request comes to, and why it is refused, if it is.
     fn request_with_cause<'a>(
         &'a self,
-        message: Message<'a>,
+        read: &ReadMessage<'a, '_>,
         from: SocketAddr,
         now: UnixTime,
         judges: &Judges<'a, A>,
         has_fingerprint: bool,
     ) -> Result<(Received<'a, A>, Option<Cause>), AllocError>
-        requires { has_fingerprint ≡ is_fingerprinted message }
+        requires { has_fingerprint ≡ is_fingerprinted read.now }
         ensures received { IfOk result (λ both. outcome_of both.0
-            ≡ by_verdict self.now (realm_of judges.now) from now message.entry
-            (judged self.now (realm_of judges.now) from now (reading_of message.entry))) }
+            ≡ by_verdict self.now (realm_of judges.now) from now read.now
+            (judged self.now (realm_of judges.now) from now (reading_of read.now))) }
         ensures cause { IfOk result (λ both. both.1
-            ≡ or_unknown self.now message.entry
-            (credential_cause self.now (realm_of judges.now) from now (reading_of message.entry))) }
+            ≡ or_unknown self.now read.now
+            (credential_cause self.now (realm_of judges.now) from now (reading_of read.now))) }
     {
         let mut buffer = self.responder.buffer();
         let epoch = self.epoch(now);
         let nonce = self.nonce_in(&self.secret, from, epoch)?;
-        match self.judged_in(judges, &message, from, epoch, &nonce)? {
+        match self.judged_in(judges, read, from, epoch, &nonce)? {
             Ok(accepted) => {
-                self.accepted_with_cause(message, from, accepted, has_fingerprint, &mut buffer)
+                self.accepted_with_cause(read, from, accepted, has_fingerprint, &mut buffer)
             }
             Err(refusal) => {
                 let text = nonce.as_str();
-                self.refused_with_cause(&message, from, text, refusal, has_fingerprint, &mut buffer)
+                self.refused_with_cause(read, from, text, refusal, has_fingerprint, &mut buffer)
             }
         }
     }
@@ -165,21 +166,21 @@ impl<A: Allocator + Copy> Server<A> {
     /// What an accepted request comes to, and why it is refused after all, if it is.
     fn accepted_with_cause<'a>(
         &self,
-        message: Message<'a>,
+        read: &ReadMessage<'a, '_>,
         from: SocketAddr,
         accepted: Accepted<'a, A>,
         has_fingerprint: bool,
         buffer: &mut Vec<u8, A>,
     ) -> Result<(Received<'a, A>, Option<Cause>), AllocError>
-        requires { has_fingerprint ≡ is_fingerprinted message }
+        requires { has_fingerprint ≡ is_fingerprinted read.now }
         ensures received { IfOk result (λ both. outcome_of both.0
-            ≡ outcome_of_accepted self.now accepted.entry.key from message.entry
+            ≡ outcome_of_accepted self.now accepted.entry.key from read.now
             accepted.entry.client) }
         ensures cause { IfOk result (λ both. both.1
-            ≡ unknown_in (outcome_of_accepted self.now accepted.entry.key from message.entry
+            ≡ unknown_in (outcome_of_accepted self.now accepted.entry.key from read.now
             accepted.entry.client)) }
     {
-        let received = self.accepted(message, from, accepted, has_fingerprint, buffer)?;
+        let received = self.accepted(read, from, accepted, has_fingerprint, buffer)?;
         let cause = unknown_in(&received);
         Ok((received, cause))
     }
@@ -187,22 +188,22 @@ impl<A: Allocator + Copy> Server<A> {
     /// What a refused request comes to, and why it is refused.
     fn refused_with_cause<'a>(
         &'a self,
-        request: &Message<'a>,
+        read: &ReadMessage<'a, '_>,
         from: SocketAddr,
         nonce: &str,
         refusal: VerdictRefusal,
         has_fingerprint: bool,
         buffer: &mut Vec<u8, A>,
     ) -> Result<(Received<'a, A>, Option<Cause>), AllocError>
-        requires fingerprint { has_fingerprint ≡ is_fingerprinted request.now }
+        requires fingerprint { has_fingerprint ≡ is_fingerprinted read.now }
         requires offer { asks_for_algorithms nonce.now ≡ contains Sha256 self.now.algorithms }
         ensures received { IfOk result (λ both. outcome_of both.0
-            ≡ refused_with self.now nonce.now from request.now refusal) }
+            ≡ refused_with self.now nonce.now from read.now refusal) }
         ensures cause { IfOk result (λ both. both.1
-            ≡ Some (cause_by_refusal self.now nonce.now (reading_of request.now) refusal)) }
+            ≡ Some (cause_by_refusal self.now nonce.now (reading_of read.now) refusal)) }
     {
-        let cause = self.refused_cause(request, nonce, refusal);
-        let received = self.refused(request, from, nonce, refusal, has_fingerprint, buffer)?;
+        let cause = self.refused_cause(read, nonce, refusal);
+        let received = self.refused(read, from, nonce, refusal, has_fingerprint, buffer)?;
         Ok((received, Some(cause)))
     }
 }

@@ -19,7 +19,7 @@ use crate::unix_time::UnixTime;
 use crate::users::Users;
 use std::alloc::{AllocError, Allocator};
 use std::net::SocketAddr;
-use stun_auth::auth::{LongTermServerUser, VerdictRefusal, has_nonce, told_refusal};
+use stun_auth::auth::{LongTermServerUser, ReadMessage, VerdictRefusal, has_nonce, told_refusal};
 use stun_types::message::{Message, MessageClass};
 
 /// Why a server with long-term credentials refuses a request: the first check that the request
@@ -154,7 +154,9 @@ impl<A: Allocator + Copy> Server<A> {
         ensures no_memory { is_request (class_in message.now) ≡ false → IsOk result }
     {
         match message.class() {
-            MessageClass::Request => self.request_cause(message, from, now, judges),
+            MessageClass::Request => {
+                self.request_cause(&ReadMessage::of(message), from, now, judges)
+            }
             MessageClass::Indication => Ok(None),
             MessageClass::Success => Ok(None),
             MessageClass::Error => Ok(None),
@@ -164,20 +166,20 @@ impl<A: Allocator + Copy> Server<A> {
     /// Why a request is refused, if it is.
     fn request_cause<'a>(
         &'a self,
-        request: &Message<'a>,
+        read: &ReadMessage<'a, '_>,
         from: SocketAddr,
         now: UnixTime,
         judges: &Judges<'a, A>,
     ) -> Result<Option<Cause>, AllocError>
         ensures { IfOk result (λ cause. cause
-            ≡ or_unknown self.now request.now
-            (credential_cause self.now (realm_of judges.now) from now (reading_of request.now))) }
+            ≡ or_unknown self.now read.now
+            (credential_cause self.now (realm_of judges.now) from now (reading_of read.now))) }
     {
         let epoch = self.epoch(now);
         let nonce = self.nonce_in(&self.secret, from, epoch)?;
-        match self.judged_in(judges, request, from, epoch, &nonce)? {
-            Ok(_) => Ok(self.unknown_cause(request)),
-            Err(refusal) => Ok(Some(self.refused_cause(request, &nonce, refusal))),
+        match self.judged_in(judges, read, from, epoch, &nonce)? {
+            Ok(_) => Ok(self.unknown_cause(read.message())),
+            Err(refusal) => Ok(Some(self.refused_cause(read, &nonce, refusal))),
         }
     }
 
@@ -197,28 +199,28 @@ impl<A: Allocator + Copy> Server<A> {
     /// given.
     pub(super) fn refused_cause<'a>(
         &'a self,
-        request: &Message<'a>,
+        read: &ReadMessage<'a, '_>,
         nonce: &str,
         refusal: VerdictRefusal,
     ) -> Cause
         ensures { result
-            ≡ cause_by_refusal self.now nonce.now (reading_of request.now) refusal }
+            ≡ cause_by_refusal self.now nonce.now (reading_of read.now) refusal }
     {
-        match told_refusal(refusal, request, nonce) {
-            VerdictRefusal::Unauthorized => self.unauthorized_cause(request, nonce),
+        match told_refusal(refusal, read, nonce) {
+            VerdictRefusal::Unauthorized => self.unauthorized_cause(read, nonce),
             VerdictRefusal::StaleNonce => Cause::StaleNonce,
-            VerdictRefusal::BadRequest => bad_cause(request),
+            VerdictRefusal::BadRequest => bad_cause(read),
         }
     }
 
     /// Why nobody is authorized by a request. One that is not signed is unauthorized under any nonce,
     /// and all others are not so under the empty one, which no request has that comes here.
-    fn unauthorized_cause<'a>(&'a self, request: &Message<'a>, nonce: &str) -> Cause
-        ensures { result ≡ unauthorized_cause self.now nonce.now (reading_of request.now) }
+    fn unauthorized_cause<'a>(&'a self, read: &ReadMessage<'a, '_>, nonce: &str) -> Cause
+        ensures { result ≡ unauthorized_cause self.now nonce.now (reading_of read.now) }
     {
-        if self.is_unauthorized(request) {
+        if self.is_unauthorized(read) {
             Cause::NoSignature
-        } else if has_nonce(request, nonce) {
+        } else if has_nonce(read, nonce) {
             Cause::WrongCredentials
         } else {
             Cause::OtherFeatures
@@ -226,11 +228,11 @@ impl<A: Allocator + Copy> Server<A> {
     }
 
     /// Whether nobody is authorized by a request under the empty nonce.
-    fn is_unauthorized<'a>(&'a self, request: &Message<'a>) -> bool
+    fn is_unauthorized<'a>(&'a self, read: &ReadMessage<'a, '_>) -> bool
         ensures { result
-            ≡ is_unauthorized (verdict_under_none self.now (reading_of request.now)) }
+            ≡ is_unauthorized (verdict_under_none self.now (reading_of read.now)) }
     {
-        match self.judged_by_nobody(request, "") {
+        match self.judged_by_nobody(read, "") {
             Ok(_) => false,
             Err(VerdictRefusal::Unauthorized) => true,
             Err(VerdictRefusal::BadRequest) => false,
@@ -241,10 +243,10 @@ impl<A: Allocator + Copy> Server<A> {
 
 /// Why a request is a bad one. The empty nonce, which no request has that is refused for its
 /// algorithms, tells one that is malformed.
-fn bad_cause(request: &Message<'_>) -> Cause
-    ensures { result ≡ bad_cause (reading_of request.now) }
+fn bad_cause(read: &ReadMessage<'_, '_>) -> Cause
+    ensures { result ≡ bad_cause (reading_of read.now) }
 {
-    match told_refusal(VerdictRefusal::BadRequest, request, "") {
+    match told_refusal(VerdictRefusal::BadRequest, read, "") {
         VerdictRefusal::BadRequest => Cause::Incomplete,
         VerdictRefusal::StaleNonce => Cause::OtherAlgorithms,
         VerdictRefusal::Unauthorized => Cause::OtherAlgorithms,

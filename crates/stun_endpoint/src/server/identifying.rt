@@ -33,7 +33,9 @@ use crate::unix_time::UnixTime;
 use crate::users::Users;
 use std::alloc::{AllocError, Allocator};
 use std::net::SocketAddr;
-use stun_auth::auth::{Accepted, LongTermServerUser, NamedUser, UserClaim, VerdictRefusal};
+use stun_auth::auth::{
+    Accepted, LongTermServerUser, NamedUser, ReadMessage, UserClaim, VerdictRefusal,
+};
 use stun_base::prepared_key::PreparedKey;
 use stun_types::message::{Message, MessageClass};
 
@@ -203,7 +205,8 @@ impl<A: Allocator + Copy> Server<A> {
     {
         match message.class() {
             MessageClass::Request => {
-                self.identified_request(message, from, now, has_fingerprint, buffer)
+                let read = ReadMessage::of(&message);
+                self.identified_request(&read, from, now, has_fingerprint, buffer)
             }
             MessageClass::Indication => Ok(Identified::Done(self.indication(message))),
             MessageClass::Success => Ok(Identified::Done(Received::Response(message))),
@@ -214,31 +217,32 @@ impl<A: Allocator + Copy> Server<A> {
     /// What a request comes to, or whom it waits for. A response has the memory of the buffer.
     fn identified_request<'a>(
         &'a self,
-        message: Message<'a>,
+        read: &ReadMessage<'a, '_>,
         from: SocketAddr,
         now: UnixTime,
         has_fingerprint: bool,
         buffer: &mut Vec<u8, A>,
     ) -> Result<Identified<'a, A>, AllocError>
-        requires undropped { drop_reason self.now.requires_fingerprint message ≡ None }
-        requires waits { IsWaiting message }
-        requires fingerprint { has_fingerprint ≡ is_fingerprinted message }
+        requires undropped { drop_reason self.now.requires_fingerprint read.now ≡ None }
+        requires waits { IsWaiting read.now }
+        requires fingerprint { has_fingerprint ≡ is_fingerprinted read.now }
         ensures { IfOk result (λ identified. identification_of identified
-            ≡ identified_as self.now from now message.entry
-            (waits_for self.now from (epoch_of self.now now) (reading_of message.entry))) }
+            ≡ identified_as self.now from now read.now
+            (waits_for self.now from (epoch_of self.now now) (reading_of read.now))) }
     {
         let epoch = self.epoch(now);
         let nonce = self.nonce_in(&self.secret, from, epoch)?;
-        match self.awaited(&message, from, epoch, &nonce)? {
+        match self.awaited(read, from, epoch, &nonce)? {
             Some(user) => {
+                let message = read.message().clone()?;
                 let lookup = Lookup::new(message, from, now, user, has_fingerprint);
                 Ok(Identified::Lookup(lookup))
             }
             None => {
                 // No other nonce is the request's, so that the current one tells what it comes to.
-                let verdict = self.judged_by_nobody(&message, &nonce);
+                let verdict = self.judged_by_nobody(read, &nonce);
                 let received = self.judged_into(
-                    message,
+                    read,
                     from,
                     &nonce,
                     verdict,
@@ -254,36 +258,36 @@ impl<A: Allocator + Copy> Server<A> {
     #[tactic(auto, using(crate::proofs::ReadyLemmas::claim_is_awaited, crate::proofs::ReadyLemmas::nobody_is_awaited))]
     fn awaited<'a>(
         &self,
-        message: &Message<'a>,
+        read: &ReadMessage<'a, '_>,
         from: SocketAddr,
         epoch: u64,
         nonce: &str,
     ) -> Result<Option<NamedUser<'a>>, AllocError>
         requires { nonce.now ≡ nonce_in self.now self.now.secret from epoch }
         ensures { IfOk result (λ user. option_map named_seen user
-            ≡ waits_for self.now from epoch (reading_of message.now)) }
+            ≡ waits_for self.now from epoch (reading_of read.now)) }
     {
-        match self.waiting(message, from, epoch, nonce)? {
+        match self.waiting(read, from, epoch, nonce)? {
             Some(claim) => Ok(Some(claim.user())),
             None => Ok(None),
         }
     }
 
     /// What a request claims that waits for its user: only nonce, user and signature are left to look
-    /// at, and it has a nonce that is accepted. The message is read once for all of it.
+    /// at, and it has a nonce that is accepted.
     #[tactic(auto, using(crate::proofs::ReadyLemmas::no_claim_waits_not, crate::proofs::ReadyLemmas::unaccepted_waits_not, crate::proofs::ReadyLemmas::claim_waits))]
-    fn waiting<'a, 'm>(
+    fn waiting<'a, 'm, 'r>(
         &self,
-        message: &'m Message<'a>,
+        read: &'r ReadMessage<'a, 'm>,
         from: SocketAddr,
         epoch: u64,
         nonce: &str,
-    ) -> Result<Option<UserClaim<'a, 'm>>, AllocError>
+    ) -> Result<Option<UserClaim<'a, 'm, 'r>>, AllocError>
         requires { nonce.now ≡ nonce_in self.now self.now.secret from epoch }
         ensures { IfOk result (λ claim. claim
-            ≡ waiting_claim self.now from epoch message.now) }
+            ≡ waiting_claim self.now from epoch read.now) }
     {
-        let Some(claim) = self.auth.claim_in(message) else {
+        let Some(claim) = self.auth.claim_in(read) else {
             return Ok(None);
         };
         if !self.has_accepted_nonce(&claim, from, epoch, nonce)? {
@@ -295,21 +299,21 @@ impl<A: Allocator + Copy> Server<A> {
     /// Judges a request under a nonce, at a realm without users.
     pub(super) fn judged_by_nobody<'a>(
         &'a self,
-        message: &Message<'a>,
+        read: &ReadMessage<'a, '_>,
         nonce: &str,
     ) -> Result<Accepted<'a, A>, VerdictRefusal>
         ensures { client_judged result
             ≡ verdict (registered_of self.now) self.now.feature nonce.now
-            (Some self.now.algorithms) (reading_of message.now) }
+            (Some self.now.algorithms) (reading_of read.now) }
     {
-        self.auth.judge(message, nonce)
+        self.auth.judge_read(read, nonce)
     }
 
     /// Whether a request has a nonce that is accepted, of which the current one is given.
     #[tactic(auto, using(crate::proofs::ReadyLemmas::accepted_parts))]
     fn has_accepted_nonce(
         &self,
-        claim: &UserClaim<'_, '_>,
+        claim: &UserClaim<'_, '_, '_>,
         from: SocketAddr,
         epoch: u64,
         nonce: &str,
@@ -327,7 +331,7 @@ impl<A: Allocator + Copy> Server<A> {
     /// Whether a request has a nonce of the previous secret that is accepted.
     fn has_previous_nonce(
         &self,
-        claim: &UserClaim<'_, '_>,
+        claim: &UserClaim<'_, '_, '_>,
         from: SocketAddr,
         epoch: u64,
     ) -> Result<bool, AllocError>
@@ -348,7 +352,7 @@ impl<A: Allocator + Copy> Server<A> {
     #[tactic(auto, using(crate::proofs::ReadyLemmas::has_current, crate::proofs::ReadyLemmas::has_only_current, crate::proofs::ReadyLemmas::has_before))]
     fn has_nonce_of(
         &self,
-        claim: &UserClaim<'_, '_>,
+        claim: &UserClaim<'_, '_, '_>,
         secret: &PreparedKey<A>,
         from: SocketAddr,
         epoch: u64,
@@ -389,7 +393,8 @@ impl<A: Allocator + Copy> Server<A> {
         if self.lacks_fingerprint(has_fingerprint) {
             return Ok(Received::Dropped(DropReason::MissingFingerprint));
         }
-        self.request_into(message, from, now, judges, has_fingerprint, buffer)
+        let read = ReadMessage::of(&message);
+        self.request_into(&read, from, now, judges, has_fingerprint, buffer)
     }
 
     /// What the request of a look-up comes to, with the bytes of a response in the buffer.

@@ -9,8 +9,9 @@ ghost use Rattle.stun_endpoint.specs.code.Judges.{realm_of};
 
 use crate::server::Server;
 use std::alloc::Allocator;
-use stun_auth::auth::{Accepted, LongTermServerAuth, LongTermServerUser, VerdictRefusal};
-use stun_types::message::Message;
+use stun_auth::auth::{
+    Accepted, LongTermServerAuth, LongTermServerUser, ReadMessage, VerdictRefusal,
+};
 
 /// By whom a request is judged.
 #[derive(Drop)]
@@ -25,17 +26,17 @@ impl<'a, A: Allocator + Copy> Judges<'a, A> {
     /// Judges a request under a nonce.
     pub(crate) fn judge(
         &self,
-        message: &Message<'a>,
+        read: &ReadMessage<'a, '_>,
         nonce: &str,
     ) -> Result<Accepted<'a, A>, VerdictRefusal>
         ensures verdict { client_judged result
-            ≡ verdict_under (realm_of self.now) nonce.now (reading_of message.now) }
+            ≡ verdict_under (realm_of self.now) nonce.now (reading_of read.now) }
         ensures key { IfOk result
-            (HasVerifyingKey (realm_of self.now).users (reading_of message.now)) }
+            (HasVerifyingKey (realm_of self.now).users (reading_of read.now)) }
     {
         match self {
-            Judges::Table(table) => table.judge(message, nonce),
-            Judges::User(realm, user) => realm.judge_of(message, nonce, user),
+            Judges::Table(table) => table.judge_read(read, nonce),
+            Judges::User(realm, user) => realm.judge_read_of(read, nonce, user),
         }
     }
 }

@@ -13,9 +13,8 @@ use crate::server::Server;
 use crate::server::judges::Judges;
 use std::alloc::{AllocError, Allocator};
 use std::net::SocketAddr;
-use stun_auth::auth::{Accepted, VerdictRefusal};
+use stun_auth::auth::{Accepted, ReadMessage, VerdictRefusal, has_nonce};
 use stun_base::prepared_key::PreparedKey;
-use stun_types::message::Message;
 
 impl<A: Allocator + Copy> Server<A> {
     /// Judges a request from an address in an epoch, whose nonce is given.
@@ -23,24 +22,22 @@ impl<A: Allocator + Copy> Server<A> {
     pub(super) fn judged_in<'a>(
         &self,
         judges: &Judges<'a, A>,
-        message: &Message<'a>,
+        read: &ReadMessage<'a, '_>,
         from: SocketAddr,
         epoch: u64,
         nonce: &str,
     ) -> Result<Result<Accepted<'a, A>, VerdictRefusal>, AllocError>
         requires { nonce.now ≡ nonce_in self.now self.now.secret from epoch }
         ensures verdict { IfOk result (λ verdict. client_judged verdict
-            ≡ judged_in self.now (realm_of judges.now) from epoch (reading_of message.now)) }
+            ≡ judged_in self.now (realm_of judges.now) from epoch (reading_of read.now)) }
         ensures key { IfOk result (λ verdict. IfOk verdict
-            (HasVerifyingKey (realm_of judges.now).users (reading_of message.now))) }
+            (HasVerifyingKey (realm_of judges.now).users (reading_of read.now))) }
     {
-        match self.judged_under(judges, message, &self.secret, from, epoch, nonce)? {
+        match self.judged_under(judges, read, &self.secret, from, epoch, nonce)? {
             Ok(accepted) => Ok(Ok(accepted)),
             Err(VerdictRefusal::Unauthorized) => Ok(Err(VerdictRefusal::Unauthorized)),
             Err(VerdictRefusal::BadRequest) => Ok(Err(VerdictRefusal::BadRequest)),
-            Err(VerdictRefusal::StaleNonce) => {
-                self.judged_by_previous(judges, message, from, epoch)
-            }
+            Err(VerdictRefusal::StaleNonce) => self.judged_by_previous(judges, read, from, epoch),
         }
     }
 
@@ -48,21 +45,21 @@ impl<A: Allocator + Copy> Server<A> {
     fn judged_by_previous<'a>(
         &self,
         judges: &Judges<'a, A>,
-        message: &Message<'a>,
+        read: &ReadMessage<'a, '_>,
         from: SocketAddr,
         epoch: u64,
     ) -> Result<Result<Accepted<'a, A>, VerdictRefusal>, AllocError>
         ensures verdict { IfOk result (λ verdict. client_judged verdict
-            ≡ or_previous self.now (realm_of judges.now) self.now.previous from epoch (reading_of message.now)
+            ≡ or_previous self.now (realm_of judges.now) self.now.previous from epoch (reading_of read.now)
             (Err VerdictRefusal.StaleNonce)) }
         ensures key { IfOk result (λ verdict. IfOk verdict
-            (HasVerifyingKey (realm_of judges.now).users (reading_of message.now))) }
+            (HasVerifyingKey (realm_of judges.now).users (reading_of read.now))) }
     {
         let Some(secret) = &self.previous else {
             return Ok(Err(VerdictRefusal::StaleNonce));
         };
         let nonce = self.nonce_in(secret, from, epoch)?;
-        match self.judged_under(judges, message, secret, from, epoch, &nonce)? {
+        match self.judged_under(judges, read, secret, from, epoch, &nonce)? {
             Ok(accepted) => Ok(Ok(accepted)),
             Err(_) => Ok(Err(VerdictRefusal::StaleNonce)),
         }
@@ -72,7 +69,7 @@ impl<A: Allocator + Copy> Server<A> {
     fn judged_under<'a>(
         &self,
         judges: &Judges<'a, A>,
-        message: &Message<'a>,
+        read: &ReadMessage<'a, '_>,
         secret: &PreparedKey<A>,
         from: SocketAddr,
         epoch: u64,
@@ -80,35 +77,40 @@ impl<A: Allocator + Copy> Server<A> {
     ) -> Result<Result<Accepted<'a, A>, VerdictRefusal>, AllocError>
         requires { nonce.now ≡ nonce_in self.now secret.now from epoch }
         ensures verdict { IfOk result (λ verdict. client_judged verdict
-            ≡ judged_under self.now (realm_of judges.now) secret.now from epoch (reading_of message.now)) }
+            ≡ judged_under self.now (realm_of judges.now) secret.now from epoch (reading_of read.now)) }
         ensures key { IfOk result (λ verdict. IfOk verdict
-            (HasVerifyingKey (realm_of judges.now).users (reading_of message.now))) }
+            (HasVerifyingKey (realm_of judges.now).users (reading_of read.now))) }
     {
-        match judges.judge(message, nonce) {
+        match judges.judge(read, nonce) {
             Err(VerdictRefusal::StaleNonce) if epoch > 0 => {
-                self.judged_before(judges, message, secret, from, epoch - 1)
+                self.judged_before(judges, read, secret, from, epoch - 1)
             }
             verdict => Ok(verdict),
         }
     }
 
     /// Judges a request whose nonce is stale, by the nonce of the epoch before.
+    #[tactic(auto, using(crate::proofs::PreviousLemmas::other_nonce_is_stale))]
     fn judged_before<'a>(
         &self,
         judges: &Judges<'a, A>,
-        message: &Message<'a>,
+        read: &ReadMessage<'a, '_>,
         secret: &PreparedKey<A>,
         from: SocketAddr,
         before: u64,
     ) -> Result<Result<Accepted<'a, A>, VerdictRefusal>, AllocError>
         ensures verdict { IfOk result (λ verdict. client_judged verdict
             ≡ or_before (Err VerdictRefusal.StaleNonce) (verdict_under (realm_of judges.now)
-            (nonce_in self.now secret.now from before) (reading_of message.now))) }
+            (nonce_in self.now secret.now from before) (reading_of read.now))) }
         ensures key { IfOk result (λ verdict. IfOk verdict
-            (HasVerifyingKey (realm_of judges.now).users (reading_of message.now))) }
+            (HasVerifyingKey (realm_of judges.now).users (reading_of read.now))) }
     {
         let nonce = self.nonce_in(secret, from, before)?;
-        match judges.judge(message, &nonce) {
+        // Only the acceptance counts here, so nothing else is looked at under another nonce.
+        if !has_nonce(read, &nonce) {
+            return Ok(Err(VerdictRefusal::StaleNonce));
+        }
+        match judges.judge(read, &nonce) {
             Ok(accepted) => Ok(Ok(accepted)),
             Err(_) => Ok(Err(VerdictRefusal::StaleNonce)),
         }

@@ -31,9 +31,9 @@ use crate::unix_time::UnixTime;
 use crate::users::Users;
 use std::alloc::{AllocError, Allocator};
 use std::net::SocketAddr;
-use stun_auth::auth::{Accepted, LongTermServerUser, VerdictRefusal};
+use stun_auth::auth::{Accepted, LongTermServerUser, ReadMessage, VerdictRefusal};
 use stun_base::prepared_key::PreparedKey;
-use stun_types::message::{Message, MessageClass, deciding_algorithm};
+use stun_types::message::{Message, MessageClass};
 
 impl<A: Allocator + Copy> Server<A> {
     /// Judges a datagram, and writes the response if it gets one at once.
@@ -219,7 +219,8 @@ impl<A: Allocator + Copy> Server<A> {
     {
         match message.class() {
             MessageClass::Request => {
-                self.request_into(message, from, now, judges, has_fingerprint, buffer)
+                let read = ReadMessage::of(&message);
+                self.request_into(&read, from, now, judges, has_fingerprint, buffer)
             }
             MessageClass::Indication => Ok(self.indication(message)),
             MessageClass::Success => Ok(Received::Response(message)),
@@ -243,61 +244,61 @@ impl<A: Allocator + Copy> Server<A> {
     /// What a request comes to. A response has the memory of the buffer.
     pub(super) fn request_into<'a>(
         &self,
-        message: Message<'a>,
+        read: &ReadMessage<'a, '_>,
         from: SocketAddr,
         now: UnixTime,
         judges: &Judges<'a, A>,
         has_fingerprint: bool,
         buffer: &mut Vec<u8, A>,
     ) -> Result<Received<'a, A>, AllocError>
-        requires { has_fingerprint ≡ is_fingerprinted message }
+        requires { has_fingerprint ≡ is_fingerprinted read.now }
         ensures { IfOk result (λ received. outcome_of received
-            ≡ by_verdict self.now (realm_of judges.now) from now message.entry
-            (judged self.now (realm_of judges.now) from now (reading_of message.entry))) }
+            ≡ by_verdict self.now (realm_of judges.now) from now read.now
+            (judged self.now (realm_of judges.now) from now (reading_of read.now))) }
     {
         let epoch = self.epoch(now);
         let nonce = self.nonce_in(&self.secret, from, epoch)?;
-        let verdict = self.judged_in(judges, &message, from, epoch, &nonce)?;
-        self.judged_into(message, from, &nonce, verdict, has_fingerprint, buffer)
+        let verdict = self.judged_in(judges, read, from, epoch, &nonce)?;
+        self.judged_into(read, from, &nonce, verdict, has_fingerprint, buffer)
     }
 
     /// What a judged request comes to. The nonce is the one to send with a refusal.
     pub(super) fn judged<'a>(
         &self,
-        message: Message<'a>,
+        read: &ReadMessage<'a, '_>,
         from: SocketAddr,
         nonce: &str,
         verdict: Result<Accepted<'a, A>, VerdictRefusal>,
         has_fingerprint: bool,
     ) -> Result<Received<'a, A>, AllocError>
-        requires fingerprint { has_fingerprint ≡ is_fingerprinted message }
+        requires fingerprint { has_fingerprint ≡ is_fingerprinted read.now }
         requires offer { asks_for_algorithms nonce.now ≡ contains Sha256 self.now.algorithms }
         ensures { IfOk result (λ received. outcome_of received
-            ≡ by_judgement self.now nonce.now from message.entry verdict.entry) }
+            ≡ by_judgement self.now nonce.now from read.now verdict.entry) }
     {
         let mut buffer = Vec::new(self.alloc);
-        self.judged_into(message, from, nonce, verdict, has_fingerprint, &mut buffer)
+        self.judged_into(read, from, nonce, verdict, has_fingerprint, &mut buffer)
     }
 
     /// What a judged request comes to. The nonce is the one to send with a refusal. A response has
     /// the memory of the buffer.
     pub(super) fn judged_into<'a>(
         &self,
-        message: Message<'a>,
+        read: &ReadMessage<'a, '_>,
         from: SocketAddr,
         nonce: &str,
         verdict: Result<Accepted<'a, A>, VerdictRefusal>,
         has_fingerprint: bool,
         buffer: &mut Vec<u8, A>,
     ) -> Result<Received<'a, A>, AllocError>
-        requires fingerprint { has_fingerprint ≡ is_fingerprinted message }
+        requires fingerprint { has_fingerprint ≡ is_fingerprinted read.now }
         requires offer { asks_for_algorithms nonce.now ≡ contains Sha256 self.now.algorithms }
         ensures { IfOk result (λ received. outcome_of received
-            ≡ by_judgement self.now nonce.now from message.entry verdict.entry) }
+            ≡ by_judgement self.now nonce.now from read.now verdict.entry) }
     {
         match verdict {
-            Ok(accepted) => self.accepted(message, from, accepted, has_fingerprint, buffer),
-            Err(refusal) => self.refused(&message, from, nonce, refusal, has_fingerprint, buffer),
+            Ok(accepted) => self.accepted(read, from, accepted, has_fingerprint, buffer),
+            Err(refusal) => self.refused(read, from, nonce, refusal, has_fingerprint, buffer),
         }
     }
 
@@ -311,22 +312,24 @@ impl<A: Allocator + Copy> Server<A> {
     /// What an accepted request comes to.
     pub(super) fn accepted<'a>(
         &self,
-        message: Message<'a>,
+        read: &ReadMessage<'a, '_>,
         from: SocketAddr,
         accepted: Accepted<'a, A>,
         has_fingerprint: bool,
         buffer: &mut Vec<u8, A>,
     ) -> Result<Received<'a, A>, AllocError>
-        requires { has_fingerprint ≡ is_fingerprinted message }
+        requires { has_fingerprint ≡ is_fingerprinted read.now }
         ensures { IfOk result (λ received. outcome_of received
-            ≡ outcome_of_accepted self.now accepted.entry.key from message.entry
+            ≡ outcome_of_accepted self.now accepted.entry.key from read.now
             accepted.entry.client) }
     {
-        let signature = signature_for(&message, accepted.key())?;
-        match self.own_answer(&message, from, &signature, has_fingerprint, buffer)? {
+        let signature = signature_for(read, accepted.key())?;
+        let message = read.message();
+        match self.own_answer(message, from, &signature, has_fingerprint, buffer)? {
             Some(answer) => Ok(Received::Answer(answer)),
             None => {
-                let reply = self.reply(&message, from, signature, has_fingerprint)?;
+                let reply = self.reply(message, from, signature, has_fingerprint)?;
+                let message = message.clone()?;
                 let request = Request::new(message, accepted.name(), accepted.algorithm(), reply);
                 Ok(Received::Request(request))
             }
@@ -370,12 +373,12 @@ impl<A: Allocator + Copy> Server<A> {
 /// What the responses to an accepted request are signed by: the integrity attribute that the request
 /// has, under the key of its user.
 fn signature_for<A: Allocator + Copy>(
-    request: &Message<'_>,
+    read: &ReadMessage<'_, '_>,
     key: &PreparedKey<A>,
 ) -> Result<Option<Signature<A>>, AllocError>
-    ensures { IfOk result (λ signature. signature ≡ signature_for key.now request.now) }
+    ensures { IfOk result (λ signature. signature ≡ signature_for key.now read.now) }
 {
-    match deciding_algorithm(request.as_bytes()) {
+    match read.deciding_algorithm() {
         Some(algorithm) => Ok(Some(Signature::new(algorithm, key.clone()?))),
         None => Ok(None),
     }

@@ -19,7 +19,7 @@ use crate::received::{Answer, Received, Refusal};
 use crate::server::Server;
 use std::alloc::{AllocError, Allocator};
 use std::net::SocketAddr;
-use stun_auth::auth::{VerdictRefusal, told_refusal};
+use stun_auth::auth::{ReadMessage, VerdictRefusal, told_refusal};
 use stun_buffer::writer::BufferWriter;
 use stun_types::attribute::attribute_length;
 use stun_types::message::{Message, StunWriteError};
@@ -31,19 +31,20 @@ impl<A: Allocator + Copy> Server<A> {
     /// What a refused request comes to.
     pub(super) fn refused<'a>(
         &self,
-        request: &Message<'_>,
+        read: &ReadMessage<'_, '_>,
         from: SocketAddr,
         nonce: &str,
         refusal: VerdictRefusal,
         has_fingerprint: bool,
         buffer: &mut Vec<u8, A>,
     ) -> Result<Received<'a, A>, AllocError>
-        requires fingerprint { has_fingerprint ≡ is_fingerprinted request.now }
+        requires fingerprint { has_fingerprint ≡ is_fingerprinted read.now }
         requires offer { asks_for_algorithms nonce.now ≡ contains Sha256 self.now.algorithms }
         ensures { IfOk result (λ received. outcome_of received
-            ≡ refused_with self.now nonce.now from request.now refusal) }
+            ≡ refused_with self.now nonce.now from read.now refusal) }
     {
-        let told = told_refusal(refusal, request, nonce);
+        let told = told_refusal(refusal, read, nonce);
+        let request = read.message();
         let answer = self.answer_to_refused(request, from, nonce, told, has_fingerprint, buffer)?;
         Ok(Received::Answer(answer))
     }

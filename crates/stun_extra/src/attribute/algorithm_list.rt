@@ -11,11 +11,10 @@ ghost use Rattle.stun_types.specs.Limits.{max_length};
 ghost use Rattle.stun_extra.specs.AlgorithmList.{algorithm_list_in, are_filled, entry_answer};
 ghost use Rattle.stun_extra.specs.AlgorithmListLaws.{algorithm_list_in-written};
 
-use crate::attribute::value::append_header;
 use std::alloc::AllocError;
 use std::marker::Model;
 use stun_base::error::{StunParseError, StunWriteError};
-use stun_types::attribute::{AttributeType, RawAttribute};
+use stun_types::attribute::{AttributeType, RawAttribute, append_header};
 use stun_types::prelude::*;
 
 /// The largest number of bytes of an entry's parameters.

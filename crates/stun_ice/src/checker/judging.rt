@@ -32,7 +32,7 @@ pub(crate) enum Verdict {
 }
 
 impl Verdict {
-    /// What the caller is told, whose role was this one.
+    /// Returns the verdict for a caller whose role was `before`.
     pub(crate) fn judged(self, before: Role) -> Judged
         ensures { result ≡ judged_of before self }
     {
@@ -49,7 +49,7 @@ impl Verdict {
 }
 
 impl Verdict {
-    /// The role that the check leaves, to an agent whose role was this one.
+    /// Returns the role that an agent has after the check, whose role was `before`.
     pub(crate) fn role(self, before: Role) -> Role
         ensures { result ≡ role_of before self }
     {
@@ -127,7 +127,7 @@ impl<A: Allocator> Checker<A> {
     }
 }
 
-/// Whether a check nominates its pair to a receiver that has this role.
+/// Returns whether a check nominates its pair to a receiver that has this role.
 fn is_nominated(role: Role, check: &Message<'_>) -> bool
     ensures { result ≡ is_nominated role check.now }
 {

@@ -33,7 +33,7 @@ pub(crate) enum Judgement<'a> {
     Dropped(DropReason),
 }
 
-/// Why bytes that are no message are dropped.
+/// Returns why bytes are dropped that are not a message.
 fn no_message(bytes: &[u8]) -> DropReason
     ensures { result ≡ no_message bytes.now }
 {
@@ -43,7 +43,7 @@ fn no_message(bytes: &[u8]) -> DropReason
     }
 }
 
-/// The role of an agent after an outcome, whose role was this one.
+/// Returns the role that an agent has after an outcome, whose role was `before`.
 fn role_after_outcome(role: Role, outcome: &Outcome) -> Role
     ensures { result ≡ role_after_outcome role outcome.now }
 {
@@ -217,7 +217,7 @@ impl<A: Allocator + Copy> Checker<A> {
         }
     }
 
-    /// What a datagram comes to. An answer has the memory of the buffer.
+    /// Judges a datagram. An answer has the memory of the buffer.
     fn received<'a>(
         &mut self,
         bytes: &'a [u8],

@@ -20,7 +20,7 @@ use stun_types::attribute::ErrorCode;
 use stun_types::message::{IntegrityAlgorithm, Message, MessageClass};
 
 impl<A: Allocator> Checker<A> {
-    /// Whether a response is signed by the peer, as the checks of this agent are.
+    /// Returns whether a response is signed by the peer, as the checks of this agent are.
     pub(super) fn is_signed(&self, response: &Message<'_>) -> bool
         ensures { result ≡ is_signed self.now response.now }
     {
@@ -86,7 +86,7 @@ fn of_success(response: &Message<'_>) -> Outcome
     }
 }
 
-/// Whether a response answers a check: it has the ID of the check.
+/// Returns whether a response answers a check: it has the ID of the check.
 pub(super) fn is_answered<A: Allocator>(check: &Check<A>, response: &Message<'_>) -> bool
     ensures { result ≡ is_answered check.now response.now }
 {

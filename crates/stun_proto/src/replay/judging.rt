@@ -16,8 +16,8 @@ use stun_base::instant::Instant;
 use stun_base::words::WordSource;
 use stun_types::message::Message;
 
-/// What a server makes of a message: the algorithm with which it is accepted, or why it is refused.
-/// The one error is that an allocation failed; the server is then as before.
+/// Returns what a server makes of a message: the algorithm with which it is accepted, or why it is
+/// refused. The one error is that an allocation failed; the server is then as before.
 pub(crate) fn judged<A: Allocator + Copy>(
     server: &mut LongTermServerAuth<A>,
     message: &Message<'_>,
@@ -38,7 +38,7 @@ pub(crate) fn judged<A: Allocator + Copy>(
     }
 }
 
-/// The algorithm with which a message is accepted.
+/// Returns the algorithm with which a message is accepted.
 fn validated_algorithm(validation: LongTermServerValidation) -> IntegrityAlgorithm
     ensures { LongTermServerValidation.Validated result ≡ validation }
 {
@@ -47,7 +47,7 @@ fn validated_algorithm(validation: LongTermServerValidation) -> IntegrityAlgorit
     }
 }
 
-/// A refusal of the server, where it is not that an allocation failed.
+/// Returns a refusal of the server, unless an allocation failed.
 fn server_refusal(
     reason: LongTermServerAuthErrorReason,
 ) -> Result<Result<IntegrityAlgorithm, LongTermServerAuthErrorReason>, AllocError>

@@ -45,7 +45,7 @@ pub(crate) fn sign<A: Allocator + Copy>(
     reply_to_signing(sign_message(alloc, server, &message, to))
 }
 
-/// The reply to a signing, where no allocation failed.
+/// Returns the reply to a signing, if no allocation failed.
 fn reply_to_signing<A: Allocator>(
     signed: Result<MessageWriteVec<A>, StunWriteError>,
 ) -> Result<ServerReply<A>, AllocError>

@@ -17,7 +17,7 @@ pub(crate) struct StepLog<A: Allocator> {
 }
 
 impl<A: Allocator> StepLog<A> {
-    /// A log without steps.
+    /// Creates a log without steps.
     pub(crate) fn new(alloc: A) -> Self
         ensures { kept_steps result ≡ Some [] }
     {
@@ -27,7 +27,7 @@ impl<A: Allocator> StepLog<A> {
         }
     }
 
-    /// A step more, or all steps are lost.
+    /// Adds a step. If there is no memory for it, all steps are lost.
     pub(crate) fn add(&mut self, step: Result<AgentStep<A>, AllocError>)
         ensures { (s : Step) → IfOk step (λ x. step_of x ≡ s)
             → Keeps (kept_steps self.old) (s ∷ []) (kept_steps self.new) }

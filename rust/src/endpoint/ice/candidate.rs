@@ -1,6 +1,7 @@
 //! Candidates: their priorities, and their lines in SDP.
 
 use alloc::string::{String, ToString};
+use alloc::vec::Vec;
 use core::fmt;
 use core::net::{IpAddr, SocketAddr};
 use core::str::FromStr;
@@ -104,8 +105,9 @@ pub fn pair_priority(controlling: u32, controlled: u32) -> u64 {
 /// A candidate over UDP, as SDP has it (RFC 8839, section 5.1).
 ///
 /// It is parsed from the value of an `a=candidate` line, which is what browsers have in
-/// `RTCIceCandidate.candidate`, with or without `a=` in front, and displayed without it. Extensions
-/// at the end of the line are skipped. Reading and writing are tested, and not proved.
+/// `RTCIceCandidate.candidate`, with or without `a=` in front, and displayed without it. The
+/// extensions at the end of the line, whatever their names are, are stored and displayed too. Reading
+/// and writing are tested, and not proved.
 ///
 /// # Examples
 ///
@@ -119,6 +121,19 @@ pub fn pair_priority(controlling: u32, controlled: u32) -> u64 {
 /// assert_eq!(candidate.address, "203.0.113.9:4242".parse()?);
 /// assert_eq!(candidate.to_string(), line);
 /// # Ok::<(), Box<dyn std::error::Error>>(())
+/// ```
+///
+/// A browser adds extensions, of which `ufrag` names the session that the candidate belongs to:
+///
+/// ```
+/// use seatcrane_stun::endpoint::ice::Candidate;
+///
+/// let line = "candidate:1 1 udp 2113937151 192.0.2.1 5000 typ host \
+///             generation 0 ufrag h6vY network-cost 999";
+/// let candidate: Candidate = line.parse()?;
+/// assert_eq!(candidate.extension("ufrag"), Some("h6vY"));
+/// assert_eq!(candidate.to_string(), line);
+/// # Ok::<(), seatcrane_stun::endpoint::ice::CandidateError>(())
 /// ```
 #[derive(Clone, Debug, PartialEq, Eq, Hash)]
 pub struct Candidate {
@@ -134,6 +149,21 @@ pub struct Candidate {
     pub address: SocketAddr,
     /// The base of a reflexive candidate, or the mapped address of a relayed one.
     pub related: Option<SocketAddr>,
+    /// The names and the values at the end of the line, in their order. Neither may be empty or have
+    /// a space in it.
+    pub extensions: Vec<(String, String)>,
+}
+
+impl Candidate {
+    /// Returns the value of the first extension with this name. `ufrag` has the username fragment of
+    /// the agent that the candidate belongs to, which tells a candidate of a restarted session from
+    /// one of the session before (RFC 8840).
+    #[must_use]
+    pub fn extension(&self, name: &str) -> Option<&str> {
+        let mut extensions = self.extensions.iter();
+        let (_, value) = extensions.find(|(other, _)| other == name)?;
+        Some(value)
+    }
 }
 
 impl fmt::Display for Candidate {
@@ -145,10 +175,13 @@ impl fmt::Display for Candidate {
             f,
             "candidate:{foundation} {component} udp {priority} {ip} {port} typ {kind}"
         )?;
-        match self.related {
-            Some(at) => write!(f, " raddr {} rport {}", at.ip(), at.port()),
-            None => Ok(()),
+        if let Some(at) = self.related {
+            write!(f, " raddr {} rport {}", at.ip(), at.port())?;
         }
+        for (name, value) in &self.extensions {
+            write!(f, " {name} {value}")?;
+        }
+        Ok(())
     }
 }
 
@@ -243,14 +276,24 @@ impl FromStr for Candidate {
                 .find(|one| one.name() == kind)
                 .ok_or(CandidateError::Kind)?,
             related: None,
+            extensions: Vec::new(),
         };
         // The related address stands before the extensions, which are pairs of words too.
-        let related = match [words.next(), words.next(), words.next(), words.next()] {
-            [Some("raddr"), Some(ip), Some("rport"), Some(port)] => address(ip, port),
+        let mut rest = words.clone();
+        let related = match [rest.next(), rest.next(), rest.next(), rest.next()] {
+            [Some("raddr"), Some(ip), Some("rport"), Some(port)] => {
+                words = rest;
+                address(ip, port)
+            }
             _ => None,
         };
+        let mut extensions = Vec::new();
+        while let (Some(name), Some(value)) = (words.next(), words.next()) {
+            extensions.push((name.to_string(), value.to_string()));
+        }
         Ok(Candidate {
             related,
+            extensions,
             ..candidate
         })
     }

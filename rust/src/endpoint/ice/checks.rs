@@ -470,8 +470,8 @@ impl Checks {
     /// and `::ffff:a.b.c.d`.
     ///
     /// The answer to a check must come from where the check went, to where it was sent from:
-    /// otherwise the check has failed, by [`OtherPath`](super::Failure::OtherPath) (RFC 8445, section 7.2.5.2.1). All
-    /// else is as [`Checker::receive`] says.
+    /// otherwise the check has failed, by [`OtherPath`](super::Failure::OtherPath) (RFC 8445, section
+    /// 7.2.5.2.1). All else is as [`Checker::receive`] says.
     pub fn receive<'a>(
         &mut self,
         bytes: &'a [u8],

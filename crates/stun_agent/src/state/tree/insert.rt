@@ -46,6 +46,7 @@ pub(crate) fn insert<A: Allocator + Copy, D: Drop>(
             Ok(())
         }
         Link::Leaf(_, _) => {
+            // If a later allocation fails, this fork stays, with the one request that was here.
             deepen(link, levels, alloc)?;
             insert_below(link, levels, alloc, awaited, leaf)
         }

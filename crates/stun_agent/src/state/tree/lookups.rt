@@ -109,6 +109,7 @@ pub(crate) fn length_sent<A: Allocator, D>(
 }
 
 /// Returns the leaf with the least ID among those whose request is due and still retransmitted.
+// Inlined into the search of the fork above, so that a link with nothing to find costs no call.
 #[cycle(first_sent)]
 #[inline(always)]
 fn first_sent<A: Allocator, D>(

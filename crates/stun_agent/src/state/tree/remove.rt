@@ -207,6 +207,7 @@ impl<A: Allocator, D> Fork<A, D> {
         if let Some(lone) = self.take_lone() {
             return Some(lone);
         }
+        // If it awaited a later time than the others, they await the same without it.
         if gone.may_be_first_of(all) {
             *all = self.awaited();
         }

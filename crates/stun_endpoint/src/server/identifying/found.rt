@@ -22,7 +22,7 @@ use crate::server::Server;
 use crate::unix_time::UnixTime;
 use std::alloc::{AllocError, Allocator};
 use std::net::SocketAddr;
-use stun_auth::auth::{FoundUser, UserClaim};
+use stun_auth::auth::{FoundUser, ReadMessage, UserClaim};
 use stun_base::algorithm::IntegrityAlgorithm;
 use stun_base::prepared_key::PreparedKey;
 use stun_types::message::{Message, MessageClass};
@@ -76,7 +76,8 @@ impl<A: Allocator + Copy> Server<A> {
     {
         match message.class() {
             MessageClass::Request => {
-                self.found_request(message, from, now, user, has_fingerprint)
+                let read = ReadMessage::of(&message);
+                self.found_request(&read, from, now, user, has_fingerprint)
             }
             MessageClass::Indication => Ok(self.indication(message)),
             MessageClass::Success => Ok(Received::Response(message)),
@@ -87,29 +88,29 @@ impl<A: Allocator + Copy> Server<A> {
     /// What a request comes to.
     fn found_request<'a>(
         &'a self,
-        message: Message<'a>,
+        read: &ReadMessage<'a, '_>,
         from: SocketAddr,
         now: UnixTime,
         user: &FoundUser<'a>,
         has_fingerprint: bool,
     ) -> Result<Received<'a, A>, AllocError>
-        requires { has_fingerprint ≡ is_fingerprinted message }
+        requires { has_fingerprint ≡ is_fingerprinted read.now }
         ensures { IfOk result (λ received. outcome_of received
-            ≡ by_verdict self.now (realm_of_found self.now user.now) from now message.entry
+            ≡ by_verdict self.now (realm_of_found self.now user.now) from now read.now
             (judged self.now (realm_of_found self.now user.now) from now
-            (reading_of message.entry))) }
+            (reading_of read.now))) }
     {
         let epoch = self.epoch(now);
         let nonce = self.nonce_in(&self.secret, from, epoch)?;
-        match self.found_key(&message, from, epoch, &nonce, user)? {
+        match self.found_key(read, from, epoch, &nonce, user)? {
             Some((algorithm, signature)) => {
                 let name = user.name();
-                self.accepted_from(message, from, name, algorithm, signature, has_fingerprint)
+                self.accepted_from(read, from, name, algorithm, signature, has_fingerprint)
             }
             None => {
                 // Whatever the user's key is, the current nonce tells why the request is refused.
-                let verdict = self.judged_by_nobody(&message, &nonce);
-                self.judged(message, from, &nonce, verdict, has_fingerprint)
+                let verdict = self.judged_by_nobody(read, &nonce);
+                self.judged(read, from, &nonce, verdict, has_fingerprint)
             }
         }
     }
@@ -119,7 +120,7 @@ impl<A: Allocator + Copy> Server<A> {
     #[tactic(auto, using(crate::proofs::FoundLemmas::found_unclaimed, crate::proofs::FoundLemmas::found_refused, crate::proofs::FoundLemmas::found_accepted))]
     fn found_key(
         &self,
-        message: &Message<'_>,
+        read: &ReadMessage<'_, '_>,
         from: SocketAddr,
         epoch: u64,
         nonce: &str,
@@ -127,9 +128,9 @@ impl<A: Allocator + Copy> Server<A> {
     ) -> Result<Option<(IntegrityAlgorithm, Signature<A>)>, AllocError>
         requires { nonce.now ≡ nonce_in self.now self.now.secret from epoch }
         ensures { IfOk result
-            (IsFoundKey self.now user.now from epoch message.now) }
+            (IsFoundKey self.now user.now from epoch read.now) }
     {
-        let Some(claim) = self.waiting(message, from, epoch, nonce)? else {
+        let Some(claim) = self.waiting(read, from, epoch, nonce)? else {
             return Ok(None);
         };
         match self.verified_found(&claim, user) {
@@ -141,7 +142,7 @@ impl<A: Allocator + Copy> Server<A> {
     /// The user's key, with the algorithm whose digest verifies under it, if a claim is the user's.
     fn verified_found(
         &self,
-        claim: &UserClaim<'_, '_>,
+        claim: &UserClaim<'_, '_, '_>,
         user: &FoundUser<'_>,
     ) -> Option<(IntegrityAlgorithm, PreparedKey<A>)>
         ensures { result ≡ found_key (registered_of self.now) claim.now user.now }
@@ -152,24 +153,26 @@ impl<A: Allocator + Copy> Server<A> {
     /// What a request comes to that is accepted from the user of a name.
     fn accepted_from<'a>(
         &self,
-        message: Message<'a>,
+        read: &ReadMessage<'a, '_>,
         from: SocketAddr,
         name: &'a str,
         algorithm: IntegrityAlgorithm,
         signature: Signature<A>,
         has_fingerprint: bool,
     ) -> Result<Received<'a, A>, AllocError>
-        requires fingerprint { has_fingerprint ≡ is_fingerprinted message }
-        requires signature { signature_for signature.key message ≡ Some signature }
+        requires fingerprint { has_fingerprint ≡ is_fingerprinted read.now }
+        requires signature { signature_for signature.key read.now ≡ Some signature }
         ensures { IfOk result (λ received. outcome_of received
-            ≡ outcome_of_accepted self.now signature.key from message.entry
+            ≡ outcome_of_accepted self.now signature.key from read.now
             (record { name = name.entry.now; algorithm = algorithm })) }
     {
         let signature = Some(signature);
-        match self.answer_itself(&message, from, &signature, has_fingerprint)? {
+        let message = read.message();
+        match self.answer_itself(message, from, &signature, has_fingerprint)? {
             Some(answer) => Ok(Received::Answer(answer)),
             None => {
-                let reply = self.reply_to(&message, from, signature, has_fingerprint)?;
+                let reply = self.reply_to(message, from, signature, has_fingerprint)?;
+                let message = message.clone()?;
                 let request = Request::new(message, name, algorithm, reply);
                 Ok(Received::Request(request))
             }

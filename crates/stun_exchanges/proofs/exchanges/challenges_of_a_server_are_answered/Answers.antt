@@ -1,5 +1,5 @@
 -- A challenge is read as the server means it, and answered by the rule.
-use Rattle.std.proofs.Common.{◌∙◌, ap, map}
+use Rattle.std.proofs.Common.{◌∙◌, ap, map, true}
 use Rattle.stun_auth.specs.Nonces.{letter}
 use Rattle.stun_exchanges.specs.Agreement.{meant_by, offered_by}
 use Rattle.stun_client.specs.Clients.{responded}
@@ -29,7 +29,7 @@ returns c = λ s kind secret from to server epoch request client asked who p acc
       answers = both.0;
     })
     ∙ ap (λ i. responded response asked.number
-    (judged client.requires_fingerprint i client.standing asked.signed_for response)) identity
+    (judged client.requires_fingerprint true i client.standing asked.signed_for response)) identity
     ∙ ap (responded response asked.number)
     (c.answerable_challenges_are_answered.ensures.sent client.requires_fingerprint who p accepts
     client.standing asked.signed_for response (meant_for s p who nonce a) both.0.whole

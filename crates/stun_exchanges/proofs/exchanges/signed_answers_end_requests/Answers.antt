@@ -1,5 +1,5 @@
 -- A response that a server ends is a signed answer, and such an answer is believed.
-use Rattle.std.proofs.Common.{◌∙◌, ap}
+use Rattle.std.proofs.Common.{◌∙◌, ap, true}
 use Rattle.stun_client.specs.Clients.{responded}
 use Rattle.stun_client.specs.Judging.{judged, long_term}
 use Rattle.stun_exchanges.proofs.HeardLemmas.{heard_is}
@@ -35,9 +35,9 @@ returns-clause-heard c = λ server request response client asked answered who p 
     let required = client.requires_fingerprint in
     heard_is client server request response asked is
     ∙ ap (λ i. responded response asked.number
-    (judged required i client.standing asked.signed_for response)) identity
+    (judged required true i client.standing asked.signed_for response)) identity
     ∙ ap (λ o. responded response asked.number
-    (judged required (long_term who p accepts) client.standing o response)) signed_for
+    (judged required true (long_term who p accepts) client.standing o response)) signed_for
     ∙ ap (responded response asked.number)
     (c.signed_answers_are_believed.ensures required who p accepts client.standing answered response a
     signed)

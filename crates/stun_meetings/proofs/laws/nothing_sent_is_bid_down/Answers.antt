@@ -95,7 +95,7 @@ rule_for c (Some x) fine = fine.by_rule
 
 laws_of : (c : goal.After-requests_can_be_written) → ChallengeLaws
 laws_of c = record {
-  anew = c.requests_are_sent_again_for_new_challenges.ensures;
+  anew = λ required. c.requests_are_sent_again_for_new_challenges.ensures required true;
   by_rule = c.challenges_are_by_the_rule.ensures.by_rule;
   of_message = c.challenges_are_by_the_rule.ensures.of_message;
 }

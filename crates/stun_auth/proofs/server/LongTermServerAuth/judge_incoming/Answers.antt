@@ -13,7 +13,7 @@ returns-then-is_response-clause-state g c =
     let r = reading_of c.args.message.now in
     let needless : needs_nonce r ≡ false =
     ap (λ b. not (b || is_malformed r))
-    (ap (λ (x : Reading). is_response x.class) (sym c.of-reading.ensures)
+    (ap (λ (x : Reading). is_response x.class) (sym c.of-reading.ensures.reading)
     ∙ sym c.is_response.ensures ∙ c.if-is_response.true) in
     or_memory c.check_response.result
     (after_needless c.args.self.now c.args.from c.args.now
@@ -22,7 +22,7 @@ returns-then-is_response-clause-state g c =
 pub returns-in_default-clause-state : goal.returns-in_default-clause-state
 returns-in_default-clause-state g c =
     let r = reading_of c.args.message.now in
-    let request = ap (λ (x : Reading). is_response x.class) (sym c.of-reading.ensures)
+    let request = ap (λ (x : Reading). is_response x.class) (sym c.of-reading.ensures.reading)
     ∙ sym c.is_response.ensures ∙ c.if-is_response.false in
     let malformed : is_malformed r ≡ true = search rules in
     let needless : needs_nonce r ≡ false = ap (λ b. not (b || is_malformed r)) request

@@ -7,7 +7,7 @@ use Rattle.stun_endpoint.proofs.server.Server.awaited.Goals as goal
 pub returns-in-Some : goal.returns-in-Some
 returns-in-Some g c =
     let s = c.args.self.now in
-    let bytes = c.args.message.now in
+    let bytes = c.args.read.now in
     let waits : waiting_claim s c.args.from c.args.epoch bytes ≡ Some c.in-Some.claim =
     search rules in
     ap Some c.user.ensures

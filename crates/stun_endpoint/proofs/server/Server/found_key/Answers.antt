@@ -10,7 +10,7 @@ pub returns-in-Some-verified_found : goal.returns-in-Some-verified_found
 returns-in-Some-verified_found g c =
     let s = c.args.self.now in
     let user = c.args.user.now in
-    let bytes = c.args.message.now in
+    let bytes = c.args.read.now in
     let claim = c.in-Some.claim in
     let by = c.in-Some-verified_found.by in
     let key = c.in-Some-verified_found.key in

@@ -16,7 +16,7 @@ pub returns-in-Some : goal.returns-in-Some
 returns-in-Some g c =
     let s = c.args.self.now in
     let user = c.args.user.now in
-    let bytes = c.args.message in
+    let bytes = c.args.read.now in
     let algorithm = c.in-Some.algorithm in
     let signature = c.in-Some.signature in
     let at : IsFoundKey s user c.args.from c.epoch-epoch.result bytes c.in_ok-algorithm.field-0 =
@@ -36,7 +36,7 @@ pub returns : goal.returns
 returns g c =
     let s = c.args.self.now in
     let user = c.args.user.now in
-    let bytes = c.args.message in
+    let bytes = c.args.read.now in
     let r = reading_of bytes in
     let one = c.deref-in-None.result.now in
     let two = c.deref-in-None-2.result.now in

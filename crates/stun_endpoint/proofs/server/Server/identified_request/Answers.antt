@@ -10,7 +10,7 @@ use Rattle.stun_endpoint.proofs.server.Server.identified_request.Goals as goal
 pub returns : goal.returns
 returns g c =
     let s = c.args.self.now in
-    let r = reading_of c.args.message in
+    let r = reading_of c.args.read.now in
     let one = c.deref-in-None.result.now in
     let two = c.deref-in-None-2.result.now in
     let v = c.judged_by_nobody-verdict.result in
@@ -21,9 +21,9 @@ returns g c =
     let again : two ≡ nonce_in s s.secret c.args.from (epoch_of s c.args.now) =
     first_of (search rules, grind arith) in
     let same =
-    unnamed_done s c.args.from c.args.now c.args.message one v
+    unnamed_done s c.args.from c.args.now c.args.read.now one v
     c.requires.undropped c.requires.waits.request none made
     c.judged_by_nobody-verdict.ensures in
     ap done (c.in_ok-received-in-None.ensures
-    ∙ ap (λ n. by_judgement s n c.args.from c.args.message v) (again ∙ sym made) ∙ same)
-    ∙ sym (ap (identified_as s c.args.from c.args.now c.args.message) none)
+    ∙ ap (λ n. by_judgement s n c.args.from c.args.read.now v) (again ∙ sym made) ∙ same)
+    ∙ sym (ap (identified_as s c.args.from c.args.now c.args.read.now) none)

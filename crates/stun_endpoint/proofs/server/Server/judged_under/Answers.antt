@@ -12,7 +12,7 @@ pub returns-in-Err-StaleNonce-clause-verdict : goal.returns-in-Err-StaleNonce-cl
 returns-in-Err-StaleNonce-clause-verdict g c =
     let s = c.args.self.now in
     let realm = realm_of c.args.judges.now in
-    let r = reading_of c.args.message.now in
+    let r = reading_of c.args.read.now in
     let stale : verdict_under realm (nonce_in s c.args.secret.now c.args.from c.args.epoch) r
     ≡ Err StaleNonce = search rules in
     let same =

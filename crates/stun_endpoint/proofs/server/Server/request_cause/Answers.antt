@@ -1,5 +1,5 @@
 -- The cause by the verdict of the code is the one of the definitions.
-use Rattle.std.proofs.Common.{rules, arith, ◌≡◌, ◌∙◌, ap, sym, Some, Ok, Err}
+use Rattle.std.proofs.Common.{rules, arith, ◌≡◌, ◌∙◌, ap, sym, None, Some, Ok, Err}
 use Rattle.stun_auth.specs.Reading.{reading_of}
 use Rattle.stun_endpoint.specs.Causes.{or_unknown}
 use Rattle.stun_endpoint.specs.Judged.{judged}
@@ -13,19 +13,19 @@ pub returns-in-Ok : goal.returns-in-Ok
 returns-in-Ok g c =
     let s = c.args.self.now in
     let realm = realm_of c.args.judges.now in
-    let r = reading_of c.args.request.now in
+    let r = reading_of c.args.read.now in
     let client = c.in-Ok.field-0.client in
     let is : judged s realm c.args.from c.args.now r ≡ Ok client =
     first_of (search rules, grind arith) in
-    c.unknown_cause.ensures
-    ∙ sym (ap (or_unknown s c.args.request.now)
+    c.unknown_cause.ensures ∙ ap (λ m. or_unknown s m None) c.message.ensures
+    ∙ sym (ap (or_unknown s c.args.read.now)
     (accepted_cause s realm c.args.from r c.args.now client is))
 
 pub returns : goal.returns
 returns g c =
     let s = c.args.self.now in
     let realm = realm_of c.args.judges.now in
-    let r = reading_of c.args.request.now in
+    let r = reading_of c.args.read.now in
     let why = c.in-Err.refusal in
     let nonce = c.deref-in-Err.result.now in
     let is : judged s realm c.args.from c.args.now r ≡ Err why =
@@ -34,5 +34,5 @@ returns g c =
     first_of (search rules, grind arith) in
     ap (λ cause. Some cause) (c.refused_cause.ensures
     ∙ ap (λ n. cause_by_refusal s n r why) made)
-    ∙ sym (ap (or_unknown s c.args.request.now)
+    ∙ sym (ap (or_unknown s c.args.read.now)
     (refused_cause s realm c.args.from r c.args.now why is))

@@ -13,7 +13,7 @@ pub returns : goal.returns
 returns g c =
     let s = c.args.self.now in
     let realm = realm_of c.args.judges.now in
-    let bytes = c.args.message in
+    let bytes = c.args.read.now in
     let nonce = c.deref-2.result.now in
     let v = c.in_ok-verdict.verdict in
     let is : client_judged v ≡ judged s realm c.args.from c.args.now (reading_of bytes) =

@@ -16,7 +16,7 @@ pub returns-in-Ok : goal.returns-in-Ok
 returns-in-Ok g c =
     let s = c.args.self.now in
     let realm = realm_of c.args.judges.now in
-    let bytes = c.args.message in
+    let bytes = c.args.read.now in
     let r = reading_of bytes in
     let nonce = c.deref.result.now in
     let accepted = c.in-Ok.accepted in
@@ -38,7 +38,7 @@ pub returns : goal.returns
 returns g c =
     let s = c.args.self.now in
     let realm = realm_of c.args.judges.now in
-    let bytes = c.args.message in
+    let bytes = c.args.read.now in
     let r = reading_of bytes in
     let why = c.in-Err.refusal in
     let nonce = c.as_str-text.result.now in

@@ -23,9 +23,9 @@ abbrev read_code : MessageClass → Option CodeAndReason → Option ℕ
 read_code class error =
     cond (is_error class) (option_map (λ (e : CodeAndReason). e.code) error) None
 
-pub returns : goal.returns
+pub returns-clause-reading : goal.returns-clause-reading
 unfolding reading_of
-returns c =
+returns-clause-reading c =
     let members = visible c.args.message.now in
     let last = c.of-last.ensures in
     let message = c.args.message.now in λ i. record {

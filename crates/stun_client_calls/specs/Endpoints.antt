@@ -1,0 +1,19 @@
+-- How a request ends.
+use Rattle.std.specs.Prelude.{ℕ, List, [], ◌∷◌}
+use Rattle.std.specs.BTreeMap.{is_at}
+use Rattle.std.specs.Map.{remove_entry}
+use Rattle.std.specs.Ordering.{nat_cmp}
+use Rattle.stun_client_endpoint.specs.declared.ended.RequestEnd.{RequestEnd}
+use Rattle.stun_client_calls.specs.Ids.{Earlier}
+use Rattle.stun_client_calls.specs.Messages.{AllSent}
+
+-- how a request has ended, and the response that ended it, or no bytes
+pub record EndSeen : Type 0 where
+  pub end : RequestEnd
+  pub response : List ℕ
+
+-- the transaction IDs of earlier messages without those of these messages, whose request ends
+abbrev pub without_all : AllSent → Earlier → Earlier
+without_all [] earlier = earlier
+without_all (e ∷ others) earlier =
+    without_all others (remove_entry (is_at (nat_cmp e.1.id)) earlier)

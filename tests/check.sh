@@ -93,7 +93,7 @@ for name in arguments attributes extra log sockaddr; do
     passes $name "$scratch/$name"
 done
 passes refused ./refused.sh
-for name in agents client endpoint handles hostile ice ice_checks many users worked; do
+for name in agents client endpoint handles hostile ice ice_checks many texts users worked; do
     $cc $c99 -Wno-conversion -I"$scratch" c/$name.c $heap $archives -o "$scratch/$name"
     passes $name "$scratch/$name"
 done

@@ -53,7 +53,7 @@ passes() {
     [ "$1" != aarch64 ] || python3 tests/play.py "$out/play" tests/transcripts/*.txt
 }
 
-every='arguments attributes extra agents client endpoint handles hostile ice ice_checks many users worked'
+every='arguments attributes extra agents client endpoint handles hostile ice ice_checks many texts users worked'
 [ $# -gt 0 ] || set -- i686 armv7 aarch64 s390x
 fetched || { echo "Debian's rustc-web $least cannot be fetched here." >&2; exit 1; }
 export RUSTC="$at/usr/bin/rustc" CARGO_TARGET_DIR="$PWD/target/foreign"

@@ -107,7 +107,7 @@ tests/next.sh
 sed -n 's/^ \*     //p; /\*\/$/q' include/stunp.h > "$out/answer.h"
 sed -n 's/^ \*     //p; /\*\/$/q' include/stunp_state.h > "$out/ask.h"
 sed -n 's/^ \*     //p; /\*\/$/q' include/stunp_endpoint.h > "$out/serve.h"
-for name in agents client endpoint handles hostile ice ice_checks many users worked play; do
+for name in agents client endpoint handles hostile ice ice_checks many texts users worked play; do
     ${CC:-cc} $strict -I"$out" "tests/c/$name.c" examples/c/heap.c "$out/libstunp.a" $libraries \
         -o "$out/$name"
     [ $name = play ] || expect "$name: passed" "$out/$name"

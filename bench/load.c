@@ -53,7 +53,7 @@ static size_t value_of(const uint8_t *message, size_t length, uint16_t wanted,
     size_t value_length;
     for (int64_t at = 0; (at = stunp_next(message, length, (size_t)at, &type, &value_length)) > 0;)
         if (type == wanted) {
-            *value = message + at + 4;
+            *value = message + at;
             return value_length;
         }
     return 0;

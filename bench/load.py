@@ -1,19 +1,23 @@
 #!/usr/bin/env python3
-"""Loads udp_server, and coturn's turnserver where it is installed, over loopback, and prints a
-Markdown table.
+"""Loads a bare echo, udp_server, and coturn's turnserver where it is installed, over loopback, and
+prints a Markdown table.
 
-    load.py [COUNT]         datagrams a row, 100000 unless given
+    load.py [--count N] [--rounds N]     datagrams a row and round: 100000, and 5 rounds
 
-Each row starts a server and opens 1,000 ports that send the kinds of datagrams in turn (load.c). It
-tells how many requests a second were answered, and the processor time of the server for each
-datagram. It tells the resident bytes of all its processes before and after. Last come how many
-requests were not answered, and how many datagrams the kernel dropped at the server's sockets. Then
-four times as many addresses as COUNT flood a server, 60,000 a second (flood.c), while new clients
-ask. It ends only what it started.
+Each round starts the server of each row afresh, and opens 1,000 ports that send the kinds of
+datagrams in turn (load.c); the next round begins when all rows had theirs. The table tells how many
+requests a second were answered (the median of the rounds), and the processor time of the server for
+each datagram (the least and the median), which is compared with that of the row that it names. It
+tells the resident bytes of all its processes before and after, how many requests were not answered,
+and how many datagrams the kernel dropped at the server's sockets, in all rounds. Last, four times as
+many addresses as datagrams a row flood a server, 60,000 a second (flood.c), while new clients ask. It
+ends only what it started.
 
-    load.py --flood [COUNT] [PROGRAM]    the flood alone, of udp_server or of a program with the
-                                         same words
+    load.py --flood [--count N] [PROGRAM]    the flood alone, of udp_server or of a program with the
+                                             same words
 """
+import argparse
+import contextlib
 import os
 import pathlib
 import re
@@ -23,6 +27,7 @@ import subprocess
 import sys
 import tempfile
 import time
+from typing import NamedTuple
 
 HERE = pathlib.Path(__file__).resolve().parent
 sys.path.insert(0, str(HERE.parent / "tests/udp"))
@@ -65,26 +70,59 @@ def dropped(port):
     return total
 
 
-def row(load, what, server, count, mix, window, loaders=1):
-    """Loads a running server by so many programs at once."""
-    pid, port = server.process.pid, server.port
-    share = window if loaders == 1 else window // loaders
-    words = [load, port, count // loaders, 1000 // loaders, share, mix,
-             *((NAME, PASSWORD) if "s" in mix else ())]
+class Row(NamedTuple):
+    """A row of the table: its name, the server, what it is sent, and the row to compare it with."""
+    name: str
+    server: object
+    mix: str
+    window: object
+    beside: str = ""
+    loaders: int = 1
+    times: int = 1
+
+
+class Round(NamedTuple):
+    """What one round of a row came to."""
+    answered: float
+    micros: float
+    before: int
+    after: int
+    lost: float
+    requests: float
+    dropped: int
+
+
+def measured(load, row, server, count):
+    """Loads a running server, by so many programs at once as the row says."""
+    pid, port, count = server.process.pid, server.port, count * row.times
+    share = row.window if row.loaders == 1 else row.window // row.loaders
+    words = [load, port, count // row.loaders, 1000 // row.loaders, share, row.mix,
+             *((NAME, PASSWORD) if "s" in row.mix else ())]
     memory, spent = resident(pid), processor_seconds(pid)
     started = [subprocess.Popen([str(word) for word in words], stdout=subprocess.PIPE, text=True)
-               for _ in range(loaders)]
+               for _ in range(row.loaders)]
     lines = [one.communicate(timeout=120)[0].split() for one in started]
     spent, lost = processor_seconds(pid) - spent, dropped(port)
     told = [dict(zip(line[::2], map(float, line[1::2]))) for line in lines]
     total = {key: sum(one[key] for one in told) for key in told[0]}
     answered = total["successes"] + total["challenges"] + total["errors"]
-    seconds = max(one["seconds"] for one in told)
-    kinds = ", ".join(KINDS[kind] for kind in mix)
-    print(f"| {what} | {kinds} | {window} | {answered / seconds:,.0f} | "
-          f"{1e6 * spent / total['sent']:.1f} | "
-          f"{memory:,} → {resident(pid):,} | {total['lost']:,.0f} of {total['requests']:,.0f} | "
-          f"{lost:,} |", flush=True)
+    assert row.mix != "s" or total["successes"] > 0.99 * total["requests"], (row.name, total)
+    return Round(answered / max(one["seconds"] for one in told), 1e6 * spent / total["sent"], memory,
+                 resident(pid), total["lost"], total["requests"], lost)
+
+
+def shown(row, rounds, medians):
+    """A line of the table."""
+    middle = {key: statistics.median(getattr(one, key) for one in rounds)
+              for key in ("answered", "before", "after")}
+    ratio = f"{medians[row.name] / medians[row.beside]:.2f} of {row.beside}" if row.beside else ""
+    kinds = " ".join(row.mix)
+    return (f"| {row.name} | {kinds} | {row.window} | {middle['answered']:,.0f} | "
+            f"{min(one.micros for one in rounds):.2f} | {medians[row.name]:.2f} | {ratio} | "
+            f"{middle['before']:,.0f} → {middle['after']:,.0f} | "
+            f"{sum(one.lost for one in rounds):,.0f} of "
+            f"{sum(one.requests for one in rounds):,.0f} | "
+            f"{sum(one.dropped for one in rounds):,} |")
 
 
 def patient(peer, request):
@@ -135,44 +173,77 @@ def flood(program, count):
               flush=True)
 
 
+def rows(folder):
+    """The rows, each with a function that starts its server."""
+    def ours(*words):
+        return lambda: check.Server(interop.SERVER, *words)
+
+    def theirs(*words):
+        return lambda: interop.turnserver(*words)
+
+    yield Row("echo", lambda: check.Server(folder / "echo"), "u", 64)
+    for workers in sorted({1, CORES}):
+        words, of = ("--workers", str(workers)), f"{workers} worker{'s' * (workers > 1)}"
+        loaders = 1 if workers == 1 else 2
+        alone_open, with_users = f"udp_server, {of}", f"udp_server with users, {of}"
+        yield Row(f"{alone_open}", ours(*words), "u", 64, "echo" if workers == 1 else "", loaders)
+        yield Row(f"{alone_open}, garbage", ours(*words), "ug", 64, "", loaders)
+        yield Row(f"{with_users}, 401s", ours(*check.USER, *words), "u", 64, alone_open, loaders)
+        for mix, window in (("s", 64), ("usg", 64), ("usg", 1000)):
+            yield Row(f"{with_users}, {' '.join(mix)} {window}", ours(*check.USER, *words), mix,
+                      window, "", loaders)
+    yield Row("udp_server with users, 1 worker, 60000/s", ours(*check.USER), "usg", "60000/s", times=3)
+    yield Row("udp_server with users, --sha256, 1 worker", ours(*check.USER, "--sha256"), "usg", 64)
+    if shutil.which("turnserver"):
+        secure = ("--lt-cred-mech", "--secure-stun", "-r", REALM, "-u", f"{NAME}:{PASSWORD}")
+        for threads, of in (((), ""), (("-m", "1"), " -m 1")):
+            beside = {"u": "udp_server, 1 worker", "s": "udp_server with users, 1 worker, s 64"}
+            for mix, words in (("u", ("--stun-only",)), ("usg", secure), ("s", secure)):
+                yield Row(f"turnserver{' with users' * ('s' in mix)}{of}, {' '.join(mix)}",
+                          theirs(*words, *threads), mix, 64, beside.get(mix, ""))
+
+
+def compiled(folder):
+    """Builds the programs that load and the echo; returns the former."""
+    command = [*check.harness.compiler(), "-O2", f"-I{check.TOP}/include", *check.harness.inlined()]
+    subprocess.run([*command, check.harness.HERE / "echo.c", "-o", folder / "echo"], check=True)
+    load = folder / "load"
+    subprocess.run([*command, HERE / "load.c", check.STATELESS, *check.harness.BESIDE.split(), "-o",
+                    load], check=True)
+    return load
+
+
 def main():
-    if sys.argv[1:2] == ["--flood"]:
-        return flood(sys.argv[3] if len(sys.argv) > 3 else interop.SERVER,
-                     int(sys.argv[2]) if len(sys.argv) > 2 else 400000)
-    count = int(sys.argv[1]) if len(sys.argv) > 1 else 100000
+    words = argparse.ArgumentParser()
+    words.add_argument("--flood", action="store_true")
+    words.add_argument("--count", type=int)
+    words.add_argument("--rounds", type=int, default=5)
+    words.add_argument("program", nargs="?", default=interop.SERVER)
+    chosen = words.parse_args()
+    if chosen.flood:
+        return flood(chosen.program, chosen.count or 400000)
+    count = chosen.count or 100000
     subprocess.run(["make", "-s", "-C", check.TOP / "examples/c", "udp", f"STATE={check.STATE}",
-                    f"LIBRARY={check.STATELESS}", f"SYSTEM={check.harness.BESIDE}"], check=True)
-    print("| Server | Datagrams in turn | Unanswered at most, or sent a second "
-          "| Answered a second | Processor µs a datagram | KiB before → after "
-          "| Lost | Dropped by the kernel |\n|---|---|---|---|---|---|---|---|")
-    with tempfile.TemporaryDirectory() as folder:
-        load = pathlib.Path(folder) / "load"
-        subprocess.run(["cc", "-O2", f"-I{check.TOP}/include", *check.harness.inlined(),
-                        HERE / "load.c", check.STATELESS, *check.harness.BESIDE.split(), "-o", load],
-                       check=True)
-        rows = [("u", 64, 1), ("ug", 64, 1), ("usg", 64, 1), ("s", 64, 1), ("usg", 1000, 1)]
-        for workers in sorted({1, CORES}):
-            for mix, window, loaders in rows:
-                users = check.USER if "s" in mix else ()
-                kind = "udp_server with users" if users else "udp_server"
-                what = f"{kind}, {workers} worker{'s' * (workers > 1)}"
-                with check.Server(interop.SERVER, *users, "--workers", str(workers)) as server:
-                    row(load, what, server, count, mix, window, 1 if workers == 1 else 2)
-        with check.Server(interop.SERVER, *check.USER) as server:
-            row(load, "udp_server with users, 1 worker", server, 3 * count, "usg", "60000/s")
-        with check.Server(interop.SERVER, *check.USER, "--sha256") as server:
-            row(load, "udp_server with users, --sha256, 1 worker", server, count, "usg", 64)
-        if shutil.which("turnserver"):
-            secure = ("--lt-cred-mech", "--secure-stun", "-r", REALM, "-u", f"{NAME}:{PASSWORD}")
-            for threads in ((), ("-m", "1")):
-                for mix, words in (("u", ("--stun-only",)), ("usg", secure), ("s", secure)):
-                    shown = (word for word in (*words[:2], *threads)
-                             if word[0] == "-" or word == "1")
-                    what = "turnserver " + " ".join(shown)
-                    with interop.turnserver(*words, *threads) as server:
-                        row(load, what, server, count, mix, 64)
-    print(f"\n{CORES} cores, load average before the last row {os.getloadavg()[0]:.1f}\n")
-    flood(interop.SERVER, 4 * count)
+                    f"ENDPOINT={check.harness.ENDPOINT}", f"LIBRARY={check.STATELESS}",
+                    f"SYSTEM={check.harness.BESIDE}"], check=True)
+    with tempfile.TemporaryDirectory() as room:
+        folder = pathlib.Path(room)
+        load, table = compiled(folder), list(rows(folder))
+        figures = {row.name: [] for row in table}
+        for _ in range(chosen.rounds):
+            for row in table:
+                with contextlib.closing(contextlib.ExitStack()) as stack:
+                    server = stack.enter_context(row.server())
+                    figures[row.name].append(measured(load, row, server, count))
+    medians = {name: statistics.median(one.micros for one in rounds)
+               for name, rounds in figures.items()}
+    print("| Server | Sent | Open | Answered a second | µs, least | µs, median | Ratio of medians "
+          "| KiB before → after | Lost | Dropped by the kernel |\n|" + "---|" * 10)
+    for row in table:
+        print(shown(row, figures[row.name], medians))
+    print(f"\n{CORES} cores, {chosen.rounds} rounds of {count:,} datagrams a row, load average "
+          f"{os.getloadavg()[0]:.1f}\n")
+    return flood(interop.SERVER, 4 * count)
 
 
 if __name__ == "__main__":

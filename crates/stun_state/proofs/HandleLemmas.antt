@@ -13,7 +13,7 @@ use Rattle.stun_state.specs.declared.handle.state.Kept.TheVariants as kind
 use Rattle.stun_state.specs.declared.handle.state.StateHandle.{StateHandle}
 
 -- a handle that is not full has no value
-none_is : (o : Option Kept) → is_some o ≡ false → o ≡ None
+pub none_is : (o : Option Kept) → is_some o ≡ false → o ≡ None
 none_is None is = refl
 none_is (Some k) is = absurd (true≢false is)
 
@@ -24,7 +24,7 @@ wrong (kind.Server s) = refl
 wrong (kind.Client c) = refl
 wrong (kind.User u) = refl
 
-of_kind : (number : ℕ) (o : Option Kept) (k : Kept) → IsOfKind number o → o ≡ Some k
+pub of_kind : (number : ℕ) (o : Option Kept) (k : Kept) → IsOfKind number o → o ≡ Some k
     → number ≡ kind_of k
 of_kind number o k is has = sym (is k has)
 

@@ -1,7 +1,13 @@
+mod AgentCalls
 mod Enough
 mod Errors
 mod Exports
 mod HandleLemmas
+mod Holding
+mod Keeping
 mod NumberLemmas
 mod Reasons
+mod Signatures
 mod SlotWords
+mod Tellings
+mod Verdicts

@@ -106,11 +106,11 @@ again TooManyAddresses = refl
 again CannotSign = refl
 again WrongHandle = refl
 
-same_refusal : (r s : Refusal) → refusal_number r ≡ refusal_number s → r ≡ s
+pub same_refusal : (r s : Refusal) → refusal_number r ≡ refusal_number s → r ≡ s
 same_refusal r s is = same_value r s (sym (again r) ∙ ap (λ z. numbered (size z)) is ∙ again s)
 
 -- no other number is that of a refusal
-no_refusal : (n : ℕ) (r : Refusal) → pos n ≡ refusal_number r → ⊥
+pub no_refusal : (n : ℕ) (r : Refusal) → pos n ≡ refusal_number r → ⊥
 no_refusal n r is =
     true≢false (sym (below r) ∙ ap (λ z. int_lt z (pos 0)) (sym is) ∙ not_below n)
 

@@ -181,6 +181,7 @@ pub record WritesBytes (made : Result (List ℕ) Refusal) (buffer buffer' : List
 
 -- a message with a header fits memory of so many bytes, which are no more than the longest message
 -- has
+-- its own law: what the calls that sign require of their memory
 pub record FitsMemory (message : List ℕ) (memory : ℕ) : Type 0 where
   pub header : BeginsWithHeader message
   pub room : length message ≤ memory

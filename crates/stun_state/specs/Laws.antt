@@ -1,16 +1,46 @@
 -- What the laws of this crate say.
-use Rattle.std.specs.Prelude.{◌≡◌, ◌≢◌, ◌<◌, ◌^◌, ⊤, ℕ, ℤ, Some, Result, Ok, Err}
+use Rattle.std.specs.Prelude.{◌≡◌, ◌≢◌, ◌⊎◌, ◌<◌, ◌≤◌, ◌^◌, ◌++◌, ⊤, ℕ, ℤ, pos, int_lt, true, List}
+use Rattle.std.specs.Prelude.{[]}
+use Rattle.std.specs.Prelude.{length, Option, Some, None, Result, Ok, Err}
+use Rattle.std.specs.declared.net.socket_addr.SocketAddr.{SocketAddr}
+use Rattle.byteorder.specs.Endian.{big_bytes}
+use Rattle.stun_agent.specs.Agent.{Agent}
+use Rattle.stun_agent.specs.Statistics.{new_statistics}
+use Rattle.stun_agent.specs.Timing.{default_settings}
+use Rattle.stun_agent.specs.Transactions.{Transaction}
+use Rattle.stun_agent.specs.declared.agent.StunAgentPollRet.{StunAgentPollRet}
+use Rattle.stun_agent.specs.declared.agent.StunAgentPollRet.TheVariants.{TransactionTimedOut}
+use Rattle.stun_agent.specs.declared.agent.StunAgentPollRet.TheVariants.{TransactionCancelled}
+use Rattle.stun_agent.specs.declared.agent.StunAgentPollRet.TheVariants.{WaitUntil}
+use Rattle.stun_handles.specs.Addresses.{caller_address, socket_address}
+use Rattle.stun_handles.specs.declared.address.Address.{Address}
+use Rattle.stun_state.specs.declared.agent.Timeouts.{Timeouts}
+use Rattle.stun_auth.specs.ClientStep.{ClientAnswer}
+use Rattle.stun_auth.specs.Handed.{Named, by_hash, by_name}
+use Rattle.stun_auth.specs.Seen.{ClientSeen}
+use Rattle.stun_auth.specs.declared.feature.Feature.{Feature}
+use Rattle.stun_auth.specs.declared.feature.Feature.TheVariants.{Auto, Required, Disabled}
+use Rattle.stun_auth.specs.declared.client.answer.LongTermClientValidation.TheVariants.{
+  ResendRequest,
+  Validated,
+}
 use Rattle.stun_handles.specs.Kinds.{EMPTY}
+use Rattle.stun_numbers.specs.Algorithms.{algorithm_number}
 use Rattle.stun_numbers.specs.Refusals.{refusal_number}
 use Rattle.stun_numbers.specs.declared.refusal.Refusal.{Refusal}
 use Rattle.stun_numbers.specs.declared.refusal.Refusal.TheVariants.{EmptyHandle, WrongHandle}
 use Rattle.stun_state.specs.Kept.{kind_of}
+use Rattle.stun_state.specs.Numbers.{resend_number}
 use Rattle.stun_state.specs.declared.handle.state.Kept.{Kept}
 use Rattle.stun_state.specs.declared.handle.state.StateHandle.{StateHandle}
 
 -- no two results have one number
 abbrev pub TellsApart : {V : Type 0} → (Result V Refusal → ℤ) → Type 0
 TellsApart {V} number = (r s : Result V Refusal) → number r ≡ number s → r ≡ s
+
+-- a result that is an error: it is below 0
+abbrev pub IsError : ℤ → Type 0
+IsError result = int_lt result (pos 0) ≡ true
 
 -- how many bytes there are, which is below 2^63 of any buffer
 abbrev pub IsLength : Result ℕ Refusal → Type 0
@@ -23,3 +53,83 @@ pub record IsRefusedAs (handle : StateHandle) (number : ℕ) (result : ℤ) : Ty
   pub empty : handle.kind ≡ EMPTY → result ≡ refusal_number EmptyHandle
   pub other : (k : Kept) → handle.slot.kept ≡ Some k → kind_of k ≢ number
       → result ≡ refusal_number WrongHandle
+
+-- this is what is kept of a key of so many bytes that a caller passes: none of no bytes, and else
+-- the key itself, which has them all
+abbrev pub IsStoredAs : ℕ → List ℕ → Option (List ℕ) → Type 0
+IsStoredAs size key kept =
+    ((length key ≡ 0) × (kept ≡ None)) ⊎ ((length key ≡ size) × (kept ≡ Some key))
+
+-- a caller is told whom a message names: by the number, by what the buffer begins with, and by how
+-- long that is
+abbrev pub IsNamedIn : Option Named → ℕ → List ℕ → ℕ → Type 0
+IsNamedIn None number buffer size = number ≡ 0
+IsNamedIn (Some (by_name name)) number buffer size =
+    (number ≡ 1) × ((rest : List ℕ) × (buffer ≡ name ++ rest)) × (size ≡ length name)
+IsNamedIn (Some (by_hash hash)) number buffer size =
+    (number ≡ 2) × ((rest : List ℕ) × (buffer ≡ hash ++ rest)) × (size ≡ length hash)
+
+-- a client's answer is no refusal, and has this number: that of the algorithm of a valid signature,
+-- or the one that asks for another request
+abbrev pub IsAsked : ClientAnswer → ℕ → Type 0
+IsAsked (Ok (Validated algorithm)) number = number ≡ algorithm_number algorithm
+IsAsked (Ok (ResendRequest digest)) number = number ≡ resend_number digest
+IsAsked (Err reason) number = ⊥
+
+-- an agent as it is made: at this address, with no fixed peer, with the time-outs of RFC 8489, and
+-- with nothing sent, nobody validated and nothing counted
+pub record IsNew (agent : Agent) (address : SocketAddr) : Type 0 where
+  pub local : agent.local_addr ≡ address
+  pub remote : agent.remote_addr ≡ None
+  pub settings : agent.settings ≡ default_settings
+  pub transactions : agent.transactions ≡ []
+  pub peers : agent.peers ≡ []
+  pub statistics : agent.statistics ≡ Some new_statistics
+
+-- no two transmissions of a request with these time-outs are due at one moment
+abbrev pub Waits : Timeouts → Type 0
+Waits t = (t.transmissions ≤ 1) ⊎ ((t.initial ≢ 0) × (t.longest ≢ 0))
+
+-- this is the only address to which an agent sends: any where the caller's has length 0, and else
+-- the caller's
+abbrev pub IsBoundTo : Address → Option SocketAddr → Type 0
+IsBoundTo given remote = ((given.length ≡ 0) × (remote ≡ None))
+    ⊎ ((address : SocketAddr) × (socket_address given ≡ Some address) × (remote ≡ Some address))
+
+-- a caller is told what a poll returns: until when to wait, or which request has timed out or was
+-- canceled, by its id at the front of the buffer
+abbrev pub IsPolled : StunAgentPollRet → ℕ → ℕ → List ℕ → Type 0
+IsPolled (WaitUntil moment) number until buffer = (number ≡ 0) × (until ≡ moment)
+IsPolled (TransactionTimedOut id) number until buffer =
+    (number ≡ 1) × (rest : List ℕ) × (buffer ≡ big_bytes 12 id ++ rest)
+IsPolled (TransactionCancelled id) number until buffer =
+    (number ≡ 2) × (rest : List ℕ) × (buffer ≡ big_bytes 12 id ++ rest)
+
+-- a caller is told what is sent again: nothing, or the bytes of the request at the front of the
+-- buffer, how many these are, and the address to which the request went
+abbrev pub IsSentAgain : Option (ℕ × Transaction) → ℕ → List ℕ → Address → Type 0
+IsSentAgain None number buffer to = number ≡ 0
+IsSentAgain (Some e) number buffer to =
+    (number ≡ length e.1.bytes) × ((rest : List ℕ) × (buffer ≡ e.1.bytes ++ rest))
+    × (to ≡ caller_address e.1.to)
+
+-- a caller is told who was validated last at an address: nobody, or the number of the algorithm,
+-- what the buffer begins with, and how long that is
+abbrev pub IsClientTold : Option ClientSeen → ℕ → List ℕ → ℕ → Type 0
+IsClientTold None number buffer size = number ≡ 0
+IsClientTold (Some c) number buffer size =
+    (number ≡ algorithm_number c.algorithm) × ((rest : List ℕ) × (buffer ≡ c.name ++ rest))
+    × (size ≡ length c.name)
+
+-- a caller is told the nonce of an address: none, or how long it is, and what the buffer begins
+-- with
+abbrev pub IsNonceTold : Option (List ℕ) → ℕ → List ℕ → Type 0
+IsNonceTold None number buffer = number ≡ 0
+IsNonceTold (Some nonce) number buffer =
+    (number ≡ length nonce) × ((rest : List ℕ) × (buffer ≡ nonce ++ rest))
+
+-- the number of a feature, as `include/stunp_state.h` has it
+abbrev pub feature_number : Feature → ℕ
+feature_number Auto = 0
+feature_number Required = 1
+feature_number Disabled = 2

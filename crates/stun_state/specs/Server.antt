@@ -33,6 +33,7 @@ use Rattle.stun_state.specs.declared.handle.state.Server.{Server as Kept}
 -- ---- settings
 
 -- of so many addresses something may be kept where no bound was set
+-- its own law: the greatest number of 64 bits
 abbrev pub UNBOUNDED : ℕ
 UNBOUNDED = 18446744073709551615
 

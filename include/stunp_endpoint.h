@@ -259,6 +259,7 @@
  *    stunp_endpoint_users_add_keys, stunp_endpoint_users_remove, stunp_endpoint_users_clear,
  *    stunp_endpoint_users_free, stunp_endpoint_users_new_found
  *   datagrams: stunp_endpoint_server_receive_own, stunp_endpoint_server_receive, stunp_drop_text,
+ *    stunp_endpoint_server_receive_many,
  *    stunp_endpoint_server_cause_own, stunp_endpoint_server_cause, stunp_cause_text
  *   look-ups: stunp_endpoint_server_identify_own, stunp_endpoint_server_identify,
  *    stunp_endpoint_server_resume_own, stunp_endpoint_server_resume,
@@ -630,6 +631,31 @@ typedef struct {
     bool is_hash;
 } stunp_received;
 
+/* One of the datagrams that are judged by stunp_endpoint_server_receive_many.
+ *
+ *   bytes, length  its bytes
+ *   from           the address that it came from
+ *   received       where what it comes to is written, as stunp_endpoint_server_receive does, with
+ *                  its `size` set by STUNP_INIT. May be null, but then no request can be answered */
+typedef struct {
+    const uint8_t *bytes;
+    size_t length;
+    stunp_address from;
+    stunp_received *received;
+} stunp_datagram;
+
+/* What such a datagram comes to. A field is 0 unless its line names the kind.
+ *
+ *   kind    what stunp_endpoint_server_receive returns for it: a stunp_kind, or an error
+ *   offset  STUNP_ANSWER: where the answer begins in the bytes of all answers
+ *   length  STUNP_ANSWER: how many bytes are to be sent. STUNP_BUFFER_TOO_SMALL: how many bytes the
+ *           answer has */
+typedef struct {
+    int64_t kind;
+    size_t offset;
+    size_t length;
+} stunp_judged;
+
 /* A user that you found, for stunp_endpoint_server_resume. What is null is not stored: set the
  * password, or one of the keys, or both.
  *
@@ -949,6 +975,40 @@ stunp_endpoint_server_receive(const stunp_endpoint_server *server,
 
 /* Returns a text for the reason of STUNP_DROPPED, as stunp_strerror does for an error. */
 STUNP_INLINED const char *stunp_drop_text(stunp_drop why);
+
+/* Judges `count` datagrams in their order, as stunp_endpoint_server_receive does one after the
+ * other with the same time, and writes what each comes to to `judged`, which has room for `count`
+ * results. The answers are written to `out` one after the other, without gaps, so that one system
+ * call can send all (sendmmsg).
+ *
+ *     enum { BATCH = 32 };
+ *     static uint8_t out[BATCH * 2048]; // STUNP_ANSWER_MAX or more
+ *     stunp_judged judged[BATCH];
+ *     for (size_t done = 0, more; done < count; done += more) { // count <= BATCH
+ *         more = stunp_endpoint_server_receive_many(server, users, datagrams + done, count - done,
+ *                                                   time, out, sizeof out, judged);
+ *         for (size_t i = 0; i < more; i++)
+ *             if (judged[i].kind == STUNP_ANSWER)
+ *                 send_to(socket, out + judged[i].offset, judged[i].length,
+ *                         &datagrams[done + i].from);
+ *     }
+ *
+ * If an answer does not fit into what is left of `room`, the call ends: it returns the number of
+ * datagrams before, the next result has the kind STUNP_BUFFER_TOO_SMALL and tells the length of the
+ * answer, and no later one is written. Nothing is lost: pass the rest again, with new room. With
+ * STUNP_ANSWER_MAX bytes each call judges one datagram at least. After any other error of one
+ * datagram, which is the kind of its result, the call goes on to the next.
+ *
+ * `datagrams`, `judged` and `out` must not overlap.
+ *
+ * Returns how many datagrams were judged, from the first one on. */
+STUNP_USE_RESULT
+STUNP_INLINED size_t
+stunp_endpoint_server_receive_many(const stunp_endpoint_server *server,
+                                   const stunp_endpoint_users *users,
+                                   const stunp_datagram *datagrams, size_t count,
+                                   uint64_t unix_seconds, uint8_t *STUNP_RESTRICT out, size_t room,
+                                   stunp_judged *judged);
 
 /* Returns why a datagram is refused, like stunp_endpoint_server_cause, with handles that nothing
  * else uses during the call. They stay as they are.

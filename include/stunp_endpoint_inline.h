@@ -134,6 +134,32 @@ stunp_endpoint_server_receive(const stunp_endpoint_server *server,
     return kind;
 }
 
+STUNP_INLINED size_t
+stunp_endpoint_server_receive_many(const stunp_endpoint_server *server,
+                                   const stunp_endpoint_users *users,
+                                   const stunp_datagram *datagrams, size_t count,
+                                   uint64_t unix_seconds, uint8_t *STUNP_RESTRICT out, size_t room,
+                                   stunp_judged *judged) {
+    stunp_received unread = STUNP_INIT(stunp_received);
+    size_t used = 0, i;
+    for (i = 0; i < count; i++) {
+        const stunp_datagram *one = &datagrams[i];
+        stunp_judged *told = &judged[i];
+        stunp_received *received = one->received != NULL ? one->received : &unread;
+        told->kind = stunp_endpoint_server_receive(
+            server, users, one->bytes, one->length, &one->from, unix_seconds,
+            room == 0 ? out : out + used, room - used, received);
+        told->offset = told->kind == STUNP_ANSWER ? used : 0;
+        told->length = told->kind == STUNP_ANSWER             ? received->length
+                       : told->kind == STUNP_BUFFER_TOO_SMALL ? received->needed
+                                                              : 0;
+        if (told->kind == STUNP_BUFFER_TOO_SMALL) break;
+        used += told->length;
+    }
+    stunp_reply_wipe(&unread.reply);
+    return i;
+}
+
 STUNP_INLINED const char *stunp_drop_text(stunp_drop why) {
     switch (why) {
     case STUNP_DROP_NOT_STUN: return "it is not STUN";

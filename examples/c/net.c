@@ -384,7 +384,7 @@ void answer_batch(int socket, const struct datagram *got, const struct answer *a
     for (int i = 0; i < number; i++) {
         if (answers[i].length == 0) continue;
         to[left] = got[i].peer;
-        data[left] = (struct iovec){(uint8_t *)answers[i].bytes, answers[i].length};
+        data[left] = (struct iovec){(uint8_t *)answers[i].start, answers[i].length};
         messages[left] = (struct mmsghdr){.msg_hdr = answer_to(&to[left], &data[left])};
         left++;
     }

@@ -106,8 +106,9 @@ void send_to(int socket, const uint8_t *bytes, size_t length, const struct peer 
  * answer whose length is not 0. */
 enum { BATCH = 32 };
 struct answer {
-    uint8_t bytes[MOST_BYTES];
+    const uint8_t *start; /* in `bytes`, or elsewhere */
     size_t length;
+    uint8_t bytes[MOST_BYTES];
 };
 int receive_batch(int socket, struct datagram got[BATCH]);
 void answer_batch(int socket, const struct datagram *got, const struct answer *answers, int number);

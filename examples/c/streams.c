@@ -65,7 +65,7 @@ static bool answer_whole(struct connection *one, answer_message *answer_one) {
         got->length = (size_t)wanted;
         answer_one(got, &answer);
         if (answer.length > 0
-            && send(one->socket, answer.bytes, answer.length, MSG_NOSIGNAL)
+            && send(one->socket, answer.start, answer.length, MSG_NOSIGNAL)
                    != (ssize_t)answer.length)
             return false;
         one->since = moment();

@@ -198,25 +198,44 @@ static void count_cause(const struct datagram *got, uint64_t time) {
     if (cause > 0) count(NO_SIGNATURE + (uint32_t)cause - STUNP_CAUSE_NO_SIGNATURE);
 }
 
-/* Judges a datagram at a server of users, and answers it. */
-static void answer_user(const struct datagram *got, struct answer *answer) {
-    static stunp_received received = STUNP_INIT(stunp_received);
-    const uint64_t time = now();
-    int64_t kind = stunp_endpoint_server_receive(&server, &users, got->bytes, got->length,
-                                                 &got->from, time, answer->bytes,
-                                                 sizeof answer->bytes, &received);
-    if (kind == STUNP_ANSWER) {
-        answer->length = received.length;
-        if (received.code != 0) count_cause(got, time);
-        tell(&got->from, received.code, &received);
-    } else if (kind == STUNP_IS_REQUEST) {
-        tell(&got->from, reply(got, &received, answer), &received);
-        stunp_reply_wipe(&received.reply);
-    } else if (kind == STUNP_DROPPED)
-        drop(&got->from, counter_of(received.why), stunp_drop_text(received.why));
-    else if (kind < 0)
-        drop(&got->from, kind == STUNP_OUT_OF_MEMORY ? OUT_OF_MEMORY : OTHER, stunp_strerror(kind));
+/* Ends the answer to a datagram that the server of users judged at this time, and counts and logs
+ * it. */
+static void settle(const struct datagram *got, uint64_t time, const stunp_judged *judged,
+                   stunp_received *received, struct answer *answer) {
+    if (judged->kind == STUNP_ANSWER) {
+        answer->length = judged->length;
+        if (received->code != 0) count_cause(got, time);
+        tell(&got->from, received->code, received);
+    } else if (judged->kind == STUNP_IS_REQUEST) {
+        tell(&got->from, reply(got, received, answer), received);
+        stunp_reply_wipe(&received->reply);
+    } else if (judged->kind == STUNP_DROPPED)
+        drop(&got->from, counter_of(received->why), stunp_drop_text(received->why));
+    else if (judged->kind < 0)
+        drop(&got->from, judged->kind == STUNP_OUT_OF_MEMORY ? OUT_OF_MEMORY : OTHER,
+             stunp_strerror(judged->kind));
     else drop(&got->from, NOT_BINDING, "not a request");
+}
+
+/* Judges datagrams at a server of users by one call, and answers them. */
+static void answer_users(const struct datagram *const *got, struct answer *const *answers,
+                         size_t number) {
+    /* An answer has fewer bytes than its request may have, so all fit. */
+    static uint8_t out[BATCH * MOST_BYTES];
+    static stunp_received received[BATCH];
+    static stunp_datagram datagrams[BATCH];
+    static stunp_judged judged[BATCH];
+    const uint64_t time = now();
+    for (size_t i = 0; i < number; i++) {
+        received[i].size = sizeof received[i];
+        datagrams[i] = (stunp_datagram){got[i]->bytes, got[i]->length, got[i]->from, &received[i]};
+    }
+    size_t done = stunp_endpoint_server_receive_many(&server, &users, datagrams, number, time, out,
+                                                     sizeof out, judged);
+    for (size_t i = 0; i < done; i++) {
+        if (judged[i].kind == STUNP_ANSWER) answers[i]->start = out + judged[i].offset;
+        settle(got[i], time, &judged[i], &received[i], answers[i]);
+    }
 }
 
 /* Judges a datagram at a server that everybody may ask, and answers it. */
@@ -247,13 +266,25 @@ static void answer_anybody(const struct datagram *got, struct answer *answer) {
     }
 }
 
-static void answer_one(const struct datagram *got, struct answer *answer) {
+/* Whether a datagram is to be judged. Begins its answer, which has no bytes yet. */
+static bool is_taken(const struct datagram *got, struct answer *answer) {
     int64_t method = stunp_method(got->bytes, got->length);
-    answer->length = 0;
-    if (method >= 0 && method != STUNP_BINDING && !settings.takes_any_method)
-        drop(&got->from, NOT_BINDING, "not a Binding request");
-    else if (settings.has_users) answer_user(got, answer);
-    else answer_anybody(got, answer);
+    answer->start = answer->bytes, answer->length = 0;
+    if (method < 0 || method == STUNP_BINDING || settings.takes_any_method) return true;
+    drop(&got->from, NOT_BINDING, "not a Binding request");
+    return false;
+}
+
+/* Answers datagrams, at most BATCH. */
+static void answer_all(const struct datagram *got, struct answer *answers, int number) {
+    const struct datagram *taken[BATCH];
+    struct answer *to[BATCH];
+    size_t count = 0;
+    for (int i = 0; i < number; i++)
+        if (is_taken(&got[i], &answers[i])) taken[count] = &got[i], to[count++] = &answers[i];
+    if (settings.has_users) answer_users(taken, to, count);
+    else
+        for (size_t i = 0; i < count; i++) answer_anybody(taken[i], to[i]);
 }
 
 /* ---- Users */
@@ -298,13 +329,18 @@ static void end_reload(void) {
 
 /* ---- The sockets */
 
+/* Answers a message of a stream. */
+static void answer_one(const struct datagram *got, struct answer *answer) {
+    answer_all(got, answer, 1);
+}
+
 /* Answers datagrams that wait at a socket; not all of them, so that other sockets get a turn. */
 static void serve_some(int socket) {
     static struct datagram got[BATCH];
     static struct answer answers[BATCH];
     for (int batch = 0, number = BATCH; batch < MOST_BATCHES && number == BATCH; batch++) {
         number = receive_batch(socket, got);
-        for (int i = 0; i < number; i++) answer_one(&got[i], &answers[i]);
+        answer_all(got, answers, number);
         answer_batch(socket, got, answers, number);
     }
 }

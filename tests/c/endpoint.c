@@ -377,6 +377,117 @@ static void causes(void) {
     free_realm(&realm);
 }
 
+/* ---- Batches */
+
+enum { BATCH = 12 };
+
+/* Random numbers that are the same in each run. */
+static uint32_t drawn(uint32_t below) {
+    static uint64_t state = 1;
+    state = state * 6364136223846793005 + 1442695040888963407;
+    return (uint32_t)(state >> 33) % below;
+}
+
+/* A copy of one of some messages, cut or changed now and then. */
+static struct message spoiled(const struct message *messages, uint32_t count) {
+    struct message message = messages[drawn(count)];
+    if (drawn(4) == 0) message.length = drawn((uint32_t)message.length + 1);
+    if (drawn(4) == 0 && message.length > 0)
+        message.bytes[drawn((uint32_t)message.length)] ^= (uint8_t)(1 + drawn(255));
+    return message;
+}
+
+/* Datagrams of a batch, with what each comes to by a call of its own. */
+struct batch {
+    struct message messages[BATCH];
+    stunp_received received[BATCH], alone[BATCH];
+    stunp_datagram datagrams[BATCH];
+    stunp_judged judged[BATCH];
+    size_t count;
+};
+
+/* Draws a batch. One datagram in three has no place for its result. */
+static void draw(struct batch *batch, const struct message *messages, uint32_t count) {
+    const stunp_address sources[] = {from, {{192, 0, 2, 1}, 3479, 4}, from, nowhere, from};
+    batch->count = drawn(BATCH + 1);
+    for (size_t i = 0; i < batch->count; i++) {
+        batch->messages[i] = spoiled(messages, count);
+        memset(&batch->received[i], 0, sizeof batch->received[i]);
+        batch->received[i].size = sizeof batch->received[i];
+        batch->received[i].kind = STUNP_LOOKUP; /* which no call here returns */
+        batch->alone[i] = batch->received[i];
+        batch->datagrams[i] = (stunp_datagram){batch->messages[i].bytes, batch->messages[i].length,
+                                               sources[drawn(5)],
+                                               drawn(3) == 0 ? NULL : &batch->received[i]};
+    }
+}
+
+/* Judges a batch in room for some bytes, and then its datagrams one by one in the same room. The
+ * kinds of these are added to `seen`. */
+static void want_batch(struct batch *batch, const struct realm *realm, size_t room,
+                       uint32_t seen[9]) {
+    static uint8_t bytes[BATCH * 512], single[BATCH * 512];
+    size_t used = 0, i;
+    memset(bytes, 0xaa, sizeof bytes), memset(single, 0xaa, sizeof single);
+    memset(batch->judged, 0x55, sizeof batch->judged);
+    size_t done = stunp_endpoint_server_receive_many(&realm->server, &realm->users,
+                                                     batch->datagrams, batch->count, NOW, bytes,
+                                                     room, batch->judged);
+    for (i = 0; i < batch->count; i++) {
+        const stunp_datagram *one = &batch->datagrams[i];
+        const stunp_judged *told = &batch->judged[i];
+        stunp_received *received = &batch->alone[i];
+        int64_t kind = stunp_endpoint_server_receive(
+            &realm->server, &realm->users, one->bytes, one->length, &one->from, NOW, single + used,
+            room - used, received);
+        seen[kind < 0 ? 8 : kind]++;
+        want("kind", told->kind, kind);
+        want("offset", (int64_t)told->offset, kind == STUNP_ANSWER ? (int64_t)used : 0);
+        if (one->received != NULL)
+            want("result", memcmp(one->received, received, sizeof *received), 0);
+        if (kind == STUNP_BUFFER_TOO_SMALL) {
+            want("needed", (int64_t)told->length, (int64_t)received->needed);
+            break;
+        }
+        want("length", (int64_t)told->length, (int64_t)received->length);
+        used += received->length;
+    }
+    want("done", (int64_t)done, (int64_t)i);
+    want("the answers", memcmp(bytes, single, sizeof bytes), 0);
+    /* What is left is as it was. */
+    for (i++; i < batch->count; i++) {
+        stunp_judged unwritten;
+        memset(&unwritten, 0x55, sizeof unwritten);
+        want("unwritten", memcmp(&batch->judged[i], &unwritten, sizeof unwritten), 0);
+        want("unjudged", batch->received[i].kind, STUNP_LOOKUP);
+    }
+}
+
+static void batches(void) {
+    static struct batch batch;
+    stunp_endpoint_server_settings settings = settings_of(NULL, 0);
+    struct realm realm = realm_of(&settings);
+    uint32_t seen[9] = {0};
+    take_challenge(&realm, NOW);
+    struct message messages[7] = {message_of(STUNP_REQUEST, 1), message_of(STUNP_INDICATION, 2),
+                                  message_of(STUNP_SUCCESS, 3), request(&realm, 4, 0, false),
+                                  request(&realm, 5, 0, true)};
+    messages[5] = request(&realm, 6, STUNP_LIFETIME, true);
+    messages[6] = message_of(STUNP_REQUEST, 7);
+    messages[6].length = 3;
+    for (int i = 0; i < 2000; i++) {
+        draw(&batch, messages, 7);
+        want_batch(&batch, &realm, drawn(3) == 0 ? drawn(600) : BATCH * 512, seen);
+    }
+    const stunp_kind wanted[] = {STUNP_DROPPED, STUNP_ANSWER, STUNP_IS_REQUEST,
+                                 STUNP_IS_INDICATION, STUNP_IS_RESPONSE, (stunp_kind)8};
+    for (size_t i = 0; i < sizeof wanted / sizeof *wanted; i++)
+        want("seen", seen[wanted[i]] > 100, true);
+    want("none", (int64_t)stunp_endpoint_server_receive_many(&realm.server, &realm.users, NULL, 0,
+         NOW, NULL, 0, NULL), 0);
+    free_realm(&realm);
+}
+
 /* A request that the caller answers, and what the answer has. */
 static void replies(uint32_t algorithms, bool has_fingerprint) {
     const uint16_t understood[] = {STUNP_LIFETIME};
@@ -907,6 +1018,7 @@ int main(void) {
     receiving_in_order();
     kinds();
     causes();
+    batches();
     for (uint32_t algorithms = 0; algorithms <= 3; algorithms++) {
         replies(algorithms, true);
         replies(algorithms, false);

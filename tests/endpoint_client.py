@@ -94,6 +94,12 @@ def security_bits(nonce):
     return 0 if bits is None else bits[0] & 0xC0
 
 
+def is_weaker(challenge, other):
+    """Whether one asks for less than the other: HMAC-SHA1 for HMAC-SHA256, or a name for its hash."""
+    return (other.algorithm == stun.SHA256 and challenge.algorithm == stun.SHA1
+            or other.is_hashed and not challenge.is_hashed)
+
+
 def plain_address(value):
     """The address in a value that is not XORed (section 14.1)."""
     if value is None:
@@ -388,9 +394,8 @@ class ClientStage:
         before = request.signed_for
         if challenge == before:
             return Refused(None)
-        confirmed = self.current if self.is_confirmed else self.confirmed
-        if confirmed and ((confirmed.algorithm == stun.SHA256 and challenge.algorithm == stun.SHA1)
-                          or (confirmed.is_hashed and not challenge.is_hashed)):
+        confirmed = self.last_confirmed()
+        if confirmed and is_weaker(challenge, confirmed):
             return Dropped("WeakerChallenge")
         if before and code == 401 and challenge.realm == before.realm:
             if security_bits(challenge.nonce) == security_bits(before.nonce):
@@ -459,10 +464,25 @@ class ClientStage:
             self.current, self.is_confirmed = challenge, False
         return None
 
+    def last_confirmed(self):
+        return self.current if self.is_confirmed else self.confirmed
+
     def confirm(self, challenge):
-        """A success under the challenge that new requests are signed for confirms it."""
-        if challenge is not None and challenge == self.current:
+        """A success confirms the challenge of its message if new requests are signed for that one, or
+        if it is stronger than what was confirmed. What new requests are signed for gives way to it
+        if it is weaker."""
+        if challenge is None:
+            return
+        if challenge == self.current:
             self.is_confirmed, self.confirmed = True, None
+            return
+        before = self.last_confirmed()
+        if before and (is_weaker(challenge, before) or not is_weaker(before, challenge)):
+            return
+        if self.current is None or is_weaker(self.current, challenge):
+            self.current, self.is_confirmed, self.confirmed = challenge, True, None
+        else:
+            self.is_confirmed, self.confirmed = False, challenge
 
     def step_back(self, challenge):
         """A request that times out may have been signed for a forged challenge."""

@@ -3,15 +3,17 @@
 use Rattle.std.proofs.Common.{◌≡◌, ◌⊎◌, inl, inr, Bool, true, false, List, [], ◌∷◌}
 use Rattle.std.proofs.Common.{Option, Some, None, cond, refl, ◌∙◌, ap, sym}
 use Rattle.std.specs.Prelude.{◌&&◌, ◌||◌, not}
-use Rattle.std.specs.Option.{is_none, is_some}
+use Rattle.std.specs.Option.{IfSome, IsSome, is_none, is_some}
 use Rattle.stun_auth.specs.Algorithms.{is_sha256}
 use Rattle.stun_client.specs.Challenge.{Challenge}
 use Rattle.stun_auth.specs.Signed.{plain_name}
 use Rattle.stun_client.specs.Challenges.{Answered, is_one, is_weaker}
-use Rattle.stun_client.specs.Standing.{AreUsualEvents, StandingEvent, IsUsualEvent, StandingSeen, after_answer}
+use Rattle.stun_client.specs.Standing.{AreHeededEvents, AreUsualEvents, IsHeededEvent, StandingEvent}
+use Rattle.stun_client.specs.Standing.{IsUsualEvent, StandingSeen, after_answer, after_confirming}
 use Rattle.stun_client.specs.Standing.{standing_after, standing_after_all, after_success, after_timeout}
-use Rattle.stun_client.specs.Standing.{answers, confirmed, is_ignored, is_standing, is_weaker_than}
-use Rattle.stun_client.specs.Standing.{succeeds, times_out}
+use Rattle.stun_client.specs.Standing.{answers, confirmed, gives_way, is_ignored, is_standing}
+use Rattle.stun_client.specs.Standing.{is_stronger_than, is_weaker_than, new_standing, succeeds}
+use Rattle.stun_client.specs.Standing.{times_out}
 
 -- ---- weaker challenges
 
@@ -59,7 +61,7 @@ nothing_lacked true false = refl
 nothing_lacked false true = refl
 nothing_lacked false false = refl
 
-abbrev is_weak : Option Answered → Option Answered → Bool
+abbrev pub is_weak : Option Answered → Option Answered → Bool
 is_weak None other = false
 is_weak (Some c) other = is_weaker_than c other
 
@@ -67,6 +69,24 @@ not_weaker_than_itself : (o : Option Answered) → is_weak o o ≡ false
 not_weaker_than_itself None = refl
 not_weaker_than_itself (Some c) =
     nothing_lacked (is_sha256 c.challenge.algorithm) (is_none (plain_name c.challenge.naming))
+
+second : (a b : Bool) → (a && not b) ≡ true → b ≡ false
+second true true is = cc
+second true false is = refl
+second false b is = cc
+
+-- what is weaker than a challenge is weaker than one that is stronger than that
+over : (c d : Answered) (o : Option Answered) → is_stronger_than d o ≡ true
+    → is_weaker_than c o ≡ true → is_weaker_than c (Some d) ≡ true
+over c d None stronger weak = cc
+over c d (Some e) stronger weak =
+    between c.challenge e.challenge d.challenge weak
+    (second (is_weaker e.challenge d.challenge) (is_weaker d.challenge e.challenge) stronger)
+
+-- what does not give way is not weaker
+stays_strong : (o : Option Answered) (d : Answered) → gives_way o d ≡ false → is_weak o (Some d) ≡ false
+stays_strong None d stays = cc
+stays_strong (Some e) d stays = stays
 
 -- ---- each event
 
@@ -93,16 +113,28 @@ module _ (c : Answered) (s : StandingSeen) (h : Holds c s) where
   weaker_than_current (Some d) (Some e) (Some f) one weak has =
       between c.challenge f.challenge e.challenge weak has
 
-  succeeded : (d : Option Answered) → Holds c (after_success s d)
-  succeeded d = by (is_one d s.current) refl
+  other : (d : Answered) → is_weaker_than c (Some d) ≡ true → Holds c (after_confirming s d)
+  other d weak = by (gives_way s.current d) refl
     where
-      by : (b : Bool) → is_one d s.current ≡ b
-          → Holds c (cond b (record s { is_validated = true; validated = None }) s)
-      by true one = record {
-        ignored = weaker_than_current d s.current (confirmed s) one h.ignored h.strong;
+      by : (b : Bool) → gives_way s.current d ≡ b
+          → Holds c (cond b (record { current = Some d; is_validated = true; validated = None })
+          (record { current = s.current; is_validated = false; validated = Some d }))
+      by true way = record { ignored = weak; strong = not_weaker_than_itself (Some d) }
+      by false way = record { ignored = weak; strong = stays_strong s.current d way }
+
+  succeeded : (d : Option Answered) → Holds c (after_success s d)
+  succeeded None = h
+  succeeded (Some d) = by (is_one (Some d) s.current) (is_stronger_than d (confirmed s)) refl refl
+    where
+      by : (b v : Bool) → is_one (Some d) s.current ≡ b → is_stronger_than d (confirmed s) ≡ v
+          → Holds c (cond b (record s { is_validated = true; validated = None })
+          (cond v (after_confirming s d) s))
+      by true v one stronger = record {
+        ignored = weaker_than_current (Some d) s.current (confirmed s) one h.ignored h.strong;
         strong = not_weaker_than_itself s.current;
       }
-      by false one = h
+      by false true one stronger = other d (over c d (confirmed s) stronger h.ignored)
+      by false false one stronger = h
 
   back : (o : Option Answered) → cond (is_some o) o None ≡ o
   back None = refl
@@ -149,3 +181,103 @@ stays_ignored s events c validated ignored usual = (after_all c s events first u
       strong = ap (λ b. is_weak s.current (cond b s.current s.validated)) validated
           ∙ not_weaker_than_itself s.current;
     }
+
+-- ---- nothing gets weaker by a success
+
+-- new requests are signed for no weaker challenge than the one that was confirmed last
+pub record IsSound (s : StandingSeen) : Type 0 where
+  pub there : IsSome (confirmed s) → IsSome s.current
+  pub strong : is_weak s.current (confirmed s) ≡ false
+
+module _ (s : StandingSeen) (sound : IsSound s) where
+  answer_sound : (d : Answered) → is_ignored s d ≡ false → IsSound (after_answer s d)
+  answer_sound d heeded = by (is_one (Some d) s.current)
+    where
+      by : (b : Bool) → IsSound (cond b s
+          (record { current = Some d; is_validated = false; validated = confirmed s }))
+      by true = sound
+      by false = record { there = λ some. refl; strong = heeded }
+
+  has : (o : Option Answered) (d : Answered) → gives_way o d ≡ false → IsSome o
+  has None d stays = cc
+  has (Some e) d stays = refl
+
+  other_sound : (d : Answered) → IsSound (after_confirming s d)
+  other_sound d = by (gives_way s.current d) refl
+    where
+      by : (b : Bool) → gives_way s.current d ≡ b
+          → IsSound (cond b (record { current = Some d; is_validated = true; validated = None })
+          (record { current = s.current; is_validated = false; validated = Some d }))
+      by true way = record { there = λ some. some; strong = not_weaker_than_itself (Some d) }
+      by false way = record {
+        there = λ some. has s.current d way;
+        strong = stays_strong s.current d way;
+      }
+
+  success_sound : (d : Option Answered) → IsSound (after_success s d)
+  success_sound None = sound
+  success_sound (Some d) = by (is_one (Some d) s.current) (is_stronger_than d (confirmed s))
+    where
+      by : (b v : Bool) → IsSound (cond b (record s { is_validated = true; validated = None })
+          (cond v (after_confirming s d) s))
+      by true v = record { there = λ some. some; strong = not_weaker_than_itself s.current }
+      by false true = other_sound d
+      by false false = sound
+
+  timeout_sound : (d : Option Answered) → IsSound (after_timeout s d)
+  timeout_sound d = by (is_standing s d) s.validated
+    where
+      by : (b : Bool) (o : Option Answered) → IsSound (cond b
+          (record { current = o; is_validated = is_some o; validated = None }) s)
+      by true None = record { there = λ some. some; strong = refl }
+      by true (Some e) = record { there = λ some. some; strong = not_weaker_than_itself (Some e) }
+      by false o = sound
+
+  after_one_sound : (e : StandingEvent) → IsHeededEvent s e → IsSound (standing_after s e)
+  after_one_sound (answers d) heeded = answer_sound d heeded
+  after_one_sound (succeeds d) heeded = success_sound d
+  after_one_sound (times_out d) heeded = timeout_sound d
+
+after_all_sound : (s : StandingSeen) (events : List StandingEvent) → IsSound s
+    → AreHeededEvents s events → IsSound (standing_after_all s events)
+after_all_sound s [] sound heeded = sound
+after_all_sound s (e ∷ es) sound heeded =
+    after_all_sound (standing_after s e) es (after_one_sound s sound e heeded.0) heeded.1
+
+pub is_sound : (events : List StandingEvent) → AreHeededEvents new_standing events
+    → IsSound (standing_after_all new_standing events)
+is_sound events heeded =
+    after_all_sound new_standing events (record { there = λ some. some; strong = refl }) heeded
+
+pub still_ignored : (s : StandingSeen) (d : Option Answered) (c : Answered) → IsSound s
+    → is_ignored s c ≡ true → is_ignored (after_success s d) c ≡ true
+still_ignored s d c sound ignored =
+    (succeeded c s (record { ignored = ignored; strong = sound.strong }) d).ignored
+
+none_weaker : (current strong : Option Answered) → is_weak current strong ≡ false
+    → IfSome current (λ c. is_weaker_than c strong ≡ false)
+none_weaker None strong is = tt
+none_weaker (Some c) strong is = is
+
+pub signed_strongly : (s : StandingSeen) → IsSound s
+    → (IsSome (confirmed s) → IsSome s.current) × IfSome s.current (λ c. is_ignored s c ≡ false)
+signed_strongly s sound = (sound.there, none_weaker s.current (confirmed s) sound.strong)
+
+pub confirms_standing : (s : StandingSeen) (c : Answered) → is_standing s (Some c) ≡ true
+    → confirmed (after_success s (Some c)) ≡ s.current
+confirms_standing s c standing =
+    ap (λ b. confirmed (cond b (record s { is_validated = true; validated = None })
+    (cond (is_stronger_than c (confirmed s)) (after_confirming s c) s))) standing
+
+pub confirms_stronger : (s : StandingSeen) (c : Answered) → is_standing s (Some c) ≡ false
+    → is_stronger_than c (confirmed s) ≡ true → confirmed (after_success s (Some c)) ≡ Some c
+confirms_stronger s c standing stronger =
+    ap (λ b. confirmed (cond b (record s { is_validated = true; validated = None })
+    (cond (is_stronger_than c (confirmed s)) (after_confirming s c) s))) standing
+    ∙ ap (λ b. confirmed (cond b (after_confirming s c) s)) stronger ∙ by (gives_way s.current c)
+  where
+    by : (b : Bool) → confirmed (cond b
+        (record { current = Some c; is_validated = true; validated = None })
+        (record { current = s.current; is_validated = false; validated = Some c })) ≡ Some c
+    by true = refl
+    by false = refl

@@ -1,6 +1,6 @@
 -- Which challenge new requests are signed for, and which one a success has confirmed last. This is
 -- the library's own rule: RFC 8489 does not say what a client does after a forged challenge.
-use Rattle.std.specs.Prelude.{◌≡◌, List, [], ◌∷◌, Bool, true, false, ◌&&◌, if◌then◌else◌}
+use Rattle.std.specs.Prelude.{◌≡◌, List, [], ◌∷◌, Bool, true, false, ◌&&◌, not, if◌then◌else◌}
 use Rattle.std.specs.Prelude.{Option, Some, None, ⊤}
 use Rattle.std.specs.Option.{is_some}
 use Rattle.stun_client.specs.Challenges.{Answered, is_one, is_weaker}
@@ -30,10 +30,33 @@ is_weaker_than c (Some other) = is_weaker c.challenge other.challenge
 abbrev pub is_ignored : StandingSeen → Answered → Bool
 is_ignored s c = is_weaker_than c (confirmed s)
 
--- after a success under a challenge, which is confirmed if it is the current one
+-- whether a challenge is stronger than another one: that one is weaker, and it is not weaker itself.
+-- Each is stronger than none
+abbrev pub is_stronger_than : Answered → Option Answered → Bool
+is_stronger_than c None = true
+is_stronger_than c (Some other) =
+    is_weaker other.challenge c.challenge && not (is_weaker c.challenge other.challenge)
+
+-- whether the current challenge gives way to a confirmed one: it is weaker, or there is none
+abbrev pub gives_way : Option Answered → Answered → Bool
+gives_way None c = true
+gives_way (Some current) c = is_weaker current.challenge c.challenge
+
+-- after another challenge than the current one is confirmed
+abbrev pub after_confirming : StandingSeen → Answered → StandingSeen
+after_confirming s c =
+    if gives_way s.current c
+    then record { current = Some c; is_validated = true; validated = None }
+    else record { current = s.current; is_validated = false; validated = Some c }
+
+-- after a success of a message that is signed for a challenge. That one is confirmed if it is the
+-- current one, or is stronger than the one that was confirmed last
 abbrev pub after_success : StandingSeen → Option Answered → StandingSeen
-after_success s c =
-    if is_standing s c then record s { is_validated = true; validated = None } else s
+after_success s None = s
+after_success s (Some c) =
+    if is_standing s (Some c) then record s { is_validated = true; validated = None }
+    else if is_stronger_than c (confirmed s) then after_confirming s c
+    else s
 
 -- after a timeout under a challenge. From the current one the client goes back to the one that was
 -- confirmed last, and from there to none
@@ -80,3 +103,13 @@ IsUsualEvent s (times_out c) = (s.is_validated && is_standing s c) ≡ false
 abbrev pub AreUsualEvents : StandingSeen → List StandingEvent → Type 0
 AreUsualEvents s [] = ⊤
 AreUsualEvents s (e ∷ es) = IsUsualEvent s e × AreUsualEvents (standing_after s e) es
+
+-- no ignored challenge is answered
+abbrev pub IsHeededEvent : StandingSeen → StandingEvent → Type 0
+IsHeededEvent s (answers c) = is_ignored s c ≡ false
+IsHeededEvent s (succeeds c) = ⊤
+IsHeededEvent s (times_out c) = ⊤
+
+abbrev pub AreHeededEvents : StandingSeen → List StandingEvent → Type 0
+AreHeededEvents s [] = ⊤
+AreHeededEvents s (e ∷ es) = IsHeededEvent s e × AreHeededEvents (standing_after s e) es

@@ -280,13 +280,15 @@ impl<A: Allocator + Copy> Client<A> {
     }
 
     /// Ends a request by a response that is believed, and returns its number. A success confirms the
-    /// challenge that the request was signed for. Returns `None` if the request has ended already.
+    /// challenge that the request was signed for, as `Standing::confirm` says. Returns `None` if the
+    /// request has ended already.
     pub fn end(&mut self, id: TransactionId, is_success: bool) -> Option<u64>
         ensures { EndsRequest self.old self.new (after_ending self.old is_success id) id result }
     {
         let asked = self.requests.end(id)?;
-        confirm_if(&mut self.standing, is_success, asked.signed_for());
-        Some(asked.number())
+        let number = asked.number();
+        confirm_if(&mut self.standing, is_success, asked.into_signed_for());
+        Some(number)
     }
 
     /// Ends a request that was not answered in time, and returns its number. Its challenge may be
@@ -314,9 +316,9 @@ impl<A: Allocator + Copy> Client<A> {
 fn confirm_if<A: Allocator + Copy>(
     standing: &mut Standing<A>,
     is_success: bool,
-    challenge: &Option<Challenge<A>>,
+    challenge: Option<Challenge<A>>,
 )
-    ensures { standing.new ≡ confirming is_success standing.old challenge.now }
+    ensures { standing.new ≡ confirming is_success standing.old challenge }
 {
     if is_success {
         standing.confirm(challenge);

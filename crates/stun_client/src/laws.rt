@@ -1,5 +1,5 @@
 //! Laws over the definitions that the contracts of this crate cite. They do nothing when they run.
-ghost use Rattle.std.specs.Option.{IsSome};
+ghost use Rattle.std.specs.Option.{IfSome, IsSome};
 ghost use Rattle.std.specs.Prelude.{◌≡◌, ◌++◌, ℕ, Bool, List, None, Option, Some, false, true};
 ghost use Rattle.std.specs.declared.net.socket_addr.SocketAddr.{SocketAddr};
 ghost use Rattle.stun_base.specs.Credentials.{NameAndPassword};
@@ -20,8 +20,10 @@ ghost use Rattle.stun_client.specs.Judging.{IsAnsweredAnew, IsBelievable, IsEndO
 ghost use Rattle.stun_client.specs.Judging.{Identity, answered_in, believed, fault_in, judged, long_term};
 ghost use Rattle.stun_client.specs.Judging.{sent_for, signed_with, takes_unsigned};
 ghost use Rattle.stun_client.specs.Rule.{IsByRule, IsChosen};
-ghost use Rattle.stun_client.specs.Standing.{AreUsualEvents, StandingEvent, StandingSeen};
-ghost use Rattle.stun_client.specs.Standing.{is_ignored, standing_after_all};
+ghost use Rattle.stun_client.specs.Standing.{AreHeededEvents, AreUsualEvents, StandingEvent};
+ghost use Rattle.stun_client.specs.Standing.{StandingSeen, after_success, confirmed, is_ignored};
+ghost use Rattle.stun_client.specs.Standing.{is_standing, is_stronger_than, new_standing};
+ghost use Rattle.stun_client.specs.Standing.{standing_after_all};
 ghost use Rattle.stun_client.specs.declared.preferences.Preferences.{Preferences as ThePreferences};
 
 /// Each challenge is made by the rule from one message, whatever challenge came before: its realm,
@@ -147,6 +149,27 @@ pub fn weaker_challenges_stay_ignored()
     ensures { (s : StandingSeen) (events : List StandingEvent) (c : Answered) → s.is_validated ≡ true
         → is_ignored s c ≡ true → AreUsualEvents s events
         → is_ignored (standing_after_all s events) c ≡ true }
+{}
+
+/// A success confirms the challenge of the message that it answers, if new requests are signed for
+/// that one (`standing`), or if it is stronger than the one that was confirmed last (`stronger`).
+/// Nothing gets weaker by a success at a client that answers no challenge which it is to ignore: what
+/// was ignored before stays ignored (`ignored`). And whatever is answered, succeeds and times out
+/// there, new requests are signed for a challenge that is not weaker than the one that was confirmed
+/// last, if there is one (`signed`).
+pub fn successes_weaken_nothing()
+    ensures standing { (s : StandingSeen) (c : Answered) → is_standing s (Some c) ≡ true
+        → confirmed (after_success s (Some c)) ≡ s.current }
+    ensures stronger { (s : StandingSeen) (c : Answered) → is_standing s (Some c) ≡ false
+        → is_stronger_than c (confirmed s) ≡ true → confirmed (after_success s (Some c)) ≡ Some c }
+    ensures ignored { (events : List StandingEvent) (signed_for : Option Answered) (c : Answered)
+        → AreHeededEvents new_standing events
+        → is_ignored (standing_after_all new_standing events) c ≡ true
+        → is_ignored (after_success (standing_after_all new_standing events) signed_for) c ≡ true }
+    ensures signed { (events : List StandingEvent) → AreHeededEvents new_standing events
+        → let s = standing_after_all new_standing events in
+        (IsSome (confirmed s) → IsSome s.current)
+        × IfSome s.current (λ c. is_ignored s c ≡ false) }
 {}
 
 /// A datagram ends a request only if it answers it: it came from the server, it has the transaction

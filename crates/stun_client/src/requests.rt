@@ -65,6 +65,13 @@ impl<A: Allocator> Asked<A> {
         &self.signed_for
     }
 
+    /// Returns the challenge that the request is signed for, if it is.
+    pub fn into_signed_for(self) -> Option<Challenge<A>>
+        ensures { result ≡ self.signed_for }
+    {
+        self.signed_for
+    }
+
     /// Returns how often the request was sent again for a challenge.
     pub fn challenges(&self) -> u32
         ensures { result ≡ self.now.challenges }

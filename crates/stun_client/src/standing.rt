@@ -1,7 +1,8 @@
 //! Which challenge new requests are signed for, and which one a success has confirmed.
-ghost use Rattle.std.specs.Prelude.{◌≡◌};
-ghost use Rattle.stun_client.specs.Standing.{after_answer, after_success, after_timeout};
-ghost use Rattle.stun_client.specs.Standing.{is_ignored, is_standing, new_standing};
+ghost use Rattle.std.specs.Prelude.{◌≡◌, Some};
+ghost use Rattle.stun_client.specs.Standing.{after_answer, after_confirming, after_success};
+ghost use Rattle.stun_client.specs.Standing.{after_timeout, confirmed, gives_way, is_ignored};
+ghost use Rattle.stun_client.specs.Standing.{is_standing, is_stronger_than, new_standing};
 
 use crate::challenge::Challenge;
 use std::alloc::Allocator;
@@ -15,6 +16,10 @@ use std::mem;
 /// signed for that one times out too, the client goes back to none, and starts afresh. From a
 /// success until a request under the confirmed challenge times out, a challenge that is weaker than
 /// the confirmed one is ignored.
+///
+/// A success may answer a message that is signed for an earlier challenge. It confirms that one if
+/// it is stronger than what was confirmed before, and new requests are signed for it if the
+/// current challenge is weaker.
 ///
 /// Contracts: they see the two challenges.
 #[derive(Drop)]
@@ -59,19 +64,45 @@ impl<A: Allocator + Copy> Standing<A> {
     pub fn ignores(&self, challenge: &Challenge<A>) -> bool
         ensures { result ≡ is_ignored self.now challenge.now }
     {
-        let confirmed = if self.is_validated {
-            &self.current
-        } else {
-            &self.validated
-        };
-        match confirmed {
+        match self.confirmed() {
             Some(confirmed) => challenge.is_weaker_than(confirmed),
             None => false,
         }
     }
 
-    /// Returns whether requests are signed for this challenge.
-    fn is_current(&self, challenge: &Option<Challenge<A>>) -> bool
+    /// Returns the challenge that was confirmed last.
+    fn confirmed(&self) -> &Option<Challenge<A>>
+        ensures { result.now ≡ confirmed self.now }
+    {
+        if self.is_validated {
+            &self.current
+        } else {
+            &self.validated
+        }
+    }
+
+    /// Returns whether a challenge is stronger than the one that was confirmed last, or none was.
+    fn is_stronger(&self, challenge: &Challenge<A>) -> bool
+        ensures { result ≡ is_stronger_than challenge.now (confirmed self.now) }
+    {
+        match self.confirmed() {
+            Some(confirmed) => is_stronger(challenge, confirmed),
+            None => true,
+        }
+    }
+
+    /// Returns whether the current challenge is weaker than a confirmed one, or there is none.
+    fn gives_way(&self, confirmed: &Challenge<A>) -> bool
+        ensures { result ≡ gives_way self.now.current confirmed.now }
+    {
+        match &self.current {
+            Some(current) => current.is_weaker_than(confirmed),
+            None => true,
+        }
+    }
+
+    /// Returns whether new requests are signed for this challenge.
+    pub fn is_current(&self, challenge: &Option<Challenge<A>>) -> bool
         ensures { result ≡ is_standing self.now challenge.now }
     {
         match challenge {
@@ -80,13 +111,34 @@ impl<A: Allocator + Copy> Standing<A> {
         }
     }
 
-    /// Records a success under a challenge.
-    pub fn confirm(&mut self, challenge: &Option<Challenge<A>>)
-        ensures { self.new ≡ after_success self.old challenge.now }
+    /// Records a success of a message that is signed for a challenge. The challenge is confirmed if
+    /// it is the current one, or is stronger than the one that was confirmed last. A current one that
+    /// is weaker gives way to it.
+    pub fn confirm(&mut self, challenge: Option<Challenge<A>>)
+        ensures { self.new ≡ after_success self.old challenge }
     {
-        if self.is_current(challenge) {
+        let Some(challenge) = challenge else {
+            return;
+        };
+        if challenge.is_same_as(&self.current) {
             self.is_validated = true;
             self.validated = None;
+        } else if self.is_stronger(&challenge) {
+            self.confirm_other(challenge);
+        }
+    }
+
+    /// Confirms another challenge than the current one.
+    fn confirm_other(&mut self, challenge: Challenge<A>)
+        ensures { self.new ≡ after_confirming self.old challenge }
+    {
+        if self.gives_way(&challenge) {
+            self.current = Some(challenge);
+            self.is_validated = true;
+            self.validated = None;
+        } else {
+            self.is_validated = false;
+            self.validated = Some(challenge);
         }
     }
 
@@ -115,4 +167,12 @@ impl<A: Allocator + Copy> Standing<A> {
         }
         self.is_validated = false;
     }
+}
+
+/// Returns whether a challenge is stronger than another one, which is weaker then, while it is not
+/// weaker itself.
+fn is_stronger<A: Allocator + Copy>(challenge: &Challenge<A>, other: &Challenge<A>) -> bool
+    ensures { result ≡ is_stronger_than challenge.now (Some other.now) }
+{
+    other.is_weaker_than(challenge) && !challenge.is_weaker_than(other)
 }

@@ -28,7 +28,8 @@ use Rattle.stun_client.specs.Requests.{AskedSeen, after_end, after_renewal, afte
 use Rattle.stun_client.specs.Requests.{at, renewed}
 use Rattle.stun_client.specs.Rule.{IsByRule, is_hashed}
 use Rattle.stun_client.specs.Standing.{StandingSeen, after_answer, after_success, after_timeout}
-use Rattle.stun_client.specs.Standing.{confirmed, is_ignored, is_standing, is_weaker_than}
+use Rattle.stun_client.specs.Standing.{confirmed, gives_way, is_ignored, is_standing}
+use Rattle.stun_client.specs.Standing.{is_stronger_than, is_weaker_than}
 use Rattle.stun_client.specs.declared.preferences.Preferences.{Preferences}
 use Rattle.stun_client_loop.proofs.TimedLemmas.{left, put}
 use Rattle.stun_agent.proofs.Ascending.{IsAscending-insert, lookup-insert_same}
@@ -55,7 +56,8 @@ pub record AreRules (identity : Identity) (Stands : StandingSeen → Type 0)
   pub renews : (s : StandingSeen) (required : Bool) (a : AskedSeen) (bytes : List ℕ) (x : Answered)
       (id : ℕ) → IsSentAgain (judged required true identity s a.signed_for bytes) x → Stands s
       → Asked id (renewed a (Some x))
-  pub succeeds : (s : StandingSeen) (o : Option Answered) → Stands s → Stands (after_success s o)
+  pub succeeds : (s : StandingSeen) (id : ℕ) (a : AskedSeen) → Asked id a → Stands s
+      → Stands (after_success s a.signed_for)
   pub lapses : (s : StandingSeen) (o : Option Answered) → Lapses s o → Stands s
       → Stands (after_timeout s o)
 
@@ -133,15 +135,15 @@ module _ (identity : Identity) (Stands : StandingSeen → Type 0) (Asked : ℕ �
       → Held (after_ending c is_success id)
   over c is_success id sorted held = record {
     identity_is = held.identity_is;
-    standing = by (at id c.requests.asked) is_success;
+    standing = by (at id c.requests.asked) is_success refl;
     asked = remain c id sorted held;
   }
     where
-      by : (o : Option AskedSeen) (b : Bool)
+      by : (o : Option AskedSeen) (b : Bool) → at id c.requests.asked ≡ o
           → Stands (option_map_or (λ a. confirming b c.standing a.signed_for) o c.standing)
-      by None b = held.standing
-      by (Some a) true = rules.succeeds c.standing a.signed_for held.standing
-      by (Some a) false = held.standing
+      by None b here = held.standing
+      by (Some a) true here = rules.succeeds c.standing id a (held.asked id a here) held.standing
+      by (Some a) false here = held.standing
 
   lapse : (c : EndpointClient) (id : ℕ) → AreSorted c → LapsesAt Lapses c id → Held c
       → Held (after_timing_out c id)
@@ -273,12 +275,20 @@ module _ (laws : ChallengeLaws) (p : Preferences) (who : NameAndPassword) (accep
       by true = fine
       by false = record { current = its; validated = confirmed_fine s fine }
 
-  success_fine : (s : StandingSeen) (o : Option Answered) → AreFine p who s → AreFine p who (after_success s o)
-  success_fine s o fine = by (is_standing s o)
+  success_fine : (s : StandingSeen) (o : Option Answered) → IfSome o (IsFine p who)
+      → AreFine p who s → AreFine p who (after_success s o)
+  success_fine s None its fine = fine
+  success_fine s (Some d) its fine =
+      by (is_standing s (Some d)) (is_stronger_than d (confirmed s)) (gives_way s.current d)
     where
-      by : (b : Bool) → AreFine p who (cond b (record s { is_validated = true; validated = None }) s)
-      by true = record { current = fine.current; validated = tt }
-      by false = fine
+      by : (b v w : Bool)
+          → AreFine p who (cond b (record s { is_validated = true; validated = None })
+          (cond v (cond w (record { current = Some d; is_validated = true; validated = None })
+          (record { current = s.current; is_validated = false; validated = Some d })) s))
+      by true v w = record { current = fine.current; validated = tt }
+      by false true true = record { current = its; validated = tt }
+      by false true false = record { current = fine.current; validated = its }
+      by false false w = fine
 
   timeout_fine : (s : StandingSeen) (o : Option Answered) → AreFine p who s → AreFine p who (after_timeout s o)
   timeout_fine s o fine = by (is_standing s o)
@@ -294,7 +304,7 @@ module _ (laws : ChallengeLaws) (p : Preferences) (who : NameAndPassword) (accep
     answers = λ s required before bytes x sent fine.
         answer_fine s x (fine_again s required before bytes x sent) fine;
     renews = λ s required a bytes x id sent fine. fine_again s required a.signed_for bytes x sent;
-    succeeds = success_fine;
+    succeeds = λ s id a its fine. success_fine s a.signed_for its fine;
     lapses = λ s o let_so fine. timeout_fine s o fine;
   }
 
@@ -340,6 +350,11 @@ itself true true = refl
 itself true false = refl
 itself false true = refl
 itself false false = refl
+
+no_second : (a b : Bool) → (a && not b) ≡ true → b ≡ false
+no_second true true is = cc
+no_second true false is = refl
+no_second false b is = cc
 
 -- nothing is weaker than itself
 not_weaker_itself : (c : Challenge) → is_weaker c c ≡ false
@@ -403,12 +418,31 @@ module _ (laws : ChallengeLaws) (p : Preferences) (who : NameAndPassword) (accep
           weaker_of None = refl
           weaker_of (Some d) = refl
 
+  -- what does not give way is not weaker
+  stays : (o : Option Answered) (d c : Answered) → gives_way o d ≡ false → Some d ≡ Some c
+      → IsStrong c.challenge o
+  stays None d c way is = cc
+  stays (Some e) d c way is =
+      let same : d ≡ c = ap (λ (o : Option Answered). option_map_or (λ x. x) o d) is in
+      record {
+        challenge = e;
+        is = refl;
+        strong = subst (λ (x : Answered). is_weaker e.challenge x.challenge ≡ false) same way;
+      }
+
   success_sound : (s : StandingSeen) (o : Option Answered) → IsSound s → IsSound (after_success s o)
-  success_sound s o sound = by (is_standing s o)
+  success_sound s None sound = sound
+  success_sound s (Some d) sound =
+      by (is_standing s (Some d)) (is_stronger_than d (confirmed s)) (gives_way s.current d) refl
     where
-      by : (b : Bool) → IsSound (cond b (record s { is_validated = true; validated = None }) s)
-      by true = record { sound = λ c is. its_own s.current c is }
-      by false = sound
+      by : (b v w : Bool) → gives_way s.current d ≡ w
+          → IsSound (cond b (record s { is_validated = true; validated = None })
+          (cond v (cond w (record { current = Some d; is_validated = true; validated = None })
+          (record { current = s.current; is_validated = false; validated = Some d })) s))
+      by true v w way = record { sound = λ c is. its_own s.current c is }
+      by false true true way = record { sound = λ c is. its_own (Some d) c is }
+      by false true false way = record { sound = λ c is. stays s.current d c way is }
+      by false false w way = sound
 
   -- the one that was confirmed before, which is then the current one
   back : (o : Option Answered) (c : Answered) → cond (is_some o) o None ≡ Some c
@@ -430,7 +464,7 @@ module _ (laws : ChallengeLaws) (p : Preferences) (who : NameAndPassword) (accep
     answers = λ s required before bytes x sent sound.
         answer_sound s x (strong_again s required before bytes x sent) sound;
     renews = λ s required a bytes x id sent sound. tt;
-    succeeds = success_sound;
+    succeeds = λ s id a its sound. success_sound s a.signed_for sound;
     lapses = λ s o let_so sound. timeout_sound s o sound;
   }
 
@@ -456,13 +490,39 @@ module _ (laws : ChallengeLaws) (p : Preferences) (who : NameAndPassword) (accep
           confirmed_one = are.confirmed_one;
         }
 
+    -- what is stronger than the confirmed one is not weaker
+    stronger_still : (s : StandingSeen) (d : Answered) → is_stronger_than d (confirmed s) ≡ true
+        → AreStrong strong s → IsStrong strong.challenge (Some d)
+    stronger_still s d stronger are =
+        let e = are.confirmed_one.challenge in
+        record {
+          challenge = d;
+          is = refl;
+          strong = not_weaker d.challenge e.challenge strong.challenge are.confirmed_one.strong
+              (no_second (is_weaker e.challenge d.challenge) (is_weaker d.challenge e.challenge)
+              (sym (ap (is_stronger_than d) are.confirmed_one.is) ∙ stronger));
+        }
+
     success_strong : (s : StandingSeen) (o : Option Answered) → AreStrong strong s
         → AreStrong strong (after_success s o)
-    success_strong s o are = by (is_standing s o)
+    success_strong s None are = are
+    success_strong s (Some d) are =
+        by (is_standing s (Some d)) (is_stronger_than d (confirmed s)) (gives_way s.current d) refl
       where
-        by : (b : Bool) → AreStrong strong (cond b (record s { is_validated = true; validated = None }) s)
-        by true = record { current = are.current; confirmed_one = are.current }
-        by false = are
+        by : (b v w : Bool) → is_stronger_than d (confirmed s) ≡ v
+            → AreStrong strong (cond b (record s { is_validated = true; validated = None })
+            (cond v (cond w (record { current = Some d; is_validated = true; validated = None })
+            (record { current = s.current; is_validated = false; validated = Some d })) s))
+        by true v w is = record { current = are.current; confirmed_one = are.current }
+        by false true true is = record {
+          current = stronger_still s d is are;
+          confirmed_one = stronger_still s d is are;
+        }
+        by false true false is = record {
+          current = are.current;
+          confirmed_one = stronger_still s d is are;
+        }
+        by false false w is = are
 
     -- back to the confirmed one
     back_strong : (o : Option Answered) → IsStrong strong.challenge o
@@ -498,6 +558,6 @@ module _ (laws : ChallengeLaws) (p : Preferences) (who : NameAndPassword) (accep
         is = refl;
         strong = strong_still s x (strong_again s required a.signed_for bytes x sent) are;
       });
-      succeeds = success_strong;
+      succeeds = λ s id a its are. success_strong s a.signed_for are;
       lapses = timeout_strong;
     }

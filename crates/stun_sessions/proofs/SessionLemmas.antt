@@ -1,5 +1,5 @@
 -- One request of a session, while its nonce lasts and after that.
-use Rattle.std.proofs.Common.{◌≡◌, ◌≢◌, ℕ, zero, suc, Bool, true, false, List, [], Option, Some}
+use Rattle.std.proofs.Common.{◌≡◌, ◌≢◌, ◌⊎◌, ℕ, zero, suc, Bool, true, false, List, [], Option, Some}
 use Rattle.std.proofs.Common.{None, inl, inr, refl, ◌∙◌, ap, sym}
 use Rattle.std.specs.Prelude.{cond, not, ◌&&◌, ◌||◌, unwrap_or}
 use Rattle.std.specs.Option.{is_none, option_and_then, option_map}
@@ -26,7 +26,8 @@ use Rattle.stun_client.specs.Clients.{EndpointClient, heard, responded}
 use Rattle.stun_client.specs.Judging.{believed}
 use Rattle.stun_client.specs.Requests.{AskedSeen}
 use Rattle.stun_client.specs.Standing.{StandingSeen, after_answer, after_success, confirmed}
-use Rattle.stun_client.specs.Standing.{is_ignored, is_standing, is_weaker_than}
+use Rattle.stun_client.specs.Standing.{gives_way, is_ignored, is_standing, is_stronger_than}
+use Rattle.stun_client.specs.Standing.{is_weaker_than}
 use Rattle.stun_client.specs.declared.preferences.Preferences.{Preferences}
 use Rattle.stun_endpoint.specs.Answers.{with_end}
 use Rattle.stun_endpoint.specs.Judged.{key_of_client}
@@ -40,7 +41,8 @@ use Rattle.stun_exchanges.specs.Exchange.{AnswersAreHeard, IsRegisteredUser}
 use Rattle.stun_exchanges.specs.Exchange.{UserSecrets, meant_for, realm_knowing}
 use Rattle.stun_exchanges.proofs.AgreementLemmas.{supported_is}
 use Rattle.stun_sessions.specs.Responses.{EndsAtClient, OutcomeEnds}
-use Rattle.stun_sessions.specs.Sessions.{EndsThere, IsConfirmedBy, IsInSession, IsNotUnder}
+use Rattle.stun_sessions.specs.Sessions.{EndsThere, IsConfirmedBy, IsInSession, IsMeantHere}
+use Rattle.stun_sessions.specs.Sessions.{IsNotUnder}
 use Rattle.stun_sessions.specs.Sessions.{client_named}
 use Rattle.stun_sessions.proofs.StaleLemmas.{other_bytes}
 
@@ -190,12 +192,60 @@ answered_last standing c new =
       validated = confirmed standing;
     })).current) new
 
-pub stays_current : (standing : StandingSeen) (other : Option Answered)
-    → (after_success standing other).current ≡ standing.current
-stays_current standing other = by (is_standing standing other)
+-- what a success makes of the current challenge
+abbrev with_success : (standing : StandingSeen) (c : Answered) (is_one is_stronger gives : Bool)
+    → StandingSeen
+with_success standing c is_one is_stronger gives =
+    cond is_one (record standing { is_validated = true; validated = None })
+    (cond is_stronger (cond gives (record { current = Some c; is_validated = true; validated = None })
+    (record { current = standing.current; is_validated = false; validated = Some c })) standing)
+
+pub stays_current : (standing : StandingSeen) (other : Answered)
+    → gives_way standing.current other ≡ false
+    → (after_success standing (Some other)).current ≡ standing.current
+stays_current standing other stays =
+    ap (λ b. (with_success standing other (is_standing standing (Some other))
+    (is_stronger_than other (confirmed standing)) b).current) stays
+    ∙ by (is_standing standing (Some other)) (is_stronger_than other (confirmed standing))
   where
-    by : (b : Bool)
-        → (cond b (record standing { is_validated = true; validated = None }) standing).current
-        ≡ standing.current
-    by true = refl
-    by false = refl
+    by : (b v : Bool) → (with_success standing other b v false).current ≡ standing.current
+    by true v = refl
+    by false true = refl
+    by false false = refl
+
+pub stays_or_gives_way : (standing : StandingSeen) (other : Option Answered)
+    → ((after_success standing other).current ≡ standing.current)
+    ⊎ ((after_success standing other).current ≡ other)
+stays_or_gives_way standing None = inl refl
+stays_or_gives_way standing (Some c) =
+    by (is_standing standing (Some c)) (is_stronger_than c (confirmed standing))
+    (gives_way standing.current c)
+  where
+    by : (b v w : Bool) → ((with_success standing c b v w).current ≡ standing.current)
+        ⊎ ((with_success standing c b v w).current ≡ Some c)
+    by true v w = inl refl
+    by false true true = inr refl
+    by false true false = inl refl
+    by false false w = inl refl
+
+-- two challenges of one server are as strong as each other
+pub alike_stay : (s : Settings)
+    → ((secret : List ℕ) (from : SocketAddr) (epoch : ℕ)
+    → asks_for_userhash (nonce_in s secret from epoch) ≡ is_possible s.feature)
+    → (p : Preferences) (who : NameAndPassword) (a : IntegrityAlgorithm) (standing : StandingSeen)
+    (other : Option Answered) → IsMeantHere s who p a standing.current → IsMeantHere s who p a other
+    → (after_success standing other).current ≡ standing.current
+alike_stay s hashes p who a standing other here known =
+    let current = meant_for s p who (nonce_in s here.secret here.from here.epoch) a in
+    let meant = meant_for s p who (nonce_in s known.secret known.from known.epoch) a in
+    let alike : asks_for_userhash (nonce_in s here.secret here.from here.epoch)
+    ≡ asks_for_userhash (nonce_in s known.secret known.from known.epoch) =
+    hashes here.secret here.from here.epoch
+    ∙ sym (hashes known.secret known.from known.epoch) in
+    let stays : gives_way standing.current meant ≡ false =
+    ap (λ (o : Option Answered). gives_way o meant) here.is
+    ∙ no_weaker a meant.challenge.naming current.challenge.naming
+    (ap (λ b. is_none (plain_name (naming_of (b && is_possible p.anonymous_username) who.username
+    s.realm))) alike) in
+    ap (λ (o : Option Answered). (after_success standing o).current) known.is
+    ∙ stays_current standing meant stays

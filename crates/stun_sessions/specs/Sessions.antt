@@ -19,6 +19,7 @@ use Rattle.stun_client.specs.Clients.{EndpointClient, heard, responded}
 use Rattle.stun_client.specs.Judging.{anew, believed, long_term}
 use Rattle.stun_client.specs.Requests.{AskedSeen, at}
 use Rattle.stun_client.specs.Standing.{StandingSeen, after_answer, after_success, confirmed}
+use Rattle.stun_client.specs.Standing.{gives_way}
 use Rattle.stun_client.specs.declared.preferences.Preferences.{Preferences}
 use Rattle.stun_endpoint.specs.Answers.{with_end}
 use Rattle.stun_endpoint.specs.Judged.{Realm, key_of_client}
@@ -154,11 +155,22 @@ OneStaleAnswer =
 -- ---- which challenge new requests are signed for
 
 -- a new request is signed for the current challenge (`after_starting` of `stun_client`). It is the
--- one that was answered last, unless that was the current one already, and it stays current when
--- requests succeed
+-- one that was answered last, unless that was the current one already. When requests succeed it stays
+-- current, or gives way to the challenge of the one that does, if it is weaker
 abbrev pub ChallengesStay : Type 0
 ChallengesStay =
     (standing : StandingSeen) (c : Answered)
     → (is_one (Some c) standing.current ≡ false
     → (after_answer standing c).current ≡ Some c)
-    × ((other : Option Answered) → (after_success standing other).current ≡ standing.current)
+    × ((other : Answered) → gives_way standing.current other ≡ false
+    → (after_success standing (Some other)).current ≡ standing.current)
+    × ((other : Option Answered) → ((after_success standing other).current ≡ standing.current)
+    ⊎ ((after_success standing other).current ≡ other))
+
+-- no challenge of a server gives way to another one of it, if it keeps its settings
+abbrev pub ChallengesOfOneStay : Type 0
+ChallengesOfOneStay =
+    (s : Settings) (who : NameAndPassword) (p : Preferences) (a : IntegrityAlgorithm)
+    (standing : StandingSeen) (other : Option Answered)
+    → IsMeantHere s who p a standing.current → IsMeantHere s who p a other
+    → (after_success standing other).current ≡ standing.current

@@ -1,5 +1,6 @@
 //! Laws of a session: one exchange for each request while the nonce lasts, and one 438 after that.
-ghost use Rattle.stun_sessions.specs.Sessions.{ChallengesStay, ForgottenAreStale};
+ghost use Rattle.stun_sessions.specs.Sessions.{ChallengesOfOneStay, ChallengesStay};
+ghost use Rattle.stun_sessions.specs.Sessions.{ForgottenAreStale};
 ghost use Rattle.stun_sessions.specs.Sessions.{OneExchangeEach, OneStaleAnswer};
 
 /// Whoever would be accepted under a nonce is answered with a 438 once the nonce has expired. The
@@ -33,7 +34,9 @@ pub fn each_request_takes_one_exchange()
 
 /// Once its nonce has expired, the client's request is answered with one 438, and the 438 has it
 /// sent again, signed for the nonce that is current then (`renewed`). So that one takes one
-/// exchange again. New requests are signed for the challenge that was answered last (`stays`).
+/// exchange again. New requests are signed for the challenge that was answered last (`stays`), until
+/// one succeeds that is signed for a stronger one. None of a server is stronger than another one of
+/// it, if it keeps its settings (`alike`).
 ///
 /// Premises, beside those of `each_request_takes_one_exchange` and of
 /// `forgotten_nonces_are_stale`: what a success has confirmed last at the client, if anything, is
@@ -42,6 +45,7 @@ pub fn each_request_takes_one_exchange()
 pub fn an_expired_nonce_takes_one_stale_answer()
     ensures renewed { OneStaleAnswer }
     ensures stays { ChallengesStay }
+    ensures alike { ChallengesOfOneStay }
 {
     forgotten_nonces_are_stale();
     stun_client::laws::nonces_of_a_server_are_up_to_date();

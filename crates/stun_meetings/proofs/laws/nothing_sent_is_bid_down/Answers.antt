@@ -1,5 +1,5 @@
 -- What holds of the challenges of a client holds over any calls.
-use Rattle.std.proofs.Common.{◌≡◌, ◌∙◌, ℕ, true, false, List, Option, Some, None, Ok, ap, cond, inl, refl}
+use Rattle.std.proofs.Common.{◌≡◌, ◌∙◌, ℕ, true, false, List, Option, Some, None, Ok, ap, inl, refl}
 use Rattle.std.proofs.Common.{subst, sym}
 use Rattle.std.specs.Bool.{⊤}
 use Rattle.std.specs.Option.{IfSome, IsSome, is_some, option_map_or}
@@ -8,8 +8,9 @@ use Rattle.stun_client.specs.Clients.{EndpointClient}
 use Rattle.stun_client.specs.Judging.{Identity, long_term}
 use Rattle.stun_client.specs.Requests.{AskedSeen, at}
 use Rattle.stun_client.specs.Rule.{IsByRule, IsChosen}
-use Rattle.stun_client.specs.Standing.{confirmed}
+use Rattle.stun_client.specs.Standing.{StandingSeen, after_success, confirmed, is_standing}
 use Rattle.stun_client.proofs.ChosenLemmas.{chosen_of_rule}
+use Rattle.stun_client.proofs.StandingLemmas.{confirms_standing}
 use Rattle.stun_auth.specs.Signed.{IsText}
 use Rattle.stun_client_endpoint.specs.Endpoints.{Endpoint, Polls, Told, ends, goes_on, next_number, says}
 use Rattle.stun_client_endpoint.specs.Endpoints.{started, transmit}
@@ -197,8 +198,12 @@ returns-clause-any g = λ c e later last before between method body start now ma
     }
 
 pub returns-clause-confirms : goal.returns-clause-confirms
-returns-clause-confirms g = λ standing signed_for is.
-    ap (λ b. confirmed (cond b (record standing { is_validated = true; validated = None }) standing)) is
+returns-clause-confirms g = λ standing signed_for is. by standing signed_for is
+  where
+    by : (standing : StandingSeen) (o : Option Answered) → is_standing standing o ≡ true
+        → confirmed (after_success standing o) ≡ standing.current
+    by standing None is = cc
+    by standing (Some c) is = confirms_standing standing c is
 
 pub returns-clause-since : goal.returns-clause-since
 returns-clause-since g = λ c e later last before between strong now number made begun is calls usual said.

@@ -5,12 +5,14 @@ use Rattle.stun_auth.specs.Reading.{reading_of}
 use Rattle.stun_base.specs.declared.wire.message_type.MessageClass.TheVariants.{Request}
 use Rattle.std.specs.Prelude.{None}
 use Rattle.stun_endpoint.specs.Lookups.{users_with}
+use Rattle.stun_endpoint.specs.Settings.{registered_of}
 use Rattle.stun_endpoint.specs.Nonces.{current_nonce, epoch_of, words_of}
 use Rattle.stun_endpoint.specs.declared.received.Refusal.TheVariants.{StaleNonce}
 use Rattle.stun_exchanges.specs.Exchange.{realm_knowing}
 use Rattle.stun_exchanges.proofs.AgreedLemmas.{accepted_again}
 use Rattle.stun_sessions.specs.Sessions.{client_named}
-use Rattle.stun_sessions.proofs.SessionLemmas.{answered_last, is_another, is_strong, stays_current}
+use Rattle.stun_sessions.proofs.SessionLemmas.{alike_stay, answered_last, is_another, is_strong}
+use Rattle.stun_sessions.proofs.SessionLemmas.{stays_current, stays_or_gives_way}
 use Rattle.stun_sessions.proofs.sessions.an_expired_nonce_takes_one_stale_answer.Goals as goal
 
 pub returns-clause-renewed : goal.returns-clause-renewed
@@ -36,4 +38,11 @@ pub returns-clause-stays : goal.returns-clause-stays
 returns-clause-stays c = λ standing challenge. (
   answered_last standing challenge,
   stays_current standing,
+  stays_or_gives_way standing,
 )
+
+pub returns-clause-alike : goal.returns-clause-alike
+returns-clause-alike c = λ s who p a standing other here known.
+    alike_stay s (λ secret from epoch. (c.nonces_of_a_server_are_up_to_date.ensures.marked
+    (registered_of s) s.feature (map letter (words_of s.algorithms secret from epoch))).hashes)
+    p who a standing other here known

@@ -31,7 +31,7 @@ use Rattle.stun_c.specs.declared.header.Header.{Header}
 -- ---- numbers
 
 -- no refusal has the number of a success
-negative : {A : Type 0} (refusal : Refusal) (n : ℕ) → refusal_number refusal ≡ pos n → A
+pub negative : {A : Type 0} (refusal : Refusal) (n : ℕ) → refusal_number refusal ≡ pos n → A
 negative r.Truncated n h = cc
 negative r.NotStun n h = cc
 negative r.TooLarge n h = cc
@@ -62,7 +62,7 @@ negative r.TooManyAddresses n h = cc
 negative r.CannotSign n h = cc
 negative r.WrongHandle n h = cc
 
-same_number : (m n : ℕ) → pos m ≡ pos n → n ≡ m
+pub same_number : (m n : ℕ) → pos m ≡ pos n → n ≡ m
 same_number m n h = sym (ap nat_abs h)
 
 pub told : (o : Option StunParseError) (m n : ℕ) → unless_no_message o (pos m) ≡ pos n
@@ -102,7 +102,7 @@ right (Some error) f h = negative (refusal_of_parse error) 1 h
 abbrev IsResult : {V : Type 0} → Result V Refusal → V → Type 0
 IsResult r v = r ≡ Ok v
 
-same_bytes : {V : Type 0} (v w : V) → IsResult (Ok v) w → w ≡ v
+pub same_bytes : {V : Type 0} (v w : V) → IsResult (Ok v) w → w ≡ v
 same_bytes v w h = cc
 
 pub passed : {V : Type 0} (o : Option Refusal) (made : Result V Refusal) (v : V)

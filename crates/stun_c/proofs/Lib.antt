@@ -3,6 +3,7 @@ mod CarriedLemmas
 mod Channels
 mod Ending
 mod ErrorTexts
+mod Found
 mod Frames
 mod Lengths
 mod Members

@@ -16,5 +16,7 @@ pub mod Walking
 pub mod Extra
 -- what the calls for TURN return and write
 pub mod Turn
+-- what the laws of this crate say
+pub mod Laws
 -- what no clause of a public call cites: what private functions alone use
 pub mod code

@@ -2,7 +2,7 @@
 //! over `stun_extra` refuse and write.
 
 ghost use Rattle.std.specs.Prelude.{◌≡◌, ◌≤◌, ◌<◌, ◌^◌, ◌+◌, ◌⊎◌, ℕ, ℤ, pos, suc, Bool, List, []};
-ghost use Rattle.std.specs.Prelude.{◌∷◌, ◌++◌, drop, take, length};
+ghost use Rattle.std.specs.Prelude.{◌∷◌, ◌++◌, drop, take, length, map};
 ghost use Rattle.std.specs.Prelude.{slice_get, cond, IfOk, Some, None, Result, Ok, true};
 ghost use Rattle.std.specs.Option.{option_map};
 ghost use Rattle.std.specs.Str.{is_utf8};
@@ -15,12 +15,13 @@ ghost use Rattle.stun_base.specs.MessageType.{class_in, class_number, class_of_b
 ghost use Rattle.stun_base.specs.MessageType.{type_number};
 ghost use Rattle.stun_base.specs.declared.wire.attribute_type.AttributeType.{AttributeType};
 ghost use Rattle.stun_base.specs.declared.wire.message_type.MessageClass.{MessageClass};
-ghost use Rattle.stun_types.specs.Attribute.{padded_length};
+ghost use Rattle.stun_types.specs.Attribute.{TypedValue, padded_length};
 ghost use Rattle.stun_types.specs.ErrorCode.{CodeAndReason, error_value};
 ghost use Rattle.stun_types.specs.Grammar.{spelled_message};
-ghost use Rattle.stun_types.specs.Integrity.{verified_algorithm};
+ghost use Rattle.stun_types.specs.Integrity.{first_of, verified_algorithm};
 ghost use Rattle.stun_types.specs.Message.{refusal};
 ghost use Rattle.stun_types.specs.Visible.{visible};
+ghost use Rattle.stun_types.specs.Walk.{Member};
 ghost use Rattle.stun_types.specs.Writing.{with_attribute, with_integrity};
 ghost use Rattle.stun_types.specs.XorMappedAddress.{XoredAddress, xor_bytes, xor_key, xor_port};
 ghost use Rattle.stun_types.specs.XorMappedAddress.{xored_of};
@@ -29,28 +30,37 @@ ghost use Rattle.stun_extra.specs.Fingerprint.{with_fingerprint};
 ghost use Rattle.stun_extra.specs.Unknown.{unknown_attribute_error};
 ghost use Rattle.stun_extra.specs.declared.fingerprint.Fingerprint.TheVariants.{Right};
 ghost use Rattle.stun_numbers.specs.Algorithms.{algorithm_number};
+ghost use Rattle.stun_numbers.specs.Buffers.{within_room};
 ghost use Rattle.stun_numbers.specs.Refusals.{refusal_of_write};
 ghost use Rattle.stun_c.specs.declared.walk.Cursor.{Cursor};
-ghost use Rattle.stun_c.specs.Answers.{Writes, parse_answer, verify_answer};
+ghost use Rattle.stun_c.specs.Answers.{Writes, WritesWithin, parse_answer, verify_answer};
 ghost use Rattle.stun_c.specs.Codes.{error_text};
 ghost use Rattle.stun_c.specs.Extra.{fingerprint_answer, fingerprinted_message, types_at};
 ghost use Rattle.stun_c.specs.Extra.{types_attribute, types_of_value, unknown_answer, unknown_made};
-ghost use Rattle.stun_c.specs.Extra.{unknown_of};
+ghost use Rattle.stun_c.specs.Extra.{held_after, held_number, known_refusal, told_number};
+ghost use Rattle.stun_c.specs.Extra.{types_after, unknown_of, wanted_number};
+ghost use Rattle.stun_c.specs.Laws.{IsComeTo};
 ghost use Rattle.stun_c.specs.Reading.{address_at, address_in, attribute_place, class_answer};
 ghost use Rattle.stun_c.specs.Reading.{error_answer, error_in, header_after, header_answer};
 ghost use Rattle.stun_c.specs.Reading.{header_in, id_of_message, method_answer, octets_at};
 ghost use Rattle.stun_c.specs.Reading.{octets_of_message, port_after, sized_at, text_at, value_at};
+ghost use Rattle.stun_c.specs.Reading.{find_answer, finding_refusal, next_answer, next_member};
+ghost use Rattle.stun_c.specs.Reading.{number_after, plain_octets, plain_port_after};
+ghost use Rattle.stun_c.specs.Reading.{sized_after, text_answer, text_length_after};
 ghost use Rattle.stun_c.specs.Requests.{binding_request, key_length, key_of_texts, signed_request};
 ghost use Rattle.stun_c.specs.Requests.{userhash_of_texts};
 ghost use Rattle.stun_c.specs.Turn.{IsReadAs, built_channel_data, channel_in, channel_item};
+ghost use Rattle.stun_c.specs.Turn.{channel_answer, channel_refusal, set_by_data};
 ghost use Rattle.stun_c.specs.Turn.{channel_number_answer, transport_answer, transport_in};
-ghost use Rattle.stun_c.specs.Walking.{ahead};
+ghost use Rattle.stun_c.specs.Walking.{ahead, cursor_refusal, walk_answer};
 ghost use Rattle.stun_c.specs.Writing.{added_error, added_number, added_numbered_address};
-ghost use Rattle.stun_c.specs.Writing.{added_plain_address, added_sized, begun_message, fit_refusal};
+ghost use Rattle.stun_c.specs.Writing.{added_plain_address, added_sized, begun_message};
+ghost use Rattle.stun_c.specs.Writing.{fit_refusal};
 ghost use Rattle.stun_c.specs.Writing.{hidden_value, plain_value, shows_kind, signed_message};
 ghost use Rattle.stun_c.specs.declared.header.Header.{Header};
 
 use stun_base::algorithm::IntegrityAlgorithm;
+use stun_extra::framing::Frame;
 use stun_numbers::refusal::Refusal;
 
 /// A key has 16 or 32 bytes, a USERHASH 32, and a request those of its header, USERNAME and digest.
@@ -223,4 +233,66 @@ pub fn attributes_are_read_from_their_value()
         × ((value : List ℕ) × (value_at bytes place ≡ Ok value)
         × (xored_of (record { kind = XOR_MAPPED_ADDRESS; value = value }) ≡ Some a))
         × (octets ≡ xor_bytes a.octets (xor_key (transaction_id_field bytes))) }
+{}
+
+/// A call that comes to an attribute comes to the one that the library finds in the message, and
+/// says where its value begins: the first of a type, the next one after an offset, or the one ahead
+/// of a cursor. Where it comes to none it returns 0, or no number of success if it was to find one.
+/// What it writes is of this attribute.
+pub fn attributes_that_are_found_are_in_the_message()
+    ensures found { (bytes : List ℕ) (kind before : ℕ) (part : TypedValue → ℕ) (n : ℕ)
+        → find_answer (finding_refusal kind bytes) (first_of kind (visible bytes)) ≡ pos n
+        → (m : Member) × (refusal bytes ≡ None) × (first_of kind (visible bytes) ≡ Some m)
+        × (n ≡ m.0 + 4) × (number_after part (finding_refusal kind bytes)
+        (first_of kind (visible bytes)) before ≡ part m.1) }
+    ensures next { (bytes : List ℕ) (place before : ℕ) (part : TypedValue → ℕ) (n : ℕ)
+        → next_answer bytes place ≡ pos n
+        → (refusal bytes ≡ None) × IsComeTo (next_member place bytes) part n before
+        (number_after part (refusal bytes) (next_member place bytes) before) }
+    ensures behind { (bytes : List ℕ) (place : ℕ) (m : Member)
+        → next_member place bytes ≡ Some m → place < m.0 }
+    ensures walked { (cursor : Cursor) (bytes : List ℕ) (before : ℕ) (part : TypedValue → ℕ)
+        (n : ℕ)
+        → walk_answer (cursor_refusal cursor bytes) (slice_get (ahead cursor bytes) 0) ≡ pos n
+        → (cursor_refusal cursor bytes ≡ None)
+        × IsComeTo (slice_get (ahead cursor bytes) 0) part n before
+        (number_after part (cursor_refusal cursor bytes) (slice_get (ahead cursor bytes) 0)
+        before) }
+{}
+
+/// What a call writes beside its result is of the value that it reads: the length of a text, a
+/// number, the port of an address, the parts of ChannelData and the types in a list, as many as have
+/// room. No call writes more than its buffer has room for.
+pub fn what_is_written_is_what_was_read()
+    ensures text { (x : Result (List ℕ) Refusal) (place before n : ℕ)
+        → text_answer x place ≡ pos n → (text : List ℕ) × (x ≡ Ok text) × (n ≡ place + 4)
+        × (text_length_after x before ≡ length text) }
+    ensures number { (bytes value : List ℕ) (place before : ℕ) → sized_at bytes place ≡ Ok value
+        → sized_after (sized_at bytes place) before ≡ big_number (length value) value }
+    ensures address { (a : Result XoredAddress Refusal) (room before : ℕ) (octets : List ℕ)
+        → within_room (plain_octets a) room ≡ Ok octets
+        → (address : XoredAddress) × (a ≡ Ok address) × (octets ≡ address.octets)
+        × (plain_port_after (within_room (plain_octets a) room) a before ≡ address.port) }
+    ensures channel { (bytes : List ℕ) (n number before : ℕ)
+        → channel_answer (channel_refusal bytes) ≡ pos n
+        → (channel_refusal bytes ≡ None) × (n ≡ 4)
+        × (set_by_data (channel_refusal bytes) number before ≡ number) }
+    ensures types { (x : Result (List AttributeType) Refusal) (numbers : List ℕ) (n : ℕ)
+        → held_number x ≡ pos n
+        → (types : List AttributeType) × (rest : List ℕ) × (x ≡ Ok types) × (n ≡ length types)
+        × (held_after x numbers
+        ≡ take (length numbers) (map (λ kind. kind.0) types) ++ rest) }
+    ensures unknown { (bytes known numbers : List ℕ) (n : ℕ)
+        → told_number (known_refusal bytes known) (unknown_of bytes known) ≡ pos n
+        → (rest : List ℕ) × (refusal bytes ≡ None) × (n ≡ length (unknown_of bytes known))
+        × (types_after (known_refusal bytes known) (unknown_of bytes known) numbers
+        ≡ take (length numbers) (map (λ kind. kind.0) (unknown_of bytes known)) ++ rest) }
+    ensures frame { (there n : ℕ) (frame : Frame) → wanted_number there frame ≡ pos n
+        → (frame ≡ Frame.Message n) ⊎ ((more : ℕ) × (frame ≡ Frame.Need more)
+        × (n ≡ there + more)) }
+    ensures room { (made : Result (List ℕ) Refusal) (before after : List ℕ) (result : ℤ)
+        → WritesWithin made before result after
+        → ((bytes : List ℕ) × (rest : List ℕ) × (made ≡ Ok bytes)
+        × (length bytes ≤ length before) × (result ≡ pos (length bytes))
+        × (after ≡ bytes ++ rest)) ⊎ (after ≡ before) }
 {}

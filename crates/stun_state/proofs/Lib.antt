@@ -7,6 +7,7 @@ mod Holding
 mod Keeping
 mod NumberLemmas
 mod Reasons
+mod Removed
 mod Signatures
 mod SlotWords
 mod Tellings

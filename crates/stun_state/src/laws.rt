@@ -24,6 +24,7 @@ ghost use Rattle.stun_auth.specs.ForgettingSteps.{after_step, next_address};
 ghost use Rattle.stun_auth.specs.Handed.{judged_by, with_just, with_users};
 ghost use Rattle.stun_auth.specs.Reading.{reading_of};
 ghost use Rattle.stun_auth.specs.Registered.{Registered, RegisteredUser, of_keys, of_password};
+ghost use Rattle.stun_auth.specs.Registered.{user_named};
 ghost use Rattle.stun_auth.specs.ServerSigning.{after_signing, server_signed};
 ghost use Rattle.stun_auth.specs.Validation.{ServerSeen, after_validation, answer, client_at};
 ghost use Rattle.stun_auth.specs.Validation.{sight};
@@ -554,4 +555,15 @@ pub fn failed_allocations_change_nothing()
         → kept_after_validating k bytes from now words ≡ k.server }
     ensures client { (c : ClientSide) (bytes : List ℕ) → AsksAgain c bytes
         ↔ (is_resend_answer (reading_answer (client_validation c bytes)) ≡ true) }
+{}
+
+/// A user who is removed is registered no more. A client that is removed is forgotten, and each
+/// address keeps its nonce.
+pub fn what_is_removed_is_gone()
+    ensures user { (s : ServerSeen) (name : List ℕ) → is_utf8 name ≡ true
+        → user_named (without_named (text_refusal name) s name).registered name ≡ None }
+    ensures client { (s : ServerSeen) (at : SocketAddr)
+        → client_at (without_client s at) at ≡ None }
+    ensures nonce { (s : ServerSeen) (at other : SocketAddr)
+        → nonce_at (without_client s at) other ≡ nonce_at s other }
 {}

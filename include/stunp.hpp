@@ -720,6 +720,9 @@ struct checker : handle<stunp_ice_checker, stunp_ice_checker_clear> {
         return ask(stunp_ice_checker_set_peer_with, get(), name, password);
     }
     result<bool> is_controlling() { return ask<bool>(stunp_ice_checker_is_controlling, get()); }
+    result<> set_role(bool is_controlling) {
+        return ask(stunp_ice_checker_set_role, get(), is_controlling);
+    }
     result<> set_tie_breaker(uint64_t random) {
         return ask(stunp_ice_checker_set_tie_breaker, get(), random);
     }

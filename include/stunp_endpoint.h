@@ -267,9 +267,9 @@
  *   replies: stunp_reply_success, stunp_reply_error, stunp_reply_finish, stunp_reply_wipe
  *   ICE: stunp_ice_checker_new_with, stunp_ice_checker_offer_with, stunp_ice_checker_new,
  *    stunp_ice_checker_set_peer_with, stunp_ice_checker_set_peer, stunp_ice_checker_is_controlling,
- *    stunp_ice_checker_controls, stunp_ice_checker_set_tie_breaker, stunp_ice_checker_check_with,
- *    stunp_ice_checker_check, stunp_ice_checker_receive_with, stunp_ice_checker_receive,
- *    stunp_ice_checker_clear, stunp_ice_checker_free
+ *    stunp_ice_checker_controls, stunp_ice_checker_set_role, stunp_ice_checker_set_tie_breaker,
+ *    stunp_ice_checker_check_with, stunp_ice_checker_check, stunp_ice_checker_receive_with,
+ *    stunp_ice_checker_receive, stunp_ice_checker_clear, stunp_ice_checker_free
  *   ICE, around checks: stunp_ice_find_sender, stunp_ice_priority, stunp_ice_pair_priority,
  *    stunp_ice_consent_from, stunp_ice_consent_poll, stunp_ice_consent_answered,
  *    stunp_ice_consent_until
@@ -1273,6 +1273,18 @@ int64_t stunp_ice_checker_is_controlling(stunp_ice_checker *checker);
 /* Returns whether the agent controls now: whether stunp_ice_checker_is_controlling returns 1. */
 STUNP_USE_RESULT STUNP_NOT_NULL(1)
 STUNP_INLINED bool stunp_ice_checker_controls(stunp_ice_checker *checker);
+
+/* Sets the role: whether the agent controls from now on. For an agent that learns from the answer to
+ * its offer that its peer is lite, and so has to control (section 6.1.1), and for one that cannot send
+ * the answer with which it has switched its role, and so takes the switch back. A conflict needs no
+ * call: the agent switches by itself. A check that is outstanding still says the role in which it was
+ * written. Nothing but the role changes.
+ *
+ * Returns 0. Errors:
+ *   STUNP_EMPTY_HANDLE  the handle is empty
+ *   STUNP_WRONG_HANDLE  it has no agent */
+STUNP_NOT_NULL(1)
+int64_t stunp_ice_checker_set_role(stunp_ice_checker *checker, bool is_controlling);
 
 /* Sets another tie-breaker. After STUNP_ICE_CONFLICT an agent must have a new random one before its
  * next check (section 16.1).

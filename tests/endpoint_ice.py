@@ -36,6 +36,9 @@ class IceStage:
             return self.role
         if name == "peer":
             return self.set_peer(*words)
+        if name == "set-role":
+            self.role = words[0]
+            return None
         if name == "tie-breaker":
             self.tie_breaker = spelling.number(words[0])
             return None

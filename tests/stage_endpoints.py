@@ -130,6 +130,9 @@ class Endpoints:
     def ice_role(self):
         return ROLES[self.ask("ice-is-controlling")[0]]
 
+    def ice_set_role(self, word):
+        return self.asked_for("ice-set-role", ROLES.index(word))
+
     def ice_tie_breaker(self, word):
         return self.asked_for("ice-set-tie-breaker", number(word))
 

@@ -207,7 +207,7 @@ MAY_IGNORE = re.compile(
     r"forget\w*|cancel\w*|configure|statistics|validated_peer|send)|read_header|id|error_text|"
     r"endpoint_(server_new_(with|short_term|open)|users_(new_own|add(_keys)?|remove)|"
     r"client_(new_with|request_with|cancel))|"
-    r"ice_checker_(new_with|offer_with|set_peer_with|set_tie_breaker)|"
+    r"ice_checker_(new_with|offer_with|set_peer_with|set_role|set_tie_breaker)|"
     r"(state_|endpoint_)?(version|release_\w+))")
 
 def wanted_attributes(result, name, listed):

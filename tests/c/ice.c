@@ -93,6 +93,12 @@ static void plain_calls(void) {
     want("controls", stunp_ice_checker_is_controlling(&agent), 1);
     want("controls, as a condition", stunp_ice_checker_controls(&agent), true);
     want("tie-breaker", stunp_ice_checker_set_tie_breaker(&agent, 2), 0);
+    want("is to be controlled", stunp_ice_checker_set_role(&agent, false), 0);
+    want("is controlled", stunp_ice_checker_is_controlling(&agent), 0);
+    want("is controlled already", stunp_ice_checker_set_role(&agent, false), 0);
+    want("is controlled", stunp_ice_checker_is_controlling(&agent), 0);
+    want("is to control", stunp_ice_checker_set_role(&agent, true), 0);
+    want("controls", stunp_ice_checker_is_controlling(&agent), 1);
     stunp_ice_checker_free(&agent);
     agent = evtj(1, false);
     want("is controlled", stunp_ice_checker_is_controlling(&agent), 0);
@@ -100,6 +106,8 @@ static void plain_calls(void) {
     want("no agent", stunp_ice_checker_is_controlling(&empty), STUNP_EMPTY_HANDLE);
     want("no agent, as a condition", stunp_ice_checker_controls(&empty), false);
     want("no agent", stunp_ice_checker_set_tie_breaker(&empty, 2), STUNP_EMPTY_HANDLE);
+    want("no agent", stunp_ice_checker_set_role(&empty, true), STUNP_EMPTY_HANDLE);
+    want("still none", empty.is_full, false);
     /* A handle of another kind has no agent, and that of an agent no server. */
     stunp_endpoint_server as_server = {agent.is_full, agent.state};
     stunp_endpoint_users users = {0};
@@ -114,6 +122,7 @@ static void plain_calls(void) {
     stunp_ice_checker as_agent = {server.is_full, server.state};
     want("of a server", stunp_ice_checker_is_controlling(&as_agent), STUNP_WRONG_HANDLE);
     want("of a server", stunp_ice_checker_set_tie_breaker(&as_agent, 1), STUNP_WRONG_HANDLE);
+    want("of a server", stunp_ice_checker_set_role(&as_agent, true), STUNP_WRONG_HANDLE);
     want("of a server", stunp_ice_checker_receive(&as_agent, BYTES(request), &from, NULL, out,
          sizeof out, NULL), STUNP_WRONG_HANDLE);
     stunp_endpoint_server_free(&server);

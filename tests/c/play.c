@@ -497,6 +497,7 @@ static int64_t ice_set_peer(void) {
 }
 
 CALL(ice_is_controlling, (void)0, stunp_ice_checker_is_controlling(&ice_checker))
+CALL(ice_set_role, (void)0, stunp_ice_checker_set_role(&ice_checker, number() != 0))
 CALL(ice_set_tie_breaker, (void)0, stunp_ice_checker_set_tie_breaker(&ice_checker, number()))
 
 /* Answers the check and what is to be stored of it. */
@@ -637,8 +638,9 @@ static const struct { const char *name; int64_t (*call)(void); } calls[] = {
     {"reply-finish", reply_finish}, {"endpoint-server-identify", endpoint_server_identify},
     {"endpoint-server-resume", endpoint_server_resume}, {"ice-new", ice_new},
     {"ice-offer", ice_offer}, {"ice-set-peer", ice_set_peer},
-    {"ice-is-controlling", ice_is_controlling}, {"ice-set-tie-breaker", ice_set_tie_breaker},
-    {"ice-check", ice_check}, {"ice-receive", ice_receive},
+    {"ice-is-controlling", ice_is_controlling}, {"ice-set-role", ice_set_role},
+    {"ice-set-tie-breaker", ice_set_tie_breaker}, {"ice-check", ice_check},
+    {"ice-receive", ice_receive},
     {"endpoint-client-new", endpoint_client_new},
     {"endpoint-client-request", endpoint_client_request},
     {"endpoint-client-receive", endpoint_client_receive},

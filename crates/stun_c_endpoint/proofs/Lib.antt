@@ -3,3 +3,4 @@ pub mod BodyLemmas
 pub mod FoundLemmas
 mod KeyLemmas
 mod ReplyLemmas
+mod RoleLemmas

@@ -134,3 +134,11 @@ SetsTieBreaker (Err refusal) tie result before now =
     (result ≡ refusal_number refusal) × (now ≡ before)
 SetsTieBreaker (Ok a) tie result before now =
     (result ≡ pos 0) × (now ≡ Some (Checker (record a { tie_breaker = tie })))
+
+-- a call gives an agent the role that controls, or the other one, and returns 0, or there is no
+-- agent
+abbrev pub SetsRole : Result Agent Refusal → Bool → ℤ → Option Kept → Option Kept → Type 0
+SetsRole (Err refusal) controls result before now =
+    (result ≡ refusal_number refusal) × (now ≡ before)
+SetsRole (Ok a) controls result before now =
+    (result ≡ pos 0) × (now ≡ Some (Checker (record a { role = role_if controls })))

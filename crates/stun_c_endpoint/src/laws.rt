@@ -1,11 +1,14 @@
 //! Laws over the definitions that the contracts of this crate cite. They do nothing when they run.
 
-ghost use Rattle.std.specs.Prelude.{◌≡◌, ℕ, ℤ, pos, List};
+ghost use Rattle.std.specs.Prelude.{◌≡◌, ℕ, ℤ, pos, Bool, List, Option, if◌then◌else◌, Ok};
 ghost use Rattle.std.specs.declared.net.socket_addr.SocketAddr.{SocketAddr};
-ghost use Rattle.stun_c_endpoint.specs.Kept.{Judge};
+ghost use Rattle.stun_c_endpoint.specs.Agents.{SetsRole, controlling_answer};
+ghost use Rattle.stun_c_endpoint.specs.Kept.{Judge, agent_in};
 ghost use Rattle.stun_c_endpoint.specs.Replies.{SignsForUser};
 ghost use Rattle.stun_c_endpoint.specs.Told.{IsTold, outcome_by};
+ghost use Rattle.stun_c_endpoint.specs.declared.handle.endpoint.Kept.{Kept};
 ghost use Rattle.stun_c_endpoint.specs.declared.received.Received.{Received};
+ghost use Rattle.stun_ice.specs.Agent.{Agent};
 
 /// A call that returns `STUNP_IS_REQUEST` writes a reply whose responses verify under the key of the
 /// user in `name`: `stunp_verify` accepts what `stunp_reply_finish` signs, whatever the length of the
@@ -15,4 +18,12 @@ pub fn replies_sign_for_the_user()
         (out out' : List ℕ) (r r' : Received)
         → IsTold (outcome_by judge from seconds bytes) result out out' r r'
         → result ≡ pos 2 → SignsForUser judge r' }
+{}
+
+/// After `stunp_ice_checker_set_role` on a handle with an agent, `stunp_ice_checker_is_controlling`
+/// returns 1 if the agent was to control, and else 0.
+pub fn set_roles_are_told()
+    ensures { (a : Agent) (controls : Bool) (result : ℤ) (before now : Option Kept)
+        → SetsRole (Ok a) controls result before now
+        → controlling_answer (agent_in now) ≡ (if controls then pos 1 else pos 0) }
 {}

@@ -35,6 +35,11 @@ impl IceStage {
             ["offer", words @ ..] => self.offer(words),
             ["peer", words @ ..] => self.set_remote(words),
             ["role"] => Some(role_name(self.checker.as_ref()?.role()).to_string()),
+            ["set-role", word] => {
+                let (checker, role) = (self.checker.as_mut()?, role(word)?);
+                checker.set_role(role);
+                Some(unless(checker.role() == role).to_string())
+            }
             ["tie-breaker", word] => {
                 let (checker, tie_breaker) = (self.checker.as_mut()?, number(word)?);
                 checker.set_tie_breaker(tie_breaker);

@@ -5,14 +5,14 @@
 
 ghost use Rattle.std.specs.Prelude.{◌≡◌, None};
 ghost use Rattle.stun_c_endpoint.specs.Agents.{MakesAgent, MakesOffering, SetsPeer};
-ghost use Rattle.stun_c_endpoint.specs.Agents.{SetsTieBreaker, controlling_answer};
+ghost use Rattle.stun_c_endpoint.specs.Agents.{SetsRole, SetsTieBreaker, controlling_answer};
 ghost use Rattle.stun_c_endpoint.specs.Checks.{WritesCheck, check_asked};
 ghost use Rattle.stun_c_endpoint.specs.Given.{Fills};
 ghost use Rattle.stun_c_endpoint.specs.Judged.{SeesAs, ice_failed, seen_at};
 ghost use Rattle.stun_c_endpoint.specs.Kept.{agent_in};
 
 use crate::handle::endpoint::EndpointHandle;
-use crate::ice::agent::{Given, Side, controlling, set_tie_breaker};
+use crate::ice::agent::{Given, Side, controlling, set_role, set_tie_breaker};
 use crate::ice::judging::judge_at;
 use crate::ice::told::{IceCheck, IceReceived};
 use crate::ice::writing::write_of;
@@ -140,6 +140,24 @@ pub extern "C" fn stunp_ice_checker_is_controlling(
         return Refusal::EmptyHandle.code();
     };
     let answer = answers::number(controlling(&kept));
+    checker.put(alloc, kept);
+    answer
+}
+
+/// Makes the agent control, or not.
+#[unsafe(no_mangle)]
+pub extern "C" fn stunp_ice_checker_set_role(
+    alloc: Global,
+    checker: &mut EndpointHandle,
+    is_controlling: bool,
+) -> i64
+    ensures { SetsRole (agent_in checker.old.kept) is_controlling result checker.old.kept
+        checker.new.kept }
+{
+    let Some(mut kept) = checker.take(alloc) else {
+        return Refusal::EmptyHandle.code();
+    };
+    let answer = answers::done(set_role(&mut kept, is_controlling));
     checker.put(alloc, kept);
     answer
 }

@@ -2,7 +2,7 @@
 
 ghost use Rattle.std.specs.Prelude.{◌≡◌, IfOk, None, OnErr, OnOk, Some};
 ghost use Rattle.stun_c_endpoint.specs.Agents.{MakesAgent, agent_given, agent_refusal};
-ghost use Rattle.stun_c_endpoint.specs.Agents.{MakesOffering, SetsPeer, SetsTieBreaker};
+ghost use Rattle.stun_c_endpoint.specs.Agents.{MakesOffering, SetsPeer, SetsRole, SetsTieBreaker};
 ghost use Rattle.stun_c_endpoint.specs.Agents.{controlling_answer, knowing_agent, offering_agent};
 ghost use Rattle.stun_c_endpoint.specs.Agents.{is_controlling, refusal_of_building, role_if};
 ghost use Rattle.stun_c_endpoint.specs.Agents.{side_given_refusal};
@@ -245,6 +245,20 @@ pub fn set_tie_breaker(kept: &mut Kept, tie_breaker: u64) -> Result<(), Refusal>
     match kept {
         Kept::Checker(checker) => {
             checker.set_tie_breaker(tie_breaker);
+            Ok(())
+        }
+        _ => Err(Refusal::WrongHandle),
+    }
+}
+
+/// Changes the role of the agent of a handle.
+pub fn set_role(kept: &mut Kept, is_controlling: bool) -> Result<(), Refusal>
+    ensures { SetsRole (agent_of kept.old) is_controlling (done_answer result) (Some kept.old)
+        (Some kept.new) }
+{
+    match kept {
+        Kept::Checker(checker) => {
+            checker.set_role(role_if(is_controlling));
             Ok(())
         }
         _ => Err(Refusal::WrongHandle),

@@ -736,6 +736,17 @@ struct checker : handle<stunp_ice_checker, stunp_ice_checker_clear> {
         made.datagram.resize(length < 0 ? 0 : size_t(length));
         return result<check>(length, std::move(made));
     }
+    // The same with further attributes.
+    result<check> write(const std::array<uint8_t, STUNP_ID_LENGTH> &random_id, const address &to,
+                        uint32_t priority, bool nominate, const endpoint::body &with) {
+        check made;
+        made.datagram.resize(STUNP_ICE_CHECK_MAX + with.get()->length);
+        int64_t length = stunp_ice_checker_check_body(get(), random_id.data(), &to, priority, nominate,
+                                                      with.get(), made.datagram.data(),
+                                                      made.datagram.size(), &made.stored);
+        made.datagram.resize(length < 0 ? 0 : size_t(length));
+        return result<check>(length, std::move(made));
+    }
     // `stored` is the check with the ID of the datagram, or null.
     result<received> receive(view datagram, const address &from, const stunp_ice_check *stored) {
         received got;

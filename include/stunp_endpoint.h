@@ -283,6 +283,8 @@
  *    stunp_endpoint_client_poll_with, stunp_endpoint_client_poll, stunp_poll_timeout,
  *    stunp_endpoint_client_cancel, stunp_endpoint_client_try_cancel, stunp_endpoint_client_dropped,
  *    stunp_result_text
+ *   ICE, checks with further attributes: stunp_ice_checker_check_body_with,
+ *    stunp_ice_checker_check_body
  *   ICE, checks with their timers: stunp_ice_checks_on, stunp_ice_checks_start,
  *    stunp_ice_checks_receive, stunp_ice_checks_poll, stunp_ice_checks_until, stunp_ice_checks_find,
  *    stunp_ice_checks_outstanding, stunp_ice_checks_stop_sending, stunp_ice_checks_cancel
@@ -1912,6 +1914,60 @@ int64_t stunp_endpoint_client_dropped(stunp_endpoint_client *client, uint64_t re
 /* Returns a text for a stunp_result, as stunp_strerror does for an error. */
 STUNP_INLINED const char *stunp_result_text(stunp_result result);
 
+/* ---- Checks of ICE with further attributes
+ *
+ * A check may have attributes beside those of ICE, such as NETWORK-COST (0xC057), which libwebrtc
+ * sends. They are given by a stunp_body, like those of a request. */
+
+/* Writes a check with further attributes, like stunp_ice_checker_check_body. `body` has the attributes
+ * one after the other, each with its header and padded to a multiple of 4 bytes, as in a message.
+ * `check` must not be null.
+ *
+ * Returns and fails as stunp_ice_checker_check_body does. */
+STUNP_USE_RESULT STUNP_READS(6, 7) STUNP_WRITES(8, 9) STUNP_NOT_NULL(1, 2, 3, 10)
+int64_t stunp_ice_checker_check_body_with(stunp_ice_checker *checker, const uint8_t id[12],
+                                          const stunp_address *to, uint32_t priority, bool nominate,
+                                          const uint8_t *body, size_t body_length, uint8_t *out,
+                                          size_t room, stunp_ice_check *check);
+
+/* Writes a check like stunp_ice_checker_check, with the attributes of `body` before its signature, in
+ * their order; with none if `body` is null. STUNP_ICE_CHECK_MAX bytes and those of the body are room
+ * enough. The peer refuses the check with a 420 if it does not know the type of one that is below
+ * 0x8000.
+ *
+ *     uint8_t attributes[8], bytes[STUNP_ICE_CHECK_MAX + sizeof attributes];
+ *     stunp_body body = stunp_body_on(attributes, sizeof attributes);
+ *     stunp_body_add_number(&body, 0xC057, (uint32_t)network << 16 | cost, 4); // NETWORK-COST
+ *     int64_t length = stunp_ice_checker_check_body(&agent, id, &to, priority, false, &body, bytes,
+ *                                                   sizeof bytes, &check);
+ *
+ * The attributes of the body are tested one after the other, and the first one that is refused
+ * decides which of the errors of an attribute is returned.
+ *
+ * Returns the length of the check. Errors, after which nothing is written:
+ *   the error of a call with the body, if one failed
+ *   STUNP_EMPTY_HANDLE      the handle is empty
+ *   STUNP_WRONG_HANDLE      it has no agent
+ *   STUNP_BAD_ARGUMENT      `to` is not an IPv4 or IPv6 address
+ *   STUNP_CANNOT_SIGN       the credentials of the peer are not known yet
+ *   STUNP_BAD_ARGUMENT      an attribute of the body is not a whole one. No call adds such a one
+ *   STUNP_NOT_ALLOWED       the type of an attribute is USE-CANDIDATE, ICE-CONTROLLED or
+ *                           ICE-CONTROLLING, which say what the agent is asked to say;
+ *                           XOR-PEER-ADDRESS, which is XORed only in a request of a client; or
+ *                           MESSAGE-INTEGRITY, MESSAGE-INTEGRITY-SHA256 or FINGERPRINT
+ *   STUNP_ATTRIBUTE_EXISTS  the check has an attribute of this type already, as it always has
+ *                           USERNAME and PRIORITY
+ *   STUNP_MESSAGE_TOO_LONG  the check does not fit into a message
+ *   STUNP_OUT_OF_MEMORY     an allocation failed. It may come in place of any error after the test of
+ *                           `to`, but never in place of STUNP_CANNOT_SIGN
+ *   STUNP_BUFFER_TOO_SMALL  the check does not fit into `room` bytes */
+STUNP_USE_RESULT
+STUNP_INLINED int64_t stunp_ice_checker_check_body(stunp_ice_checker *checker,
+                                                   const uint8_t id[12], const stunp_address *to,
+                                                   uint32_t priority, bool nominate,
+                                                   const stunp_body *body, uint8_t *out,
+                                                   size_t room, stunp_ice_check *check);
+
 /* ---- Checks of ICE with their timers
  *
  * A stunp_ice_checks has the outstanding checks of an agent: when each is sent again, when it times
@@ -1985,7 +2041,8 @@ typedef struct {
  *   last           how long to wait after the last transmission, in nanoseconds. By default 8000000000
  *                  (8 s)
  *   transmissions  how often the check is sent, up to STUNP_ICE_TRANSMISSIONS_MAX times. By default 7.
- *                  A check for consent is sent once, and answered within 30 s (RFC 7675, section 5.1) */
+ *                  A check for consent is sent once, and answered within 30 s (RFC 7675, section 5.1)
+ *   body           further attributes of the check (stunp_ice_checker_check_body). By default none */
 typedef struct {
     size_t size;
     uint8_t id[12];
@@ -1997,6 +2054,7 @@ typedef struct {
     uint64_t longest;
     uint64_t last;
     uint32_t transmissions;
+    const stunp_body *body;
 } stunp_ice_new_check;
 
 /* A check that its answer has ended. The stunp_ice_received says how.
@@ -2041,8 +2099,9 @@ STUNP_INLINED stunp_ice_checks stunp_ice_checks_on(stunp_ice_checker *checker,
  *   STUNP_BAD_ARGUMENT         `size` is wrong, `from` is not an IPv4 or IPv6 address, or
  *                              `transmissions` is above STUNP_ICE_TRANSMISSIONS_MAX
  *   STUNP_ALREADY_IN_PROGRESS  a check with this ID is outstanding: use a new random one
- *   STUNP_BUFFER_TOO_SMALL     `count` checks are outstanding
- * and then those of stunp_ice_checker_check, such as STUNP_BAD_ARGUMENT if `to` is not an IPv4 or
+ *   STUNP_BUFFER_TOO_SMALL     `count` checks are outstanding, or the check has more than
+ *                              STUNP_ICE_STORED_MAX bytes
+ * and then those of stunp_ice_checker_check_body, such as STUNP_BAD_ARGUMENT if `to` is not an IPv4 or
  * IPv6 address, and STUNP_CANNOT_SIGN if the credentials of the peer are not known yet. */
 STUNP_NOT_NULL(1, 2)
 STUNP_INLINED int64_t stunp_ice_checks_start(stunp_ice_checks *checks,

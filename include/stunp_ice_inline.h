@@ -1,9 +1,24 @@
-/* stunp_ice_inline.h: the bodies of the calls of stunp_endpoint.h on the checks of ICE with their
- * timers and on lines of candidates. They are done in C, over those on an agent. stunp_endpoint.h
- * includes it if they are compiled into the program (STUNP_INLINE_CALLS of stunp.h). Do not include
- * it yourself. */
+/* stunp_ice_inline.h: the bodies of the calls of stunp_endpoint.h on the checks of ICE with further
+ * attributes and with their timers, and on lines of candidates. They are done in C, over those on an
+ * agent. stunp_endpoint.h includes it if they are compiled into the program (STUNP_INLINE_CALLS of
+ * stunp.h). Do not include it yourself. */
 #ifndef STUNP_ICE_INLINE_H
 #define STUNP_ICE_INLINE_H
+
+/* ---- Checks with further attributes */
+
+STUNP_INLINED int64_t stunp_ice_checker_check_body(stunp_ice_checker *checker,
+                                                   const uint8_t id[12], const stunp_address *to,
+                                                   uint32_t priority, bool nominate,
+                                                   const stunp_body *body, uint8_t *out,
+                                                   size_t room, stunp_ice_check *check) {
+    stunp_ice_check unread;
+    if (body != NULL && body->refusal < 0) return body->refusal;
+    return stunp_ice_checker_check_body_with(checker, id, to, priority, nominate,
+                                             body == NULL ? NULL : body->bytes,
+                                             body == NULL ? 0 : body->length, out, room,
+                                             check == NULL ? &unread : check);
+}
 
 /* ---- Checks with their timers */
 
@@ -79,9 +94,9 @@ STUNP_INLINED int64_t stunp_ice_checks_start(stunp_ice_checks *checks,
     while (free_one < checks->count && checks->stored[free_one].is_outstanding) free_one++;
     if (free_one == checks->count) return STUNP_BUFFER_TOO_SMALL;
     stunp_ice_outstanding *stored = &checks->stored[free_one];
-    int64_t length = stunp_ice_checker_check(checks->checker, all.id, &all.to, all.priority,
-                                             all.nominates, stored->bytes, sizeof stored->bytes,
-                                             &stored->check);
+    int64_t length = stunp_ice_checker_check_body(checks->checker, all.id, &all.to, all.priority,
+                                                  all.nominates, all.body, stored->bytes,
+                                                  sizeof stored->bytes, &stored->check);
     if (length < 0) return length;
     stored->from = all.from;
     stored->started = stored->next = now;

@@ -11,6 +11,8 @@ from spelling import Words
 PRIORITY, USE_CANDIDATE = 0x0024, 0x0025
 # The attribute by which an agent says its role (RFC 8445, section 7.1.3).
 ROLES = {"controlling": 0x802A, "controlled": 0x8029}
+# Those that sign or end a message.
+SET_APART = (0x0008, 0x001C, stun.FINGERPRINT)
 OTHER = {"controlling": "controlled", "controlled": "controlling"}
 
 
@@ -44,6 +46,8 @@ class IceStage:
             return None
         if name == "check":
             return self.check(*words)
+        if name == "check-with":
+            return self.check_with(*words)
         if name == "hears":
             message = self.stage.message(words)
             return self.hears(message, self.checks.get(message[8:20]))
@@ -96,7 +100,25 @@ class IceStage:
             self.know(name, password)
         return why
 
-    def check(self, identity, to, priority, nominate="no"):
+    def check_with(self, identity, to, priority, *words):
+        """A check with the attributes of the last words."""
+        nominates = words[:1] == ("nominates",)
+        carrier = self.stage.message(("request", *words[nominates:]))
+        further = [(kind, value) for kind, _, value in spelling.attributes_of(carrier)]
+        return self.check(identity, to, priority, "nominates" if nominates else "no", further)
+
+    def refusal_of(self, further, written):
+        """Why a check with these attributes cannot have further ones, the first reason."""
+        types = [kind for kind, _ in written]
+        for kind, _ in further:
+            if kind in (USE_CANDIDATE, *ROLES.values(), *SET_APART):
+                return "NotAllowed"
+            if kind in types:
+                return f"AttributeExists 0x{kind:04x}"
+            types.append(kind)
+        return None
+
+    def check(self, identity, to, priority, nominate="no", further=()):
         """A check of this agent (section 7.2.4), and what is stored of it."""
         if self.peer_password is None:
             return "NoRemote"
@@ -106,6 +128,10 @@ class IceStage:
                       (PRIORITY, struct.pack(">I", spelling.number(priority))),
                       (ROLES[self.role], struct.pack(">Q", self.tie_breaker))]
         attributes += [(USE_CANDIDATE, b"")] if nominates else []
+        refused = self.refusal_of(further, attributes)
+        if refused:
+            return refused
+        attributes += further
         message = stun.message(stun.REQUEST, attributes, identity)
         message = stun.fingerprinted(stun.signed(message, stun.SHA1, self.peer_password))
         self.checks[identity] = Check(identity, spelling.address(to), self.role, nominates)

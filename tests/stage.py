@@ -40,7 +40,7 @@ ALLOCATING = (
     "endpoint-build", "endpoint-client-new", "endpoint-client-receive",
     "endpoint-client-request", "endpoint-server-identify", "endpoint-server-receive",
     "endpoint-server-resume", "endpoint-users-add", "endpoint-users-add-keys",
-    "ice-check", "ice-new", "ice-offer", "ice-receive", "ice-set-peer",
+    "ice-check", "ice-check-body", "ice-new", "ice-offer", "ice-receive", "ice-set-peer",
     "server-add-user", "server-new", "server-sign", "server-validate",
 )
 # The calls that need a server of the endpoint.

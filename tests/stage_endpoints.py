@@ -143,7 +143,18 @@ class Endpoints:
             return "NoRemote"
         if answer < 0:
             return REFUSALS[answer]
-        message, stored = outputs
+        return self.sent(identity, *outputs)
+
+    def ice_check_with(self, identity, to, priority, *words):
+        nominates = words[:1] == ("nominates",)
+        body = self.message(("request", *words[nominates:]))[20:]
+        answer, outputs = self.ask("ice-check-body", id_of(identity), wide(address(to)),
+                                   number(priority), int(nominates), body, 1 << 16)
+        if answer == -28:
+            return "NoRemote"
+        return REFUSALS[answer] if answer < 0 else self.sent(identity, *outputs)
+
+    def sent(self, identity, message, stored):
         self.checks[id_of(identity)] = stored
         nominates = " nominates" if stored[CHECK_NOMINATES] else ""
         return self.spelled(ROLES[stored[CHECK_ROLE]] + nominates, message)

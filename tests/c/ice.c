@@ -394,6 +394,114 @@ static void before_the_answer(void) {
     stunp_ice_checker_free(&knowing);
 }
 
+/* A check with attributes of the caller. */
+static void further_attributes(void) {
+    enum { PLAIN = 88, NETWORK_COST = 0xc057 };
+    uint8_t plain[PLAIN], room[64];
+    stunp_ice_checker left = evtj(THEIRS, false), right = h6vy(1, true);
+    stunp_ice_check check, stored;
+    stunp_ice_received got = STUNP_INIT(stunp_ice_received);
+    stunp_body body = stunp_body_on(room, sizeof room);
+    want("plain", stunp_ice_checker_check(&left, id, &from, PRIORITY, true, plain, PLAIN, &stored),
+         PLAIN);
+    memset(out, 0xaa, sizeof out);
+    want("no body", stunp_ice_checker_check_body(&left, id, &from, PRIORITY, true, NULL, out, PLAIN,
+         &check), PLAIN);
+    want_same("as without", out, plain, PLAIN);
+    want_same("as without", &check, &stored, sizeof check);
+    want("not more", out[PLAIN], 0xaa);
+    want("empty", stunp_ice_checker_check_body(&left, id, &from, PRIORITY, true, &body, out, PLAIN,
+         NULL), PLAIN);
+    want_same("as without", out, plain, PLAIN);
+    want("cost", stunp_body_add_number(&body, NETWORK_COST, 0x00010032, 4), 0);
+    want("text", stunp_body_add(&body, STUNP_SOFTWARE, "me", 2), 0);
+    want("small", stunp_ice_checker_check_body(&left, id, &from, PRIORITY, true, &body, out,
+         PLAIN + 15, &check), STUNP_BUFFER_TOO_SMALL);
+    want_same("nothing is written", out, plain, PLAIN);
+    want("both", stunp_ice_checker_check_body(&left, id, &from, PRIORITY, true, &body, out,
+         PLAIN + 16, &check), PLAIN + 16);
+    want_same("to be stored", &check, &stored, sizeof check);
+    want_same("their place", out + PLAIN - 32, room, 16);
+    want("signed", stunp_verify(out, PLAIN + 16, (const uint8_t *)other_password,
+         strlen(other_password)), STUNP_SHA1);
+    want("FINGERPRINT", stunp_has_right_fingerprint(out, PLAIN + 16), true);
+    uint64_t cost = 0;
+    want("read", stunp_find_number(out, PLAIN + 16, NETWORK_COST, &cost), 4);
+    want("cost", (int64_t)cost, 0x00010032);
+    want("accepted", stunp_ice_checker_receive(&right, out, PLAIN + 16, &from, NULL, before,
+         sizeof before, &got), STUNP_ANSWER);
+    want("accepted", got.outcome, STUNP_ICE_ACCEPTED);
+    stunp_ice_checker_free(&left);
+    stunp_ice_checker_free(&right);
+}
+
+/* Which attributes a check cannot have, and in which order it is refused. */
+static void refused_attributes(void) {
+    static const struct { uint32_t type; int64_t refusal; } rows[] = {
+        {STUNP_USERNAME, STUNP_ATTRIBUTE_EXISTS}, {STUNP_PRIORITY, STUNP_ATTRIBUTE_EXISTS},
+        {STUNP_USE_CANDIDATE, STUNP_NOT_ALLOWED}, {STUNP_ICE_CONTROLLED, STUNP_NOT_ALLOWED},
+        {STUNP_ICE_CONTROLLING, STUNP_NOT_ALLOWED}, {STUNP_XOR_PEER_ADDRESS, STUNP_NOT_ALLOWED},
+        {STUNP_MESSAGE_INTEGRITY, STUNP_NOT_ALLOWED},
+        {STUNP_MESSAGE_INTEGRITY_SHA256, STUNP_NOT_ALLOWED}, {STUNP_FINGERPRINT, STUNP_NOT_ALLOWED},
+    };
+    uint8_t room[64];
+    stunp_ice_checker empty = {0}, agent = evtj(THEIRS, false), alone = {0};
+    stunp_ice_settings settings = settings_of("evtj", NULL, 1, true);
+    stunp_ice_check check, same;
+    settings.peer_password = NULL, alone = agent_of(&settings);
+    memset(&check, 7, sizeof check), same = check;
+    memset(out, 0xaa, sizeof out), memcpy(before, out, sizeof out);
+    stunp_body body = stunp_body_on(room, 7);
+    want("no room", stunp_body_add_number(&body, STUNP_LIFETIME, 1, 4), STUNP_BUFFER_TOO_SMALL);
+    want("the body first", stunp_ice_checker_check_body(&empty, id, &nowhere, 1, false, &body, out, 0,
+         &check), STUNP_BUFFER_TOO_SMALL);
+    body = stunp_body_on(room, sizeof room);
+    want("own", stunp_body_add(&body, STUNP_USE_CANDIDATE, NULL, 0), 0);
+    want("no agent", stunp_ice_checker_check_body(&empty, id, &nowhere, 1, false, &body, out, 0,
+         &check), STUNP_EMPTY_HANDLE);
+    stunp_heap_bound(0);
+    want("nowhere", stunp_ice_checker_check_body(&agent, id, &nowhere, 1, false, &body, out, 0,
+         &check), STUNP_BAD_ARGUMENT);
+    want("no peer", stunp_ice_checker_check_body(&alone, id, &from, 1, false, &body, out, 0, &check),
+         STUNP_CANNOT_SIGN);
+    want("memory", stunp_ice_checker_check_body(&agent, id, &from, 1, false, &body, out, 0, &check),
+         STUNP_OUT_OF_MEMORY);
+    stunp_heap_bound(SIZE_MAX);
+    for (size_t i = 0; i < COUNT(rows); i++) {
+        body = stunp_body_on(room, sizeof room);
+        want("fine", stunp_body_add(&body, STUNP_SOFTWARE, "me", 2), 0);
+        want("other", stunp_body_put(&body, rows[i].type, "four", 4), 0);
+        want("twice", stunp_body_add(&body, STUNP_SOFTWARE, "me", 2), 0);
+        want("refused", stunp_ice_checker_check_body(&agent, id, &from, 1, false, &body, out, 0,
+             &check), rows[i].refusal);
+    }
+    body = stunp_body_on(room, sizeof room);
+    want("once", stunp_body_add(&body, STUNP_SOFTWARE, "me", 2), 0);
+    want("twice", stunp_body_add(&body, STUNP_SOFTWARE, "me", 2), 0);
+    want("own", stunp_body_add(&body, STUNP_USE_CANDIDATE, NULL, 0), 0);
+    want("the first", stunp_ice_checker_check_body(&agent, id, &from, 1, false, &body, out, 0,
+         &check), STUNP_ATTRIBUTE_EXISTS);
+    want("not whole", stunp_ice_checker_check_body_with(&agent, id, &from, 1, false, room, 7, out, 0,
+         &check), STUNP_BAD_ARGUMENT);
+    /* The longest message has 65552 bytes: 56 before the attribute, and 32 of the signature and
+     * FINGERPRINT after it. The last one does not fit itself. */
+    const struct { uint16_t value; int64_t answer; } lengths[] = {
+        {65460, STUNP_BUFFER_TOO_SMALL}, {65464, STUNP_MESSAGE_TOO_LONG},
+        {65532, STUNP_MESSAGE_TOO_LONG},
+    };
+    for (size_t i = 0; i < COUNT(lengths); i++) {
+        memset(large, 0, sizeof large), large[0] = 0x7f;
+        large[2] = (uint8_t)(lengths[i].value >> 8), large[3] = (uint8_t)lengths[i].value;
+        want("long", stunp_ice_checker_check_body_with(&agent, id, &from, 1, false, large,
+             4u + lengths[i].value, out, 65551, &check), lengths[i].answer);
+    }
+    want_same("nothing is written", out, before, sizeof out);
+    want_same("nothing is told", &check, &same, sizeof check);
+    want("controls", stunp_ice_checker_is_controlling(&agent), 0);
+    stunp_ice_checker_free(&agent);
+    stunp_ice_checker_free(&alone);
+}
+
 /* What is neither a check nor its answer. */
 static void drops(void) {
     stunp_ice_received got = STUNP_INIT(stunp_ice_received);
@@ -610,6 +718,8 @@ int main(void) {
     refusals_in_order();
     checks_of_the_peer();
     before_the_answer();
+    further_attributes();
+    refused_attributes();
     drops();
     ends_of_a_check();
     longest();

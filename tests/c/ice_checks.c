@@ -116,6 +116,20 @@ static void timers(void) {
         want("over", stunp_ice_checks_poll(&checks, UINT64_MAX, &event), STUNP_WAIT);
         want("ended", stunp_ice_checks_cancel(&checks, some_id), false);
     }
+    /* With further attributes, which need not outlive the call. */
+    uint8_t room[16], further[STUNP_ICE_CHECK_MAX];
+    stunp_body body = stunp_body_on(room, sizeof room);
+    want("cost", stunp_body_add_number(&body, 0xc057, 0x00010032, 4), 0);
+    length = stunp_ice_checker_check_body(&agent, some_id, &right_at, PRIORITY, false, &body, further,
+                                          sizeof further, NULL);
+    stunp_ice_new_check with_more = check_of(7);
+    with_more.body = &body;
+    want("start", stunp_ice_checks_start(&checks, &with_more, 0), 0);
+    memset(room, 0, sizeof room);
+    want("poll", stunp_ice_checks_poll(&checks, 0, &event), STUNP_TRANSMIT);
+    want("length", (int64_t)event.length, length);
+    want_same("bytes", event.bytes, further, event.length);
+    want("cancel", stunp_ice_checks_cancel(&checks, some_id), true);
     /* Other timers: three transmissions, and waits of at most 300 ms. */
     stunp_ice_new_check check = check_of(7);
     check.initial = 200 * millisecond, check.longest = 300 * millisecond;

@@ -514,6 +514,21 @@ static int64_t ice_check(void) {
     return wrote(out, answer);
 }
 
+/* The same with further attributes. */
+static int64_t ice_check_body(void) {
+    block *id = bytes();
+    const stunp_address *to = address();
+    uint32_t priority = short_number();
+    bool nominate = number() != 0;
+    block *body = bytes(), *out = output(), *stored = block_of(sizeof(stunp_ice_check));
+    if (id->length != sizeof VALUE(stunp_ice_check, stored)->id) fail("no ID");
+    int64_t answer = stunp_ice_checker_check_body_with(&ice_checker, id->at, to, priority, nominate,
+                                                       ALL(body), ALL(out),
+                                                       VALUE(stunp_ice_check, stored));
+    wrote_all(stored, answer >= 0);
+    return wrote(out, answer);
+}
+
 /* The check is what was stored of it, or nothing. */
 static int64_t ice_receive(void) {
     static const stunp_ice_received fresh = STUNP_INIT(stunp_ice_received);
@@ -640,7 +655,7 @@ static const struct { const char *name; int64_t (*call)(void); } calls[] = {
     {"ice-offer", ice_offer}, {"ice-set-peer", ice_set_peer},
     {"ice-is-controlling", ice_is_controlling}, {"ice-set-role", ice_set_role},
     {"ice-set-tie-breaker", ice_set_tie_breaker}, {"ice-check", ice_check},
-    {"ice-receive", ice_receive},
+    {"ice-check-body", ice_check_body}, {"ice-receive", ice_receive},
     {"endpoint-client-new", endpoint_client_new},
     {"endpoint-client-request", endpoint_client_request},
     {"endpoint-client-receive", endpoint_client_receive},

@@ -361,6 +361,12 @@ static void check_a_pair() {
     auto ended = one->receive(answered->answer, home, &check->stored);
     std::printf("ICE: %u, port %u\n", ended->told.outcome, ended->told.mapped.port);
     show("controls", *one->is_controlling() && !*other->is_controlling() ? "one" : "both");
+    const auto cost = stunp::endpoint::body().add_number(0xc057, 0x10032, 4);
+    const auto further = one->write(first_id, home, 0x6e0001ff, true, cost);
+    if (!further) return show("no check", further.text());
+    std::printf("ICE: %d more bytes\n", int(further->datagram.size() - check->datagram.size()));
+    show("no role", stunp::ice::checker().set_role(true).text());
+    show("controls", one->set_role(false) && !*one->is_controlling() ? "none" : "one");
 }
 
 // ---- Handles.

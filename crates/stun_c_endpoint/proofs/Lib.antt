@@ -1,5 +1,7 @@
 -- Lemmas of the crate.
+pub mod AddingLemmas
 pub mod BodyLemmas
+pub mod ExtendedLemmas
 pub mod FoundLemmas
 mod KeyLemmas
 mod ReplyLemmas

@@ -20,6 +20,8 @@ pub mod Causes
 pub mod Agents
 -- the checks that it writes, as a caller gets them and passes them again
 pub mod Checks
+-- those to which the caller adds attributes
+pub mod Extended
 -- what a datagram comes to at an agent of ICE, as a caller gets it
 pub mod Judged
 -- the client that a caller makes

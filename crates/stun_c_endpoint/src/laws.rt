@@ -1,14 +1,19 @@
 //! Laws over the definitions that the contracts of this crate cite. They do nothing when they run.
 
-ghost use Rattle.std.specs.Prelude.{◌≡◌, ℕ, ℤ, pos, Bool, List, Option, if◌then◌else◌, Ok};
+ghost use Rattle.std.specs.Prelude.{◌≡◌, ℕ, ℤ, pos, Bool, true, List, [], Option};
+ghost use Rattle.std.specs.Prelude.{if◌then◌else◌, Result, Ok, Err};
 ghost use Rattle.std.specs.declared.net.socket_addr.SocketAddr.{SocketAddr};
 ghost use Rattle.stun_c_endpoint.specs.Agents.{SetsRole, controlling_answer};
+ghost use Rattle.stun_c_endpoint.specs.Extended.{AddsFurther, ExtendsTo, is_kept_from_checks};
 ghost use Rattle.stun_c_endpoint.specs.Kept.{Judge, agent_in};
 ghost use Rattle.stun_c_endpoint.specs.Replies.{SignsForUser};
 ghost use Rattle.stun_c_endpoint.specs.Told.{IsTold, outcome_by};
 ghost use Rattle.stun_c_endpoint.specs.declared.handle.endpoint.Kept.{Kept};
 ghost use Rattle.stun_c_endpoint.specs.declared.received.Received.{Received};
-ghost use Rattle.stun_ice.specs.Agent.{Agent};
+ghost use Rattle.stun_ice.specs.Agent.{Agent, Peer, SentCheck, sent_check};
+ghost use Rattle.stun_numbers.specs.declared.refusal.Refusal.{Refusal};
+ghost use Rattle.stun_numbers.specs.declared.refusal.Refusal.TheVariants.{NotAllowed};
+ghost use Rattle.stun_types.specs.Attribute.{first_attribute, has_attribute};
 
 /// A call that returns `STUNP_IS_REQUEST` writes a reply whose responses verify under the key of the
 /// user in `name`: `stunp_verify` accepts what `stunp_reply_finish` signs, whatever the length of the
@@ -26,4 +31,17 @@ pub fn set_roles_are_told()
     ensures { (a : Agent) (controls : Bool) (result : ℤ) (before now : Option Kept)
         → SetsRole (Ok a) controls result before now
         → controlling_answer (agent_in now) ≡ (if controls then pos 1 else pos 0) }
+{}
+
+/// A check with a body that has no attributes is the one that `stunp_ice_checker_check_with` writes,
+/// to the byte. A body never says what the agent is asked to say: its attribute USE-CANDIDATE or one
+/// of the roles is refused.
+pub fn bodies_say_nothing_of_ice()
+    ensures nothing { (a : Agent) (peer : Peer) (id : ℕ) (to : SocketAddr) (priority : ℕ)
+        (nominate : Bool) (check : SentCheck)
+        → ExtendsTo a peer id to priority nominate [] (Ok check)
+        → check ≡ sent_check a peer id to priority nominate }
+    ensures refused { (page bytes : List ℕ) (result : Result (List ℕ) Refusal)
+        → has_attribute bytes ≡ true → is_kept_from_checks (first_attribute bytes).kind ≡ true
+        → AddsFurther page bytes result → result ≡ Err NotAllowed }
 {}

@@ -1,11 +1,13 @@
 //! `endpoint ice ..`: an agent of ICE.
 
-use crate::messages::in_words;
+use crate::messages::{attributes, in_words};
 use crate::servers::{is_of, unless};
 use crate::stage::{Around, until_enough};
 use crate::words::{address, id, number, text};
 use seatcrane_stun::endpoint::ice::*;
-use seatcrane_stun::types::message::TransactionId;
+use seatcrane_stun::types::attribute::{AttributeType, RawAttribute};
+use seatcrane_stun::types::message::{StunWriteError, TransactionId};
+use std::net::SocketAddr;
 
 #[derive(Default)]
 pub struct IceStage {
@@ -46,6 +48,7 @@ impl IceStage {
                 Some(unless(checker.tie_breaker() == tie_breaker).to_string())
             }
             ["check", words @ ..] => self.check(words),
+            ["check-with", words @ ..] => self.check_with(around, words),
             ["hears", words @ ..] => {
                 let bytes = around.message(words)?;
                 let id = bytes.get(8..20).and_then(|id| id.try_into().ok());
@@ -143,12 +146,45 @@ impl IceStage {
             Ok(check) => check,
             Err(why) => return Some(format!("{why:?}")),
         };
+        Some(self.store(check, id, to))
+    }
+
+    /// `check-with ID ADDRESS PRIORITY [nominates] ATTRIBUTE ..`
+    fn check_with(&mut self, around: &Around<'_>, words: &[&str]) -> Option<String> {
+        let [word, to, priority, words @ ..] = words else {
+            return None;
+        };
+        let (id, to) = (TransactionId::from(id(word)?), address(to)?);
+        let priority = u32::try_from(number(priority)?).ok()?;
+        let nominate = words.first() == Some(&"nominates");
+        let carrier = around.carrier(&words[usize::from(nominate)..])?;
+        let further: Vec<_> = attributes(&carrier)
+            .into_iter()
+            .map(|(kind, value, _)| RawAttribute::new(AttributeType::from(kind), value))
+            .collect();
+        let checker = self.checker.as_ref()?;
+        let written = until_enough(
+            || checker.check_with(id, to, priority, nominate, &further),
+            |written| matches!(written, Err(NewCheckError::OutOfMemory)),
+        );
+        match written {
+            Ok(check) => Some(self.store(check, id, to)),
+            Err(NewCheckError::Attribute(StunWriteError::AttributeExists(kind))) => {
+                Some(format!("AttributeExists 0x{:04x}", kind.value()))
+            }
+            Err(NewCheckError::Attribute(why)) => Some(format!("{why:?}")),
+            Err(why) => Some(format!("{why:?}")),
+        }
+    }
+
+    /// Stores a check of this agent, and answers it.
+    fn store(&mut self, check: Check, id: TransactionId, to: SocketAddr) -> String {
         let (role, nominates) = (role_name(check.role()), check.nominates());
         let nominates = if nominates { " nominates" } else { "" };
         let is_so = check.id() == id && check.to() == to;
         let words = in_words(check.bytes());
         self.checks.push(check);
-        Some(format!("{role}{nominates}: {words}{}", unless(is_so)))
+        format!("{role}{nominates}: {words}{}", unless(is_so))
     }
 
     /// What a datagram comes to, with one of the stored checks.

@@ -7,12 +7,14 @@ ghost use Rattle.std.specs.Prelude.{◌≡◌, None};
 ghost use Rattle.stun_c_endpoint.specs.Agents.{MakesAgent, MakesOffering, SetsPeer};
 ghost use Rattle.stun_c_endpoint.specs.Agents.{SetsRole, SetsTieBreaker, controlling_answer};
 ghost use Rattle.stun_c_endpoint.specs.Checks.{WritesCheck, check_asked};
+ghost use Rattle.stun_c_endpoint.specs.Extended.{WritesExtended};
 ghost use Rattle.stun_c_endpoint.specs.Given.{Fills};
 ghost use Rattle.stun_c_endpoint.specs.Judged.{SeesAs, ice_failed, seen_at};
 ghost use Rattle.stun_c_endpoint.specs.Kept.{agent_in};
 
 use crate::handle::endpoint::EndpointHandle;
 use crate::ice::agent::{Given, Side, controlling, set_role, set_tie_breaker};
+use crate::ice::extended::write_extended_of;
 use crate::ice::judging::judge_at;
 use crate::ice::told::{IceCheck, IceReceived};
 use crate::ice::writing::write_of;
@@ -204,6 +206,39 @@ pub extern "C" fn stunp_ice_checker_check_with(
         return Refusal::EmptyHandle.code();
     };
     let answer = answers::length(write_of(&kept, id, to, priority, nominate, out, check));
+    checker.put(alloc, kept);
+    answer
+}
+
+/// Writes a check like `stunp_ice_checker_check_with`, with the attributes of a body before its
+/// signature.
+///
+/// Fails with `BadArgument` for the address, then with `CannotSign` if the credentials of the peer
+/// are not known yet, then with the first refusal of an attribute of the body: `NotAllowed`,
+/// `AttributeExists`, `MessageTooLong`, or `BadArgument` for bytes that are not an attribute. Then
+/// come `MessageTooLong` for the whole check, and `BufferTooSmall`. `OutOfMemory` may come in place
+/// of any of these but that for the address.
+#[unsafe(no_mangle)]
+pub extern "C" fn stunp_ice_checker_check_body_with(
+    alloc: Global,
+    checker: &mut EndpointHandle,
+    id: &[u8; 12],
+    to: &Address,
+    priority: u32,
+    nominate: bool,
+    body: &[u8],
+    out: &mut [u8],
+    check: &mut IceCheck,
+) -> i64
+    ensures answer { WritesExtended (agent_in checker.old.kept) id.now to.now priority nominate
+        body.now result out.old out.new check.old check.new }
+    ensures same { checker.new.kept ≡ checker.old.kept }
+{
+    let Some(kept) = checker.take(alloc) else {
+        return Refusal::EmptyHandle.code();
+    };
+    let written = write_extended_of(&kept, id, to, priority, nominate, body, out, check);
+    let answer = answers::length(written);
     checker.put(alloc, kept);
     answer
 }

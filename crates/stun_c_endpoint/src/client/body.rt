@@ -68,7 +68,7 @@ fn add(body: &mut Body<Global>, attribute: &RawAttribute<'_>) -> Result<(), Refu
 }
 
 /// Returns the bytes that follow the attribute with which bytes begin.
-fn after<'a>(bytes: &'a [u8], attribute: &RawAttribute<'_>) -> &'a [u8]
+pub fn after<'a>(bytes: &'a [u8], attribute: &RawAttribute<'_>) -> &'a [u8]
     ensures { result.now ≡ drop (attribute_length (length attribute.now.value)) bytes.now }
 {
     match bytes.get(attribute.padded_len()..) {

@@ -1,8 +1,8 @@
 //! The call that writes a check.
 
-ghost use Rattle.std.specs.Prelude.{◌≡◌, Ok};
+ghost use Rattle.std.specs.Prelude.{◌≡◌, Ok, length, nat_lt};
 ghost use Rattle.stun_handles.specs.Numbers.{length_answer};
-ghost use Rattle.stun_c_endpoint.specs.Checks.{WritesCheck, check_asked};
+ghost use Rattle.stun_c_endpoint.specs.Checks.{WritesByRoom, WritesCheck, check_asked};
 ghost use Rattle.stun_c_endpoint.specs.Kept.{agent_of};
 ghost use Rattle.stun_c_endpoint.specs.code.Unwritten.{refusal_of_check};
 
@@ -10,13 +10,14 @@ use crate::handle::endpoint::Kept;
 use crate::ice::told::IceCheck;
 use std::alloc::Global;
 use stun_handles::address::Address;
+use stun_ice::check::Check;
 use stun_ice::checker::{CheckError, Checker};
 use stun_numbers::buffer::put;
 use stun_numbers::id::transaction_id;
 use stun_numbers::refusal::Refusal;
 
 /// Converts an error of writing a check.
-fn refusal_of_check(error: CheckError) -> Refusal
+pub(crate) fn refusal_of_check(error: CheckError) -> Refusal
     ensures { result ≡ refusal_of_check error }
 {
     match error {
@@ -61,15 +62,27 @@ fn write(
 {
     let to = to.socket()?;
     let id = transaction_id(id)?;
-    let written = match checker.check(id, to, priority, nominate) {
-        Ok(written) => written,
-        Err(error) => return Err(refusal_of_check(error)),
-    };
+    match checker.check(id, to, priority, nominate) {
+        Ok(written) => hand_out(&written, out, check),
+        Err(error) => Err(refusal_of_check(error)),
+    }
+}
+
+/// Writes the bytes of a check to the front of the buffer, if they fit, and what the agent needs to
+/// judge the answer.
+pub fn hand_out(
+    written: &Check<Global>,
+    out: &mut [u8],
+    check: &mut IceCheck,
+) -> Result<usize, Refusal>
+    ensures { WritesByRoom (nat_lt (length out.old) (length written.now.bytes)) written.now
+        (length_answer result) out.old out.new check.old check.new }
+{
     let bytes = written.bytes();
     if out.len() < bytes.len() {
         return Err(Refusal::BufferTooSmall);
     }
     put(out, bytes);
-    *check = IceCheck::of(&written);
+    *check = IceCheck::of(written);
     Ok(bytes.len())
 }

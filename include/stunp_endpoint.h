@@ -1950,7 +1950,7 @@ int64_t stunp_ice_checker_check_body_with(stunp_ice_checker *checker, const uint
  *   STUNP_WRONG_HANDLE      it has no agent
  *   STUNP_BAD_ARGUMENT      `to` is not an IPv4 or IPv6 address
  *   STUNP_CANNOT_SIGN       the credentials of the peer are not known yet
- *   STUNP_BAD_ARGUMENT      an attribute of the body is not a whole one. No call adds such a one
+ *   STUNP_BAD_ARGUMENT      an attribute of the body is not a whole one. No call adds one like that
  *   STUNP_NOT_ALLOWED       the type of an attribute is USE-CANDIDATE, ICE-CONTROLLED or
  *                           ICE-CONTROLLING, which say what the agent is asked to say;
  *                           XOR-PEER-ADDRESS, which is XORed only in a request of a client; or
@@ -1958,8 +1958,8 @@ int64_t stunp_ice_checker_check_body_with(stunp_ice_checker *checker, const uint
  *   STUNP_ATTRIBUTE_EXISTS  the check has an attribute of this type already, as it always has
  *                           USERNAME and PRIORITY
  *   STUNP_MESSAGE_TOO_LONG  the check does not fit into a message
- *   STUNP_OUT_OF_MEMORY     an allocation failed. It may come in place of any error after the test of
- *                           `to`, but never in place of STUNP_CANNOT_SIGN
+ *   STUNP_OUT_OF_MEMORY     an allocation failed. It may come in place of any error of an attribute,
+ *                           and of any later one
  *   STUNP_BUFFER_TOO_SMALL  the check does not fit into `room` bytes */
 STUNP_USE_RESULT
 STUNP_INLINED int64_t stunp_ice_checker_check_body(stunp_ice_checker *checker,

@@ -217,7 +217,7 @@ pub extern "C" fn stunp_ice_checker_check_with(
 /// are not known yet, then with the first refusal of an attribute of the body: `NotAllowed`,
 /// `AttributeExists`, `MessageTooLong`, or `BadArgument` for bytes that are not an attribute. Then
 /// come `MessageTooLong` for the whole check, and `BufferTooSmall`. `OutOfMemory` may come in place
-/// of any of these but that for the address.
+/// of the refusal of an attribute and of any later one.
 #[unsafe(no_mangle)]
 pub extern "C" fn stunp_ice_checker_check_body_with(
     alloc: Global,

@@ -1,7 +1,7 @@
 -- A check of an agent of ICE with further attributes, which a caller in C gives as encoded attributes
 -- (RFC 8445, section 7.2.4; RFC 8489, section 14).
 use Rattle.std.specs.Prelude.{◌≡◌, ◌≢◌, ◌⊎◌, ℕ, ℤ, ◌-◌, List, [], ◌∷◌, Bool, true, false}
-use Rattle.std.specs.Prelude.{length, drop, if◌then◌else◌, Option, Some, None, MatchOption}
+use Rattle.std.specs.Prelude.{length, drop, if◌then◌else◌, Option, Some, MatchOption}
 use Rattle.std.specs.Prelude.{Result, Ok, Err, ◌==◌}
 use Rattle.std.specs.List.{list_any}
 use Rattle.std.specs.Option.{option_map}

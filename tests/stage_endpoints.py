@@ -143,7 +143,7 @@ class Endpoints:
             return "NoRemote"
         if answer < 0:
             return REFUSALS[answer]
-        return self.sent(identity, *outputs)
+        return self.wrote_check(identity, *outputs)
 
     def ice_check_with(self, identity, to, priority, *words):
         nominates = words[:1] == ("nominates",)
@@ -152,9 +152,9 @@ class Endpoints:
                                    number(priority), int(nominates), body, 1 << 16)
         if answer == -28:
             return "NoRemote"
-        return REFUSALS[answer] if answer < 0 else self.sent(identity, *outputs)
+        return REFUSALS[answer] if answer < 0 else self.wrote_check(identity, *outputs)
 
-    def sent(self, identity, message, stored):
+    def wrote_check(self, identity, message, stored):
         self.checks[id_of(identity)] = stored
         nominates = " nominates" if stored[CHECK_NOMINATES] else ""
         return self.spelled(ROLES[stored[CHECK_ROLE]] + nominates, message)

@@ -1,2 +1,3 @@
+pub mod DecidingLemmas
 pub mod IdLemmas
 pub mod OptionLemmas

@@ -2,7 +2,13 @@
 
 -- the messages of a request, and which of them becomes the current one
 pub mod Messages
+-- what a response to one of them comes to
+pub mod Deciding
 -- the transaction ID of the next message
 pub mod Ids
+-- the bytes of the next message
+pub mod Writing
 -- how a request ends
 pub mod Endpoints
+-- what follows of all this
+pub mod Laws

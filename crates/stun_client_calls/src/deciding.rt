@@ -1,0 +1,261 @@
+//! What a response to a message of an outstanding request comes to, once it is judged (RFC 8489,
+//! sections 5, 6.2.1 and 9.2.5).
+ghost use Rattle.std.specs.Option.{option_map};
+ghost use Rattle.std.specs.Prelude.{◌≡◌, IfOk, IsOk, false};
+ghost use Rattle.stun_client.specs.Judging.{verdict_of};
+ghost use Rattle.stun_client_endpoint.specs.Ends.{reason_of};
+ghost use Rattle.stun_client_calls.specs.Deciding.{answered_anew, answered_refusal, back_to};
+ghost use Rattle.stun_client_calls.specs.Deciding.{begun_again, decided, decision_of, is_doubted};
+ghost use Rattle.stun_client_calls.specs.Deciding.{is_idle, on_doubt, place_of, refused_again};
+ghost use Rattle.stun_client_calls.specs.Deciding.{turns_for, undoubted, without_eligible};
+ghost use Rattle.stun_client_calls.specs.Messages.{message_for, signed_eligible};
+
+use crate::asked::{Asked, Sent};
+use crate::turning::Why;
+use std::alloc::{AllocError, Allocator};
+use stun_base::instant::Instant;
+use stun_client::challenge::Challenge;
+use stun_client::judged::{Distrust, Judged};
+use stun_client::standing::Standing;
+use stun_client_endpoint::ended::DropReason;
+use stun_types::message::{IntegrityAlgorithm, TransactionId};
+
+/// How often a request may be sent by another message.
+#[derive(Clone, Copy)]
+pub struct Limits {
+    /// How often another message of a request may become the current one.
+    pub turns: u32,
+    /// Whether the transport is reliable, so that nothing is sent again over it.
+    pub is_reliable: bool,
+}
+
+/// What a response to a message of an outstanding request comes to.
+#[derive(Drop)]
+pub enum Decision<A: Allocator> {
+    /// It is believed and ends the request. It is signed with this algorithm, or not signed.
+    Answered(Option<IntegrityAlgorithm>),
+    /// The request ends as `Unauthorized`.
+    Unauthorized,
+    /// Another message becomes the current one: the earlier one with this rank and this transaction
+    /// ID, or a new one. It is signed for this challenge, or not signed.
+    Turn(Why, Option<(u32, TransactionId)>, Option<Challenge<A>>),
+    /// It is the challenge that the request is signed for already. It is dropped, and counts.
+    Refuse,
+    /// It is dropped, for this reason.
+    Drop(DropReason),
+}
+
+/// Returns what a response comes to that was judged so.
+///
+/// - A response that is believed ends the request.
+/// - A challenge is answered by the message for it, which is an earlier message of the request or a
+///   new one. After the first plan of the request it is dropped as `LateChallenge`, and if another
+///   message became the current one as often as it may, it ends the request.
+/// - A 401 for the same realm and security bits, with another nonce or list, is answered so twice.
+///   The third one ends the request.
+/// - The challenge that the message is signed for already is dropped, and counts once for each time
+///   that the message was sent. The second that counts ends the request. Over a reliable transport
+///   the first one does.
+/// - A doubt is dropped after the first plan, after as many messages as the limit says, and after
+///   three doubts. Otherwise the last other message becomes the current one that is neither in
+///   doubt nor weaker than what a success has confirmed. If there is none, a signed message gives
+///   way to a new unsigned one, unless there is an unsigned one already, and an unsigned message
+///   gives way to the last signed one that is not weaker. If that is not possible either, the doubt
+///   is dropped.
+///
+/// Fails if an allocation fails. It allocates only for a doubt.
+pub fn decide<A: Allocator + Copy>(
+    asked: &Asked<A>,
+    standing: &Standing<A>,
+    limits: Limits,
+    judged: Judged<A>,
+    now: Instant,
+) -> Result<Decision<A>, AllocError>
+    ensures decided { IfOk result (λ decision. decision_of decision
+        ≡ decided limits standing.now now asked.now (verdict_of judged)) }
+    ensures no_memory { is_doubted (verdict_of judged) ≡ false → IsOk result }
+{
+    match judged {
+        Judged::Believed(by) => Ok(Decision::Answered(by)),
+        Judged::Anew(challenge) => Ok(answered_anew(asked, limits, challenge, now)),
+        Judged::Refused(None) => Ok(refused_again(asked, limits)),
+        Judged::Refused(Some(challenge)) => Ok(answered_refusal(asked, limits, challenge, now)),
+        Judged::Doubted => on_doubt(asked, standing, limits, now),
+        Judged::Dropped(why) => Ok(Decision::Drop(reason_of(why))),
+    }
+}
+
+/// Returns why a response is dropped, from why it is not believed.
+fn reason_of(why: Distrust) -> DropReason
+    ensures { result ≡ reason_of why }
+{
+    match why {
+        Distrust::WrongFingerprint => DropReason::WrongFingerprint,
+        Distrust::MissingFingerprint => DropReason::MissingFingerprint,
+        Distrust::NotVerified => DropReason::NotVerified,
+        Distrust::UnanswerableChallenge => DropReason::UnanswerableChallenge,
+        _ => DropReason::WeakerChallenge,
+    }
+}
+
+/// Decides on a challenge.
+fn answered_anew<A: Allocator + Copy>(
+    asked: &Asked<A>,
+    limits: Limits,
+    challenge: Challenge<A>,
+    now: Instant,
+) -> Decision<A>
+    ensures { decision_of result ≡ answered_anew limits now asked.now challenge }
+{
+    if asked.is_late(now) {
+        return Decision::Drop(DropReason::LateChallenge);
+    }
+    if asked.is_spent(limits.turns) {
+        return Decision::Unauthorized;
+    }
+    turns_for(Why::Challenged, challenge, asked)
+}
+
+/// Decides on a 401 for the same realm and security bits, with another nonce or list.
+fn answered_refusal<A: Allocator + Copy>(
+    asked: &Asked<A>,
+    limits: Limits,
+    challenge: Challenge<A>,
+    now: Instant,
+) -> Decision<A>
+    ensures { decision_of result ≡ answered_refusal limits now asked.now challenge }
+{
+    if asked.is_late(now) {
+        return Decision::Drop(DropReason::LateChallenge);
+    }
+    if asked.is_spent(limits.turns) || asked.refusals().is_last() {
+        return Decision::Unauthorized;
+    }
+    turns_for(Why::Refused, challenge, asked)
+}
+
+/// Decides on the challenge that the message is signed for already.
+fn refused_again<A: Allocator + Copy>(asked: &Asked<A>, limits: Limits) -> Decision<A>
+    ensures { decision_of result ≡ refused_again limits asked.now }
+{
+    if limits.is_reliable || asked.refusals().is_earlier() {
+        Decision::Unauthorized
+    } else {
+        Decision::Refuse
+    }
+}
+
+/// Returns that the message for a challenge becomes the current one.
+fn turns_for<A: Allocator + Copy>(
+    why: Why,
+    challenge: Challenge<A>,
+    asked: &Asked<A>,
+) -> Decision<A>
+    ensures { decision_of result ≡ turns_for why challenge asked.now }
+{
+    let place = place_for(asked, &challenge);
+    Decision::Turn(why, place, Some(challenge))
+}
+
+/// Returns the rank and the transaction ID of the earlier message for a challenge.
+fn place_for<A: Allocator + Copy>(
+    asked: &Asked<A>,
+    challenge: &Challenge<A>,
+) -> Option<(u32, TransactionId)>
+    ensures { result ≡ option_map place_of (message_for challenge.now asked.now.earlier) }
+{
+    match asked.message_for(challenge) {
+        Some((rank, sent)) => Some((rank, sent.id())),
+        None => None,
+    }
+}
+
+/// Decides on a doubt.
+fn on_doubt<A: Allocator + Copy>(
+    asked: &Asked<A>,
+    standing: &Standing<A>,
+    limits: Limits,
+    now: Instant,
+) -> Result<Decision<A>, AllocError>
+    ensures { IfOk result (λ decision. decision_of decision
+        ≡ on_doubt limits standing.now now asked.now) }
+{
+    if is_idle(asked, limits, now) {
+        return Ok(Decision::Drop(DropReason::NotVerified));
+    }
+    match asked.eligible(standing) {
+        Some((rank, sent)) => back_to(Why::Doubted, rank, sent),
+        None => without_eligible(asked, standing),
+    }
+}
+
+/// Returns whether a doubt comes too late, or too often.
+fn is_idle<A: Allocator + Copy>(asked: &Asked<A>, limits: Limits, now: Instant) -> bool
+    ensures { result ≡ is_idle limits now asked.now }
+{
+    asked.is_late(now) || asked.is_spent(limits.turns) || asked.is_doubted_out()
+}
+
+/// Returns that an earlier message becomes the current one.
+fn back_to<A: Allocator + Copy>(
+    why: Why,
+    rank: u32,
+    sent: &Sent<A>,
+) -> Result<Decision<A>, AllocError>
+    ensures { IfOk result (λ decision. decision_of decision ≡ back_to why (rank, sent.now)) }
+{
+    let signed_for = copied(sent.signed_for())?;
+    Ok(Decision::Turn(why, Some((rank, sent.id())), signed_for))
+}
+
+/// Copies a challenge, if there is one. Fails if an allocation fails.
+pub(crate) fn copied<A: Allocator + Copy>(
+    challenge: &Option<Challenge<A>>,
+) -> Result<Option<Challenge<A>>, AllocError>
+    ensures { IfOk result (λ copy. copy ≡ challenge.now) }
+{
+    match challenge {
+        Some(challenge) => Ok(Some(challenge.clone()?)),
+        None => Ok(None),
+    }
+}
+
+/// Decides on a doubt if each other message is in doubt, or too weak.
+fn without_eligible<A: Allocator + Copy>(
+    asked: &Asked<A>,
+    standing: &Standing<A>,
+) -> Result<Decision<A>, AllocError>
+    ensures { IfOk result (λ decision. decision_of decision
+        ≡ without_eligible standing.now asked.now) }
+{
+    if asked.signed_for().is_none() {
+        undoubted(asked, standing)
+    } else {
+        Ok(begun_again(asked))
+    }
+}
+
+/// Decides on a doubt about a signed message, if each other message is in doubt, or too weak.
+fn begun_again<A: Allocator + Copy>(asked: &Asked<A>) -> Decision<A>
+    ensures { decision_of result ≡ begun_again asked.now }
+{
+    if asked.has_unsigned() {
+        Decision::Drop(DropReason::NotVerified)
+    } else {
+        Decision::Turn(Why::Doubted, None, None)
+    }
+}
+
+/// Decides on a doubt about an unsigned message, if each other message is in doubt, or too weak.
+fn undoubted<A: Allocator + Copy>(
+    asked: &Asked<A>,
+    standing: &Standing<A>,
+) -> Result<Decision<A>, AllocError>
+    ensures { IfOk result (λ decision. decision_of decision
+        ≡ undoubted (signed_eligible standing.now asked.now.earlier)) }
+{
+    match asked.signed_eligible(standing) {
+        Some((rank, sent)) => back_to(Why::Undoubted, rank, sent),
+        None => Ok(Decision::Drop(DropReason::NotVerified)),
+    }
+}

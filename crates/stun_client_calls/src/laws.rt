@@ -1,0 +1,85 @@
+//! Laws over the definitions that the contracts of this crate cite. They do nothing when they run.
+ghost use Rattle.std.specs.Option.{IsSome};
+ghost use Rattle.std.specs.Prelude.{◌≡◌, ◌≤◌, ℕ, Bool, List, None, Option, Some, false, true};
+ghost use Rattle.stun_base.specs.declared.keys.algorithm.IntegrityAlgorithm.{IntegrityAlgorithm};
+ghost use Rattle.stun_client.specs.Challenges.{Answered, is_one};
+ghost use Rattle.stun_client.specs.Judging.{Verdict, refused, signed_with, takes_unsigned};
+ghost use Rattle.stun_client.specs.Standing.{StandingSeen};
+ghost use Rattle.stun_client_calls.specs.Deciding.{Place, answered, decided, refuses, turns};
+ghost use Rattle.stun_client_calls.specs.Laws.{IsAnswerOrDrop, IsNoEnd, IsUnspent, IsWithinLimits};
+ghost use Rattle.stun_client_calls.specs.Laws.{Judge, decision_on};
+ghost use Rattle.stun_client_calls.specs.Messages.{AskedSeen, TurnSeen, has_unsigned, is_too_weak};
+ghost use Rattle.stun_client_calls.specs.Messages.{message_for, refusing, turned};
+ghost use Rattle.stun_client_calls.specs.declared.deciding.Limits.{Limits as TheLimits};
+ghost use Rattle.stun_client_calls.specs.declared.turning.Why.{Why as TheWhy};
+
+/// Another message of a request becomes the current one only within the first plan of the request,
+/// and only if that has happened less often than the limit says. It does so for at most three
+/// doubts, and for at most two refusals by another challenge (`within`). So the count never passes
+/// the limit (`counted`).
+pub fn requests_are_sent_by_a_bounded_number_of_messages()
+    ensures within { (limits : TheLimits) (standing : StandingSeen) (now : ℕ) (a : AskedSeen)
+        (v : Verdict) (why : TheWhy) (place : Option Place) (c : Option Answered)
+        → decided limits standing now a v ≡ turns why place c → IsWithinLimits limits now a why }
+    ensures counted { (limits : TheLimits) (standing : StandingSeen) (now : ℕ) (a : AskedSeen)
+        (v : Verdict) (place : Option Place) (is_kept : Bool) (former : ℕ) (t : TurnSeen)
+        → decided limits standing now a v ≡ turns t.why place t.signed_for
+        → (turned is_kept former t a).turns ≤ limits.turns }
+{}
+
+/// No downgrade: a message that becomes the current one is not signed for a challenge that is
+/// weaker than what a success has confirmed, whatever anybody sends.
+pub fn requests_never_turn_to_weaker_messages()
+    ensures { (j : Judge) (is_current : Bool) (now : ℕ) (a : AskedSeen) (before : Option Answered)
+        (bytes : List ℕ) (why : TheWhy) (place : Option Place) (c : Option Answered)
+        → decision_on j is_current now a before bytes ≡ turns why place c
+        → is_too_weak j.standing c ≡ false }
+{}
+
+/// A request has one message for each challenge, and at most one unsigned message: a new message is
+/// written for a challenge only if none of the request is signed for it (`signed`), and an unsigned
+/// one only if the current message is signed and no earlier one is unsigned (`unsigned`).
+pub fn a_request_has_one_message_for_each_challenge()
+    ensures signed { (j : Judge) (now : ℕ) (a : AskedSeen) (bytes : List ℕ) (why : TheWhy)
+        (c : Answered) → decision_on j true now a a.signed_for bytes ≡ turns why None (Some c)
+        → (message_for c a.earlier ≡ None) × (is_one (Some c) a.signed_for ≡ false) }
+    ensures unsigned { (limits : TheLimits) (standing : StandingSeen) (now : ℕ) (a : AskedSeen)
+        (v : Verdict) (why : TheWhy) → decided limits standing now a v ≡ turns why None None
+        → IsSome a.signed_for × (has_unsigned a.earlier ≡ false) }
+{}
+
+/// A response that is not signed with the key of the message which it answers does not answer the
+/// request, unless the client accepts that of the current message (`answers`). Nor does it end the
+/// request at all over UDP, before the request is refused as often as it may be, or sent by as many
+/// messages as it may be (`one`). So no single datagram that an attacker sends ends a signed
+/// request.
+pub fn one_forged_datagram_ends_no_signed_request()
+    ensures answers { (j : Judge) (is_current : Bool) (now : ℕ) (a : AskedSeen)
+        (before : Option Answered) (bytes : List ℕ) (by : Option IntegrityAlgorithm)
+        → signed_with j.identity before bytes ≡ None
+        → decision_on j is_current now a before bytes ≡ answered by
+        → (takes_unsigned j.identity before ≡ true) × (is_current ≡ true) }
+    ensures one { (j : Judge) (is_current : Bool) (now : ℕ) (a : AskedSeen)
+        (before : Option Answered) (bytes : List ℕ) → signed_with j.identity before bytes ≡ None
+        → takes_unsigned j.identity before ≡ false → IsUnspent j.limits a
+        → IsNoEnd (decision_on j is_current now a before bytes) }
+{}
+
+/// The challenge that a request is signed for counts once for each time that the request was sent:
+/// over UDP it ends nothing if it comes for the first time (`first`), nor however often it comes
+/// again before the request is sent again (`repeated`).
+pub fn the_first_refusal_ends_nothing()
+    ensures first { (limits : TheLimits) (standing : StandingSeen) (now : ℕ) (a : AskedSeen)
+        → limits.is_reliable ≡ false → a.refusals.is_earlier ≡ false
+        → decided limits standing now a (refused None) ≡ refuses }
+    ensures repeated { (limits : TheLimits) (standing : StandingSeen) (now : ℕ) (a : AskedSeen)
+        (code : Option ℕ) → limits.is_reliable ≡ false → a.refusals.is_earlier ≡ false
+        → decided limits standing now (refusing code a) (refused None) ≡ refuses }
+{}
+
+/// A response to an earlier message of a request answers the request, or it is dropped: no message
+/// becomes the current one, and nothing is counted.
+pub fn responses_to_earlier_messages_answer_or_are_dropped()
+    ensures { (j : Judge) (now : ℕ) (a : AskedSeen) (before : Option Answered) (bytes : List ℕ)
+        → IsAnswerOrDrop (decision_on j false now a before bytes) }
+{}

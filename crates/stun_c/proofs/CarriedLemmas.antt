@@ -1,7 +1,7 @@
 -- What a call in C returns is what the library makes of the same arguments, or a refusal.
 use Rattle.std.proofs.Common.{◌≡◌, ◌⊎◌, inl, inr, ℕ, ℤ, pos, List, [], ◌++◌, Bool, true, false}
 use Rattle.std.proofs.Common.{Option, Some, None, length, refl, sym, ◌∙◌, ap, arith, Ok, Err}
-use Rattle.std.specs.Prelude.{drop, take, if◌then◌else◌, nat_lt, nat_abs, ◌==◌}
+use Rattle.std.specs.Prelude.{drop, take, if◌then◌else◌, nat_lt, nat_abs}
 use Rattle.std.specs.Str.{is_utf8}
 use Rattle.std.specs.declared.result.Result.{Result}
 use Rattle.stun_base.specs.Attributes.{XOR_MAPPED_ADDRESS}

@@ -1,18 +1,17 @@
 -- ChannelData is read as it was written, whatever follows it.
 use Rattle.std.proofs.Common.{◌≡◌, ℕ, ◌+◌, ◌-◌, ◌/◌, ◌%◌, ◌≤◌, ◌<◌, ◌^◌, Bool, true, false}
-use Rattle.std.proofs.Common.{List, ◌++◌, Option, Some, None, cond, length, drop, replicate, take}
+use Rattle.std.proofs.Common.{List, ◌++◌, Some, None, cond, length, replicate}
 use Rattle.std.proofs.Common.{refl, sym, ◌∙◌, ap, arith, subst, length-append, ◌*◌}
 use Rattle.std.specs.Prelude.{nat_lt, slice_index, not, ◌==◌}
 use Rattle.std.proofs.lemmas.Bool.Decides.{nat_tests}
 use Rattle.std.proofs.lemmas.List.{append_assoc}
 use Rattle.std.proofs.Math.Seq.{take-append_seam}
-use Rattle.byteorder.specs.Endian.{big_bytes, big_number}
+use Rattle.byteorder.specs.Endian.{big_bytes}
 use Rattle.byteorder.specs.Numbers.{big_number-reads_back}
 use Rattle.stun_types.specs.Attribute.{padded_length}
-use Rattle.stun_numbers.specs.declared.refusal.Refusal.{Refusal}
 use Rattle.stun_numbers.specs.declared.refusal.Refusal.TheVariants.{NotStun, Truncated}
 use Rattle.stun_extra.specs.Framing.{is_channel}
-use Rattle.stun_c.specs.Turn.{IsReadAs, channel_item, channel_refusal, stated_data}
+use Rattle.stun_c.specs.Turn.{IsReadAs, channel_item, stated_data}
 
 -- a number that is not less
 not_less : (a b : ℕ) → b ≤ a → nat_lt a b ≡ false

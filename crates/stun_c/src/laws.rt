@@ -261,8 +261,8 @@ pub fn attributes_that_are_found_are_in_the_message()
 {}
 
 /// What a call writes beside its result is of the value that it reads: the length of a text, a
-/// number, the port of an address, the parts of ChannelData and the types in a list, as many as have
-/// room. No call writes more than its buffer has room for.
+/// number, the port of an address, the parts of ChannelData and the types in a list, as many as
+/// have room. No call writes more than its buffer has room for.
 pub fn what_is_written_is_what_was_read()
     ensures text { (x : Result (List ℕ) Refusal) (place before n : ℕ)
         → text_answer x place ≡ pos n → (text : List ℕ) × (x ≡ Ok text) × (n ≡ place + 4)

@@ -1,10 +1,9 @@
 -- What a call on an agent returns and leaves is what the library has.
-use Rattle.std.proofs.Common.{◌≡◌, ◌⊎◌, inl, inr, ◌∙◌, ◌<◌, ◌^◌, ℕ, pos, zero, List}
+use Rattle.std.proofs.Common.{◌≡◌, ◌⊎◌, inl, inr, ◌∙◌, ◌<◌, ◌^◌, ℕ, pos, List}
 use Rattle.std.proofs.Common.{[], ◌∷◌, ◌++◌, Bool, true, false, if◌then◌else◌, nat_lt, ◌==◌, ◌&&◌}
 use Rattle.std.proofs.Common.{◌||◌, min, Option, Some, None, Result, Ok, Err, length, drop, take}
 use Rattle.std.proofs.Common.{replicate, refl, sym, ap, ap₂, subst, true≢false, ltb-false}
 use Rattle.std.proofs.Common.{lt_of_le_of_lt, arith, eqb-true, ◌*◌, ◌+◌, ◌/◌, ◌%◌}
-use Rattle.std.specs.Prelude.{◌≢◌}
 use Rattle.std.specs.Net.Addr.{octets_of, segments_of}
 use Rattle.std.specs.Option.{option_map_or}
 use Rattle.std.specs.declared.net.socket_addr.SocketAddr.{SocketAddr}
@@ -43,7 +42,7 @@ use Rattle.stun_state.specs.Agent.{sending_answer, sent_again, sent_to, settings
 use Rattle.stun_state.specs.Agent.{timeouts_refusal, transport_numbered, unless_untimed}
 use Rattle.stun_state.specs.Agent.{with_changed, TIMEOUTS_SIZE}
 use Rattle.stun_state.specs.Answers.{after_address, done_if_given, kept_if_refused}
-use Rattle.stun_state.specs.Laws.{IsBoundTo, IsNew, IsPolled, IsSentAgain, Waits}
+use Rattle.stun_state.specs.Laws.{IsBoundTo, IsNew, TellsOfPoll, TellsOfSending, Waits}
 use Rattle.stun_state.specs.declared.agent.Timeouts.{Timeouts}
 use Rattle.stun_state.proofs.NumberLemmas.{no_refusal}
 use Rattle.stun_state.proofs.Verdicts.{same_number}
@@ -206,7 +205,7 @@ told false answer n h = same_number (poll_number answer) n h
 
 pub polled : (answer : StunAgentPollRet) (until : ℕ) (buffer : List ℕ) (n : ℕ)
     → number_answer (polling_answer (length buffer) answer) ≡ pos n
-    → IsPolled answer n (moment_told answer until) (id_told answer buffer)
+    → TellsOfPoll answer n (moment_told answer until) (id_told answer buffer)
 polled (WaitUntil moment) until buffer n h =
     (told (nat_lt (length buffer) 12) (WaitUntil moment) n h, refl)
 polled (TransactionTimedOut id) until buffer n h =
@@ -226,7 +225,7 @@ written false size n short h =
 pub sent_once_more : (e : Option (ℕ × Transaction)) (buffer : List ℕ) (to : Address) (n : ℕ)
     → length buffer < 2 ^ 63
     → length_answer (sent_again (length buffer) e) ≡ pos n
-    → IsSentAgain e n (bytes_told e buffer) (sent_to e to)
+    → TellsOfSending e n (bytes_told e buffer) (sent_to e to)
 sent_once_more None buffer to n short h = same_number 0 n h
 sent_once_more (Some e) buffer to n short h = (
   written (nat_lt (length buffer) (length e.1.bytes)) (length e.1.bytes) n

@@ -1,6 +1,6 @@
 -- What a handle holds after a call.
 use Rattle.std.proofs.Common.{suc-ne-zero, zero, suc, ◌==◌}
-use Rattle.std.proofs.Common.{◌≡◌, ◌⊎◌, inl, inr, ◌∙◌, ℕ, ℤ, pos, List, true, false, true≢false}
+use Rattle.std.proofs.Common.{◌≡◌, ◌⊎◌, inl, inr, ◌∙◌, ℕ, ℤ, pos, List, true≢false}
 use Rattle.std.proofs.Common.{if◌then◌else◌, Option, Some, None, Ok, Err, IfSome, Result}
 use Rattle.std.proofs.Common.{IfNone, MatchResult, refl, sym, ap, subst}
 use Rattle.std.specs.Prelude.{◌≢◌}
@@ -26,7 +26,7 @@ use Rattle.stun_state.specs.Calls.{AgentBecomes, FillsWithAgent, IfUserOf, Prepa
 use Rattle.stun_state.specs.Calls.{WithoutAgent, WithoutServer}
 use Rattle.stun_state.specs.Handed.{IsUserOf, handed_validation_number, just_given, with_only}
 use Rattle.stun_state.specs.Kept.{agent_in, client_in, kind_of, server_in, user_in}
-use Rattle.stun_state.specs.Laws.{IsError}
+use Rattle.stun_state.specs.Laws.{IsErrorNumber}
 use Rattle.stun_state.specs.Numbers.{left_by}
 use Rattle.stun_state.specs.Server.{server_with_algorithms, server_with_feature, validation_number}
 use Rattle.stun_state.specs.declared.agent.Timeouts.{Timeouts}
@@ -250,21 +250,21 @@ spared find number old new other left k is not =
 -- ---- errors
 
 -- no number is one
-pub no_error : {A : Type 0} (n : ℕ) → IsError (pos n) → A
+pub no_error : {A : Type 0} (n : ℕ) → IsErrorNumber (pos n) → A
 no_error n e = absurd (true≢false (sym e ∙ not_below n))
 
 error_of_agent : (old new : StateHandle) (result : ℤ) (number : Agent → ℤ) (after : Agent → Agent)
     → ((result ≡ missing old.kind) × (new ≡ old))
     ⊎ ((a : Agent) × (old.slot.kept ≡ Some (kind.Agent a)))
     → IfSome (agent_in old.slot.kept) (λ a. result ≡ number a) → AgentBecomes old new after
-    → ((a : Agent) → IsError (number a) → after a ≡ a)
-    → IsError result → new.slot.kept ≡ old.slot.kept
+    → ((a : Agent) → IsErrorNumber (number a) → after a ≡ a)
+    → IsErrorNumber result → new.slot.kept ≡ old.slot.kept
 error_of_agent old new result number after (inl left) answer becomes same e =
     ap (λ (h : StateHandle). h.slot.kept) left.1
 error_of_agent old new result number after (inr s) answer becomes same e =
     some_agent old.slot.kept s.0 (λ a. new.slot.kept ≡ Some (kind.Agent (after a))) s.1 becomes
     ∙ ap (λ a. Some (kind.Agent a))
-    (same s.0 (subst IsError
+    (same s.0 (subst IsErrorNumber
     (some_agent old.slot.kept s.0 (λ a. result ≡ number a) s.1 answer) e))
     ∙ sym s.1
 
@@ -272,8 +272,8 @@ pub agent_error : (old new : StateHandle) (result : ℤ) (number : Agent → ℤ
     (after : Agent → Agent)
     → WithoutAgent old result (new ≡ old)
     → IfSome (agent_in old.slot.kept) (λ a. result ≡ number a) → AgentBecomes old new after
-    → ((a : Agent) → IsError (number a) → after a ≡ a)
-    → IsError result → new.slot.kept ≡ old.slot.kept
+    → ((a : Agent) → IsErrorNumber (number a) → after a ≡ a)
+    → IsErrorNumber result → new.slot.kept ≡ old.slot.kept
 agent_error old new result number after without =
     error_of_agent old new result number after
     (agent_or old.slot.kept ((result ≡ missing old.kind) × (new ≡ old)) without)
@@ -282,7 +282,7 @@ left_of_agent : (old new : StateHandle) (result : ℤ) (after : Agent → Agent)
     → ((result ≡ missing old.kind) × (new ≡ old))
     ⊎ ((a : Agent) × (old.slot.kept ≡ Some (kind.Agent a)))
     → AgentBecomes old new (λ a. left_by result a (after a))
-    → IsError result → new.slot.kept ≡ old.slot.kept
+    → IsErrorNumber result → new.slot.kept ≡ old.slot.kept
 left_of_agent old new result after (inl left) becomes e =
     ap (λ (h : StateHandle). h.slot.kept) left.1
 left_of_agent old new result after (inr s) becomes e =
@@ -293,7 +293,7 @@ left_of_agent old new result after (inr s) becomes e =
 pub agent_left : (old new : StateHandle) (result : ℤ) (after : Agent → Agent)
     → WithoutAgent old result (new ≡ old)
     → AgentBecomes old new (λ a. left_by result a (after a))
-    → IsError result → new.slot.kept ≡ old.slot.kept
+    → IsErrorNumber result → new.slot.kept ≡ old.slot.kept
 agent_left old new result after without =
     left_of_agent old new result after
     (agent_or old.slot.kept ((result ≡ missing old.kind) × (new ≡ old)) without)
@@ -302,23 +302,23 @@ error_of_server : (old new : StateHandle) (result number : ℤ) (after : ServerS
     → ((result ≡ missing old.kind) × (new ≡ old))
     ⊎ ((s : Server) × (old.slot.kept ≡ Some (kind.Server s)))
     → IfSome (server_in old.slot.kept) (λ _. result ≡ number) → ServerBecomes old new after
-    → ((s : ServerSeen) → IsError number → after s ≡ s)
-    → IsError result → new.slot.kept ≡ old.slot.kept
+    → ((s : ServerSeen) → IsErrorNumber number → after s ≡ s)
+    → IsErrorNumber result → new.slot.kept ≡ old.slot.kept
 error_of_server old new result number after (inl left) answer becomes same e =
     ap (λ (h : StateHandle). h.slot.kept) left.1
 error_of_server old new result number after (inr s) answer becomes same e =
     some_server old.slot.kept s.0
     (λ x. new.slot.kept ≡ Some (kind.Server (record x { server = after x.server }))) s.1 becomes
     ∙ ap (λ x. Some (kind.Server (record s.0 { server = x })))
-    (same s.0.server (subst IsError
+    (same s.0.server (subst IsErrorNumber
     (some_server old.slot.kept s.0 (λ _. result ≡ number) s.1 answer) e))
     ∙ sym s.1
 
 pub server_error : (old new : StateHandle) (result number : ℤ) (after : ServerSeen → ServerSeen)
     → WithoutServer old result (new ≡ old)
     → IfSome (server_in old.slot.kept) (λ _. result ≡ number) → ServerBecomes old new after
-    → ((s : ServerSeen) → IsError number → after s ≡ s)
-    → IsError result → new.slot.kept ≡ old.slot.kept
+    → ((s : ServerSeen) → IsErrorNumber number → after s ≡ s)
+    → IsErrorNumber result → new.slot.kept ≡ old.slot.kept
 server_error old new result number after without =
     error_of_server old new result number after
     (server_or old.slot.kept ((result ≡ missing old.kind) × (new ≡ old)) without)
@@ -328,7 +328,7 @@ left_of_server : (old new : StateHandle) (result : ℤ) (Other : Type 0)
     → ((result ≡ missing old.kind) × ((new ≡ old) × Other))
     ⊎ ((s : Server) × (old.slot.kept ≡ Some (kind.Server s)))
     → ServerBecomes old new (λ s. left_by result s (after s))
-    → IsError result → new.slot.kept ≡ old.slot.kept
+    → IsErrorNumber result → new.slot.kept ≡ old.slot.kept
 left_of_server old new result Other after (inl left) becomes e =
     ap (λ (h : StateHandle). h.slot.kept) left.1.0
 left_of_server old new result Other after (inr s) becomes e =
@@ -344,7 +344,7 @@ pub server_left : (old new : StateHandle) (result : ℤ) (Other : Type 0)
     (after : ServerSeen → ServerSeen)
     → WithoutServer old result ((new ≡ old) × Other)
     → ServerBecomes old new (λ s. left_by result s (after s))
-    → IsError result → new.slot.kept ≡ old.slot.kept
+    → IsErrorNumber result → new.slot.kept ≡ old.slot.kept
 server_left old new result Other after without =
     left_of_server old new result Other after
     (server_or old.slot.kept ((result ≡ missing old.kind) × ((new ≡ old) × Other)) without)
@@ -355,7 +355,7 @@ beside : {S : Type 0} (old : StateHandle) (result : ℤ) (Same : Type 0) (before
     → ((result ≡ missing old.kind) × (Same × (now ≡ before)))
     ⊎ ((s : Server) × (old.slot.kept ≡ Some (kind.Server s)))
     → IfSome (server_in old.slot.kept) (λ s. now ≡ left_by result before (after s))
-    → IsError result → now ≡ before
+    → IsErrorNumber result → now ≡ before
 beside old result Same before now after (inl left) written e = left.1.1
 beside old result Same before now after (inr s) written e =
     some_server old.slot.kept s.0 (λ x. now ≡ left_by result before (after x)) s.1 written
@@ -364,7 +364,7 @@ beside old result Same before now after (inr s) written e =
 pub buffer_left : {S : Type 0} (old : StateHandle) (result : ℤ) (Same : Type 0) (before now : S)
     (after : Server → S) → WithoutServer old result (Same × (now ≡ before))
     → IfSome (server_in old.slot.kept) (λ s. now ≡ left_by result before (after s))
-    → IsError result → now ≡ before
+    → IsErrorNumber result → now ≡ before
 buffer_left old result Same before now after without =
     beside old result Same before now after
     (server_or old.slot.kept ((result ≡ missing old.kind) × (Same × (now ≡ before))) without)
@@ -376,27 +376,27 @@ refused_same None v = refl
 refused_same (Some why) v = refl
 
 pub refused_number : {V : Type 0} (o : Option Refusal) (n : ℕ) (before after : V)
-    → IsError (number_answer (refusal_or o (Ok n))) → kept_if_refused o before after ≡ before
+    → IsErrorNumber (number_answer (refusal_or o (Ok n))) → kept_if_refused o before after ≡ before
 refused_number None n before after e = no_error n e
 refused_number (Some why) n before after e = refl
 
 pub refused_done : {V : Type 0} (o : Option Refusal) (before after : V)
-    → IsError (done_answer (refusal_or o (Ok tt))) → kept_if_refused o before after ≡ before
+    → IsErrorNumber (done_answer (refusal_or o (Ok tt))) → kept_if_refused o before after ≡ before
 refused_done None before after e = no_error 0 e
 refused_done (Some why) before after e = refl
 
 pub no_address : {V : Type 0} (o : Option SocketAddr) (before : V) (after : SocketAddr → V)
-    → IsError (done_answer (done_if_given o)) → after_address o before after ≡ before
+    → IsErrorNumber (done_answer (done_if_given o)) → after_address o before after ≡ before
 no_address None before after e = refl
 no_address (Some address) before after e = no_error 0 e
 
 pub changed_same : (change : Transaction → Transaction) (o : Option ℕ) (a : Agent)
-    → IsError (number_answer (outstanding_answer o a)) → with_changed change o a ≡ a
+    → IsErrorNumber (number_answer (outstanding_answer o a)) → with_changed change o a ≡ a
 changed_same change None a e = refl
 changed_same change (Some id) a e = no_error (option_map_or (λ t. 1) (at id a.transactions) 0) e
 
 pub configured_same : (t : Timeouts) (o : Option ℕ) (a : Agent)
-    → IsError (number_answer (unless_untimed t (outstanding_answer o a)))
+    → IsErrorNumber (number_answer (unless_untimed t (outstanding_answer o a)))
     → kept_after_configuring t o a ≡ a
 configured_same t None a e = refused_same (timeouts_refusal t) a
 configured_same t (Some id) a e =
@@ -404,12 +404,12 @@ configured_same t (Some id) a e =
     (with_changed (with_settings (settings_of_timeouts t)) (Some id) a) e
 
 pub algorithms_same : (o : Option AlgorithmSet) (s : ServerSeen)
-    → IsError (done_answer (done_if_given o)) → server_with_algorithms o s ≡ s
+    → IsErrorNumber (done_answer (done_if_given o)) → server_with_algorithms o s ≡ s
 algorithms_same None s e = refl
 algorithms_same (Some set) s e = no_error 0 e
 
 pub feature_same : (o : Option Feature) (s : ServerSeen)
-    → IsError (done_answer (done_if_given o)) → server_with_feature o s ≡ s
+    → IsErrorNumber (done_answer (done_if_given o)) → server_with_feature o s ≡ s
 feature_same None s e = refl
 feature_same (Some feature) s e = no_error 0 e
 
@@ -420,10 +420,10 @@ is_empty zero = inl refl
 is_empty (suc n) = inr (λ is. suc-ne-zero n is)
 
 none_of : {S : Type 0} (result : ℤ) (now : Option S) (number : ℤ) (after : S)
-    → OrOutOfMemory result None now number (Some after) → number ≡ pos 0 → IsError result
+    → OrOutOfMemory result None now number (Some after) → number ≡ pos 0 → IsErrorNumber result
     → now ≡ None
 none_of result now number after (inl one) is e =
-    no_error 0 (subst IsError (one.0 ∙ is) e)
+    no_error 0 (subst IsErrorNumber (one.0 ∙ is) e)
 none_of result now number after (inr other) is e = other.1
 
 unfilled : {V : Type 0} (wrap : V → Kept) (made : Result V Refusal) (old new : StateHandle)
@@ -431,7 +431,7 @@ unfilled : {V : Type 0} (wrap : V → Kept) (made : Result V Refusal) (old new :
     → MatchResult made
     (λ v. OrOutOfMemory result None new.slot.kept (pos 0) (Some (wrap v)))
     (λ refusal. (result ≡ refusal_number refusal) × (new.slot.kept ≡ None))
-    → IsError result → new.slot.kept ≡ None
+    → IsErrorNumber result → new.slot.kept ≡ None
 unfilled wrap (Ok v) old new result one e = none_of result new.slot.kept (pos 0) (wrap v) one refl e
 unfilled wrap (Err refusal) old new result one e = one.1
 
@@ -441,13 +441,13 @@ left_empty old new is left = subst (λ o. IfNone o (new ≡ old)) is left
 
 agent_unfilled : (old new : StateHandle) (result : ℤ) (made : Result Agent Refusal)
     → FillsWithAgent old new result made → (old.kind ≡ EMPTY) ⊎ (old.kind ≢ EMPTY)
-    → IsError result → new ≡ old
+    → IsErrorNumber result → new ≡ old
 agent_unfilled old new result made f (inl is) e =
     left_empty old new (unfilled kind.Agent made old new result (f.made is) e) f.left
 agent_unfilled old new result made f (inr not) e = (f.full not).1
 
 pub new_agent_error : (old new : StateHandle) (result : ℤ) (made : Result Agent Refusal)
-    → FillsWithAgent old new result made → IsError result → new ≡ old
+    → FillsWithAgent old new result made → IsErrorNumber result → new ≡ old
 new_agent_error old new result made f = agent_unfilled old new result made f (is_empty old.kind)
 
 filled_with : {V : Type 0} (wrap : V → Kept) (made : Result V Refusal) (now : Option Kept)
@@ -541,7 +541,7 @@ unprepared : (old new : StateHandle) (result : ℤ) (server : StateHandle)
     → Prepares old new result server user → old.kind ≡ EMPTY
     → ((result ≡ missing server.kind) × (new ≡ old))
     ⊎ ((s : Server) × (server.slot.kept ≡ Some (kind.Server s)))
-    → IsError result → new ≡ old
+    → IsErrorNumber result → new ≡ old
 unprepared old new result server user p is (inl left) e = left.1
 unprepared old new result server user p is (inr s) e =
     left_empty old new
@@ -555,7 +555,7 @@ unprepared old new result server user p is (inr s) e =
 user_error : (old new : StateHandle) (result : ℤ) (server : StateHandle)
     (user : Result RegisteredUser Refusal)
     → Prepares old new result server user → (old.kind ≡ EMPTY) ⊎ (old.kind ≢ EMPTY)
-    → IsError result → new ≡ old
+    → IsErrorNumber result → new ≡ old
 user_error old new result server user p (inl is) =
     unprepared old new result server user p is
     (server_or server.slot.kept ((result ≡ missing server.kind) × (new ≡ old)) (p.missing is))
@@ -563,7 +563,7 @@ user_error old new result server user p (inr not) = λ e. (p.filled.full not).1
 
 pub new_user_error : (old new : StateHandle) (result : ℤ) (server : StateHandle)
     (user : Result RegisteredUser Refusal)
-    → Prepares old new result server user → IsError result → new ≡ old
+    → Prepares old new result server user → IsErrorNumber result → new ≡ old
 new_user_error old new result server user p =
     user_error old new result server user p (is_empty old.kind)
 

@@ -40,7 +40,7 @@ use Rattle.stun_state.specs.Handed.{named_if, named_in_bytes, naming_answer, nam
 use Rattle.stun_state.specs.Handed.{naming_told, naming_written, number_if, user_known}
 use Rattle.stun_state.specs.Handed.{user_of_keys}
 use Rattle.stun_state.specs.Handed.{user_of_password}
-use Rattle.stun_state.specs.Laws.{IsAsked, IsNamedIn, IsStoredAs}
+use Rattle.stun_state.specs.Laws.{IsClientVerdict, IsNamedIn, IsKeyPassed}
 use Rattle.stun_state.specs.Numbers.{reading_answer, resend_number}
 use Rattle.stun_state.specs.Signing.{client_signs, is_too_long, kept_after_signing, message_of}
 use Rattle.stun_state.specs.Signing.{server_signs, signed_by_client, signed_by_server, signed_for}
@@ -157,7 +157,7 @@ by_password name password u h =
 sized : (size : ℕ) (key : List ℕ) (kept : Option (List ℕ)) (none whole : Bool)
     → (length key == 0) ≡ none → (length key == size) ≡ whole
     → (if none then Ok None else if whole then Ok (Some key) else Err r.BadArgument) ≡ Ok kept
-    → IsStoredAs size key kept
+    → IsKeyPassed size key kept
 sized size key kept true whole is_none is_whole h =
     inl (eqb-true (length key) 0 is_none, cc)
 sized size key kept false true is_none is_whole h =
@@ -191,7 +191,7 @@ of_both name (Err why) other u h = cc
 pub by_keys : (name sha1 sha256 : List ℕ) (u : RegisteredUser)
     → user_of_keys name sha1 sha256 ≡ Ok u
     → (keys : StoredKeys) × (u.username ≡ name) × (u.secret ≡ of_keys keys)
-    × IsStoredAs 16 sha1 keys.sha1 × IsStoredAs 32 sha256 keys.sha256
+    × IsKeyPassed 16 sha1 keys.sha1 × IsKeyPassed 32 sha256 keys.sha256
 by_keys name sha1 sha256 u h =
     let one = of_both name (key_given 16 sha1) (key_given 32 sha256) u
     (passed (text_refusal name) (user_known name
@@ -254,14 +254,14 @@ named s bytes buffer from before n h = named_from s bytes buffer (socket_address
 -- ---- a client
 
 found : (a : ClientAnswer) (n : ℕ) → reading_answer (client_validation_answer a) ≡ pos n
-    → IsAsked a n
+    → IsClientVerdict a n
 found (Ok (Reading.Validated algorithm)) n h = same_number (algorithm_number algorithm) n h
 found (Ok (Reading.ResendRequest digest)) n h = same_number (resend_number digest) n h
 found (Err reason) n h = no_refusal n (refusal_of_client reason) (sym h)
 
 judged_of : (o : Option StunParseError) (a : ClientAnswer) (before after : ClientSide) (n : ℕ)
     → reading_answer (refusal_or (message_refusal o) (client_validation_answer a)) ≡ pos n
-    → (o ≡ None) × IsAsked a n × (kept_if_refused (message_refusal o) before after ≡ after)
+    → (o ≡ None) × IsClientVerdict a n × (kept_if_refused (message_refusal o) before after ≡ after)
 judged_of None a before after n h = (refl, found a n h, refl)
 judged_of (Some error) a before after n h =
     absurd (no_refusal n (refusal_of_parse error) (sym h))
@@ -269,7 +269,7 @@ judged_of (Some error) a before after n h =
 pub judged : (c : ClientSide) (bytes : List ℕ) (n : ℕ)
     → reading_answer (client_validation c bytes) ≡ pos n
     → (refusal bytes ≡ None)
-    × IsAsked (client_step c.settings c.state (reading_of bytes)).answer n
+    × IsClientVerdict (client_step c.settings c.state (reading_of bytes)).answer n
     × (client_after_validation c bytes
     ≡ record c { state = (client_step c.settings c.state (reading_of bytes)).state })
 judged c bytes n h =

@@ -32,7 +32,7 @@ use Rattle.stun_state.specs.Agent.{statistics_answer}
 use Rattle.stun_state.specs.Answers.{after_address, after_start, at_start}
 use Rattle.stun_state.specs.Client.{client_with_algorithms, client_with_feature}
 use Rattle.stun_state.specs.Codes.{algorithm_or_none, algorithms_numbered, feature_numbered}
-use Rattle.stun_state.specs.Laws.{IsClientTold, IsNonceTold, feature_number}
+use Rattle.stun_state.specs.Laws.{IsClientTold, IsNonceTold, number_of_feature}
 use Rattle.stun_state.specs.Numbers.{found_answer}
 use Rattle.stun_state.specs.Server.{client_found, client_told, name_length_of, name_written}
 use Rattle.stun_state.specs.Server.{nonce_at, nonce_found, nonce_told, nonce_written}
@@ -220,18 +220,18 @@ of_feature : (none one two : Bool) (n : ℕ) (feature : Feature) → (n == 0) �
     → (n == 1) ≡ one → (n == 2) ≡ two
     → IsFeature (if none then Some Auto else if one then Some Required else if two
     then Some Disabled else None) feature
-    → n ≡ feature_number feature
+    → n ≡ number_of_feature feature
 of_feature true one two n feature z o t h =
-    eqb-true n 0 z ∙ ap feature_number (sym (one_feature Auto feature h))
+    eqb-true n 0 z ∙ ap number_of_feature (sym (one_feature Auto feature h))
 of_feature false true two n feature z o t h =
-    eqb-true n 1 o ∙ ap feature_number (sym (one_feature Required feature h))
+    eqb-true n 1 o ∙ ap number_of_feature (sym (one_feature Required feature h))
 of_feature false false true n feature z o t h =
-    eqb-true n 2 t ∙ ap feature_number (sym (one_feature Disabled feature h))
+    eqb-true n 2 t ∙ ap number_of_feature (sym (one_feature Disabled feature h))
 of_feature false false false n feature z o t h = cc
 
 pub feature : (n : ℕ) (one : Feature) (s : ServerSeen) (c : ClientSide)
     → feature_numbered n ≡ Some one
-    → (n ≡ feature_number one)
+    → (n ≡ number_of_feature one)
     × ((server_with_feature (feature_numbered n) s).feature ≡ one)
     × ((client_with_feature (feature_numbered n) c).settings.feature ≡ one)
 feature n one s c h = (

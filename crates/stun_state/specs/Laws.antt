@@ -39,8 +39,8 @@ abbrev pub TellsApart : {V : Type 0} → (Result V Refusal → ℤ) → Type 0
 TellsApart {V} number = (r s : Result V Refusal) → number r ≡ number s → r ≡ s
 
 -- a result that is an error: it is below 0
-abbrev pub IsError : ℤ → Type 0
-IsError result = int_lt result (pos 0) ≡ true
+abbrev pub IsErrorNumber : ℤ → Type 0
+IsErrorNumber result = int_lt result (pos 0) ≡ true
 
 -- how many bytes there are, which is below 2^63 of any buffer
 abbrev pub IsLength : Result ℕ Refusal → Type 0
@@ -56,8 +56,8 @@ pub record IsRefusedAs (handle : StateHandle) (number : ℕ) (result : ℤ) : Ty
 
 -- this is what is kept of a key of so many bytes that a caller passes: none of no bytes, and else
 -- the key itself, which has them all
-abbrev pub IsStoredAs : ℕ → List ℕ → Option (List ℕ) → Type 0
-IsStoredAs size key kept =
+abbrev pub IsKeyPassed : ℕ → List ℕ → Option (List ℕ) → Type 0
+IsKeyPassed size key kept =
     ((length key ≡ 0) × (kept ≡ None)) ⊎ ((length key ≡ size) × (kept ≡ Some key))
 
 -- a caller is told whom a message names: by the number, by what the buffer begins with, and by how
@@ -71,10 +71,10 @@ IsNamedIn (Some (by_hash hash)) number buffer size =
 
 -- a client's answer is no refusal, and has this number: that of the algorithm of a valid signature,
 -- or the one that asks for another request
-abbrev pub IsAsked : ClientAnswer → ℕ → Type 0
-IsAsked (Ok (Validated algorithm)) number = number ≡ algorithm_number algorithm
-IsAsked (Ok (ResendRequest digest)) number = number ≡ resend_number digest
-IsAsked (Err reason) number = ⊥
+abbrev pub IsClientVerdict : ClientAnswer → ℕ → Type 0
+IsClientVerdict (Ok (Validated algorithm)) number = number ≡ algorithm_number algorithm
+IsClientVerdict (Ok (ResendRequest digest)) number = number ≡ resend_number digest
+IsClientVerdict (Err reason) number = ⊥
 
 -- an agent as it is made: at this address, with no fixed peer, with the time-outs of RFC 8489, and
 -- with nothing sent, nobody validated and nothing counted
@@ -98,18 +98,18 @@ IsBoundTo given remote = ((given.length ≡ 0) × (remote ≡ None))
 
 -- a caller is told what a poll returns: until when to wait, or which request has timed out or was
 -- canceled, by its id at the front of the buffer
-abbrev pub IsPolled : StunAgentPollRet → ℕ → ℕ → List ℕ → Type 0
-IsPolled (WaitUntil moment) number until buffer = (number ≡ 0) × (until ≡ moment)
-IsPolled (TransactionTimedOut id) number until buffer =
+abbrev pub TellsOfPoll : StunAgentPollRet → ℕ → ℕ → List ℕ → Type 0
+TellsOfPoll (WaitUntil moment) number until buffer = (number ≡ 0) × (until ≡ moment)
+TellsOfPoll (TransactionTimedOut id) number until buffer =
     (number ≡ 1) × (rest : List ℕ) × (buffer ≡ big_bytes 12 id ++ rest)
-IsPolled (TransactionCancelled id) number until buffer =
+TellsOfPoll (TransactionCancelled id) number until buffer =
     (number ≡ 2) × (rest : List ℕ) × (buffer ≡ big_bytes 12 id ++ rest)
 
 -- a caller is told what is sent again: nothing, or the bytes of the request at the front of the
 -- buffer, how many these are, and the address to which the request went
-abbrev pub IsSentAgain : Option (ℕ × Transaction) → ℕ → List ℕ → Address → Type 0
-IsSentAgain None number buffer to = number ≡ 0
-IsSentAgain (Some e) number buffer to =
+abbrev pub TellsOfSending : Option (ℕ × Transaction) → ℕ → List ℕ → Address → Type 0
+TellsOfSending None number buffer to = number ≡ 0
+TellsOfSending (Some e) number buffer to =
     (number ≡ length e.1.bytes) × ((rest : List ℕ) × (buffer ≡ e.1.bytes ++ rest))
     × (to ≡ caller_address e.1.to)
 
@@ -129,7 +129,7 @@ IsNonceTold (Some nonce) number buffer =
     (number ≡ length nonce) × ((rest : List ℕ) × (buffer ≡ nonce ++ rest))
 
 -- the number of a feature, as `include/stunp_state.h` has it
-abbrev pub feature_number : Feature → ℕ
-feature_number Auto = 0
-feature_number Required = 1
-feature_number Disabled = 2
+abbrev pub number_of_feature : Feature → ℕ
+number_of_feature Auto = 0
+number_of_feature Required = 1
+number_of_feature Disabled = 2

@@ -80,10 +80,11 @@ ghost use Rattle.stun_state.specs.Handed.{kept_after_prepared_validation, named_
 ghost use Rattle.stun_state.specs.Handed.{naming_answer, naming_length, naming_written};
 ghost use Rattle.stun_state.specs.Handed.{user_of_keys, user_of_password, with_only};
 ghost use Rattle.stun_state.specs.Kept.{agent_in, client_in, kind_of, server_in, user_in};
-ghost use Rattle.stun_state.specs.Laws.{IsAsked, IsBoundTo, IsClientTold, IsError, IsLength};
-ghost use Rattle.stun_state.specs.Laws.{IsNamedIn, IsNew, IsNonceTold, IsPolled, IsRefusedAs};
-ghost use Rattle.stun_state.specs.Laws.{IsSentAgain, IsStoredAs, TellsApart, Waits};
-ghost use Rattle.stun_state.specs.Laws.{feature_number};
+ghost use Rattle.stun_state.specs.Laws.{IsClientVerdict, IsBoundTo, IsClientTold, IsErrorNumber};
+ghost use Rattle.stun_state.specs.Laws.{IsLength};
+ghost use Rattle.stun_state.specs.Laws.{IsNamedIn, IsNew, IsNonceTold, TellsOfPoll, IsRefusedAs};
+ghost use Rattle.stun_state.specs.Laws.{TellsOfSending, IsKeyPassed, TellsApart, Waits};
+ghost use Rattle.stun_state.specs.Laws.{number_of_feature};
 ghost use Rattle.stun_state.specs.Memory.{AsksAgain, IsRequestTaken, LeavesServer};
 ghost use Rattle.stun_state.specs.Memory.{message_adds_none, naming_adds_none};
 ghost use Rattle.stun_state.specs.Numbers.{algorithm_answer, found_answer, is_resend_answer};
@@ -181,7 +182,7 @@ pub fn handles_are_filled_with_what_is_made()
         → FillsWithAgent old new (pos 0) made → (old.kind ≡ empty_kind)
         × ((a : Agent) × (made ≡ Ok a) × (new.slot.kept ≡ Some (kind.Agent a))) }
     ensures agent_error { (old new : StateHandle) (result : ℤ) (made : Result Agent Refusal)
-        → FillsWithAgent old new result made → IsError result → new ≡ old }
+        → FillsWithAgent old new result made → IsErrorNumber result → new ≡ old }
     ensures user { (old new server : StateHandle) (user : Result RegisteredUser Refusal)
         → Prepares old new (pos 0) server user → (old.kind ≡ empty_kind)
         × ((s : Server) × (one : Registered) × (server.slot.kept ≡ Some (kind.Server s))
@@ -189,70 +190,70 @@ pub fn handles_are_filled_with_what_is_made()
         × (new.slot.kept ≡ Some (kind.User one))) }
     ensures user_error { (old new : StateHandle) (result : ℤ) (server : StateHandle)
         (user : Result RegisteredUser Refusal) → Prepares old new result server user
-        → IsError result → new ≡ old }
+        → IsErrorNumber result → new ≡ old }
 {}
 
 /// After an error a handle holds what it held before, and a buffer that was to be signed is as it
-/// was. Calls that judge a message are not among these: a server may make a nonce for a message that
-/// it refuses.
+/// was. Calls that judge a message are not among these: a server may make a nonce for a message
+/// that it refuses.
 pub fn errors_leave_what_a_handle_holds()
     ensures agent { (old new : StateHandle) (result : ℤ) (number : Agent → ℤ)
         (after : Agent → Agent)
         → ChangesAgent old new result number (λ agent. left_by result agent (after agent))
-        → IsError result → new.slot.kept ≡ old.slot.kept }
+        → IsErrorNumber result → new.slot.kept ≡ old.slot.kept }
     ensures agent_or { (old new : StateHandle) (result : ℤ) (number : Agent → ℤ)
         (after : Agent → Agent)
         → ChangesAgentOr old new result number (λ agent. left_by result agent (after agent))
-        → IsError result → new.slot.kept ≡ old.slot.kept }
+        → IsErrorNumber result → new.slot.kept ≡ old.slot.kept }
     ensures request { (old new : StateHandle) (result : ℤ) (change : Transaction → Transaction)
         (id : List ℕ) → ChangesAgent old new result
         (λ agent. number_answer (outstanding_answer (id_in id) agent))
         (with_changed change (id_in id))
-        → IsError result → new.slot.kept ≡ old.slot.kept }
+        → IsErrorNumber result → new.slot.kept ≡ old.slot.kept }
     ensures configured { (old new : StateHandle) (result : ℤ) (timeouts : Timeouts)
         (id : List ℕ) → ChangesAgent old new result
         (λ agent. number_answer
         (unless_untimed timeouts (outstanding_answer (id_in id) agent)))
         (kept_after_configuring timeouts (id_in id))
-        → IsError result → new.slot.kept ≡ old.slot.kept }
+        → IsErrorNumber result → new.slot.kept ≡ old.slot.kept }
     ensures peer { (old new : StateHandle) (result : ℤ) (peer : Address)
         → ChangesAgent old new result
         (λ _. done_answer (done_if_given (socket_address peer)))
         (λ agent. kept_after_forgetting agent peer)
-        → IsError result → new.slot.kept ≡ old.slot.kept }
+        → IsErrorNumber result → new.slot.kept ≡ old.slot.kept }
     ensures algorithms { (old new : StateHandle) (result : ℤ) (algorithms : ℕ)
         → ChangesServer old new result
         (done_answer (done_if_given (algorithms_numbered algorithms)))
         (server_with_algorithms (algorithms_numbered algorithms))
-        → IsError result → new.slot.kept ≡ old.slot.kept }
+        → IsErrorNumber result → new.slot.kept ≡ old.slot.kept }
     ensures feature { (old new : StateHandle) (result : ℤ) (feature : ℕ)
         → ChangesServer old new result
         (done_answer (done_if_given (feature_numbered feature)))
         (server_with_feature (feature_numbered feature))
-        → IsError result → new.slot.kept ≡ old.slot.kept }
+        → IsErrorNumber result → new.slot.kept ≡ old.slot.kept }
     ensures removed_user { (old new : StateHandle) (result : ℤ) (name : List ℕ)
         → ChangesServer old new result (done_answer (refusal_or (text_refusal name) (Ok tt)))
         (λ server. without_named (text_refusal name) server name)
-        → IsError result → new.slot.kept ≡ old.slot.kept }
+        → IsErrorNumber result → new.slot.kept ≡ old.slot.kept }
     ensures removed_client { (old new : StateHandle) (result : ℤ) (at : Address)
         → ChangesServer old new result (done_answer (done_if_given (socket_address at)))
         (λ server. after_address (socket_address at) server (without_client server))
-        → IsError result → new.slot.kept ≡ old.slot.kept }
+        → IsErrorNumber result → new.slot.kept ≡ old.slot.kept }
     ensures forgotten { (old new : StateHandle) (result : ℤ) (at : Address)
         → ChangesServer old new result (done_answer (done_if_given (socket_address at)))
         (λ server. after_address (socket_address at) server (without_place server))
-        → IsError result → new.slot.kept ≡ old.slot.kept }
+        → IsErrorNumber result → new.slot.kept ≡ old.slot.kept }
     ensures signed { (old new : StateHandle) (result : ℤ) (buffer after : List ℕ) (count : ℕ)
         (to : Address) (user : Result RegisteredUser Refusal)
-        → SignsWith old new result buffer after count to user → IsError result
+        → SignsWith old new result buffer after count to user → IsErrorNumber result
         → (new.slot.kept ≡ old.slot.kept) × (after ≡ buffer) }
 {}
 
 /// A server accepts a message only if the library does, and its handle then has the server that the
-/// library leaves. A number of success is that of the algorithm with which the library validates the
-/// message at this address. The number of a reason of the authenticator is returned for this reason
-/// alone. A message that is accepted with a user whom the caller hands in is accepted by the server
-/// that has just this user, and the server's own users stay.
+/// library leaves. A number of success is that of the algorithm with which the library validates
+/// the message at this address. The number of a reason of the authenticator is returned for this
+/// reason alone. A message that is accepted with a user whom the caller hands in is accepted by the
+/// server that has just this user, and the server's own users stay.
 pub fn verdicts_are_those_of_the_authenticator()
     ensures accepted { (k : Server) (bytes : List ℕ) (from : Address) (now : ℕ) (words : List ℕ)
         (n : ℕ) → validation_number k bytes from now words ≡ pos n
@@ -346,7 +347,7 @@ pub fn users_are_those_who_are_handed_in()
     ensures keys { (name sha1 sha256 : List ℕ) (u : RegisteredUser)
         → user_of_keys name sha1 sha256 ≡ Ok u
         → (keys : StoredKeys) × (u.username ≡ name) × (u.secret ≡ of_keys keys)
-        × IsStoredAs 16 sha1 keys.sha1 × IsStoredAs 32 sha256 keys.sha256 }
+        × IsKeyPassed 16 sha1 keys.sha1 × IsKeyPassed 32 sha256 keys.sha256 }
 {}
 
 /// A call that says whom a message names says what the library does: the number, the name or the
@@ -370,7 +371,7 @@ pub fn client_verdicts_are_those_of_the_authenticator()
     ensures { (c : ClientSide) (bytes : List ℕ) (n : ℕ)
         → reading_answer (client_validation c bytes) ≡ pos n
         → (refusal bytes ≡ None)
-        × IsAsked (client_step c.settings c.state (reading_of bytes)).answer n
+        × IsClientVerdict (client_step c.settings c.state (reading_of bytes)).answer n
         × (client_after_validation c bytes
         ≡ record c { state = (client_step c.settings c.state (reading_of bytes)).state }) }
 {}
@@ -438,11 +439,11 @@ pub fn agents_are_made_as_asked_for()
 pub fn polls_tell_what_the_library_returns()
     ensures polled { (answer : StunAgentPollRet) (until : ℕ) (buffer : List ℕ) (n : ℕ)
         → number_answer (polling_answer (length buffer) answer) ≡ pos n
-        → IsPolled answer n (moment_told answer until) (id_told answer buffer) }
+        → TellsOfPoll answer n (moment_told answer until) (id_told answer buffer) }
     ensures sent { (e : Option (ℕ × Transaction)) (buffer : List ℕ) (to : Address) (n : ℕ)
         → length buffer < 2 ^ 63
         → length_answer (sent_again (length buffer) e) ≡ pos n
-        → IsSentAgain e n (bytes_told e buffer) (sent_to e to) }
+        → TellsOfSending e n (bytes_told e buffer) (sent_to e to) }
 {}
 
 /// An address that the library returns is told to the caller as the address that the caller passed
@@ -498,7 +499,7 @@ pub fn settings_are_those_of_their_numbers()
         ≡ algorithms_of set) }
     ensures feature { (n : ℕ) (one : Feature) (s : ServerSeen) (c : ClientSide)
         → feature_numbered n ≡ Some one
-        → (n ≡ feature_number one)
+        → (n ≡ number_of_feature one)
         × ((server_with_feature (feature_numbered n) s).feature ≡ one)
         × ((client_with_feature (feature_numbered n) c).settings.feature ≡ one) }
     ensures expiry { (n : ℕ) (s : ServerSeen) → 30000000000 ≤ (with_expiry n s).expiry }
@@ -515,8 +516,8 @@ pub fn settings_are_those_of_their_numbers()
         → (caller_statistics_after counted before).size ≡ before.size }
 {}
 
-/// A call may return a failed allocation in place of its result, and then nothing changes. Where
-/// a clause rules that out, because nothing has to be kept, nothing is: a message changes nothing of
+/// A call may return a failed allocation in place of its result, and then nothing changes. Where a
+/// clause rules that out, because nothing has to be kept, nothing is: a message changes nothing of
 /// the server, or no address is added to those of an agent.
 pub fn failed_allocations_change_nothing()
     ensures returned { (result verdict : Result IntegrityAlgorithm Refusal)

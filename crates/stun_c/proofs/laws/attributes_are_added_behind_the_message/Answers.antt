@@ -1,11 +1,11 @@
 -- A refusal is none of the results.
-use Rattle.std.specs.Prelude.{length, nat_lt}
+use Rattle.std.specs.Prelude.{nat_lt}
 use Rattle.stun_base.specs.Attributes.{ERROR_CODE}
 use Rattle.stun_base.specs.Header.{transaction_id_field}
 use Rattle.std.specs.Prelude.{take}
 use Rattle.byteorder.specs.Endian.{big_bytes}
 use Rattle.stun_types.specs.ErrorCode.{error_value}
-use Rattle.stun_c.specs.Writing.{adding_refusal, error_argument_refusal, has_size, hidden_value}
+use Rattle.stun_c.specs.Writing.{error_argument_refusal, has_size, hidden_value}
 use Rattle.stun_c.specs.Writing.{is_address, plain_value}
 use Rattle.stun_c.proofs.CarriedLemmas.{added, numbered, if-so, passed, written}
 use Rattle.stun_c.proofs.laws.attributes_are_added_behind_the_message.Goals as goal

@@ -43,6 +43,7 @@ use crate::exported::stun_client_endpoint::ended;
 use crate::exported::stun_endpoint::received;
 use core::fmt;
 
+mod batch;
 mod body;
 mod client;
 mod client_outcomes;
@@ -65,6 +66,7 @@ pub use crate::exported::stun_endpoint::server::{
     BuildError, Cause, DEFAULT_NONCE_LIFETIME, SHORTEST_NONCE_LIFETIME,
 };
 pub use crate::exported::stun_endpoint::unix_time::UnixTime;
+pub use batch::Answers;
 pub use body::{AddError, BODY_LIMIT, Body, BodyError};
 pub use client::Client;
 pub use client_outcomes::{

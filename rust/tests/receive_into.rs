@@ -165,6 +165,82 @@ fn a_server_allocates_for_a_nonce_alone() {
     }
 }
 
+/// Numbers that look random, the same in each run.
+struct Random(u64);
+
+impl Random {
+    fn below(&mut self, limit: usize) -> usize {
+        self.0 ^= self.0 << 13;
+        self.0 ^= self.0 >> 7;
+        self.0 ^= self.0 << 17;
+        (self.0 % limit as u64) as usize
+    }
+}
+
+/// A batch of up to 20 of these datagrams, some of them damaged, and some from another address.
+fn batch_of(datagrams: &[Vec<u8>], random: &mut Random) -> Vec<(Vec<u8>, SocketAddr)> {
+    let mut one = || {
+        let mut bytes = datagrams[random.below(datagrams.len())].clone();
+        if random.below(3) == 0 {
+            let at = random.below(bytes.len());
+            bytes[at] ^= 1 << random.below(8);
+        }
+        let port = 4242 + u16::from(random.below(4) == 0);
+        (bytes, SocketAddr::new(from().ip(), port))
+    };
+    let batch: Vec<_> = (0..20).map(|_| one()).collect();
+    let length = random.below(batch.len() + 1);
+    batch.into_iter().take(length).collect()
+}
+
+#[test]
+fn a_batch_is_received_like_its_datagrams_one_by_one() {
+    let (server, users, datagrams) = long_term();
+    let (mut random, mut answers, mut number) = (Random(0x9e37_79b9), Answers::new(), 0);
+    for _ in 0..300 {
+        let batch = batch_of(&datagrams, &mut random);
+        let now = UnixTime::from_secs(7200 + 3600 * random.below(3) as u64);
+        let wanted = batch.iter().map(|(bytes, from)| {
+            seen!(server.receive(bytes, *from, now, &users), Received)
+        });
+        let wanted: Vec<_> = wanted.collect();
+        let given = batch.iter().map(|(bytes, from)| (&bytes[..], *from));
+        let received = server.receive_many(given, now, &users, &mut answers);
+        let (received, mut end): (Vec<_>, _) = (received.collect(), 0);
+        let got = received.into_iter().map(|one| match one {
+            Received::Answer(answer) => {
+                assert_eq!(answer.range().start, end, "the responses follow one another");
+                end = answer.range().end;
+                number += 1;
+                (
+                    format!("{} {:?}", answer.to(), answer.refusal()),
+                    answers.bytes()[answer.range()].to_vec(),
+                )
+            }
+            other => (described(&other), Vec::new()),
+        });
+        assert_eq!(got.collect::<Vec<_>>(), wanted);
+        assert_eq!(answers.bytes().len(), end);
+    }
+    assert!(number > 1000, "{number} responses");
+}
+
+#[test]
+fn a_batch_allocates_for_nonces_alone() {
+    let (server, users, datagrams) = long_term();
+    let answered = [0, 1, 3, 4, 7]; // and one that is dropped
+    let batch = || answered.iter().map(|at| (&datagrams[*at][..], from()));
+    let mut answers = Answers::new();
+    let mut receive = || {
+        server
+            .receive_many(batch(), now(), &users, &mut answers)
+            .filter(|received| matches!(received, Received::Answer(_)))
+            .count()
+    };
+    assert_eq!(receive(), 4); // the buffer grows
+    assert_eq!(blocks_of(receive), (4, 4));
+}
+
 #[test]
 fn a_server_without_credentials_allocates_nothing() {
     let settings = || ResponseSettings::new().answer_binding(true).software("tested");

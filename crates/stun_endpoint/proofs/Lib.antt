@@ -25,3 +25,5 @@ pub mod JudgementLemmas
 pub mod RunLemmas
 -- a response that is ended was refused nothing
 pub mod EndedLemmas
+-- results of a batch, while its answers grow
+pub mod BatchLemmas

@@ -38,6 +38,8 @@ pub mod ShortTerm
 pub mod ShortTermOutcomes
 -- what the results of `receive_into` say, with the bytes in the buffer
 pub mod Buffered
+-- what the datagrams of a batch come to
+pub mod Batches
 -- the same by the calls of a server that keeps records
 pub mod Runs
 -- what no clause of a public call cites

@@ -1,7 +1,7 @@
 //! Laws over the definitions that the contracts of this crate cite. They do nothing when they run.
 ghost use Rattle.std.specs.FinMap as fin;
 ghost use Rattle.std.specs.Prelude.{◌≡◌, ◌↔◌, ◌⊎◌, ◌≤◌, ◌+◌, ◌++◌, ℕ, Bool, List, None, Ok, Option};
-ghost use Rattle.std.specs.Prelude.{IsUtf8, Some, false, length, map, true};
+ghost use Rattle.std.specs.Prelude.{IsUtf8, Some, false, length, map, slice_get, true};
 ghost use Rattle.std.specs.Option.{is_none, option_map};
 ghost use Rattle.std.specs.Str.{bytes_eq};
 ghost use Rattle.std.specs.declared.net.socket_addr.SocketAddr.{SocketAddr};
@@ -14,6 +14,7 @@ ghost use Rattle.stun_auth.specs.Seen.{ClientSeen};
 ghost use Rattle.stun_auth.specs.Server.{their_nonce};
 ghost use Rattle.stun_auth.specs.Nonces.{begins_with_cookie, letter, security_bits};
 ghost use Rattle.stun_auth.specs.Validation.{is_complete, is_malformed};
+ghost use Rattle.stun_endpoint.specs.Batches.{Datagram, picked, received_all};
 ghost use Rattle.stun_endpoint.specs.Causes.{cause_of, code_of_cause, credential_cause};
 ghost use Rattle.stun_endpoint.specs.Causes.{has_other_bits, is_agreed, refused_code};
 ghost use Rattle.stun_endpoint.specs.Judged.{IsAcceptedAt, Realm, judged, key_of_client};
@@ -162,6 +163,27 @@ pub fn lookups_have_accepted_nonces()
         → identified_by s from now bytes ≡ looked_up lookup
         → (lookup.message ≡ bytes) × (lookup.from ≡ from) × (lookup.arrived ≡ now)
         × WaitsUnderItsNonce s lookup }
+{}
+
+/// What the datagrams of a batch come to is what `receive` returns for each, with the same users at the
+/// same time.
+///
+/// - `each`: the outcome at a place is that of the datagram at this place, as if it had come alone.
+/// - `parts`: a batch comes to what its parts do, one after another. So the outcome of a datagram is
+///   the same at a server that has received those before it, and at one that has not.
+/// - `order`: the server stores nothing about its clients, so the order does not matter. In another
+///   order, or without some of them, the same datagrams come to the same outcomes.
+pub fn a_batch_is_its_single_calls()
+    ensures each { (s : Settings) (realm : Realm) (now : ℕ) (datagrams : List Datagram) (place : ℕ)
+        (d : Datagram) → slice_get datagrams place ≡ Some d
+        → slice_get (received_all s realm now datagrams) place
+        ≡ Some (received_by s realm d.from now d.bytes) }
+    ensures parts { (s : Settings) (realm : Realm) (now : ℕ) (first later : List Datagram)
+        → received_all s realm now (first ++ later)
+        ≡ received_all s realm now first ++ received_all s realm now later }
+    ensures order { (s : Settings) (realm : Realm) (now : ℕ) (datagrams : List Datagram)
+        (places : List ℕ) → received_all s realm now (picked places datagrams)
+        ≡ picked places (received_all s realm now datagrams) }
 {}
 
 /// The verdicts of the endpoint are those of a server that keeps records, call by call, for every

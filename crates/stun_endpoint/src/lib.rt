@@ -2,6 +2,7 @@
 //! sections 6.3 and 9.2).
 #![tactic(auto)]
 
+pub mod batch;
 pub mod buffered;
 pub mod laws;
 pub mod lookup;

@@ -26,6 +26,7 @@ use stun_auth::auth::{LongTermServerAuth, LongTermServerUser, StoredKeys};
 use stun_base::credentials::LongTermCredentials;
 use stun_base::prepared_key::PreparedKey;
 
+mod batches;
 mod caused;
 mod causes;
 mod identifying;

@@ -263,7 +263,7 @@ impl ServerBuilder {
 ///
 /// The [module](super) has an example.
 pub struct Server {
-    core: server::Server<Global>,
+    pub(super) core: server::Server<Global>,
     realm: String,
     /// What answers Binding requests without a signature.
     open: Option<open::OpenServer<Global>>,
@@ -391,7 +391,7 @@ impl Server {
 
     /// Judges a datagram by this call of the core, unless it is dropped for its method, or answered
     /// without credentials.
-    fn judged<'a>(
+    pub(super) fn judged<'a>(
         &self,
         bytes: &'a [u8],
         from: SocketAddr,
@@ -1190,7 +1190,7 @@ pub(crate) fn lent<R>(buffer: &mut Vec<u8>, call: impl FnOnce(&mut KitVec<u8>) -
 }
 
 /// What the core returns, with the bytes of the response.
-fn of_core<B>(received: Judged<'_>, bytes: B) -> Received<'_, B> {
+pub(super) fn of_core<B>(received: Judged<'_>, bytes: B) -> Received<'_, B> {
     match received {
         Ok(CoreReceived::Answer(answer)) => Received::Answer(answer_of(answer, bytes)),
         Ok(CoreReceived::Request(request)) => match request_of(request) {
@@ -1334,7 +1334,7 @@ impl From<AllocError> for UserError {
 /// # Ok::<(), Box<dyn std::error::Error>>(())
 /// ```
 pub struct Users {
-    core: users::Users<Global>,
+    pub(super) core: users::Users<Global>,
     keys: Given<StoredKeys>,
 }
 
@@ -1510,8 +1510,9 @@ impl Users {
     }
 }
 
-/// What a datagram comes to. The bytes of a response are a `Vec`, or a slice of the buffer that was
-/// passed to [`receive_into`](Server::receive_into).
+/// What a datagram comes to. The bytes of a response are a `Vec`, a slice of the buffer that was
+/// passed to [`receive_into`](Server::receive_into), or in a batch a range of its
+/// [`Answers`](super::Answers).
 ///
 /// # Examples
 ///
@@ -1548,8 +1549,8 @@ pub enum Received<'a, B = Vec<u8>> {
     Dropped(DropReason),
 }
 
-/// A response to send. Its bytes are a `Vec`, or a slice of the buffer that was passed to
-/// [`receive_into`](Server::receive_into).
+/// A response to send. Its bytes are a `Vec`, a slice of the buffer that was passed to
+/// [`receive_into`](Server::receive_into), or in a batch a range of its [`Answers`](super::Answers).
 ///
 /// # Examples
 ///
@@ -1569,7 +1570,7 @@ pub enum Received<'a, B = Vec<u8>> {
 pub struct Answer<B = Vec<u8>> {
     to: SocketAddr,
     refusal: Option<Refusal>,
-    bytes: B,
+    pub(super) bytes: B,
 }
 
 impl<B> Answer<B> {

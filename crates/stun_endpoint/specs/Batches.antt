@@ -1,0 +1,61 @@
+-- What the datagrams of a batch come to: what each does alone, in their order.
+use Rattle.std.specs.Prelude.{◌≡◌, ◌≤◌, ℕ, List, [], ◌∷◌, length, map, slice_get, slice_range}
+use Rattle.std.specs.Prelude.{Option, Some, None}
+use Rattle.std.specs.declared.net.socket_addr.SocketAddr.{SocketAddr}
+use Rattle.stun_endpoint.specs.Buffered.{outcome_in}
+use Rattle.stun_endpoint.specs.Judged.{Realm}
+use Rattle.stun_endpoint.specs.Received.{Outcome, received_by}
+use Rattle.stun_endpoint.specs.Settings.{Settings}
+use Rattle.stun_endpoint.specs.declared.batch.ReceivedAt.{ReceivedAt}
+use Rattle.stun_endpoint.specs.declared.buffered.ReceivedInto.{ReceivedInto}
+use Rattle.stun_endpoint.specs.declared.buffered.ReceivedInto.TheVariants as code
+
+-- a datagram of a batch
+pub record Datagram : Type 0 where
+  pub bytes : List ℕ
+  pub from : SocketAddr
+
+-- what a datagram comes to at a time
+abbrev pub received_one : Settings → Realm → ℕ → Datagram → Outcome
+received_one s realm now d = received_by s realm d.from now d.bytes
+
+-- what the datagrams of a batch come to
+abbrev pub received_all : Settings → Realm → ℕ → List Datagram → List Outcome
+received_all s realm now datagrams = map (received_one s realm now) datagrams
+
+-- ---- results, whose responses are parts of one buffer
+
+-- what a result says, with its response in the buffer
+abbrev pub outcome_at : {A : Type 0} → List ℕ → ReceivedAt A → Outcome
+outcome_at answers result =
+    outcome_in result.received (slice_range answers result.start result.end)
+
+abbrev pub outcomes_at : {A : Type 0} → List ℕ → List (ReceivedAt A) → List Outcome
+outcomes_at answers results = map (outcome_at answers) results
+
+-- what is no response takes no room in the buffer
+abbrev pub TakesRoom : {A : Type 0} → ReceivedInto A → ℕ → ℕ → Type 0
+TakesRoom (code.Answer answer) start end = start ≤ end
+TakesRoom (code.Request request) start end = start ≡ end
+TakesRoom (code.Indication message) start end = start ≡ end
+TakesRoom (code.Response message) start end = start ≡ end
+TakesRoom (code.Dropped reason) start end = start ≡ end
+
+-- the responses follow one another in the order of the results, from one place to another, and
+-- nothing is between them
+abbrev pub FollowOneAnother : {A : Type 0} → ℕ → List (ReceivedAt A) → ℕ → Type 0
+FollowOneAnother from [] to = from ≡ to
+FollowOneAnother from (result ∷ later) to =
+    (result.start ≡ from) × TakesRoom result.received result.start result.end
+    × FollowOneAnother result.end later to
+
+-- ---- another order
+
+-- the elements at some places, in that order. Places that a list does not have are passed over
+abbrev pub and_found : {X : Type 0} → Option X → List X → List X
+and_found None later = later
+and_found (Some x) later = x ∷ later
+
+abbrev pub picked : {X : Type 0} → List ℕ → List X → List X
+picked [] xs = []
+picked (place ∷ places) xs = and_found (slice_get xs place) (picked places xs)

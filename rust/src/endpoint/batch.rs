@@ -1,0 +1,128 @@
+//! A batch of datagrams, whose responses are in one buffer.
+
+use super::server::{lent, of_core};
+use super::{Answer, DropReason, Received, Server, UnixTime, Users};
+use crate::trace::record;
+use alloc::vec::Vec;
+use core::net::SocketAddr;
+use core::ops::Range;
+
+/// The responses to a batch of datagrams, one after another in one buffer. Keep it between batches,
+/// so that its memory is used again.
+///
+/// [`Server::receive_many`] has an example.
+#[derive(Clone, Debug, Default)]
+pub struct Answers {
+    bytes: Vec<u8>,
+    /// The response that was written last, whose memory is for the next one.
+    page: Vec<u8>,
+}
+
+impl Answers {
+    /// Returns a buffer without responses. It does not allocate.
+    #[must_use]
+    pub fn new() -> Answers {
+        Answers::default()
+    }
+
+    /// Returns the bytes of all responses, each at its [`range`](Answer::range).
+    #[must_use]
+    pub fn bytes(&self) -> &[u8] {
+        &self.bytes
+    }
+}
+
+impl Answer<Range<usize>> {
+    /// Returns where the response is in [`Answers::bytes`].
+    #[must_use]
+    pub fn range(&self) -> Range<usize> {
+        self.bytes.clone()
+    }
+}
+
+impl Server {
+    /// Judges the datagrams of a batch, each like [`receive`](Self::receive), and writes the responses
+    /// one after another into one buffer, in place of what it has. It is for a socket that delivers
+    /// several datagrams at once (`recvmmsg`, UDP GRO) and takes several (`sendmmsg`).
+    ///
+    /// The iterator judges a datagram when it is asked for the next result. The k-th result is that of
+    /// `receive` for the k-th datagram at this time, and no other datagram of the batch changes it,
+    /// so their order does not matter either. Where memory ends, that datagram alone is
+    /// [dropped](DropReason::OutOfMemory). Once the buffer has grown to the size of a batch, a response
+    /// takes the one allocation that it takes in [`receive_into`](Self::receive_into), for its nonce.
+    ///
+    /// It saves you a buffer for each response that has not been sent yet. If you send each response
+    /// before you judge the next datagram, call `receive_into`: a batch does the same work for each
+    /// datagram, and then copies the response once more.
+    ///
+    /// # Examples
+    ///
+    /// ```
+    /// use seatcrane_stun::endpoint::{Answers, LongTerm, Received, Server, UnixTime};
+    ///
+    /// # let secret = [1; 32]; // yours must be random
+    /// let settings = LongTerm::new("example.org", secret).open_binding(true);
+    /// let server = Server::builder(settings).build()?;
+    /// let (users, mut answers) = (server.users(), Answers::new());
+    ///
+    /// // What a socket with GRO returns: datagrams of one source and of one length.
+    /// let arrived = b"\0\x01\0\0\x21\x12\xa4\x42 any 12 byte\0\x01\0\0\x21\x12\xa4\x42 of the next";
+    /// let from = "192.0.2.1:4242".parse()?;
+    /// let datagrams = arrived.chunks(20).map(|bytes| (bytes, from));
+    ///
+    /// let mut to_send = Vec::new(); // keep it between batches too
+    /// for received in server.receive_many(datagrams, UnixTime::now(), &users, &mut answers) {
+    ///     match received {
+    ///         Received::Answer(answer) => to_send.push((answer.to(), answer.range())),
+    ///         Received::Dropped(why) => eprintln!("dropped: {why}"),
+    ///         _ => {} // a request with another method than Binding, or no request
+    ///     }
+    /// }
+    /// for (to, range) in to_send.drain(..) {
+    ///     let response = &answers.bytes()[range];
+    ///     println!("{} bytes to {to}", response.len()); // or all by one `sendmmsg`
+    /// }
+    /// # assert_eq!(answers.bytes().len(), 64);
+    /// # Ok::<(), Box<dyn std::error::Error>>(())
+    /// ```
+    pub fn receive_many<'a, D>(
+        &self,
+        datagrams: D,
+        now: UnixTime,
+        users: &'a Users,
+        answers: &mut Answers,
+    ) -> impl Iterator<Item = Received<'a, Range<usize>>>
+    where
+        D: IntoIterator<Item = (&'a [u8], SocketAddr)>,
+    {
+        answers.bytes.clear();
+        let datagrams = datagrams.into_iter();
+        datagrams.map(move |(bytes, from)| self.receive_onto(bytes, from, now, users, answers))
+    }
+
+    /// Judges a datagram, and appends its response to the answers.
+    fn receive_onto<'a>(
+        &self,
+        bytes: &'a [u8],
+        from: SocketAddr,
+        now: UnixTime,
+        users: &'a Users,
+        answers: &mut Answers,
+    ) -> Received<'a, Range<usize>> {
+        let judged = lent(&mut answers.page, |page| {
+            self.judged(bytes, from, page, |page| {
+                self.core.receive_into(bytes, from, now, &users.core, page)
+            })
+        });
+        let start = answers.bytes.len();
+        let received = match answers.bytes.try_reserve(answers.page.len()) {
+            Ok(()) => {
+                answers.bytes.extend_from_slice(&answers.page);
+                of_core(judged, start..answers.bytes.len())
+            }
+            Err(_) => Received::Dropped(DropReason::OutOfMemory),
+        };
+        record!(bytes, from, received, || self.cause(bytes, from, now, users));
+        received
+    }
+}

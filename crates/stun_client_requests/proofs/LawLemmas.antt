@@ -13,17 +13,17 @@ use Rattle.stun_agent.proofs.Ascending.{lookup-insert_same}
 use Rattle.stun_agent.specs.Timing.{Settings}
 use Rattle.std.specs.Prelude.{◌==◌}
 use Rattle.std.proofs.lemmas.Bool.{eqb-false, eqb-true}
-use Rattle.stun_agent.specs.Tables.{TableSeen, after_transmission, datum_at, over_in}
+use Rattle.stun_agent.specs.Tables.{TableSeen, after_cancel, after_transmission, datum_at, over_in}
 use Rattle.stun_agent.specs.Transactions.{Transaction}
 use Rattle.stun_client_requests.specs.Laws.{Call, Calls, Event, IsOver, IsRequests, IsStored}
 use Rattle.stun_client_requests.specs.Laws.{answers}
 use Rattle.stun_client_requests.specs.Laws.{call, cancels, count_ends, ends, event_of, is_end_of}
-use Rattle.stun_client_requests.specs.Laws.{no_call, polls, replaces, sends_again}
+use Rattle.stun_client_requests.specs.Laws.{no_call, polls, removes, replaces, sends_again}
 use Rattle.stun_client_requests.specs.Laws.{starts_one}
-use Rattle.stun_client_requests.specs.Numbers.{AllKnown, NumbersSeen, end_in, end_of_first}
+use Rattle.stun_client_requests.specs.Numbers.{AllKnown, NumbersSeen, after_removal, end_in, end_of_first}
 use Rattle.stun_client_requests.specs.Numbers.{first_ended, first_unsent, id_at, id_in, known_at}
 use Rattle.stun_client_requests.specs.Requests.{Poll, RequestsSeen, ends_or, number_at}
-use Rattle.stun_client_requests.specs.Requests.{over}
+use Rattle.stun_client_requests.specs.Requests.{after_removing, over}
 use Rattle.stun_client_requests.specs.Requests.{over_or, polled, repeated, repeats_or}
 use Rattle.stun_client_requests.specs.Requests.{unsent_or, after_start}
 use Rattle.stun_client_requests.specs.declared.numbers.Known.{Known}
@@ -180,6 +180,23 @@ if_known {D} {E} n r f k each = by (id_at k r.numbers) refl
     by None is = refl
     by (Some id) is = each id is
 
+-- a request is removed
+removed_effect : {D E : Type 0} (n k : ℕ) (r after : RequestsSeen D E) → IsRequests r
+    → IsSome (id_at k r.numbers) → after ≡ after_removing k r → Effect n r after (ends k)
+removed_effect n k r after i there made = by (id_at k r.numbers) refl there
+  where
+    by : (o : Option ℕ) → id_at k r.numbers ≡ o → IsSome o → Effect n r after (ends k)
+    by None is some = cc
+    by (Some id) is some =
+        removal n k r after (ends k) i.ascending (id_has k id r.numbers is)
+        (ap (λ s. s.numbers.known) made
+        ∙ ap (λ o. (option_map_or
+        (λ x. record r {
+          table = after_cancel x r.table;
+          numbers = after_removal k r.numbers;
+        }) o r).numbers.known) is)
+        refl
+
 pub effect : {D E : Type 0} (n : ℕ) (r after : RequestsSeen D E) (event : Event) → IsRequests r
     → n < r.next → Call r event after → Effect n r after event
 effect n r after event i low (starts_one _ _ id bytes plan datum now free made) =
@@ -211,6 +228,8 @@ effect n r after event i low (cancels _ _ k end made) =
           stored_again n k (Ended end) r.numbers.known (id_has k id r.numbers is)),
       refl,
     )
+effect n r after event i low (removes _ _ k there made) =
+    removed_effect n k r after i there made
 effect n r after event i low (polls _ _ now told made) =
     subst (λ (p : Poll _ _). Effect n r p.1 (event_of p.0)) made (poll_effect n now r i)
 
@@ -261,6 +280,10 @@ next_up r after event (answers _ _ k count moment end made) =
     ap (λ s. s.next) made ∙ if_next r _ (id_at k r.numbers) (λ id. refl) in
     omega arith
 next_up r after event (cancels _ _ k end made) =
+    let next : after.next ≡ r.next =
+    ap (λ s. s.next) made ∙ if_next r _ (id_at k r.numbers) (λ id. refl) in
+    omega arith
+next_up r after event (removes _ _ k there made) =
     let next : after.next ≡ r.next =
     ap (λ s. s.next) made ∙ if_next r _ (id_at k r.numbers) (λ id. refl) in
     omega arith

@@ -2,3 +2,4 @@ pub mod IndexLemmas
 pub mod LawLemmas
 pub mod NumberLemmas
 pub mod RequestLemmas
+pub mod TimelyLemmas

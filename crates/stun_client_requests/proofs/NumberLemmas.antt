@@ -207,7 +207,7 @@ pub listed_still : {E : Type 0} (known new : AllKnown E) (items same : List (Rev
 listed_still known new items same lists is kept q =
     ap (λ xs. times q xs) is ∙ lists q ∙ ap unit (sym (kept q))
 
-eqb-same : (n : ℕ) → (n == n) ≡ true
+pub eqb-same : (n : ℕ) → (n == n) ≡ true
 eqb-same n = by (n == n) refl
   where
     by : (b : Bool) → (n == n) ≡ b → b ≡ true

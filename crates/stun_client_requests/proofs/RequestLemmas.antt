@@ -39,7 +39,7 @@ use Rattle.stun_client_requests.proofs.NumberLemmas.{Ascend, apart, lookup_among
 
 -- ---- a list after a change at one number
 
-differs : (n q : ℕ) → is_at (nat_cmp n) q ≡ false → is_at (nat_cmp q) n ≡ false
+pub differs : (n q : ℕ) → is_at (nat_cmp n) q ≡ false → is_at (nat_cmp q) n ≡ false
 differs n q is = apart q n (λ e. hit (subst (λ k. is_at (nat_cmp n) k ≡ true) (sym e) (own_key n)))
   where
     hit : is_at (nat_cmp n) q ≡ true → ⊥
@@ -97,7 +97,7 @@ at_remove n es s q = by (is_at (nat_cmp n) q) refl
         (sym (same_key n q is)) (removed_same n es s)
     by false is = lookup-remove_other q n es (differs n q is)
 
-set_same : {X : Type 0} (n : ℕ) (x w : X) (es : List (ℕ × X))
+pub set_same : {X : Type 0} (n : ℕ) (x w : X) (es : List (ℕ × X))
     → lookup (is_at (nat_cmp n)) es ≡ Some x
     → lookup (is_at (nat_cmp n)) (set_value (is_at (nat_cmp n)) es w) ≡ Some w
 set_same n x w [] there = cc

@@ -6,11 +6,12 @@ use Rattle.std.specs.Map.{keys_of}
 use Rattle.std.specs.Option.{IsSome}
 use Rattle.std.specs.Ordering.{nat_cmp}
 use Rattle.stun_agent.specs.Timing.{Settings}
-use Rattle.stun_client_requests.specs.Numbers.{known_at}
+use Rattle.stun_client_requests.specs.Numbers.{id_at, known_at}
 use Rattle.stun_client_requests.specs.OneTable.{IsOneTable}
 use Rattle.stun_client_requests.specs.Requests.{Answering, after_again, again_refusal}
 use Rattle.stun_client_requests.specs.Requests.{RequestsSeen, after_answering, after_canceling}
-use Rattle.stun_client_requests.specs.Requests.{after_replacing, after_start, polled, start_refusal}
+use Rattle.stun_client_requests.specs.Requests.{after_removing, after_replacing, after_start}
+use Rattle.stun_client_requests.specs.Requests.{polled, start_refusal}
 use Rattle.stun_client_requests.specs.declared.requests.Polled.{Polled}
 use Rattle.stun_client_requests.specs.declared.requests.Polled.TheVariants.{Ended, TimedOut}
 use Rattle.stun_client_requests.specs.declared.requests.Polled.TheVariants.{Transmit, Wait}
@@ -21,7 +22,7 @@ pub record IsRequests {D E : Type 0} (r : RequestsSeen D E) : Type 0 where
   pub ascending : IsStrictlySortedBy nat_cmp (keys_of r.numbers.known)
 
 -- what a call returns of requests: `start` has started the one with this number, `poll` names it,
--- `poll` returns its end, or the call returns none
+-- `poll` or `remove` returns its end, or the call returns none
 pub data Event : Type 0 where
   starts : ℕ → Event
   sends : ℕ → Event
@@ -48,6 +49,8 @@ pub data Call {D E : Type 0} : RequestsSeen D E → Event → RequestsSeen D E �
       → after ≡ after_answering number count moment end r → Call r silent after
   cancels : (r after : RequestsSeen D E) (number : ℕ) (end : E)
       → after ≡ after_canceling number end r → Call r silent after
+  removes : (r after : RequestsSeen D E) (number : ℕ) → IsSome (id_at number r.numbers)
+      → after ≡ after_removing number r → Call r (ends number) after
   polls : (r after : RequestsSeen D E) (now : ℕ) (told : Polled D E) → polled now r ≡ (told, after)
       → Call r (event_of told) after
 

@@ -8,5 +8,7 @@ pub mod Requests
 pub mod OneTable
 -- laws over any calls
 pub mod Laws
+-- when requests are sent for the last time, and when they end
+pub mod Timely
 -- what no clause of a public call cites: what always holds of the code's own structs
 pub mod code

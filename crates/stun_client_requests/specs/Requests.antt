@@ -139,6 +139,16 @@ after_canceling number end r =
     })
     (id_at number r.numbers) r
 
+-- its owner ends a request, and nothing is stored of it any more
+abbrev pub after_removing : {D E : Type 0} → ℕ → RequestsSeen D E → RequestsSeen D E
+after_removing number r =
+    option_map_or
+    (λ id. record r {
+      table = after_cancel id r.table;
+      numbers = after_removal number r.numbers;
+    })
+    (id_at number r.numbers) r
+
 -- ---- polling
 
 abbrev pub Poll : Type 0 → Type 0 → Type 0

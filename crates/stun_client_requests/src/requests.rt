@@ -9,7 +9,7 @@ ghost use Rattle.stun_client_requests.specs.Laws.{IsRequests};
 ghost use Rattle.stun_client_requests.specs.Numbers.{id_at};
 ghost use Rattle.stun_client_requests.specs.Requests.{after_again, again_refusal};
 ghost use Rattle.stun_client_requests.specs.Requests.{after_answering, after_canceling};
-ghost use Rattle.stun_client_requests.specs.Requests.{after_replacing};
+ghost use Rattle.stun_client_requests.specs.Requests.{after_removing, after_replacing};
 ghost use Rattle.stun_client_requests.specs.Requests.{after_start, bytes_at, datum_of, ends_step};
 ghost use Rattle.stun_client_requests.specs.Requests.{new_requests, number_at, outstanding_count};
 ghost use Rattle.stun_client_requests.specs.Requests.{over_step, polled, repeated, repeats_step};
@@ -152,6 +152,13 @@ impl<A: Allocator + Copy, D: Drop, E: Drop> Requests<A, D, E> {
         ensures { option_copied result ≡ self.now.table.statistics }
     {
         self.table.stats()
+    }
+
+    /// Returns the transport that carries the requests.
+    pub fn transport(&self) -> TransportType
+        ensures { result ≡ self.now.table.transport }
+    {
+        self.table.transport()
     }
 
     /// Returns the transaction ID of a request, while it is outstanding.
@@ -336,6 +343,20 @@ impl<A: Allocator + Copy, D: Drop, E: Drop> Requests<A, D, E> {
         let id = self.numbers.id_of(number)?;
         let (_bytes, request) = self.table.cancel(id)?;
         self.numbers.end(number, end);
+        Some(request.datum)
+    }
+
+    /// Ends a request without a response, and returns what its owner stored of it. Nothing is
+    /// stored of the request any more, so `poll` does not return its end. It counts as canceled.
+    ///
+    /// Returns `None` if no outstanding request has the number. It does not allocate.
+    pub fn remove(&mut self, number: u64) -> Option<D>
+        ensures stored { result ≡ datum_of number self.old }
+        ensures after { self.new ≡ after_removing number self.old }
+    {
+        let id = self.numbers.id_of(number)?;
+        let (_bytes, request) = self.table.cancel(id)?;
+        self.numbers.remove(number);
         Some(request.datum)
     }
 

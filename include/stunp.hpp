@@ -541,6 +541,10 @@ class server : public handle<stunp_endpoint_server, stunp_endpoint_server_clear>
                               const address &from, uint64_t unix_seconds) const {
         return kept.judged(resumer(found, datagram, from, unix_seconds));
     }
+    // The same, and why a request is refused, by one judgement: a stunp_cause, or 0 if it is not.
+    result<stunp_kind> receive_with_cause(received &kept, stunp_cause &cause, const users &by,
+                                          view datagram, const address &from,
+                                          uint64_t unix_seconds) const;
     // Why `receive` refuses a request: a stunp_cause, or 0 if it does not. stunp_cause_text has the
     // text of `number()`.
     result<> cause(const users &by, view datagram, const address &from,
@@ -575,6 +579,16 @@ inline result<received> server::receive(const users &by, view datagram, const ad
 inline result<stunp_kind> server::receive(received &kept, const users &by, view datagram,
                                           const address &from, uint64_t unix_seconds) const {
     return kept.judged(judge(by.get(), datagram, from, unix_seconds));
+}
+inline result<stunp_kind> server::receive_with_cause(received &kept, stunp_cause &cause,
+                                                     const users &by, view datagram,
+                                                     const address &from,
+                                                     uint64_t unix_seconds) const {
+    return kept.judged([&](uint8_t *out, size_t room, stunp_received *told) {
+        return stunp_endpoint_server_receive_with_cause(get(), by.get(), datagram.data(),
+                                                        datagram.size(), &from, unix_seconds, out,
+                                                        room, told, &cause);
+    });
 }
 inline result<> server::cause(const users &by, view datagram, const address &from,
                               uint64_t unix_seconds) const {

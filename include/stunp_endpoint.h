@@ -66,7 +66,7 @@
  *     }
  *
  * examples/c/endpoint_server.c is this server with a socket. To count or to log why requests are
- * refused, call stunp_endpoint_server_cause for each answer whose `code` is not 0.
+ * refused, call stunp_endpoint_server_receive_with_cause in place of stunp_endpoint_server_receive.
  *
  *
  * Servers with short-term credentials, or with none
@@ -259,6 +259,7 @@
  *    stunp_endpoint_users_add_keys, stunp_endpoint_users_remove, stunp_endpoint_users_clear,
  *    stunp_endpoint_users_free, stunp_endpoint_users_new_found
  *   datagrams: stunp_endpoint_server_receive_own, stunp_endpoint_server_receive, stunp_drop_text,
+ *    stunp_endpoint_server_receive_with_cause_own, stunp_endpoint_server_receive_with_cause,
  *    stunp_endpoint_server_receive_many,
  *    stunp_endpoint_server_cause_own, stunp_endpoint_server_cause, stunp_cause_text
  *   look-ups: stunp_endpoint_server_identify_own, stunp_endpoint_server_identify,
@@ -638,7 +639,8 @@ typedef struct {
  *   bytes, length  its bytes
  *   from           the address that it came from
  *   received       where what it comes to is written, as stunp_endpoint_server_receive does, with
- *                  its `size` set by STUNP_INIT. May be null, but then no request can be answered */
+ *                  its `size` set by STUNP_INIT. May be null, but then no request can be answered
+ */
 typedef struct {
     const uint8_t *bytes;
     size_t length;
@@ -649,11 +651,14 @@ typedef struct {
 /* What such a datagram comes to. A field is 0 unless its line names the kind.
  *
  *   kind    what stunp_endpoint_server_receive returns for it: a stunp_kind, or an error
+ *   cause   STUNP_ANSWER, STUNP_BUFFER_TOO_SMALL: why the answer refuses it, as
+ *           stunp_endpoint_server_receive_with_cause writes it
  *   offset  STUNP_ANSWER: where the answer begins in the bytes of all answers
  *   length  STUNP_ANSWER: how many bytes are to be sent. STUNP_BUFFER_TOO_SMALL: how many bytes the
  *           answer has */
 typedef struct {
     int64_t kind;
+    stunp_cause cause;
     size_t offset;
     size_t length;
 } stunp_judged;
@@ -978,10 +983,53 @@ stunp_endpoint_server_receive(const stunp_endpoint_server *server,
 /* Returns a text for the reason of STUNP_DROPPED, as stunp_strerror does for an error. */
 STUNP_INLINED const char *stunp_drop_text(stunp_drop why);
 
-/* Judges `count` datagrams in their order, as stunp_endpoint_server_receive does one after the
- * other with the same time, and writes what each comes to to `judged`, which has room for `count`
- * results. The answers are written to `out` one after the other, without gaps, so that one system
- * call can send all (sendmmsg).
+/* Judges a datagram, like stunp_endpoint_server_receive_with_cause, with handles that nothing else
+ * uses during the call. They stay as they are. `received` and `cause` must not be null.
+ *
+ * Returns and fails as stunp_endpoint_server_receive does. */
+STUNP_USE_RESULT STUNP_READS(3, 4) STUNP_WRITES(7, 8) STUNP_NOT_NULL(1, 2, 5, 9, 10)
+int64_t stunp_endpoint_server_receive_with_cause_own(stunp_endpoint_server *server,
+                                                     stunp_endpoint_users *users,
+                                                     const uint8_t *STUNP_RESTRICT message,
+                                                     size_t message_length,
+                                                     const stunp_address *from,
+                                                     uint64_t unix_seconds,
+                                                     uint8_t *STUNP_RESTRICT out, size_t room,
+                                                     stunp_received *received, uint32_t *cause);
+
+/* Judges a datagram like stunp_endpoint_server_receive, and also writes to `*cause` why the answer
+ * refuses it, as stunp_endpoint_server_cause returns it. The datagram is judged once for both, so a
+ * server that counts or logs each refusal needs no second call. The client never learns the cause,
+ * but only the code.
+ *
+ *     static uint64_t refused[STUNP_CAUSE_UNKNOWN_ATTRIBUTE + 1];
+ *     stunp_cause cause;
+ *     int64_t kind = stunp_endpoint_server_receive_with_cause(server, users, bytes, length, from,
+ *                                                             time, out, room, &received, &cause);
+ *     if (kind == STUNP_ANSWER && cause != 0) {
+ *         if (cause <= STUNP_CAUSE_UNKNOWN_ATTRIBUTE) refused[cause]++;
+ *         printf("%u: %s\n", received.code, stunp_cause_text(cause));
+ *     }
+ *
+ * `*cause` is 0 if the datagram is not refused: it is dropped, is not a request, or is accepted. It
+ * is also 0 with other than long-term credentials, whose codes tell as much. After an error it is
+ * 0, unless that is STUNP_BUFFER_TOO_SMALL: then it is the cause of the answer that has no room.
+ * `received` and `cause` may be null.
+ *
+ * Returns and fails as stunp_endpoint_server_receive does. */
+STUNP_USE_RESULT
+STUNP_INLINED int64_t
+stunp_endpoint_server_receive_with_cause(const stunp_endpoint_server *server,
+                                         const stunp_endpoint_users *users,
+                                         const uint8_t *STUNP_RESTRICT bytes, size_t length,
+                                         const stunp_address *from, uint64_t unix_seconds,
+                                         uint8_t *STUNP_RESTRICT out, size_t room,
+                                         stunp_received *received, stunp_cause *cause);
+
+/* Judges `count` datagrams in their order, as stunp_endpoint_server_receive_with_cause does one
+ * after the other with the same time, and writes what each comes to to `judged`, which has room for
+ * `count` results. The answers are written to `out` one after the other, without gaps, so that one
+ * system call can send all (sendmmsg).
  *
  *     enum { BATCH = 32 };
  *     static uint8_t out[BATCH * 2048]; // STUNP_ANSWER_MAX or more
@@ -1021,17 +1069,10 @@ int64_t stunp_endpoint_server_cause_own(stunp_endpoint_server *server, stunp_end
                                         const uint8_t *message, size_t message_length,
                                         const stunp_address *from, uint64_t unix_seconds);
 
-/* Returns why stunp_endpoint_server_receive refuses a datagram, to count or to log it. Pass what
- * you passed to that call, with the same time and the same users. It judges the request again, so
- * call it only for an answer whose `code` is not 0. The client never learns the cause, but only the
- * code.
- *
- *     static uint64_t refused[STUNP_CAUSE_UNKNOWN_ATTRIBUTE + 1];
- *     if (kind == STUNP_ANSWER && received.code != 0) {
- *         int64_t cause = stunp_endpoint_server_cause(server, users, bytes, length, from, time);
- *         if (cause > 0 && cause <= STUNP_CAUSE_UNKNOWN_ATTRIBUTE) refused[cause]++;
- *         if (cause > 0) printf("%u: %s\n", received.code, stunp_cause_text(cause));
- *     }
+/* Returns why stunp_endpoint_server_receive refuses a datagram. Pass what you passed to that call,
+ * with the same time and the same users. It judges the request again, so call it only for an answer
+ * whose `code` is not 0, or call stunp_endpoint_server_receive_with_cause in place of both. The
+ * client never learns the cause, but only the code.
  *
  * With users in a database, call stunp_endpoint_server_cause_for.
  *
@@ -1052,8 +1093,8 @@ stunp_endpoint_server_cause(const stunp_endpoint_server *server, const stunp_end
                             const uint8_t *bytes, size_t length, const stunp_address *from,
                             uint64_t unix_seconds);
 
-/* Returns a text for a result of stunp_endpoint_server_cause: for a stunp_cause, for 0, or for an
- * error, whose text is that of stunp_strerror. */
+/* Returns a text for a stunp_cause, for 0, or for an error of stunp_endpoint_server_cause, whose
+ * text is that of stunp_strerror. */
 STUNP_INLINED const char *stunp_cause_text(int64_t cause);
 
 /* ---- Look-ups: users in a database */

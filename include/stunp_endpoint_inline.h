@@ -134,6 +134,29 @@ stunp_endpoint_server_receive(const stunp_endpoint_server *server,
     return kind;
 }
 
+STUNP_INLINED int64_t
+stunp_endpoint_server_receive_with_cause(const stunp_endpoint_server *server,
+                                         const stunp_endpoint_users *users,
+                                         const uint8_t *STUNP_RESTRICT bytes, size_t length,
+                                         const stunp_address *from, uint64_t unix_seconds,
+                                         uint8_t *STUNP_RESTRICT out, size_t room,
+                                         stunp_received *received, stunp_cause *cause) {
+    stunp_endpoint_server own = {false, NULL};
+    stunp_endpoint_users own_users = {false, NULL};
+    uint32_t why = 0;
+    if (server != NULL) own = *server;
+    if (users != NULL) own_users = *users;
+    stunp_received whole;
+    stunp_received *into = (stunp_received *)stunp_result_place(
+        received, STUNP_IS_EARLIER(stunp_received, is_hash, received), &whole, sizeof whole);
+    int64_t kind = stunp_endpoint_server_receive_with_cause_own(
+        &own, &own_users, bytes, length, from, unix_seconds, out, room, into, &why);
+    stunp_result_back(received, into);
+    if (into == &whole) stunp_reply_wipe(&whole.reply);
+    if (cause != NULL) *cause = (stunp_cause)why;
+    return kind;
+}
+
 STUNP_INLINED size_t
 stunp_endpoint_server_receive_many(const stunp_endpoint_server *server,
                                    const stunp_endpoint_users *users,
@@ -146,9 +169,9 @@ stunp_endpoint_server_receive_many(const stunp_endpoint_server *server,
         const stunp_datagram *one = &datagrams[i];
         stunp_judged *told = &judged[i];
         stunp_received *received = one->received != NULL ? one->received : &unread;
-        told->kind = stunp_endpoint_server_receive(
+        told->kind = stunp_endpoint_server_receive_with_cause(
             server, users, one->bytes, one->length, &one->from, unix_seconds,
-            room == 0 ? out : out + used, room - used, received);
+            room == 0 ? out : out + used, room - used, received, &told->cause);
         told->offset = told->kind == STUNP_ANSWER ? used : 0;
         told->length = told->kind == STUNP_ANSWER             ? received->length
                        : told->kind == STUNP_BUFFER_TOO_SMALL ? received->needed

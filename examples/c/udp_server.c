@@ -191,20 +191,17 @@ static uint32_t reply(const struct datagram *got, const stunp_received *received
     return code;
 }
 
-/* Counts why the server of users refused a request at this time. */
-static void count_cause(const struct datagram *got, uint64_t time) {
-    int64_t cause = stunp_endpoint_server_cause(&server, &users, got->bytes, got->length,
-                                                &got->from, time);
-    if (cause > 0) count(NO_SIGNATURE + (uint32_t)cause - STUNP_CAUSE_NO_SIGNATURE);
+/* Counts why the server of users refused a request, if it did. */
+static void count_cause(stunp_cause cause) {
+    if (cause != 0) count(NO_SIGNATURE + (uint32_t)cause - STUNP_CAUSE_NO_SIGNATURE);
 }
 
-/* Ends the answer to a datagram that the server of users judged at this time, and counts and logs
- * it. */
-static void settle(const struct datagram *got, uint64_t time, const stunp_judged *judged,
+/* Ends the answer to a datagram that the server of users has judged, and counts and logs it. */
+static void settle(const struct datagram *got, const stunp_judged *judged,
                    stunp_received *received, struct answer *answer) {
     if (judged->kind == STUNP_ANSWER) {
         answer->length = judged->length;
-        if (received->code != 0) count_cause(got, time);
+        count_cause(judged->cause);
         tell(&got->from, received->code, received);
     } else if (judged->kind == STUNP_IS_REQUEST) {
         tell(&got->from, reply(got, received, answer), received);
@@ -225,16 +222,15 @@ static void answer_users(const struct datagram *const *got, struct answer *const
     static stunp_received received[BATCH];
     static stunp_datagram datagrams[BATCH];
     static stunp_judged judged[BATCH];
-    const uint64_t time = now();
     for (size_t i = 0; i < number; i++) {
         received[i].size = sizeof received[i];
         datagrams[i] = (stunp_datagram){got[i]->bytes, got[i]->length, got[i]->from, &received[i]};
     }
-    size_t done = stunp_endpoint_server_receive_many(&server, &users, datagrams, number, time, out,
+    size_t done = stunp_endpoint_server_receive_many(&server, &users, datagrams, number, now(), out,
                                                      sizeof out, judged);
     for (size_t i = 0; i < done; i++) {
         if (judged[i].kind == STUNP_ANSWER) answers[i]->start = out + judged[i].offset;
-        settle(got[i], time, &judged[i], &received[i], answers[i]);
+        settle(got[i], &judged[i], &received[i], answers[i]);
     }
 }
 

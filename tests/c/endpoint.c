@@ -307,17 +307,69 @@ static void kinds(void) {
     free_realm(&realm);
 }
 
-/* The cause of a message, whose code is the one of the answer. */
+/* The cause of a message, whose code is the one of the answer. One call for both says the same. */
 static int64_t cause_of(const struct realm *realm, const struct message *message,
                         const stunp_address *source, uint64_t now, uint32_t code) {
-    stunp_received received = STUNP_INIT(stunp_received);
+    static uint8_t bytes[STUNP_ANSWER_MAX];
+    stunp_received received = STUNP_INIT(stunp_received), both = received;
+    stunp_cause why = (stunp_cause)99;
     int64_t kind = stunp_endpoint_server_receive(&realm->server, &realm->users, message->bytes,
                                                  message->length, source, now, out, sizeof out,
                                                  &received);
     want("judged", kind >= 0, true);
     want("code", received.code, code);
-    return stunp_endpoint_server_cause(&realm->server, &realm->users, message->bytes,
-                                       message->length, source, now);
+    int64_t cause = stunp_endpoint_server_cause(&realm->server, &realm->users, message->bytes,
+                                                message->length, source, now);
+    want("both", stunp_endpoint_server_receive_with_cause(&realm->server, &realm->users,
+         message->bytes, message->length, source, now, bytes, sizeof bytes, &both, &why), kind);
+    want("the cause", why, cause);
+    want("the result", memcmp(&both, &received, sizeof both), 0);
+    want("the answer", memcmp(bytes, out, received.length), 0);
+    return cause;
+}
+
+/* What the call for both writes where it fails, and where it is not asked for both. */
+static void causes_beside_errors(void) {
+    stunp_endpoint_server_settings settings = settings_of(NULL, 0);
+    struct realm realm = realm_of(&settings);
+    struct message plain = message_of(STUNP_REQUEST, 1);
+    stunp_received received = STUNP_INIT(stunp_received);
+    stunp_cause why = STUNP_CAUSE_INCOMPLETE;
+    stunp_endpoint_server_settings open = STUNP_INIT(stunp_endpoint_server_settings);
+    open.credentials = STUNP_NO_CREDENTIALS, open.answers_binding = true;
+    stunp_endpoint_server openly = {0};
+    want("open", stunp_endpoint_server_new(&openly, &open), 0);
+    want("no server", stunp_endpoint_server_receive_with_cause(NULL, NULL, plain.bytes,
+         plain.length, &from, NOW, out, sizeof out, &received, &why), STUNP_EMPTY_HANDLE);
+    want("no cause", why, 0);
+    want_failed("failed", &received, 0);
+    why = STUNP_CAUSE_INCOMPLETE;
+    want("no users", stunp_endpoint_server_receive_with_cause(&realm.server, NULL, plain.bytes,
+         plain.length, &from, NOW, out, sizeof out, &received, &why), STUNP_EMPTY_HANDLE);
+    want("no cause", why, 0);
+    why = STUNP_CAUSE_INCOMPLETE;
+    want("nowhere", stunp_endpoint_server_receive_with_cause(&realm.server, &realm.users,
+         plain.bytes, plain.length, &nowhere, NOW, out, sizeof out, &received, &why),
+         STUNP_BAD_ARGUMENT);
+    want("no cause", why, 0);
+    want("no room", stunp_endpoint_server_receive_with_cause(&realm.server, &realm.users,
+         plain.bytes, plain.length, &from, NOW, out, 20, &received, &why), STUNP_BUFFER_TOO_SMALL);
+    want("a cause", why, STUNP_CAUSE_NO_SIGNATURE);
+    want("needed", received.needed > 20, true);
+    stunp_heap_bound(0);
+    want("memory", stunp_endpoint_server_receive_with_cause(&realm.server, &realm.users,
+         plain.bytes, plain.length, &from, NOW, out, sizeof out, &received, &why),
+         STUNP_OUT_OF_MEMORY);
+    stunp_heap_bound(SIZE_MAX);
+    want("no cause", why, 0);
+    why = STUNP_CAUSE_INCOMPLETE;
+    want("open", stunp_endpoint_server_receive_with_cause(&openly, NULL, plain.bytes, plain.length,
+         &from, 0, out, sizeof out, &received, &why), STUNP_ANSWER);
+    want("no cause", why, 0);
+    want("the kind alone", stunp_endpoint_server_receive_with_cause(&realm.server, &realm.users,
+         plain.bytes, plain.length, &from, NOW, out, sizeof out, NULL, NULL), STUNP_ANSWER);
+    stunp_endpoint_server_free(&openly);
+    free_realm(&realm);
 }
 
 static void causes(void) {
@@ -437,11 +489,12 @@ static void want_batch(struct batch *batch, const struct realm *realm, size_t ro
         const stunp_datagram *one = &batch->datagrams[i];
         const stunp_judged *told = &batch->judged[i];
         stunp_received *received = &batch->alone[i];
-        int64_t kind = stunp_endpoint_server_receive(
+        stunp_cause why;
+        int64_t kind = stunp_endpoint_server_receive_with_cause(
             &realm->server, &realm->users, one->bytes, one->length, &one->from, NOW, single + used,
-            room - used, received);
+            room - used, received, &why);
         seen[kind < 0 ? 8 : kind]++;
-        want("kind", told->kind, kind);
+        want("kind", told->kind, kind), want("cause", told->cause, why);
         want("offset", (int64_t)told->offset, kind == STUNP_ANSWER ? (int64_t)used : 0);
         if (one->received != NULL)
             want("result", memcmp(one->received, received, sizeof *received), 0);
@@ -1018,6 +1071,7 @@ int main(void) {
     receiving_in_order();
     kinds();
     causes();
+    causes_beside_errors();
     batches();
     for (uint32_t algorithms = 0; algorithms <= 3; algorithms++) {
         replies(algorithms, true);

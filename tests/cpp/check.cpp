@@ -192,6 +192,11 @@ static void long_term_server() {
     cause = server->cause(*users, request_of(nullptr, STUNP_BINDING), home, 1700000000);
     show("cause", stunp_cause_text(cause.number()));
     show("cause", stunp_cause_text(server->cause(*users, request, home, ~0ull).number()));
+    stunp::endpoint::received kept;
+    auto why = stunp_cause();
+    auto kind = server->receive_with_cause(kept, why, *users, request_of(nullptr, STUNP_BINDING),
+                                           home, 1700000000);
+    show("beside an answer", kind && kept.answer() ? stunp_cause_text(why) : kind.text());
     got = server->receive(*users, request_of(&*client, STUNP_ALLOCATE), home, 1700000000);
     say(got);
     const stunp_reply &reply = *got->request();

@@ -204,6 +204,13 @@ static void check_cause(const struct judged *got, const uint8_t *bytes, size_t l
                         const stunp_address *from, uint64_t now) {
     int64_t cause = named(stunp_endpoint_server_cause(&serving.server, &serving.users, bytes,
                                                       length, from, now));
+    stunp_cause why = (stunp_cause)99;
+    fill(again, ROOM);
+    int64_t kind = stunp_endpoint_server_receive_with_cause(&serving.server, &serving.users, bytes,
+                                                            length, from, now, again, ROOM, NULL,
+                                                            &why);
+    require(kind == got->kind && memcmp(out, again, ROOM) == 0, "another answer with its cause");
+    require((int64_t)why == (cause > 0 ? cause : 0), "another cause beside the answer");
     if (!serving.is_long_term) {
         require(cause == STUNP_WRONG_HANDLE, "a cause without a realm");
         return;

@@ -1,6 +1,6 @@
 -- Why a request is refused, as a caller in C gets it (RFC 8489, sections 9.2.4 and 6.3.1).
-use Rattle.std.specs.Prelude.{◌≡◌, ◌⊎◌, ℕ, ℤ, pos, List, nat_lt, if◌then◌else◌, Option, Some, None}
-use Rattle.std.specs.Prelude.{Result, Ok, Err}
+use Rattle.std.specs.Prelude.{◌≡◌, ◌⊎◌, ℕ, ℤ, pos, List, ◌||◌, ◌==◌, not, nat_lt, Option, Some}
+use Rattle.std.specs.Prelude.{None, if◌then◌else◌, Result, Ok, Err}
 use Rattle.stun_auth.specs.Validation.{ServerSeen}
 use Rattle.stun_endpoint.specs.Causes.{cause_of}
 use Rattle.stun_endpoint.specs.Judged.{realm_of_table}
@@ -11,6 +11,7 @@ use Rattle.stun_endpoint.specs.declared.server.causes.Cause.TheVariants.{OtherAl
 use Rattle.stun_endpoint.specs.declared.server.causes.Cause.TheVariants.{OtherFeatures, StaleNonce}
 use Rattle.stun_endpoint.specs.declared.server.causes.Cause.TheVariants.{WrongCredentials}
 use Rattle.stun_endpoint.specs.declared.server.causes.Cause.TheVariants.{UnknownAttribute}
+use Rattle.std.specs.declared.net.socket_addr.SocketAddr.{SocketAddr}
 use Rattle.stun_handles.specs.Addresses.{socket_address}
 use Rattle.stun_handles.specs.Answers.{at_address}
 use Rattle.stun_handles.specs.declared.address.Address.{Address}
@@ -18,12 +19,13 @@ use Rattle.stun_numbers.specs.Refusals.{refusal_number}
 use Rattle.stun_numbers.specs.declared.refusal.Refusal.{Refusal}
 use Rattle.stun_numbers.specs.declared.refusal.Refusal.TheVariants.{BadArgument, OutOfMemory}
 use Rattle.stun_numbers.specs.declared.refusal.Refusal.TheVariants.{WrongHandle}
-use Rattle.stun_c_endpoint.specs.Kept.{at_handle}
-use Rattle.stun_c_endpoint.specs.Told.{LAST_SECOND}
+use Rattle.stun_c_endpoint.specs.Kept.{Judge, at_handle, by_realm, by_users, openly}
+use Rattle.stun_c_endpoint.specs.Told.{LAST_SECOND, RECEIVED_SIZE}
 use Rattle.stun_c_endpoint.specs.declared.handle.endpoint.Kept.{Kept}
 use Rattle.stun_c_endpoint.specs.declared.handle.endpoint.Kept.TheVariants.{Checker, Client, Server}
 use Rattle.stun_c_endpoint.specs.declared.handle.endpoint.Kept.TheVariants.{Open, ShortTerm, Users}
 use Rattle.stun_c_endpoint.specs.declared.handle.endpoint.Kept.TheVariants.{ShortTermUsers}
+use Rattle.stun_c_endpoint.specs.declared.received.Received.{Received}
 
 -- a server with long-term credentials, and its users
 pub record OfRealm : Type 0 where
@@ -73,6 +75,31 @@ cause_number (Some OtherFeatures) = 4
 cause_number (Some StaleNonce) = 5
 cause_number (Some WrongCredentials) = 6
 cause_number (Some UnknownAttribute) = 7
+
+-- ---- the cause beside what a datagram comes to
+
+-- the number of the cause, by a server with long-term credentials and its users
+abbrev pub cause_by : Settings → ServerSeen → Option SocketAddr → ℕ → List ℕ → ℕ
+cause_by s u None seconds bytes = 0
+cause_by s u (Some from) seconds bytes =
+    cause_number (cause_of s (realm_of_table u) from seconds bytes)
+
+-- the number by what two handles have. Servers of other kinds have no causes, because their codes
+-- tell as much; nor has a datagram that is not judged (`outcome_at`)
+abbrev pub cause_at : Result Judge Refusal → Address → ℕ → List ℕ → Received → ℕ
+cause_at (Err refusal) from seconds bytes r = 0
+cause_at (Ok (by_users s u)) from seconds bytes r = 0
+cause_at (Ok (openly s)) from seconds bytes r = 0
+cause_at (Ok (by_realm s u)) from seconds bytes r =
+    if not (r.size == RECEIVED_SIZE) || nat_lt LAST_SECOND seconds then 0
+    else cause_by s u (socket_address from) seconds bytes
+
+-- a call writes the cause, or an allocation failed and it writes 0
+abbrev pub IsCause : ℕ → ℤ → ℕ → Type 0
+IsCause why result cause =
+    (cause ≡ why) ⊎ ((result ≡ refusal_number OutOfMemory) × (cause ≡ 0))
+
+-- ---- the cause alone
 
 -- a call returns the number of the cause, or an allocation failed
 abbrev pub CausedAs : Result (Option Cause) Refusal → ℤ → Type 0

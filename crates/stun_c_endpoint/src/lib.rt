@@ -5,6 +5,7 @@
 #![tactic(auto)]
 
 mod calls;
+mod caused;
 mod client;
 mod found;
 mod handle;

@@ -2,7 +2,7 @@
 
 ghost use Rattle.std.specs.Prelude.{◌≡◌, Err, None, Ok, Some};
 ghost use Rattle.stun_handles.specs.Numbers.{number_answer};
-ghost use Rattle.stun_c_endpoint.specs.Causes.{CausedAs, cause_number, caused_at};
+ghost use Rattle.stun_c_endpoint.specs.Causes.{CausedAs, cause_at, cause_number, caused_at};
 ghost use Rattle.stun_c_endpoint.specs.Causes.{long_term_with};
 ghost use Rattle.stun_c_endpoint.specs.Kept.{by_realm, by_users, judge_with, openly};
 ghost use Rattle.stun_c_endpoint.specs.Lookups.{IdentifiesAs, identified_at, long_term_of};
@@ -196,8 +196,10 @@ pub fn receive_alone(
     out: &mut [u8],
     received: &mut Received,
 ) -> Result<u32, Refusal>
-    ensures { ReceivesAs (outcome_at (judge_with None server.now) from.now unix_seconds message.now
-        received.old) (number_answer result) out.old out.new received.old received.new }
+    ensures answer { ReceivesAs (outcome_at (judge_with None server.now) from.now unix_seconds
+        message.now received.old) (number_answer result) out.old out.new received.old received.new }
+    ensures no_cause { cause_at (judge_with None server.now) from.now unix_seconds message.now
+        received.old ≡ 0 }
 {
     match server {
         Kept::Open(server) => judge_openly(server, message, from, unix_seconds, out, received),
@@ -231,7 +233,7 @@ fn judge(
 
 /// Judges a datagram with a server with short-term credentials and its table, and writes the
 /// result.
-fn judge_short_term(
+pub fn judge_short_term(
     server: &ShortTermServer<Global>,
     users: &ShortTermUsers<Global>,
     message: &[u8],
@@ -252,7 +254,7 @@ fn judge_short_term(
 }
 
 /// Judges a datagram with a server without credentials, and writes the result.
-fn judge_openly(
+pub fn judge_openly(
     server: &OpenServer<Global>,
     message: &[u8],
     from: &Address,
@@ -316,8 +318,8 @@ fn identify_at(
     }
 }
 
-/// The number of a cause, and 0 of none.
-fn cause_number(cause: Option<Cause>) -> u32
+/// Returns the number of a cause, or 0 for none.
+pub fn cause_number(cause: Option<Cause>) -> u32
     ensures { result ≡ cause_number cause }
 {
     match cause {

@@ -1,7 +1,8 @@
 //! The calls on a server (RFC 8489, sections 6.3 and 9.2.4).
 
 ghost use Rattle.std.specs.Prelude.{◌≡◌, Some, None, if◌then◌else◌};
-ghost use Rattle.stun_c_endpoint.specs.Causes.{CausedAs, caused_at, long_term_and_users};
+ghost use Rattle.stun_c_endpoint.specs.Causes.{CausedAs, IsCause, cause_at};
+ghost use Rattle.stun_c_endpoint.specs.Causes.{caused_at, long_term_and_users};
 ghost use Rattle.stun_c_endpoint.specs.Found.{judge_of_found};
 ghost use Rattle.stun_c_endpoint.specs.Given.{Fills, MakesOpen, MakesServer, MakesShortTerm};
 ghost use Rattle.stun_c_endpoint.specs.Kept.{judge_of};
@@ -11,8 +12,8 @@ ghost use Rattle.stun_c_endpoint.specs.Told.{ReceivesAs, failed, outcome_at};
 use crate::found::{self, Found};
 use crate::handle::endpoint::EndpointHandle;
 use crate::received::Received;
-use crate::server;
 use crate::settings::{Given, GivenAlone};
+use crate::{caused, server};
 use std::alloc::Global;
 use stun_handles::address::Address;
 use stun_handles::answers;
@@ -195,6 +196,56 @@ pub extern "C" fn stunp_endpoint_server_receive_own(
         return answers::number(told);
     };
     let told = server::receive(&kept, &table, message, from, unix_seconds, out, received);
+    let answer = answers::number(told);
+    users.put(alloc, table);
+    server.put(alloc, kept);
+    answer
+}
+
+/// Judges a datagram that came from an address, like `stunp_endpoint_server_receive_own`, and also
+/// writes the number of the cause for which a server with long-term credentials refuses it, or 0.
+///
+/// Fails as that call does. The cause is then 0, unless it is only that the response has no room.
+#[unsafe(no_mangle)]
+pub extern "C" fn stunp_endpoint_server_receive_with_cause_own(
+    alloc: Global,
+    server: &mut EndpointHandle,
+    users: &mut EndpointHandle,
+    message: &[u8],
+    from: &Address,
+    unix_seconds: u64,
+    out: &mut [u8],
+    received: &mut Received,
+    cause: &mut u32,
+) -> i64
+    ensures answer { ReceivesAs (outcome_at (judge_of server.old.kept users.old.kept) from.now
+        unix_seconds message.now (failed received.old)) result out.old out.new (failed received.old)
+        received.new }
+    ensures cause { IsCause (cause_at (judge_of server.old.kept users.old.kept) from.now
+        unix_seconds message.now (failed received.old)) result cause.new }
+    ensures server { server.new.kept ≡ server.old.kept }
+    ensures users { users.new.kept ≡ users.old.kept }
+{
+    received.fails();
+    *cause = 0;
+    let Some(kept) = server.take(alloc) else {
+        return Refusal::EmptyHandle.code();
+    };
+    let Some(table) = users.take(alloc) else {
+        let told = server::receive_alone(&kept, message, from, unix_seconds, out, received);
+        server.put(alloc, kept);
+        return answers::number(told);
+    };
+    let told = caused::receive(
+        &kept,
+        &table,
+        message,
+        from,
+        unix_seconds,
+        out,
+        received,
+        cause,
+    );
     let answer = answers::number(told);
     users.put(alloc, table);
     server.put(alloc, kept);

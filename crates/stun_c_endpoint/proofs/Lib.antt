@@ -1,6 +1,7 @@
 -- Lemmas of the crate.
 pub mod AddingLemmas
 pub mod BodyLemmas
+mod CausedLemmas
 pub mod ExtendedLemmas
 pub mod FoundLemmas
 mod KeyLemmas

@@ -4,12 +4,16 @@ ghost use Rattle.std.specs.Prelude.{◌≡◌, ℕ, ℤ, pos, Bool, true, List, 
 ghost use Rattle.std.specs.Prelude.{if◌then◌else◌, Result, Ok, Err};
 ghost use Rattle.std.specs.declared.net.socket_addr.SocketAddr.{SocketAddr};
 ghost use Rattle.stun_c_endpoint.specs.Agents.{SetsRole, controlling_answer};
+ghost use Rattle.stun_c_endpoint.specs.Causes.{IsCause, cause_at, cause_number, caused_at};
+ghost use Rattle.stun_c_endpoint.specs.Causes.{long_term_and_users};
 ghost use Rattle.stun_c_endpoint.specs.Extended.{AddsFurther, ExtendsTo, is_kept_from_checks};
-ghost use Rattle.stun_c_endpoint.specs.Kept.{Judge, agent_in};
+ghost use Rattle.stun_c_endpoint.specs.Kept.{Judge, agent_in, judge_of};
 ghost use Rattle.stun_c_endpoint.specs.Replies.{SignsForUser};
-ghost use Rattle.stun_c_endpoint.specs.Told.{IsTold, outcome_by};
+ghost use Rattle.stun_c_endpoint.specs.Told.{IsTold, RECEIVED_SIZE, outcome_by};
 ghost use Rattle.stun_c_endpoint.specs.declared.handle.endpoint.Kept.{Kept};
 ghost use Rattle.stun_c_endpoint.specs.declared.received.Received.{Received};
+ghost use Rattle.stun_endpoint.specs.declared.server.causes.Cause.{Cause};
+ghost use Rattle.stun_handles.specs.declared.address.Address.{Address};
 ghost use Rattle.stun_ice.specs.Agent.{Agent, Peer, SentCheck, sent_check};
 ghost use Rattle.stun_numbers.specs.declared.refusal.Refusal.{Refusal};
 ghost use Rattle.stun_numbers.specs.declared.refusal.Refusal.TheVariants.{NotAllowed};
@@ -44,4 +48,14 @@ pub fn bodies_say_nothing_of_ice()
     ensures refused { (page bytes : List ℕ) (result : Result (List ℕ) Refusal)
         → has_attribute bytes ≡ true → is_kept_from_checks (first_attribute bytes).kind ≡ true
         → AddsFurther page bytes result → result ≡ Err NotAllowed }
+{}
+
+/// The cause that a call writes beside what a datagram comes to is the one that the call for the cause
+/// alone names.
+pub fn both_calls_name_one_cause()
+    ensures { (server users : Option Kept) (from : Address) (seconds : ℕ) (bytes : List ℕ)
+        (r : Received) (cause : Option Cause) (result : ℤ) (told : ℕ) → r.size ≡ RECEIVED_SIZE
+        → caused_at (long_term_and_users server users) from seconds bytes ≡ Ok cause
+        → IsCause (cause_at (judge_of server users) from seconds bytes r) result told
+        → IsCause (cause_number cause) result told }
 {}

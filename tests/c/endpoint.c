@@ -307,6 +307,25 @@ static void kinds(void) {
     free_realm(&realm);
 }
 
+/* Two results that are the same, whatever the padding between their fields is. */
+static void want_same_result(const stunp_received *one, const stunp_received *other) {
+    const stunp_reply *reply = &one->reply, *same = &other->reply;
+    want("kind", one->kind, other->kind), want("why", one->why, other->why);
+    want("code", one->code, other->code), want("method", one->method, other->method);
+    want("algorithm", one->algorithm, other->algorithm);
+    want("length", (int64_t)one->length, (int64_t)other->length);
+    want("needed", (int64_t)one->needed, (int64_t)other->needed);
+    want("name", (int64_t)one->name_length, (int64_t)other->name_length);
+    want("hash", one->is_hash, other->is_hash);
+    want_same("name", one->name, other->name, sizeof one->name);
+    want_same("id", reply->id, same->id, sizeof reply->id);
+    want_same("key", reply->key, same->key, sizeof reply->key);
+    want("key", reply->key_length, same->key_length);
+    want("reply", reply->method, same->method);
+    want("integrity", reply->integrity, same->integrity);
+    want("fingerprint", reply->has_fingerprint, same->has_fingerprint);
+}
+
 /* The cause of a message, whose code is the one of the answer. One call for both says the same. */
 static int64_t cause_of(const struct realm *realm, const struct message *message,
                         const stunp_address *source, uint64_t now, uint32_t code) {
@@ -323,7 +342,7 @@ static int64_t cause_of(const struct realm *realm, const struct message *message
     want("both", stunp_endpoint_server_receive_with_cause(&realm->server, &realm->users,
          message->bytes, message->length, source, now, bytes, sizeof bytes, &both, &why), kind);
     want("the cause", why, cause);
-    want("the result", memcmp(&both, &received, sizeof both), 0);
+    want_same_result(&both, &received);
     want("the answer", memcmp(bytes, out, received.length), 0);
     return cause;
 }
@@ -496,8 +515,7 @@ static void want_batch(struct batch *batch, const struct realm *realm, size_t ro
         seen[kind < 0 ? 8 : kind]++;
         want("kind", told->kind, kind), want("cause", told->cause, why);
         want("offset", (int64_t)told->offset, kind == STUNP_ANSWER ? (int64_t)used : 0);
-        if (one->received != NULL)
-            want("result", memcmp(one->received, received, sizeof *received), 0);
+        if (one->received != NULL) want_same_result(one->received, received);
         if (kind == STUNP_BUFFER_TOO_SMALL) {
             want("needed", (int64_t)told->length, (int64_t)received->needed);
             break;

@@ -34,6 +34,13 @@ ROWS = [
     ("a request with an expired nonce: 438", ("sha256", "stale"), None),
 ]
 
+# The same with the answers in a buffer of the caller: by `receive_into`, and 50 at once by
+# `receive_many`.
+BUFFERED = [
+    ("a signed request, HMAC-SHA1", ("sha1", "signed")),
+    ("an unsigned request from a new address: 401", ("sha256", "new")),
+]
+
 # A request of a client and its response: the title and the word.
 CLIENT = [
     ("a Binding request, without credentials", "unsigned"),
@@ -58,6 +65,15 @@ def counted(words):
     if run.returncode or not found:
         sys.exit(f"bench: status {run.returncode}: {' '.join(words)}\n{run.stderr}")
     return int(found[1])
+
+
+def buffered(counts):
+    """Prints the table of answers in a buffer."""
+    print("\n| A datagram at a server | `receive_into` | `receive_many` |\n|---|---|---|")
+    for title, _ in BUFFERED:
+        each = [next(counts) for _ in range(4)]
+        single, batch = ((many - few) // (MANY - FEW) for few, many in zip(each[::2], each[1::2]))
+        print(f"| {title} | {single:,} | {batch:,} |")
 
 
 def client(counts):
@@ -102,6 +118,8 @@ def main():
                        for name in ("endpoint_cost", "client_cost"))
     runs = [(program, kind, *words, str(times)) for _, words, _ in ROWS
             for kind in ("endpoint", "loop") for times in (FEW, MANY)]
+    runs += [(program, kind, *words, str(times)) for _, words in BUFFERED
+             for kind in ("into", "batch") for times in (FEW, MANY)]
     runs += [(asking, kind, word, times) for _, word in CLIENT
              for kind in ("endpoint", "calls", "counted") for times in ("1", "3")]
     runs += [(looking, *words, str(times)) for _, words, _ in LOOK_UPS for times in (FEW, MANY)]
@@ -115,6 +133,7 @@ def main():
         endpoint, by_hand = ((many - few) // (MANY - FEW), (loop_many - loop_few) // (MANY - FEW))
         missed += most is not None and endpoint > most
         print(f"| {title} | {endpoint:,} | {by_hand:,} | {f'{most:,}' if most else ''} |")
+    buffered(counts)
     client(counts)
     missed += look_ups(counts)
     return 1 if missed else 0

@@ -37,6 +37,7 @@ KNOWN = {
 BY_RUSTFMT = {
     ("stun_state/answers.rt", "", "{"), ("stun_state/answers.rt", ",", "}"),
     ("stun_c_endpoint/server.rt", "{", ""), ("stun_c_endpoint/server.rt", "}", ","),
+    ("stun_c_endpoint/caused.rt", "{", ""), ("stun_c_endpoint/caused.rt", "}", ","),
 }
 # Sources whose place in the export is taken by rust/capi/src, which is written by hand: handles are
 # pointers there. Laws are no code.

@@ -5,15 +5,21 @@
 //! ```
 //!
 //! For each number it starts that many Binding requests without credentials, returns their bytes,
-//! returns them again half a second later, reads all the responses, and returns all the ends. A row
-//! has the mean time of a call of each kind, in nanoseconds, and the time of all, in milliseconds.
+//! returns them again half a second later, reads all the responses, and returns all the ends, with one
+//! client after another, until a million requests have ended. A row has the mean time of a call of each
+//! kind, in nanoseconds, and the time of all for one client, in milliseconds. On Linux that is time of
+//! the processor, so what else the machine does counts little; elsewhere it is what a clock shows.
 
 use seatcrane_stun::Instant;
 use seatcrane_stun::endpoint::{Body, Client, Input, Output};
 use seatcrane_stun::types::message::{BINDING, Message, MessageWriteVec};
 use seatcrane_stun::types::prelude::*;
 use std::net::SocketAddr;
+use std::sync::OnceLock;
 use std::time::Duration;
+
+/// How many requests a row has at least. Linux counts the time of a processor in steps of milliseconds.
+const REQUESTS: usize = 1_000_000;
 
 /// Calls `poll` until it returns a wait, and returns how many calls returned something else.
 fn polled(client: &mut Client, now: Instant, mut sent: impl FnMut(&[u8])) -> usize {
@@ -28,6 +34,18 @@ fn polled(client: &mut Client, now: Instant, mut sent: impl FnMut(&[u8])) -> usi
     }
 }
 
+/// Returns how much time of the processor this thread has taken, as Linux counts it. Where that is not
+/// told, returns the time since the first call.
+fn spent() -> Duration {
+    static BEGUN: OnceLock<std::time::Instant> = OnceLock::new();
+    let begun = BEGUN.get_or_init(std::time::Instant::now);
+    let told = std::fs::read_to_string("/proc/thread-self/schedstat").unwrap_or_default();
+    match told.split(' ').next().map(str::parse) {
+        Some(Ok(nanos)) => Duration::from_nanos(nanos),
+        _ => begun.elapsed(),
+    }
+}
+
 /// Returns the times of the five kinds of calls, for this many requests.
 fn times(many: usize) -> [Duration; 5] {
     let server = SocketAddr::from(([192, 0, 2, 1], 3478));
@@ -36,9 +54,9 @@ fn times(many: usize) -> [Duration; 5] {
     let mut responses = Vec::with_capacity(many);
     let mut times = [Duration::ZERO; 5];
     let mut timed = |kind: usize, call: &mut dyn FnMut()| {
-        let start = std::time::Instant::now();
+        let start = spent();
         call();
-        times[kind] = start.elapsed();
+        times[kind] = spent() - start;
     };
     timed(0, &mut || {
         for _ in 0..many {
@@ -74,9 +92,15 @@ fn main() {
     println!("|---|---|---|---|---|---|---|");
     for word in std::env::args().skip(1) {
         let many = word.parse::<usize>().expect("a number").max(1);
-        let times = times(many);
-        let each = times.map(|time| (time.as_nanos() / many as u128).to_string());
-        let all = times.iter().sum::<Duration>().as_millis();
+        let rounds = REQUESTS.div_ceil(many);
+        let mut sums = [Duration::ZERO; 5];
+        for _ in 0..rounds {
+            for (sum, time) in sums.iter_mut().zip(times(many)) {
+                *sum += time;
+            }
+        }
+        let each = sums.map(|sum| (sum.as_nanos() / (many * rounds) as u128).to_string());
+        let all = sums.iter().sum::<Duration>().as_millis() / rounds as u128;
         println!("| {many} | {} | {all} |", each.join(" | "));
     }
 }

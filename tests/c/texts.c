@@ -2,9 +2,20 @@
  * registered, typed from its page "Session Traversal Utilities for NAT (STUN) Parameters", and the
  * texts of what is dropped, of causes and of results. Each value has a text, and no two have the
  * same. The two short calls of stunp.h that only name what another call does are here, too. */
-#include "samples.h"
 #include "stunp_endpoint.h"
 #include "stunp_log.h"
+#include <stdio.h>
+#include <stdlib.h>
+#include <string.h>
+
+#define CHECK(answer, wanted) check(answer, wanted, __LINE__)
+#define COUNT(array) (sizeof(array) / sizeof *(array))
+
+static void check(int64_t answer, int64_t wanted, int line) {
+    if (answer == wanted) return;
+    fprintf(stderr, "texts.c:%d: %lld, not %lld\n", line, (long long)answer, (long long)wanted);
+    exit(1);
+}
 
 struct named {
     uint32_t number;
@@ -70,11 +81,16 @@ int main(void) {
     texts(stunp_cause_text, STUNP_CAUSE_UNKNOWN_ATTRIBUTE);
     texts(result, STUNP_RESULT_CANCELLED);
 
-    /* The password of RFC 5769, section 2.1. */
-    const char *password = "VOkJxbRl1RmTxUk/WvJxBt";
-    CHECK(stunp_is_signed(BYTES(request), stunp_short_term_key(password), strlen(password)), 1);
-    CHECK(stunp_is_signed(BYTES(request), stunp_short_term_key("other"), 5), 0);
-    CHECK(stunp_is_signed(BYTES("no message"), stunp_short_term_key(password), 5), 0);
+    static const char password[] = "wonderland";
+    const uint8_t *key = stunp_short_term_key(password);
+    uint8_t message[64];
+    int64_t length = stunp_begin(STUNP_REQUEST, STUNP_BINDING, (const uint8_t *)"abcdefghijkl", 12,
+                                 message, sizeof message);
+    length = stunp_sign(message, sizeof message, (size_t)length, STUNP_SHA1, key, strlen(password));
+    CHECK(length, 44);
+    CHECK(stunp_is_signed(message, 44, key, strlen(password)), 1);
+    CHECK(stunp_is_signed(message, 44, stunp_short_term_key("other"), 5), 0);
+    CHECK(stunp_is_signed(message, 20, key, strlen(password)), 0);
     puts("texts: passed");
     return 0;
 }

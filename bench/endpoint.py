@@ -112,13 +112,13 @@ def look_up():
 def main():
     looking = look_up()
     build = ["cargo", "build", "--quiet", "--release"]
-    for example in ("endpoint_cost", "client_cost"):
+    for example in ("endpoint_cost", "batch_cost", "client_cost"):
         subprocess.run([*build, "--example", example], cwd=EXPORT, check=True)
-    program, asking = (str(EXPORT / "target/release/examples" / name)
-                       for name in ("endpoint_cost", "client_cost"))
+    program, batching, asking = (str(EXPORT / "target/release/examples" / name)
+                                 for name in ("endpoint_cost", "batch_cost", "client_cost"))
     runs = [(program, kind, *words, str(times)) for _, words, _ in ROWS
             for kind in ("endpoint", "loop") for times in (FEW, MANY)]
-    runs += [(program, kind, *words, str(times)) for _, words in BUFFERED
+    runs += [(batching, kind, *words, str(times)) for _, words in BUFFERED
              for kind in ("into", "batch") for times in (FEW, MANY)]
     runs += [(asking, kind, word, times) for _, word in CLIENT
              for kind in ("endpoint", "calls", "counted") for times in ("1", "3")]

@@ -5,9 +5,8 @@
 //! valgrind --tool=callgrind --callgrind-out-file=/dev/null endpoint_cost endpoint sha1 signed 3000
 //! ```
 //!
-//! The server is `endpoint` (`endpoint::Server`), `into` or `batch` (the same with its answers in a
-//! buffer, one by one or 50 at once), or `loop`: the calls of `auth` with a record for each address,
-//! and a table that bounds their number. The algorithms are `sha1`, or `sha256` for
+//! The server is `endpoint` (`endpoint::Server`), or `loop`: the calls of `auth` with a record for
+//! each address, and a table that bounds their number. The algorithms are `sha1`, or `sha256` for
 //! both. The datagrams are `signed` (a request that is answered with a success), `new` (an unsigned
 //! request from a new address each time) and `stale` (a request with an expired nonce).
 
@@ -16,7 +15,7 @@ mod places;
 use places::Places;
 use seatcrane_stun::Instant;
 use seatcrane_stun::auth::*;
-use seatcrane_stun::endpoint::{Answers, LongTerm, Received, Server, UnixTime, Users};
+use seatcrane_stun::endpoint::{LongTerm, Received, Server, UnixTime, Users};
 use seatcrane_stun::types::message::*;
 use seatcrane_stun::types::prelude::*;
 use std::hint::black_box;
@@ -124,52 +123,10 @@ impl Kind {
     }
 }
 
-/// How many datagrams a batch has.
-const BATCH: u32 = 50;
-
-/// The same datagram many times over.
-struct Datagrams<'a> {
-    bytes: &'a [u8],
-    from: SocketAddr,
-    is_from_new: bool,
-    now: UnixTime,
-    count: u32,
-}
-
-impl Datagrams<'_> {
-    fn source(&self, i: u32) -> SocketAddr {
-        match self.is_from_new {
-            true => ((i + 1).to_be_bytes(), 4242).into(),
-            false => self.from,
-        }
-    }
-
-    fn one_by_one(&self, server: &Server, users: &Users) {
-        let mut buffer = Vec::new();
-        for i in 0..self.count {
-            let (bytes, from) = (black_box(self.bytes), self.source(i));
-            let received = server.receive_into(bytes, from, self.now, users, &mut buffer);
-            assert!(matches!(received, Received::Answer(_)));
-            black_box(&buffer);
-        }
-    }
-
-    fn in_batches(&self, server: &Server, users: &Users) {
-        let mut answers = Answers::new();
-        for first in (0..self.count).step_by(BATCH as usize) {
-            let batch = (first..first + BATCH).map(|i| (black_box(self.bytes), self.source(i)));
-            for received in server.receive_many(batch, self.now, users, &mut answers) {
-                assert!(matches!(received, Received::Answer(_)));
-            }
-            black_box(answers.bytes());
-        }
-    }
-}
-
 fn main() {
     let words: Vec<String> = std::env::args().skip(1).collect();
     let [kind, algorithm, what, count] = &words[..] else {
-        panic!("usage: endpoint_cost endpoint|into|batch|loop sha1|sha256 signed|new|stale COUNT");
+        panic!("usage: endpoint_cost endpoint|loop sha1|sha256 signed|new|stale COUNT");
     };
     let count: u32 = count.parse().expect("a number");
     let both = [IntegrityAlgorithm::Sha1, IntegrityAlgorithm::Sha256];
@@ -189,20 +146,6 @@ fn main() {
         "stale" => (&signed, LATER, 438),
         _ => (&signed, NOW, 200),
     };
-    if let Kind::Endpoint(server, users) = &server {
-        let datagrams = Datagrams {
-            bytes,
-            from,
-            is_from_new: code == 401,
-            now: UnixTime::from_secs(now),
-            count,
-        };
-        match kind.as_str() {
-            "into" => return datagrams.one_by_one(server, users),
-            "batch" => return datagrams.in_batches(server, users),
-            _ => {}
-        }
-    }
     for i in 0..count {
         let from = match code {
             401 => ((i + 1).to_be_bytes(), 4242).into(),

@@ -1,8 +1,6 @@
 //! A batch of datagrams, whose responses are in one buffer.
 
-use super::server::{lent, of_core};
-use super::{Answer, DropReason, Received, Server, UnixTime, Users};
-use crate::trace::record;
+use super::{Answer, Received, Server, UnixTime, Users};
 use alloc::vec::Vec;
 use core::net::SocketAddr;
 use core::ops::Range;
@@ -109,20 +107,13 @@ impl Server {
         users: &'a Users,
         answers: &mut Answers,
     ) -> Received<'a, Range<usize>> {
-        let judged = lent(&mut answers.page, |page| {
-            self.judged(bytes, from, page, |page| {
-                self.core.receive_into(bytes, from, now, &users.core, page)
+        let Answers { bytes: all, page } = answers;
+        self.receive_into(bytes, from, now, users, page)
+            .moved(|response| {
+                let start = all.len();
+                all.try_reserve(response.len()).ok()?;
+                all.extend_from_slice(response);
+                Some(start..all.len())
             })
-        });
-        let start = answers.bytes.len();
-        let received = match answers.bytes.try_reserve(answers.page.len()) {
-            Ok(()) => {
-                answers.bytes.extend_from_slice(&answers.page);
-                of_core(judged, start..answers.bytes.len())
-            }
-            Err(_) => Received::Dropped(DropReason::OutOfMemory),
-        };
-        record!(bytes, from, received, || self.cause(bytes, from, now, users));
-        received
     }
 }

@@ -263,7 +263,7 @@ impl ServerBuilder {
 ///
 /// The [module](super) has an example.
 pub struct Server {
-    pub(super) core: server::Server<Global>,
+    core: server::Server<Global>,
     realm: String,
     /// What answers Binding requests without a signature.
     open: Option<open::OpenServer<Global>>,
@@ -391,7 +391,7 @@ impl Server {
 
     /// Judges a datagram by this call of the core, unless it is dropped for its method, or answered
     /// without credentials.
-    pub(super) fn judged<'a>(
+    fn judged<'a>(
         &self,
         bytes: &'a [u8],
         from: SocketAddr,
@@ -1190,7 +1190,7 @@ pub(crate) fn lent<R>(buffer: &mut Vec<u8>, call: impl FnOnce(&mut KitVec<u8>) -
 }
 
 /// What the core returns, with the bytes of the response.
-pub(super) fn of_core<B>(received: Judged<'_>, bytes: B) -> Received<'_, B> {
+fn of_core<B>(received: Judged<'_>, bytes: B) -> Received<'_, B> {
     match received {
         Ok(CoreReceived::Answer(answer)) => Received::Answer(answer_of(answer, bytes)),
         Ok(CoreReceived::Request(request)) => match request_of(request) {
@@ -1334,7 +1334,7 @@ impl From<AllocError> for UserError {
 /// # Ok::<(), Box<dyn std::error::Error>>(())
 /// ```
 pub struct Users {
-    pub(super) core: users::Users<Global>,
+    core: users::Users<Global>,
     keys: Given<StoredKeys>,
 }
 
@@ -1547,6 +1547,26 @@ pub enum Received<'a, B = Vec<u8>> {
     Response(Message<'a>),
     /// The datagram is dropped, for this reason.
     Dropped(DropReason),
+}
+
+impl<'a, B> Received<'a, B> {
+    /// The same with the bytes of a response elsewhere. Without memory for them it is dropped.
+    pub(super) fn moved<C>(self, to: impl FnOnce(B) -> Option<C>) -> Received<'a, C> {
+        match self {
+            Received::Answer(answer) => match to(answer.bytes) {
+                Some(bytes) => Received::Answer(Answer {
+                    to: answer.to,
+                    refusal: answer.refusal,
+                    bytes,
+                }),
+                None => Received::Dropped(DropReason::OutOfMemory),
+            },
+            Received::Request(request) => Received::Request(request),
+            Received::Indication(message) => Received::Indication(message),
+            Received::Response(message) => Received::Response(message),
+            Received::Dropped(why) => Received::Dropped(why),
+        }
+    }
 }
 
 /// A response to send. Its bytes are a `Vec`, a slice of the buffer that was passed to

@@ -1,3 +1,7 @@
+pub mod BoundLemmas
+pub mod ChangeLemmas
 pub mod DecidingLemmas
+pub mod HeaderLemmas
 pub mod IdLemmas
 pub mod OptionLemmas
+pub mod RequestingLemmas

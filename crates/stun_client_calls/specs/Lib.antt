@@ -10,5 +10,9 @@ pub mod Ids
 pub mod Writing
 -- how a request ends
 pub mod Endpoints
+-- a client, and what each call makes of it
+pub mod Clients
+-- when the requests of a client end
+pub mod Bounds
 -- what follows of all this
 pub mod Laws

@@ -3,13 +3,13 @@
 -- sent last is the current one, which is sent again by its timer. The others are earlier messages, which
 -- are not sent any more, but a response that is signed with the key of one still ends the request.
 use Rattle.std.specs.Prelude.{ℕ, ◌+◌, ◌-◌, ◌==◌, Bool, true, false, not, ◌&&◌, List, [], find}
-use Rattle.std.specs.Prelude.{if◌then◌else◌, min, Option, Some, None}
+use Rattle.std.specs.Prelude.{if◌then◌else◌, min, nat_lt, Option, Some, None}
 use Rattle.std.specs.BTreeMap.{insert_entry, is_at}
 use Rattle.std.specs.Map.{remove_entry}
-use Rattle.std.specs.Option.{is_none, is_some}
+use Rattle.std.specs.Option.{is_none, is_some, option_map_or}
 use Rattle.std.specs.Ordering.{nat_cmp}
 use Rattle.stun_client.specs.Challenges.{Answered, is_one}
-use Rattle.stun_client.specs.Standing.{StandingSeen, is_ignored}
+use Rattle.stun_client.specs.Standing.{StandingSeen, after_timeout, is_ignored}
 use Rattle.stun_client_endpoint.specs.Bodies.{Body}
 use Rattle.stun_client_endpoint.specs.Ends.{after_drop, no_drops}
 use Rattle.stun_client_endpoint.specs.Refusals.{after_refusal, after_sending, no_refusals}
@@ -176,6 +176,24 @@ counting why a = record a {
 abbrev pub turned : Bool → ℕ → TurnSeen → AskedSeen → AskedSeen
 turned is_kept former t a =
     counting t.why (exchanged is_kept former t.rank t.signed_for (leaves_doubt t.why) a)
+
+-- ---- ends
+
+-- whether the first plan of a request is over
+abbrev pub is_late : ℕ → AskedSeen → Bool
+is_late now a = nat_lt a.until now
+
+-- the challenge of a message of a request that is signed for this one, if it has an earlier message that
+-- is, and else that of its current message
+abbrev pub challenge_for : Option Answered → AskedSeen → Option Answered
+challenge_for None a = a.signed_for
+challenge_for (Some c) a =
+    option_map_or (λ e. e.1.signed_for) (message_for c a.earlier) a.signed_for
+
+-- the standing challenge once a request is not answered in time: if the request has a message that is
+-- signed for it, current or earlier, it may be forged
+abbrev pub stepped_back : AskedSeen → StandingSeen → StandingSeen
+stepped_back a standing = after_timeout standing (challenge_for standing.current a)
 
 -- ---- other changes
 

@@ -1,12 +1,13 @@
 //! What is stored of an outstanding request, and how a request has ended.
 ghost use Rattle.std.specs.Option.{is_none, option_map};
-ghost use Rattle.std.specs.Prelude.{◌≡◌, ◌==◌, Some, nat_le, nat_lt};
+ghost use Rattle.std.specs.Prelude.{◌≡◌, ◌==◌, Some, nat_le};
 ghost use Rattle.stun_client.specs.Challenges.{is_one};
-ghost use Rattle.stun_client.specs.Standing.{after_timeout};
-ghost use Rattle.stun_client_calls.specs.Messages.{DOUBTS, counted_on, eligible, exchanged};
-ghost use Rattle.stun_client_calls.specs.Messages.{has_unsigned, is_eligible, is_signed_eligible, is_too_weak};
+ghost use Rattle.stun_client_calls.specs.Messages.{DOUBTS, challenge_for, counted_on, eligible};
+ghost use Rattle.stun_client_calls.specs.Messages.{exchanged};
+ghost use Rattle.stun_client_calls.specs.Messages.{has_unsigned, is_eligible, is_late, is_signed_eligible, is_too_weak};
 ghost use Rattle.stun_client_calls.specs.Messages.{message_at, message_for, new_asked, noting};
-ghost use Rattle.stun_client_calls.specs.Messages.{rank_after, refusing, sent_out, signed_eligible};
+ghost use Rattle.stun_client_calls.specs.Messages.{rank_after, refusing, sent_out, signed_eligible, stepped_back};
+ghost use Rattle.stun_client_calls.specs.Clients.{changed};
 ghost use Rattle.stun_client_calls.specs.Messages.{turned};
 ghost use Rattle.stun_client_calls.specs.Endpoints.{without_all};
 
@@ -220,7 +221,7 @@ impl<A: Allocator + Copy> Asked<A> {
 
     /// Returns whether the first plan is over.
     pub fn is_late(&self, now: Instant) -> bool
-        ensures { result ≡ nat_lt self.now.until now }
+        ensures { result ≡ is_late now self.now }
     {
         self.until < now
     }
@@ -345,12 +346,27 @@ impl<A: Allocator + Copy> Asked<A> {
         self.earlier.insert(before, sent).is_ok()
     }
 
-    /// Notes that the request was not answered in time: the challenge that its current message is
-    /// signed for may be forged.
+    /// Notes that the request was not answered in time: if one of its messages is signed for the
+    /// standing challenge, that challenge may be forged.
     pub fn step_back(&self, standing: &mut Standing<A>)
-        ensures { standing.new ≡ after_timeout standing.old self.now.signed_for }
+        ensures { standing.new ≡ stepped_back self.now standing.old }
     {
-        standing.step_back(&self.signed_for);
+        let signed_for = self.challenge_for(standing.current());
+        standing.step_back(signed_for);
+    }
+
+    /// Returns the challenge of an earlier message that is signed for this one, if there is such a
+    /// message, and else that of the current message.
+    fn challenge_for(&self, challenge: &Option<Challenge<A>>) -> &Option<Challenge<A>>
+        ensures { result.now ≡ challenge_for challenge.now self.now }
+    {
+        let Some(challenge) = challenge else {
+            return &self.signed_for;
+        };
+        match self.message_for(challenge) {
+            Some((_rank, sent)) => sent.signed_for(),
+            None => &self.signed_for,
+        }
     }
 
     /// Removes the transaction IDs of the earlier messages from a map. It does not allocate.
@@ -391,6 +407,28 @@ impl<A: Allocator + Copy> Asked<A> {
         asked.refusals = asked.refusals.noted();
         asked
     }
+
+    /// Makes a change that leaves the messages as they are.
+    pub fn changed(self, change: Change) -> Asked<A>
+        ensures { result ≡ changed change self }
+    {
+        match change {
+            Change::SentOut => self.sent_out(),
+            Change::Noted(why, code) => self.noting(why, code),
+            Change::Refused(code) => self.refusing(code),
+        }
+    }
+}
+
+/// What changes of an outstanding request besides its messages.
+#[derive(Clone, Copy)]
+pub enum Change {
+    /// The bytes of its current message are handed out.
+    SentOut,
+    /// A response to it is dropped for this reason, an error with this code, if it is one.
+    Noted(DropReason, Option<u16>),
+    /// The challenge that it was signed for is dropped, which has this code.
+    Refused(Option<u16>),
 }
 
 /// Returns the rank of a message that is sent for the first time once another message became the

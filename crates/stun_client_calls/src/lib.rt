@@ -6,14 +6,17 @@
 //! timer. The others are earlier messages, which are not sent any more, but a response to one of
 //! them may still end the request. `asked` has what is stored of a request, `turning` why another
 //! message becomes the current one, `deciding` what a response to a message comes to, `ids` the
-//! transaction ID of the next message, and `writing` its bytes.
+//! transaction ID of the next message, and `writing` its bytes. `endpoint` is a client of one server
+//! over these, which reads no responses.
 //!
 //! Nothing stands over this crate yet.
 #![tactic(auto)]
 
 pub mod asked;
 pub mod deciding;
+pub mod endpoint;
 pub mod ids;
 pub mod laws;
+pub mod told;
 pub mod turning;
 pub mod writing;

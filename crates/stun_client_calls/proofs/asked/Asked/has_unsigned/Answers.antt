@@ -1,5 +1,5 @@
 -- The search over the earlier messages is the definition's.
-use Rattle.std.proofs.Common.{◌≡◌, ◌∙◌, ℕ, Bool, Option, rules, sym, ap}
+use Rattle.std.proofs.Common.{◌≡◌, ◌∙◌, ℕ, Bool, rules, sym, ap}
 use Rattle.std.specs.Map.Iter.{deref_pair}
 use Rattle.std.specs.Option.{is_none, is_some, option_map}
 use Rattle.std.specs.Prelude.{find}

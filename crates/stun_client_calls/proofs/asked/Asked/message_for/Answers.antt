@@ -1,5 +1,5 @@
 -- The search over the earlier messages is the definition's.
-use Rattle.std.proofs.Common.{◌≡◌, ◌∙◌, ℕ, Bool, Some, Option, rules, sym, ap}
+use Rattle.std.proofs.Common.{◌≡◌, ◌∙◌, ℕ, Bool, Some, rules, sym, ap}
 use Rattle.stun_client.specs.Challenges.{is_one}
 use Rattle.std.specs.Map.Iter.{deref_pair}
 use Rattle.std.specs.Option.{option_map}

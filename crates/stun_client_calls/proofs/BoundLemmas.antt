@@ -1,0 +1,262 @@
+-- The requests of a client stay punctual over each call.
+use Rattle.std.proofs.Common.{◌≡◌, ◌∙◌, ◌≤◌, ℕ, Bool, true, false, List, Option, Some}
+use Rattle.std.proofs.Common.{None, Ok, Err, ap, arith, cond, max, refl, subst, sym}
+use Rattle.std.specs.Option.{option_and_then, option_map, option_map_or}
+use Rattle.std.specs.Prelude.{◌==◌, nat_lt}
+use Rattle.std.specs.declared.net.socket_addr.SocketAddr.{SocketAddr}
+use Rattle.std.proofs.lemmas.Bool.{eqb-true}
+use Rattle.stun_base.specs.Moments.{last_moment, moment_after}
+use Rattle.stun_base.specs.declared.wire.attribute_type.AttributeType.{AttributeType}
+use Rattle.stun_base.specs.declared.wire.transport.TransportType.{TransportType}
+use Rattle.stun_agent.specs.Tables.{datum_at}
+use Rattle.stun_agent.specs.Timing.{Settings}
+use Rattle.stun_client.specs.Ids.{id_of}
+use Rattle.stun_client.specs.Judging.{Identity}
+use Rattle.stun_client_endpoint.specs.Bodies.{Body}
+use Rattle.stun_client_endpoint.specs.Endpoints.{plan_of}
+use Rattle.stun_client_endpoint.specs.Written.{Form, Page?}
+use Rattle.stun_client_requests.specs.Laws.{IsRequests}
+use Rattle.stun_client_requests.specs.Numbers.{id_at}
+use Rattle.stun_client_requests.specs.OneTable.{IsOneTable}
+use Rattle.stun_client_requests.specs.Requests.{Poll as PollOf, RequestsSeen}
+use Rattle.stun_client_requests.specs.Requests.{after_replacing, datum_of, polled, stored_at}
+use Rattle.stun_client_requests.specs.Timely.{IsInTime, IsTimely, bound_after}
+use Rattle.stun_client_requests.specs.declared.requests.Polled.TheVariants as Of
+use Rattle.stun_client_requests.specs.declared.requests.Request.{Request}
+use Rattle.stun_client_requests.proofs.TimelyLemmas.{all_no_later, cancel_timely, named_is_one}
+use Rattle.stun_client_requests.proofs.TimelyLemmas.{none_timely, polls_keep_time, removed_timely}
+use Rattle.stun_client_requests.proofs.TimelyLemmas.{replace_timely, start_timely, waits_in_time}
+use Rattle.stun_client_calls.specs.Bounds.{Call, IsPunctual, cancels, polls, requests, until_of}
+use Rattle.stun_client_calls.specs.Clients.{Client, Poll, by_polled, changed}
+use Rattle.stun_client_calls.specs.Clients.{chosen, first_asked, first_message, given_up}
+use Rattle.stun_client_calls.specs.Clients.{handed_out_of, new_client}
+use Rattle.stun_client_calls.specs.Clients.{sent_by}
+use Rattle.stun_client_calls.specs.Clients.{started_at, started_with, told, waits}
+use Rattle.stun_client_calls.specs.Clients.{with_requests}
+use Rattle.stun_client_calls.specs.Endpoints.{EndSeen}
+use Rattle.stun_client_calls.specs.Messages.{AskedSeen, is_late, sent_out}
+use Rattle.stun_client_calls.specs.declared.asked.Change.TheVariants.{SentOut}
+
+abbrev All : Type 0
+All = RequestsSeen AskedSeen EndSeen
+
+not_late : (until now : ℕ) → nat_lt until now ≡ false → now ≤ until
+not_late until now is = grind arith
+
+later : (now until : ℕ) → now ≤ until → max now until ≤ until
+later now until low = omega (arith, low)
+
+-- ---- starting
+
+until_low : (now plan : ℕ) → now ≤ last_moment → now ≤ moment_after now plan
+until_low now plan low = omega (arith, low)
+
+started_punctual : (c : Client) (method : ℕ) (body : Body) (now : ℕ) → now ≤ last_moment
+    → IsPunctual c → (o : Option ℕ) → IsPunctual (started_at c method body now o)
+started_punctual c method body now low is None = is
+started_punctual c method body now low is (Some number) =
+    by (first_message c method number body)
+  where
+    by : (page : Page?) → IsPunctual (started_with c number method body now page)
+    by (Err why) = is
+    by (Ok bytes) =
+        start_timely c.plan until_of c.requests is (id_of c.seed number) bytes
+        (first_asked c method body now) now (until_low now (plan_of c.plan) low)
+
+-- ---- polling
+
+stored_is : (n id : ℕ) (q : Request AskedSeen) (r : All)
+    → IsOneTable r.table.attached r.numbers r.next
+    → datum_at id r.table.attached ≡ Some q → (q.number == n) ≡ true
+    → stored_at n r ≡ Some q
+stored_is n id q r one there is =
+    let number : q.number ≡ n = eqb-true q.number n is in
+    let named : id_at n r.numbers ≡ Some id =
+    one.named id n
+    (ap (λ (o : Option (Request AskedSeen)). option_map (λ x. x.number) o) there
+    ∙ ap Some number) in
+    ap (λ o. option_and_then (λ k. datum_at k r.table.attached) o) named ∙ there
+
+-- a poll of the table has named a request. Its bytes are handed out, or it ends
+module _ (plan : Settings) (now n : ℕ) (r : All)
+    (one : IsOneTable r.table.attached r.numbers r.next)
+    (is : IsTimely plan (bound_after {E = EndSeen} now (Of.Transmit n) until_of) r) where
+  abbrev bound : Request AskedSeen → ℕ
+  bound q = bound_after {E = EndSeen} now (Of.Transmit n) until_of q
+
+  no_datum : datum_of n r ≡ None → IsTimely plan until_of r
+  no_datum none =
+      all_no_later plan bound until_of r.table.requests r.table.attached
+      (λ id q there. by id q there (n == q.number) refl) is
+    where
+      by : (id : ℕ) (q : Request AskedSeen) → datum_at id r.table.attached ≡ Some q → (b : Bool)
+          → (n == q.number) ≡ b → cond b (max now q.datum.until) q.datum.until ≤ q.datum.until
+      by id q there false is = omega arith
+      by id q there true is =
+          let stored = stored_is n id q r one there (turned n q.number is) in
+          let some : datum_of n r ≡ Some q.datum =
+          ap (λ (o : Option (Request AskedSeen)). option_map (λ x. x.datum) o) stored in
+          cc
+        where
+          turned : (x y : ℕ) → (x == y) ≡ true → (y == x) ≡ true
+          turned x y is = grind arith
+
+  in_time : (a : AskedSeen) → datum_of n r ≡ Some a → now ≤ a.until → IsTimely plan until_of r
+  in_time a some low =
+      all_no_later plan bound until_of r.table.requests r.table.attached
+      (λ id q there. by id q there (n == q.number) refl) is
+    where
+      by : (id : ℕ) (q : Request AskedSeen) → datum_at id r.table.attached ≡ Some q → (b : Bool)
+          → (n == q.number) ≡ b → cond b (max now q.datum.until) q.datum.until ≤ q.datum.until
+      by id q there false is = omega arith
+      by id q there true is =
+          let stored = stored_is n id q r one there (turned n q.number is) in
+          let other : datum_of n r ≡ Some q.datum =
+          ap (λ (o : Option (Request AskedSeen)). option_map (λ x. x.datum) o) stored in
+          let same : a ≡ q.datum = same_asked a q.datum (sym some ∙ other) in
+          let until : a.until ≡ q.datum.until = ap (λ x. x.until) same in
+          later now q.datum.until (subst (λ u. now ≤ u) until low)
+        where
+          turned : (x y : ℕ) → (x == y) ≡ true → (y == x) ≡ true
+          turned x y is = grind arith
+
+          same_asked : (x y : AskedSeen) → Some x ≡ Some y → x ≡ y
+          same_asked x y e = cc
+
+-- the client then
+module _ (now n : ℕ) (c : Client)
+    (one : IsOneTable c.requests.table.attached c.requests.numbers c.requests.next)
+    (is : IsTimely c.plan (bound_after {E = EndSeen} now (Of.Transmit n) until_of) c.requests) where
+  given_up_punctual : (a : AskedSeen) → IsPunctual (given_up n a c).1
+  given_up_punctual a =
+      removed_timely c.plan (bound_after {E = EndSeen} now (Of.Transmit n) until_of) until_of
+      c.requests one is n (λ q other. by q (n == q.number) other)
+    where
+      by : (q : Request AskedSeen) (b : Bool) → b ≡ false
+          → cond b (max now q.datum.until) q.datum.until ≤ q.datum.until
+      by q false other = omega arith
+      by q true other = cc
+
+  sent_punctual : (a : AskedSeen) → datum_of n c.requests ≡ Some a → now ≤ a.until
+      → IsPunctual (sent_by n c).1
+  sent_punctual a some low =
+      subst (λ o. IsTimely c.plan until_of
+      (option_map_or (λ x. after_replacing n (changed SentOut x) c.requests) o c.requests)) (sym some)
+      (replace_timely c.plan until_of c.requests
+      (in_time c.plan now n c.requests one is a some low) n (sent_out a)
+      (λ q stored. by q
+      (ap (λ (o : Option (Request AskedSeen)). option_map (λ x. x.datum) o) stored)))
+    where
+      by : (q : Request AskedSeen) → datum_of n c.requests ≡ Some q.datum → q.datum.until ≤ a.until
+      by q other =
+          let same : q.datum ≡ a = same_asked q.datum a (sym other ∙ some) in
+          let until : q.datum.until ≡ a.until = ap (λ x. x.until) same in
+          omega (arith, until)
+        where
+          same_asked : (x y : AskedSeen) → Some x ≡ Some y → x ≡ y
+          same_asked x y e = cc
+
+  handed_punctual : (o : Option AskedSeen) → datum_of n c.requests ≡ o
+      → IsPunctual (handed_out_of now n c o).1
+  handed_punctual None none = no_datum c.plan now n c.requests one is none
+  handed_punctual (Some a) some = by (is_late now a) refl
+    where
+      by : (b : Bool) → is_late now a ≡ b → IsPunctual (cond b (given_up n a c) (sent_by n c)).1
+      by true late = given_up_punctual a
+      by false early = sent_punctual a some (not_late a.until now early)
+
+told_punctual : (now : ℕ) (c : Client) → IsRequests c.requests → IsPunctual c
+    → IsPunctual (told now c).1
+told_punctual now c i is = by (polled now c.requests) refl
+  where
+    kept : (p : PollOf AskedSeen EndSeen) → polled now c.requests ≡ p
+        → IsTimely c.plan (bound_after now p.0 until_of) p.1
+    kept p same =
+        subst (λ (x : PollOf AskedSeen EndSeen). IsTimely c.plan (bound_after now x.0 until_of) x.1)
+        same (polls_keep_time c.plan until_of now c.requests i is)
+
+    by : (p : PollOf AskedSeen EndSeen) → polled now c.requests ≡ p
+        → IsPunctual (by_polled now (with_requests p.1 c) p.0).1
+    by (Of.Transmit n, r) same =
+        handed_punctual now n (with_requests r c)
+        (subst (λ (x : PollOf AskedSeen EndSeen).
+        IsOneTable x.1.table.attached x.1.numbers x.1.next) same
+        (named_is_one now n c.requests i.one (ap (λ (x : PollOf AskedSeen EndSeen). x.0) same)))
+        (kept (Of.Transmit n, r) same) (datum_of n r) refl
+    by (Of.Ended number end, r) same = kept (Of.Ended number end, r) same
+    by (Of.TimedOut number a, r) same = kept (Of.TimedOut number a, r) same
+    by (Of.Wait until, r) same = kept (Of.Wait until, r) same
+
+-- ---- laws
+
+pub begins_punctual : (transport : TransportType) (server : SocketAddr)
+    (counts requires_fingerprint : Bool) (identity : Identity) (form : Form)
+    (understood : List AttributeType) (turns : ℕ) (plan : Settings) (seed : List ℕ)
+    → IsPunctual
+    (new_client transport server counts requires_fingerprint identity form understood turns plan seed)
+begins_punctual transport server counts requires_fingerprint identity form understood turns plan seed =
+    none_timely plan until_of
+
+pub stays_punctual : (c after : Client) → IsRequests c.requests → IsPunctual c → Call c after
+    → IsPunctual after
+stays_punctual c after i is (requests _ method body now low none) =
+    started_punctual c method body now low is (chosen c)
+stays_punctual c after i is (cancels _ number) =
+    cancel_timely c.plan until_of c.requests is i.one.in_order number _
+stays_punctual c after i is (polls _ _ now says said) =
+    subst IsPunctual (ap (λ (p : Poll). p.1) said) (told_punctual now c i is)
+
+-- what is stored of an outstanding request is in the table
+stored_there : (n : ℕ) (a : AskedSeen) (r : All) → datum_of n r ≡ Some a
+    → (id : ℕ) × (q : Request AskedSeen) × (datum_at id r.table.attached ≡ Some q) × (q.datum ≡ a)
+stored_there n a r some = by (id_at n r.numbers) some
+  where
+    at : (id : ℕ) (o : Option (Request AskedSeen)) → datum_at id r.table.attached ≡ o
+        → option_map (λ x. x.datum) o ≡ Some a
+        → (id : ℕ) × (q : Request AskedSeen) × (datum_at id r.table.attached ≡ Some q)
+        × (q.datum ≡ a)
+    at id None there some = cc
+    at id (Some q) there some = (id, q, there, same q.datum a some)
+      where
+        same : (x y : AskedSeen) → Some x ≡ Some y → x ≡ y
+        same x y e = cc
+
+    by : (o : Option ℕ)
+        → option_map (λ x. x.datum) (option_and_then (λ id. datum_at id r.table.attached) o) ≡ Some a
+        → (id : ℕ) × (q : Request AskedSeen) × (datum_at id r.table.attached ≡ Some q)
+        × (q.datum ≡ a)
+    by None some = cc
+    by (Some id) some = at id (datum_at id r.table.attached) refl some
+
+not_told : (now n : ℕ) (until : Option ℕ) (c after : Client) (o : Option AskedSeen)
+    → handed_out_of now n c o ≡ (waits until, after) → ⊥
+not_told now n until c after None said = let no = ap (λ (p : Poll). p.0) said in cc
+not_told now n until c after (Some a) said = by (is_late now a) said
+  where
+    by : (b : Bool) → cond b (given_up n a c) (sent_by n c) ≡ (waits until, after) → ⊥
+    by true said = let no = ap (λ (p : Poll). p.0) said in cc
+    by false said = let no = ap (λ (p : Poll). p.0) said in cc
+
+pub client_waits : (now : ℕ) (until : Option ℕ) (c after : Client) (number : ℕ) (a : AskedSeen)
+    → IsPunctual c → told now c ≡ (waits until, after) → datum_of number after.requests ≡ Some a
+    → IsInTime now (moment_after a.until (plan_of c.plan)) until
+client_waits now until c after number a is said some = by (polled now c.requests) refl said
+  where
+    by : (p : PollOf AskedSeen EndSeen) → polled now c.requests ≡ p
+        → by_polled now (with_requests p.1 c) p.0 ≡ (waits until, after)
+        → IsInTime now (moment_after a.until (plan_of c.plan)) until
+    by (Of.Transmit n, r) same said =
+        absurd (not_told now n until (with_requests r c) after (datum_of n r) said)
+    by (Of.Ended n end, r) same said = let no = ap (λ (p : Poll). p.0) said in cc
+    by (Of.TimedOut n x, r) same said = let no = ap (λ (p : Poll). p.0) said in cc
+    by (Of.Wait u, r) same said =
+        let told_is : u ≡ until = wait_is u until (ap (λ (p : Poll). p.0) said) in
+        let after_is : r ≡ after.requests = ap (λ (p : Poll). p.1.requests) said in
+        let stored =
+        stored_there number a r (subst (λ (x : All). datum_of number x ≡ Some a) (sym after_is) some) in
+        subst (λ (x : Option ℕ). IsInTime now (moment_after a.until (plan_of c.plan)) x) told_is
+        (subst (λ (x : AskedSeen). IsInTime now (moment_after x.until (plan_of c.plan)) u) stored.3
+        (waits_in_time c.plan until_of now u c.requests r stored.0 stored.1 is same stored.2))
+      where
+        wait_is : (x y : Option ℕ) → waits x ≡ waits y → x ≡ y
+        wait_is x y e = cc

@@ -1,0 +1,183 @@
+//! A client of one server as one value, whose requests are each stored once.
+ghost use Rattle.std.specs.Option.{is_some, option_copied, option_map};
+ghost use Rattle.std.specs.Prelude.{◌≡◌, IfOk};
+ghost use Rattle.stun_agent.specs.Timing.{settings_of};
+ghost use Rattle.stun_client.specs.Judging.{identity_of};
+ghost use Rattle.stun_client_calls.specs.Clients.{cancelled, new_client};
+ghost use Rattle.stun_client_requests.specs.Numbers.{id_at};
+ghost use Rattle.stun_client_requests.specs.Requests.{bytes_at, datum_of, outstanding_count};
+
+use crate::asked::{Asked, End};
+use std::alloc::{AllocError, Allocator, Global};
+use std::collections::BTreeMap;
+use std::marker::Model;
+use std::net::SocketAddr;
+use stun_agent::agent::RequestRto;
+use stun_agent::stats::StunAgentStats;
+use stun_base::transport::TransportType;
+use stun_client::credentials::Credentials;
+use stun_client::standing::Standing;
+use stun_client_endpoint::ended::{Drops, RequestEnd};
+use stun_client_endpoint::endpoint::Settings;
+use stun_client_endpoint::form::Form;
+use stun_client_requests::requests::Requests;
+use stun_types::attribute::AttributeType;
+use stun_types::message::{IntegrityAlgorithm, IntegrityKey, PreparedKey, TransactionId};
+
+pub(crate) mod changing;
+mod polling;
+mod requesting;
+
+/// A client of one server on one transport, with any number of requests at the same time.
+///
+/// It retransmits, answers challenges and verifies signatures. `poll` returns the end of a request
+/// once. Take every `now` from one clock that never goes back, because otherwise requests are sent
+/// again too late.
+///
+/// A request is sent by one message for each challenge, and at most one unsigned message. Each message
+/// has a plan of its own: it is sent and awaited as `Settings::timeouts` say, by default for 39.5
+/// seconds. After the first plan of a request nothing is sent of it, so `poll` ends a request when twice
+/// the time of a plan has passed, within 79 seconds by default.
+///
+/// If an allocation fails, `request` returns an error. `poll` and `cancel` do not allocate.
+///
+/// Contracts: they see all of it. There is a password in it, so it has no `Debug`.
+#[derive(Drop)]
+pub struct ClientEndpoint<A: Allocator = Global> {
+    pub(crate) alloc: A,
+    pub(crate) server: SocketAddr,
+    pub(crate) requires_fingerprint: bool,
+    pub(crate) form: Form<A>,
+    pub(crate) understood: Vec<AttributeType, A>,
+    // How often another message of a request becomes the current one.
+    pub(crate) turns: u32,
+    pub(crate) plan: RequestRto,
+    pub(crate) seed: PreparedKey<A>,
+    pub(crate) next_id: u64,
+    pub(crate) credentials: Credentials<A>,
+    pub(crate) standing: Standing<A>,
+    pub(crate) requests: Requests<A, Asked<A>, End<A>>,
+    // The number of the request that each earlier message belongs to.
+    pub(crate) earlier: BTreeMap<TransactionId, u64, A>,
+}
+
+impl<A: Allocator> Model for ClientEndpoint<A> {
+    ghost use Rattle.stun_agent.specs.Timing.{settings_of};
+    ghost use Rattle.stun_client.specs.Judging.{identity_of};
+    ghost use Rattle.stun_client_calls.specs.Clients.{Client};
+
+    ghost Value = { Client };
+
+    ghost view = { λ e. record {
+      server = e.server;
+      requires_fingerprint = e.requires_fingerprint;
+      form = e.form;
+      understood = e.understood.items;
+      turns = e.turns;
+      plan = settings_of e.plan;
+      seed = e.seed;
+      next_id = e.next_id;
+      identity = identity_of e.credentials;
+      standing = e.standing;
+      requests = e.requests;
+      earlier = e.earlier.entries;
+    } };
+}
+
+impl<A: Allocator + Copy> ClientEndpoint<A> {
+    /// Creates a client of this server that has asked nothing. It keeps statistics if `stats` is true.
+    /// The seed is 32 unpredictable bytes that are used for this client alone, because the
+    /// transaction IDs are derived from it.
+    ///
+    /// Fails if an allocation fails.
+    pub fn new(
+        alloc: A,
+        transport: TransportType,
+        server: SocketAddr,
+        credentials: Credentials<A>,
+        settings: Settings<A>,
+        seed: &[u8; 32],
+        stats: bool,
+    ) -> Result<ClientEndpoint<A>, AllocError>
+        ensures { IfOk result (λ client. client ≡ new_client transport server stats
+            settings.requires_fingerprint (identity_of credentials) settings.form
+            settings.understood.items settings.challenges (settings_of settings.timeouts) seed.now) }
+    {
+        let Settings {
+            form,
+            requires_fingerprint,
+            understood,
+            challenges,
+            timeouts,
+        } = settings;
+        let key = IntegrityKey::from_bytes(alloc, seed)?;
+        Ok(ClientEndpoint {
+            alloc,
+            server,
+            requires_fingerprint,
+            form,
+            understood,
+            turns: challenges,
+            plan: timeouts,
+            seed: PreparedKey::new(key, IntegrityAlgorithm::Sha1),
+            next_id: 0,
+            credentials,
+            standing: Standing::new(),
+            requests: Requests::new(alloc, transport, server, stats),
+            earlier: BTreeMap::new(alloc),
+        })
+    }
+
+    /// Returns the statistics, if they are kept.
+    pub fn stats(&self) -> Option<&StunAgentStats>
+        ensures { option_copied result ≡ self.now.requests.table.statistics }
+    {
+        self.requests.stats()
+    }
+
+    /// Returns the bytes of the current message of a request, while it is outstanding.
+    pub fn bytes_of(&self, number: u64) -> Option<&[u8]>
+        ensures { option_map (λ b. b.now) result ≡ bytes_at number self.now.requests }
+    {
+        self.requests.bytes_of(number)
+    }
+
+    /// Returns the transaction ID of the current message of a request, while it is outstanding.
+    pub fn transaction_id(&self, number: u64) -> Option<TransactionId>
+        ensures { result ≡ id_at number self.now.requests.numbers }
+    {
+        self.requests.id_of(number)
+    }
+
+    /// Returns what was dropped for a request, while it is outstanding.
+    pub fn dropped(&self, number: u64) -> Option<Drops>
+        ensures { result ≡ option_map (λ a. a.drops) (datum_of number self.now.requests) }
+    {
+        let asked = self.requests.datum_of(number)?;
+        Some(asked.drops())
+    }
+
+    /// Returns the number of outstanding requests.
+    pub fn outstanding(&self) -> usize
+        ensures { result ≡ outstanding_count self.now.requests.numbers }
+    {
+        self.requests.outstanding()
+    }
+
+    /// Ends a request as canceled, which `poll` then returns. Returns `false` if no outstanding
+    /// request has this number. It does not allocate.
+    pub fn cancel(&mut self, number: u64) -> bool
+        ensures known { result ≡ is_some (datum_of number self.old.requests) }
+        ensures after { self.new ≡ cancelled number self.old }
+    {
+        let end = End {
+            end: RequestEnd::Cancelled,
+            response: Vec::new(self.alloc),
+        };
+        let Some(asked) = self.requests.cancel(number, end) else {
+            return false;
+        };
+        asked.forget(&mut self.earlier);
+        true
+    }
+}

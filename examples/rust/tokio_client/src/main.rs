@@ -63,8 +63,9 @@ async fn drive(mut client: Client, socket: UdpSocket, mut asked: mpsc::Receiver<
         };
         let due = until.map(|until| clock.to_std(until).into());
         tokio::select! {
+            // What is not of this client is dropped, since nobody else reads from this socket.
             received = socket.recv(&mut bytes) => if let Ok(length) = received {
-                client.receive(&bytes[..length], from, clock.now());
+                let _ = client.receive(&bytes[..length], from, clock.now());
             },
             request = asked.recv() => {
                 let Some((method, body, caller)) = request else { return };

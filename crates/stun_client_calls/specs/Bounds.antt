@@ -46,6 +46,12 @@ abbrev pub StaysPunctual : Type 0
 StaysPunctual = (c after : Client) → IsRequests c.requests → IsPunctual c → Call c after
     → IsPunctual after
 
+-- the first plan of a request that stays outstanding over a call ends then as before
+abbrev pub KeepsPlan : Type 0
+KeepsPlan = (c after : Client) (number : ℕ) (a b : AskedSeen) → IsRequests c.requests
+    → IsRequests after.requests → Call c after → datum_of number c.requests ≡ Some a
+    → datum_of number after.requests ≡ Some b → b.until ≡ a.until
+
 -- a request that a poll leaves outstanding, when it says to wait, is not older than two plans, and the
 -- wait ends no later than when it is
 abbrev pub WaitsInTime : Type 0

@@ -5,7 +5,8 @@ ghost use Rattle.stun_base.specs.declared.keys.algorithm.IntegrityAlgorithm.{Int
 ghost use Rattle.stun_client.specs.Challenges.{Answered, is_one};
 ghost use Rattle.stun_client.specs.Judging.{Verdict, refused, signed_with, takes_unsigned};
 ghost use Rattle.stun_client.specs.Standing.{StandingSeen};
-ghost use Rattle.stun_client_calls.specs.Bounds.{BeginsPunctual, StaysPunctual, WaitsInTime};
+ghost use Rattle.stun_client_calls.specs.Bounds.{BeginsPunctual, KeepsPlan, StaysPunctual};
+ghost use Rattle.stun_client_calls.specs.Bounds.{WaitsInTime};
 ghost use Rattle.stun_client_calls.specs.Deciding.{Place, answered, decided, refuses, turns};
 ghost use Rattle.stun_client_calls.specs.Laws.{IsAnswerOrDrop, IsNoEnd, IsUnspent, IsWithinLimits};
 ghost use Rattle.stun_client_calls.specs.Laws.{Judge, decision_on};
@@ -88,9 +89,11 @@ pub fn responses_to_earlier_messages_answer_or_are_dropped()
 /// A request that `ClientEndpoint::poll` leaves outstanding, when it says to wait, is not older than two
 /// plans, and the wait ends no later than when it is (`waits`; RFC 8489, sections 6.2.1 and 9.2.5). This
 /// holds however late `poll` is called, because nothing is sent of a request after its first plan, from
-/// the creation of a client on (`begins`) and over any calls (`stays`).
+/// the creation of a client on (`begins`) and over any calls (`stays`). No call changes when the first
+/// plan of a request ends (`keeps`).
 pub fn a_request_ends_within_two_plans()
     ensures begins { BeginsPunctual }
     ensures stays { StaysPunctual }
+    ensures keeps { KeepsPlan }
     ensures waits { WaitsInTime }
 {}

@@ -1,5 +1,6 @@
 -- Each call keeps the timers of the requests punctual, and a wait is within a plan of the last message.
 use Rattle.stun_client_calls.proofs.BoundLemmas.{begins_punctual, client_waits, stays_punctual}
+use Rattle.stun_client_calls.proofs.KeepingLemmas.{keeps_until}
 use Rattle.stun_client_calls.proofs.laws.a_request_ends_within_two_plans.Goals as goal
 
 pub returns-clause-begins : goal.returns-clause-begins
@@ -7,6 +8,9 @@ returns-clause-begins c = begins_punctual
 
 pub returns-clause-stays : goal.returns-clause-stays
 returns-clause-stays c = stays_punctual
+
+pub returns-clause-keeps : goal.returns-clause-keeps
+returns-clause-keeps c = keeps_until
 
 pub returns-clause-waits : goal.returns-clause-waits
 returns-clause-waits c = client_waits

@@ -7,7 +7,7 @@ use Rattle.std.proofs.lemmas.List.{drop-append-le, length-drop}
 use Rattle.byteorder.specs.Endian.{big_bytes}
 use Rattle.byteorder.specs.Numbers.{big_from-append, big_number-reads_back}
 use Rattle.stun_base.specs.Header.{BeginsWithHeader, MAGIC_COOKIE, cookie_field, length_field}
-use Rattle.stun_base.specs.Header.{type_field}
+use Rattle.stun_base.specs.Header.{transaction_id_field, type_field}
 use Rattle.stun_base.specs.MessageType.{type_number}
 use Rattle.stun_base.specs.declared.wire.error.StunWriteError.{StunWriteError}
 use Rattle.stun_base.specs.declared.wire.error.StunWriteError.TheVariants.{TooLarge}
@@ -37,38 +37,46 @@ use Rattle.stun_client_endpoint.specs.Written.{with_credentials, with_one, with_
 use Rattle.stun_client_endpoint.specs.Written.{with_own_software}
 use Rattle.stun_client_endpoint.proofs.WrittenLemmas.{request_id}
 
--- a whole number of words, the first of which are a header
-record IsHeaded (page : List ℕ) : Type 0 where
+-- a whole number of words, the first of which are a header, with this transaction ID if that fits
+record IsHeaded (id : ℕ) (page : List ℕ) : Type 0 where
   long : 20 ≤ length page
   whole : length page % 4 ≡ 0
   top_bits : type_field page < 2 ^ 14
   cookie : cookie_field page ≡ MAGIC_COOKIE
   aligned : length_field page % 4 ≡ 0
+  id_is : id < 256 ^ 12 → transaction_id_field page ≡ id
 
-raised : (page tail : List ℕ) (n : ℕ) → n % 4 ≡ 0 → length tail % 4 ≡ 0 → IsHeaded page
-    → IsHeaded (with_length page n ++ tail)
-raised [] tail n four words is = absurd (omega (arith, is.long))
-raised (x ∷ []) tail n four words is = absurd (omega (arith, is.long))
-raised (x ∷ y ∷ []) tail n four words is = absurd (omega (arith, is.long))
-raised (x ∷ y ∷ z ∷ []) tail n four words is = absurd (omega (arith, is.long))
-raised (x ∷ y ∷ z ∷ w ∷ rest) tail n four words is =
+raised : (id : ℕ) (page tail : List ℕ) (n : ℕ) → n % 4 ≡ 0 → length tail % 4 ≡ 0 → IsHeaded id page
+    → IsHeaded id (with_length page n ++ tail)
+raised id [] tail n four words is = absurd (omega (arith, is.long))
+raised id (x ∷ []) tail n four words is = absurd (omega (arith, is.long))
+raised id (x ∷ y ∷ []) tail n four words is = absurd (omega (arith, is.long))
+raised id (x ∷ y ∷ z ∷ []) tail n four words is = absurd (omega (arith, is.long))
+raised id (x ∷ y ∷ z ∷ w ∷ rest) tail n four words is =
     let sixteen : 16 ≤ length rest = omega (arith, is.long) in
     let sum = length-append rest tail in
+    let behind : drop 4 (rest ++ tail) ≡ drop 4 rest ++ tail =
+    drop-append-le 4 rest tail (omega arith) in
     record {
       long = omega (arith, sum);
       whole = omega (arith, sum, words, is.whole);
       top_bits = is.top_bits;
       cookie = big_from-append 4 rest tail (omega arith) ∙ is.cookie;
       aligned = omega (arith, four);
+      id_is =
+          λ fits.
+          rw behind (big_from-append 12 (drop 4 rest) tail (omega (arith, length-drop 4 rest)))
+          ∙ is.id_is fits;
     }
 
-added : (page : List ℕ) (a : TypedValue) → IsHeaded page → IsHeaded (with_attribute page a)
-added page a is =
+added : (id : ℕ) (page : List ℕ) (a : TypedValue) → IsHeaded id page
+    → IsHeaded id (with_attribute page a)
+added id page a is =
     let count = length-spelled_attribute a in
-    raised page (spelled_attribute a) (length_with page (length a.value))
+    raised id page (spelled_attribute a) (length_with page (length a.value))
     (omega (arith, is.whole, is.long)) (omega (arith, count)) is
 
-begun : (method id : ℕ) → method < 4096 → IsHeaded (empty_message Request method id)
+begun : (method id : ℕ) → method < 4096 → IsHeaded id (empty_message Request method id)
 begun method id low = record {
   long = omega arith;
   whole = refl;
@@ -81,6 +89,7 @@ begun method id low = record {
   cookie =
       big_number-reads_back 4 MAGIC_COOKIE (big_bytes 12 id ++ spelled_attributes []) (omega arith);
   aligned = refl;
+  id_is = λ fits. big_number-reads_back 12 id [] fits;
 }
 
 -- ---- each step
@@ -95,98 +104,100 @@ unless_is : (o : Option StunWriteError) (page bytes : List ℕ) → unless o pag
 unless_is None page bytes is = cc
 unless_is (Some why) page bytes is = cc
 
-same_has : (page bytes : List ℕ) → IsHeaded page → ◌≡◌ {A = Page?} (Ok page) (Ok bytes)
-    → IsHeaded bytes
-same_has page bytes has is = let same : page ≡ bytes = cc in subst IsHeaded same has
+same_has : (id : ℕ) (page bytes : List ℕ) → IsHeaded id page → ◌≡◌ {A = Page?} (Ok page) (Ok bytes)
+    → IsHeaded id bytes
+same_has id page bytes has is = let same : page ≡ bytes = cc in subst (IsHeaded id) same has
 
-another_has : (a : TypedValue) (page bytes : List ℕ) → IsHeaded page
-    → with_another a page ≡ Ok bytes → IsHeaded bytes
-another_has a page bytes has is =
-    subst IsHeaded (unless_is _ (with_attribute page a) bytes is) (added page a has)
+another_has : (id : ℕ) (a : TypedValue) (page bytes : List ℕ) → IsHeaded id page
+    → with_another a page ≡ Ok bytes → IsHeaded id bytes
+another_has id a page bytes has is =
+    subst (IsHeaded id) (unless_is _ (with_attribute page a) bytes is) (added id page a has)
 
-one_has : (a : TypedValue) (page bytes : List ℕ) → IsHeaded page
-    → with_one a page ≡ Ok bytes → IsHeaded bytes
-one_has a page bytes has is =
-    subst IsHeaded (unless_is _ (with_attribute page a) bytes is) (added page a has)
+one_has : (id : ℕ) (a : TypedValue) (page bytes : List ℕ) → IsHeaded id page
+    → with_one a page ≡ Ok bytes → IsHeaded id bytes
+one_has id a page bytes has is =
+    subst (IsHeaded id) (unless_is _ (with_attribute page a) bytes is) (added id page a has)
 
-body_has : (id : ℕ) (body : Body) (page bytes : List ℕ) → IsHeaded page
-    → with_body id body page ≡ Ok bytes → IsHeaded bytes
-body_has id [] page bytes has is = same_has page bytes has is
+body_has : (id : ℕ) (body : Body) (page bytes : List ℕ) → IsHeaded id page
+    → with_body id body page ≡ Ok bytes → IsHeaded id bytes
+body_has id [] page bytes has is = same_has id page bytes has is
 body_has id (piece ∷ others) page bytes has is =
     let first = then_is (with_another (attribute_for id piece) page) (with_body id others) bytes is in
     body_has id others first.0 bytes
-    (another_has (attribute_for id piece) page first.0 has first.1) first.2
+    (another_has id (attribute_for id piece) page first.0 has first.1) first.2
 
-software_has : (software : Option (List ℕ)) (page bytes : List ℕ) → IsHeaded page
-    → with_own_software software page ≡ Ok bytes → IsHeaded bytes
-software_has None page bytes has is = same_has page bytes has is
-software_has (Some text) page bytes has is = by (nat_lt TEXT_LIMIT (length text)) is
+software_has : (id : ℕ) (software : Option (List ℕ)) (page bytes : List ℕ) → IsHeaded id page
+    → with_own_software software page ≡ Ok bytes → IsHeaded id bytes
+software_has id None page bytes has is = same_has id page bytes has is
+software_has id (Some text) page bytes has is = by (nat_lt TEXT_LIMIT (length text)) is
   where
     by : (b : Bool)
         → cond b (Err TooLarge) (with_one (record { kind = SOFTWARE; value = text }) page) ≡ Ok bytes
-        → IsHeaded bytes
+        → IsHeaded id bytes
     by true is = cc
-    by false is = one_has (record { kind = SOFTWARE; value = text }) page bytes has is
+    by false is = one_has id (record { kind = SOFTWARE; value = text }) page bytes has is
 
-addition_has : (x : Addition) (page : List ℕ) → IsHeaded page → IsHeaded (with_addition x page)
-addition_has (attribute a) page has = added page a has
-addition_has (integrity algorithm key) page has =
-    added page (integrity_attribute page algorithm key) has
+addition_has : (id : ℕ) (x : Addition) (page : List ℕ) → IsHeaded id page
+    → IsHeaded id (with_addition x page)
+addition_has id (attribute a) page has = added id page a has
+addition_has id (integrity algorithm key) page has =
+    added id page (integrity_attribute page algorithm key) has
 
-added_has : (x : Addition) (p q : Page) → IsHeaded p.bytes → added_one x p ≡ Ok q
-    → IsHeaded q.bytes
+added_has : (id : ℕ) (x : Addition) (p q : Page) → IsHeaded id p.bytes → added_one x p ≡ Ok q
+    → IsHeaded id q.bytes
 unfolding added_one
-added_has x p q has is = by (addition_refusal x p) is
+added_has id x p q has is = by (addition_refusal x p) is
   where
     by : (o : Option StunWriteError)
         → page_unless_refused o
         (record { bytes = with_addition x p.bytes; room = p.room - growth_of x }) ≡ Ok q
-        → IsHeaded q.bytes
+        → IsHeaded id q.bytes
     by None is =
-        subst (λ (r : Result Page StunWriteError). IsHeaded (bytes_of r)) is
-        (addition_has x p.bytes has)
+        subst (λ (r : Result Page StunWriteError). IsHeaded id (bytes_of r)) is
+        (addition_has id x p.bytes has)
       where
         bytes_of : Result Page StunWriteError → List ℕ
         bytes_of (Err why) = []
         bytes_of (Ok page) = page.bytes
     by (Some why) is = cc
 
-all_has : (list : List Addition) (p q : Page) → IsHeaded p.bytes → added_all list p ≡ Ok q
-    → IsHeaded q.bytes
-all_has [] p q has is =
+all_has : (id : ℕ) (list : List Addition) (p q : Page) → IsHeaded id p.bytes → added_all list p ≡ Ok q
+    → IsHeaded id q.bytes
+all_has id [] p q has is =
     let same : p ≡ q = cc in
-    subst (λ (r : Page). IsHeaded r.bytes) same has
-all_has (x ∷ others) p q has is =
-    by (added_one x p) refl is (λ m more. all_has others m q more)
+    subst (λ (r : Page). IsHeaded id r.bytes) same has
+all_has id (x ∷ others) p q has is =
+    by (added_one x p) refl is (λ m more. all_has id others m q more)
   where
     by : (r : Result Page StunWriteError) → added_one x p ≡ r → after r (added_all others) ≡ Ok q
-        → ((m : Page) → IsHeaded m.bytes → added_all others m ≡ Ok q → IsHeaded q.bytes)
-        → IsHeaded q.bytes
+        → ((m : Page) → IsHeaded id m.bytes → added_all others m ≡ Ok q → IsHeaded id q.bytes)
+        → IsHeaded id q.bytes
     by (Err why) first is rest = cc
-    by (Ok m) first is rest = rest m (added_has x p m has first) is
+    by (Ok m) first is rest = rest m (added_has id x p m has first) is
 
-credentials_has : (identity : Identity) (challenge : Option Answered) (page bytes : List ℕ)
-    → IsHeaded page → with_credentials identity challenge page ≡ Ok bytes → IsHeaded bytes
-credentials_has identity challenge page bytes has is =
+credentials_has : (id : ℕ) (identity : Identity) (challenge : Option Answered) (page bytes : List ℕ)
+    → IsHeaded id page → with_credentials identity challenge page ≡ Ok bytes → IsHeaded id bytes
+credentials_has id identity challenge page bytes has is =
     by (added_all (additions_of identity challenge) (page_of page)) refl is
   where
     by : (r : Result Page StunWriteError)
         → added_all (additions_of identity challenge) (page_of page) ≡ r → page_bytes r ≡ Ok bytes
-        → IsHeaded bytes
+        → IsHeaded id bytes
     by (Err why) all is = cc
     by (Ok q) all is =
-        same_has q.bytes bytes (all_has (additions_of identity challenge) (page_of page) q has all) is
+        same_has id q.bytes bytes
+        (all_has id (additions_of identity challenge) (page_of page) q has all) is
 
-end_has : (has_fingerprint : Bool) (page bytes : List ℕ) → IsHeaded page
-    → with_own_end has_fingerprint page ≡ Ok bytes → IsHeaded bytes
-end_has true page bytes has is =
-    subst IsHeaded (unless_is _ (with_fingerprint page) bytes is)
-    (added page (fingerprint_attribute page) has)
-end_has false page bytes has is = same_has page bytes has is
+end_has : (id : ℕ) (has_fingerprint : Bool) (page bytes : List ℕ) → IsHeaded id page
+    → with_own_end has_fingerprint page ≡ Ok bytes → IsHeaded id bytes
+end_has id true page bytes has is =
+    subst (IsHeaded id) (unless_is _ (with_fingerprint page) bytes is)
+    (added id page (fingerprint_attribute page) has)
+end_has id false page bytes has is = same_has id page bytes has is
 
 whole_has : (form : Form) (identity : Identity) (challenge : Option Answered)
     (method id : ℕ) (body : Body) (bytes : List ℕ) → method < 4096
-    → whole_request form identity challenge method id body ≡ Ok bytes → IsHeaded bytes
+    → whole_request form identity challenge method id body ≡ Ok bytes → IsHeaded id bytes
 whole_has form identity challenge method id body bytes low is =
     let empty = empty_message Request method id in
     let first =
@@ -195,27 +206,45 @@ whole_has form identity challenge method id body bytes low is =
     let second =
     then_is (with_own_software form.software first.0) (closed_request form identity challenge) bytes
     first.2 in
-    let named = software_has form.software first.0 second.0 filled second.1 in
+    let named = software_has id form.software first.0 second.0 filled second.1 in
     let third =
     then_is (with_credentials identity challenge second.0) (with_own_end form.has_fingerprint) bytes
     second.2 in
-    let signed = credentials_has identity challenge second.0 third.0 named third.1 in
-    end_has form.has_fingerprint third.0 bytes signed third.2
+    let signed = credentials_has id identity challenge second.0 third.0 named third.1 in
+    end_has id form.has_fingerprint third.0 bytes signed third.2
 
 request_has : (form : Form) (identity : Identity) (challenge : Option Answered)
     (method id : ℕ) (body : Body) (bytes : List ℕ) → method < 4096
-    → request_bytes form identity challenge method id body ≡ Ok bytes → IsHeaded bytes
+    → request_bytes form identity challenge method id body ≡ Ok bytes → IsHeaded id bytes
 unfolding request_bytes
 request_has form identity challenge method id body bytes low is =
     by (is_text_too_long form.software) is
   where
     by : (b : Bool)
         → cond b (Err TooLarge) (whole_request form identity challenge method id body) ≡ Ok bytes
-        → IsHeaded bytes
+        → IsHeaded id bytes
     by true is = cc
     by false is = whole_has form identity challenge method id body bytes low is
 
 -- the bytes of a request are those of a request with the ID that they are written for
+pub is_request_with : (form : Form) (identity : Identity) (challenge : Option Answered)
+    (method id : ℕ) (body : Body) (bytes : List ℕ) → method < 4096 → id < 256 ^ 12
+    → request_bytes form identity challenge method id body ≡ Ok bytes → IsRequestOf id bytes
+is_request_with form identity challenge method id body bytes low fits is =
+    let has = request_has form identity challenge method id body bytes low is in
+    record {
+      header = record {
+        is_whole = has.long;
+        fields = is_stun-fields bytes (record {
+          top_bits = has.top_bits;
+          cookie = has.cookie;
+          aligned = has.aligned;
+        });
+      };
+      id_is = has.id_is fits;
+    }
+
+-- the same of an ID that is derived from a seed
 pub is_request : (form : Form) (identity : Identity) (challenge : Option Answered)
     (method number : ℕ) (seed : List ℕ) (body : Body) (bytes : List ℕ) → method < 4096
     → request_bytes form identity challenge method (id_of seed number) body ≡ Ok bytes

@@ -5,4 +5,5 @@ pub mod HeaderLemmas
 pub mod IdLemmas
 pub mod KeepingLemmas
 pub mod OptionLemmas
+pub mod ReceivingLemmas
 pub mod RequestingLemmas

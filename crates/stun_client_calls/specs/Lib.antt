@@ -16,3 +16,6 @@ pub mod Clients
 pub mod Bounds
 -- what follows of all this
 pub mod Laws
+-- what a datagram comes to at such a client
+pub mod Receiving
+pub mod code

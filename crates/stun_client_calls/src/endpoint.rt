@@ -24,8 +24,10 @@ use stun_client_requests::requests::Requests;
 use stun_types::attribute::AttributeType;
 use stun_types::message::{IntegrityAlgorithm, IntegrityKey, PreparedKey, TransactionId};
 
+mod acting;
 pub(crate) mod changing;
 mod polling;
+mod receiving;
 mod requesting;
 
 /// A client of one server on one transport, with any number of requests at the same time.

@@ -89,8 +89,8 @@ pub fn responses_to_earlier_messages_answer_or_are_dropped()
 /// A request that `ClientEndpoint::poll` leaves outstanding, when it says to wait, is not older than two
 /// plans, and the wait ends no later than when it is (`waits`; RFC 8489, sections 6.2.1 and 9.2.5). This
 /// holds however late `poll` is called, because nothing is sent of a request after its first plan, from
-/// the creation of a client on (`begins`) and over any calls (`stays`). No call changes when the first
-/// plan of a request ends (`keeps`).
+/// the creation of a client on (`begins`) and over any calls of `request`, `cancel` and `poll` (`stays`).
+/// None of these calls changes when the first plan of a request ends (`keeps`).
 pub fn a_request_ends_within_two_plans()
     ensures begins { BeginsPunctual }
     ensures stays { StaysPunctual }

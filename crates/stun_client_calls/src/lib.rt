@@ -6,8 +6,8 @@
 //! timer. The others are earlier messages, which are not sent any more, but a response to one of
 //! them may still end the request. `asked` has what is stored of a request, `turning` why another
 //! message becomes the current one, `deciding` what a response to a message comes to, `ids` the
-//! transaction ID of the next message, and `writing` its bytes. `endpoint` is a client of one server
-//! over these, which reads no responses.
+//! transaction ID of the next message, and `writing` its bytes. `endpoint` is a client of one
+//! server over these.
 //!
 //! Nothing stands over this crate yet.
 #![tactic(auto)]

@@ -1,6 +1,7 @@
 //! The bytes of a message of a request.
 ghost use Rattle.std.specs.Option.{option_copied};
 ghost use Rattle.std.specs.Prelude.{◌≡◌, ◌⊎◌, Err, IfErr, IfOk, Ok, true};
+ghost use Rattle.stun_agent.specs.Transactions.{IsRequestOf};
 ghost use Rattle.stun_client.specs.Judging.{identity_of};
 ghost use Rattle.stun_client_calls.specs.Writing.{message_bytes};
 ghost use Rattle.stun_client_endpoint.specs.Written.{is_text_too_long};
@@ -30,18 +31,16 @@ pub fn message<A: Allocator + Copy>(
 ) -> Result<Vec<u8, A>, StunWriteError>
     ensures ok { IfOk result (λ bytes. message_bytes form.now (identity_of credentials.now)
         (option_copied signed_for.entry) id asked.now ≡ Ok bytes.items) }
+    ensures named { IfOk result (λ bytes. IsRequestOf id bytes.items) }
     ensures refused { IfErr result (λ why. (why ≡ StunWriteError.OutOfMemory)
         ⊎ (message_bytes form.now (identity_of credentials.now) (option_copied signed_for.entry) id
         asked.now ≡ Err why)) }
     ensures at_once { is_text_too_long form.now.software ≡ true
         → result ≡ Err StunWriteError.TooLarge }
 {
-    form.written(
-        alloc,
-        credentials,
-        signed_for,
-        asked.method(),
-        id,
-        asked.body(),
-    )
+    let method = asked.method();
+    // So the header has both of them as they are.
+    prove!(method.value() < 4096);
+    prove!(id.as_u128() < 1 << 96);
+    form.written(alloc, credentials, signed_for, method, id, asked.body())
 }

@@ -6,8 +6,8 @@
 //! has which numbers are outstanding, under which IDs, and which have ended. Whoever stores what a
 //! request is signed for, its method and what was dropped for it, stores this in the datum.
 //!
-//! Nothing stands over this crate yet: `stun_client_endpoint` still stores its requests in three
-//! tables.
+//! Only `stun_client_calls` stands over this crate yet: `stun_client_endpoint` still stores its
+//! requests in three tables.
 #![tactic(auto)]
 
 pub mod laws;

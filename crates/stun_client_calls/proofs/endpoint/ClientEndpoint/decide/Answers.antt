@@ -1,0 +1,13 @@
+-- The response is judged, and what it is judged as is decided on.
+use Rattle.std.proofs.lemmas.Result.{IfOk-weaker}
+use Rattle.stun_client_calls.specs.Deciding.{decision_of}
+use Rattle.stun_client_calls.proofs.ReceivingLemmas.{decided_at}
+use Rattle.stun_client_calls.proofs.endpoint.ClientEndpoint.decide.Goals as goal
+
+pub returns : goal.returns
+returns g c =
+    IfOk-weaker c.decide.result _ _
+    (λ d is. decided_at c.args.self.now _ c.args.now c.args.message.now c.args.met.now _
+    c.limits.result _ (decision_of d) c.self.view_is c.met.view_is c.limits.ensures
+    c.in_ok-judged.ensures.judged is)
+    c.decide.ensures.decided

@@ -1,0 +1,41 @@
+-- The former message is kept and noted if there was memory for it.
+use Rattle.std.proofs.Common.{◌∙◌, Option, ap, sym}
+use Rattle.std.specs.Prelude.{is_ok}
+use Rattle.stun_client.specs.Challenges.{Answered}
+use Rattle.stun_client.specs.Clients.{answering}
+use Rattle.stun_client_calls.specs.Messages.{TurnSeen}
+use Rattle.stun_client_calls.proofs.ReceivingLemmas.{exchanged_at, ids_so}
+use Rattle.stun_client_calls.proofs.endpoint.ClientEndpoint.exchange.Goals as goal
+
+pub returns-in-Some : goal.returns-in-Some
+returns-in-Some g c =
+    exchanged_at c.args.self.now _ c.args.number c.args.former c.turn.inside.next_id
+    c.turn.inside.id c.args.asked c.turned-asked.result.0 c.args.turn
+    c.turned-asked.result.1 (is_ok c.insert.result)
+    c.answer.new.self c.replace.new.self c.insert.new.self.entries
+    c.self.view_is (ap (λ (t : TurnSeen). t.next_id) c.turn.view_is)
+    (ap (λ (t : TurnSeen). t.id) c.turn.view_is)
+    c.turned-asked.ensures.turned
+    (c.answer.ensures
+    ∙ ap (λ (o : Option Answered). answering c.self.inside.standing o)
+    (sym c.in-Some.is ∙ c.turned-asked.ensures.answered))
+    c.replace.ensures.after
+    (ids_so c.insert.result c.args.former c.turn.inside.id c.args.number
+    c.self.inside.earlier.entries c.remove.new.self.entries c.insert.new.self.entries
+    c.remove.ensures.entries c.insert.ensures.entries c.insert.ensures.err)
+
+pub returns-in_default : goal.returns-in_default
+returns-in_default g c =
+    exchanged_at c.args.self.now _ c.args.number c.args.former c.turn.inside.next_id
+    c.turn.inside.id c.args.asked c.turned-asked.result.0 c.args.turn
+    c.turned-asked.result.1 (is_ok c.insert.result)
+    c.self.inside.standing c.replace.new.self c.insert.new.self.entries
+    c.self.view_is (ap (λ (t : TurnSeen). t.next_id) c.turn.view_is)
+    (ap (λ (t : TurnSeen). t.id) c.turn.view_is)
+    c.turned-asked.ensures.turned
+    (ap (λ (o : Option Answered). answering c.self.inside.standing o)
+    (sym c.in_default.is ∙ c.turned-asked.ensures.answered))
+    c.replace.ensures.after
+    (ids_so c.insert.result c.args.former c.turn.inside.id c.args.number
+    c.self.inside.earlier.entries c.remove.new.self.entries c.insert.new.self.entries
+    c.remove.ensures.entries c.insert.ensures.entries c.insert.ensures.err)

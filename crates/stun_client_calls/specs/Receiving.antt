@@ -1,0 +1,262 @@
+-- What a datagram comes to, and the client then (RFC 8489, sections 5, 6.3 and 9.2.5).
+use Rattle.std.specs.Prelude.{◌≡◌, ◌+◌, ℕ, Bool, true, false, List, [], length, Option, Some, None}
+use Rattle.std.specs.Prelude.{if◌then◌else◌, Ok, Err}
+use Rattle.std.specs.BTreeMap.{insert_entry, is_at}
+use Rattle.std.specs.Map.{remove_entry}
+use Rattle.std.specs.Option.{is_some, option_and_then, option_map}
+use Rattle.std.specs.Ordering.{nat_cmp}
+use Rattle.std.specs.declared.net.socket_addr.SocketAddr.{SocketAddr}
+use Rattle.stun_base.specs.Header.{transaction_id_field}
+use Rattle.stun_base.specs.MessageType.{class_in}
+use Rattle.stun_base.specs.declared.wire.message_type.MessageClass.{MessageClass}
+use Rattle.stun_base.specs.declared.wire.message_type.MessageClass.TheVariants as Classes
+use Rattle.stun_types.specs.Message.{refusal}
+use Rattle.stun_extra.specs.CanonicalAddress.{is_same_address}
+use Rattle.stun_client.specs.Challenges.{Answered}
+use Rattle.stun_client.specs.Challenging.{code_in}
+use Rattle.stun_client.specs.Clients.{answering, confirming}
+use Rattle.stun_client.specs.Ids.{id_of}
+use Rattle.stun_client.specs.Outcomes.{outcome_of}
+use Rattle.stun_client.specs.Requests.{is_answer}
+use Rattle.stun_client_loop.specs.Loops.{is_success_class}
+use Rattle.stun_client_endpoint.specs.Endpoints.{is_reliable}
+use Rattle.stun_client_endpoint.specs.Written.{Page?}
+use Rattle.stun_client_endpoint.specs.declared.ended.DropReason.{DropReason}
+use Rattle.stun_client_endpoint.specs.declared.ended.DropReason.TheVariants as Reasons
+use Rattle.stun_client_endpoint.specs.declared.ended.RequestEnd.TheVariants as how
+use Rattle.stun_client_endpoint.specs.declared.told.Received.{Received}
+use Rattle.stun_client_endpoint.specs.declared.told.Received.TheVariants.{Consumed, Dropped}
+use Rattle.stun_client_endpoint.specs.declared.told.Received.TheVariants.{Indication, NotOurs}
+use Rattle.stun_client_requests.specs.Requests.{after_again, after_answering, after_replacing}
+use Rattle.stun_client_requests.specs.Requests.{datum_of, number_at}
+use Rattle.stun_client_calls.specs.Clients.{Client, changed_at, chosen, forgetting, with_requests}
+use Rattle.stun_client_calls.specs.Deciding.{DecisionSeen, Place, answered, drops, refuses, turns}
+use Rattle.stun_client_calls.specs.Deciding.{unauthorized}
+use Rattle.stun_client_calls.specs.Endpoints.{EndSeen}
+use Rattle.stun_client_calls.specs.Ids.{Earlier, number_in}
+use Rattle.stun_client_calls.specs.Laws.{Judge, decision_on}
+use Rattle.stun_client_calls.specs.Messages.{AskedSeen, SentSeen, TurnSeen, counted_on, is_doubt}
+use Rattle.stun_client_calls.specs.Messages.{message_at, new_asked, rank_after, turned}
+use Rattle.stun_client_calls.specs.Writing.{message_bytes}
+use Rattle.stun_client_calls.specs.declared.asked.Change.TheVariants.{Noted, Refused}
+use Rattle.stun_client_calls.specs.declared.turning.Why.{Why}
+
+-- what a datagram comes to, and the client then
+abbrev pub Answer : Type 0
+Answer = Received × Client
+
+-- ---- the message that a response answers
+
+-- a message of an outstanding request: the number of the request and what is stored of it, whether
+-- the message is the current one, and the challenge that it is signed for
+pub record Met : Type 0 where
+  pub number : ℕ
+  pub asked : AskedSeen
+  pub is_current : Bool
+  pub signed_for : Option Answered
+
+abbrev pub as_current : ℕ → AskedSeen → Met
+as_current number a =
+    record { number = number; asked = a; is_current = true; signed_for = a.signed_for }
+
+abbrev pub as_earlier : ℕ → AskedSeen → ℕ × SentSeen → Met
+as_earlier number a e =
+    record { number = number; asked = a; is_current = false; signed_for = e.1.signed_for }
+
+abbrev pub current_of : Client → ℕ → Option Met
+current_of c number = option_map (as_current number) (datum_of number c.requests)
+
+abbrev pub earlier_of : ℕ → Client → ℕ → Option Met
+earlier_of id c number =
+    option_and_then (λ a. option_map (as_earlier number a) (message_at id a.earlier))
+    (datum_of number c.requests)
+
+abbrev pub met_by : ℕ → Client → Option ℕ → Option Met
+met_by id c (Some number) = current_of c number
+met_by id c None = option_and_then (earlier_of id c) (number_in id c.earlier)
+
+-- the message with a transaction ID
+abbrev pub met : ℕ → Client → Option Met
+met id c = met_by id c (number_at id c.requests.table.attached)
+
+-- a response has the method of the request that it answers
+abbrev pub if_method : List ℕ → Option Met → Option Met
+if_method bytes None = None
+if_method bytes (Some m) = if is_answer m.asked.method bytes then Some m else None
+
+-- ---- what it comes to
+
+abbrev pub judge_of : Client → Judge
+judge_of c = record {
+  required = c.requires_fingerprint;
+  identity = c.identity;
+  limits = record { turns = c.turns; is_reliable = is_reliable c.requests.table.transport };
+  standing = c.standing;
+}
+
+abbrev pub decision_for : Client → ℕ → List ℕ → Met → DecisionSeen
+decision_for c now bytes m = decision_on (judge_of c) m.is_current now m.asked m.signed_for bytes
+
+-- it is dropped
+abbrev pub dropping : ℕ → DropReason → List ℕ → Client → Answer
+dropping number why bytes c = (
+  Dropped why,
+  with_requests (changed_at (Noted why (code_in bytes)) number c.requests) c,
+)
+
+-- the challenge that the message is signed for is dropped, and counts
+abbrev pub dropping_refusal : ℕ → List ℕ → Client → Answer
+dropping_refusal number bytes c = (
+  Dropped Reasons.Refused,
+  with_requests (changed_at (Refused (code_in bytes)) number c.requests) c,
+)
+
+-- when it arrived, if it answers the current message. No round trip is measured by an earlier one
+abbrev pub moment_of : ℕ → Met → Option ℕ
+moment_of now m = if m.is_current then Some now else None
+
+-- a request ends
+abbrev pub ended_by : EndSeen → List ℕ → ℕ → Met → Client → Client
+ended_by end bytes now m c = record c {
+  requests = after_answering m.number (length bytes) (moment_of now m) end c.requests;
+  earlier = forgetting (Some m.asked) c.earlier;
+}
+
+-- a response that is believed ends its request. A success confirms the challenge of its message
+abbrev pub answered_by : Client → ℕ → List ℕ → Met → EndSeen → Answer
+answered_by c now bytes m end = (
+  Consumed,
+  ended_by end bytes now m (record c {
+    standing = confirming (is_success_class (class_in bytes)) c.standing m.signed_for;
+  }),
+)
+
+abbrev pub unauthorized_by : Client → ℕ → List ℕ → Met → Answer
+unauthorized_by c now bytes m =
+    (Consumed, ended_by (record { end = how.Unauthorized; response = [] }) bytes now m c)
+
+-- ---- another message
+
+-- where another message stands: its transaction ID and its rank, and the number of the next ID
+pub record Spot : Type 0 where
+  pub id : ℕ
+  pub rank : ℕ
+  pub next_id : ℕ
+
+-- an earlier message has its own, and a new one gets the next ones. There may be no ID left
+abbrev pub spot_of : Client → AskedSeen → Option Place → Option Spot
+spot_of c a (Some p) = Some (record { id = p.1; rank = p.0; next_id = c.next_id })
+spot_of c a None =
+    option_map
+    (λ number. record {
+      id = id_of c.seed number;
+      rank = rank_after (counted_on a.turns);
+      next_id = number + 1;
+    }) (chosen c)
+
+abbrev pub turn_to : Spot → Why → Option Answered → TurnSeen
+turn_to s why d = record {
+  id = s.id;
+  rank = s.rank;
+  signed_for = d;
+  next_id = s.next_id;
+  answered = d;
+  why = why;
+}
+
+-- the number of the request that earlier messages belong to, once one of them has become the
+-- current one in place of another, which is noted, or there is no memory for it
+abbrev pub exchanged_ids : Bool → ℕ → ℕ → ℕ → Earlier → Earlier
+exchanged_ids is_noted former id number earlier =
+    if is_noted then insert_entry nat_cmp (remove_entry (is_at (nat_cmp id)) earlier) former number
+    else remove_entry (is_at (nat_cmp id)) earlier
+
+-- whether there was memory to keep the message that was the current one: what it is signed for, and
+-- its transaction ID
+pub record Memory : Type 0 where
+  pub is_kept : Bool
+  pub is_noted : Bool
+
+-- another message becomes the current one, with these bytes. Its challenge becomes the standing
+-- one. The response ends the former message
+abbrev pub turned_to : Memory → Client → ℕ → List ℕ → Met → Why → Option Answered → Spot → List ℕ
+    → Answer
+turned_to memory c now response m why d s bytes = (
+  Consumed,
+  record c {
+    next_id = s.next_id;
+    standing = answering c.standing d;
+    requests = after_replacing m.number
+        (turned memory.is_kept (transaction_id_field response) (turn_to s why d) m.asked)
+        (after_again m.number (record { count = length response; moment = Some now }) s.id bytes c.plan
+        (new_asked m.asked.method [] 0 None) now c.requests);
+    earlier = exchanged_ids memory.is_noted (transaction_id_field response) s.id m.number c.earlier;
+  },
+)
+
+-- a response for which there is no memory, or no transaction ID
+abbrev pub out_of_memory : List ℕ → Client → Met → Answer
+out_of_memory bytes c m = dropping m.number Reasons.OutOfMemory bytes c
+
+-- why a response is dropped for which a message cannot be written
+abbrev pub unwritten : Why → DropReason
+unwritten why = if is_doubt why then Reasons.NotVerified else Reasons.UnanswerableChallenge
+
+abbrev pub turned_by : Memory → Client → ℕ → List ℕ → Met → Why → Option Answered → Spot → Page?
+    → Answer
+turned_by memory c now response m why d s (Err refused) =
+    dropping m.number (unwritten why) response c
+turned_by memory c now response m why d s (Ok bytes) =
+    turned_to memory c now response m why d s bytes
+
+abbrev pub turned_at : Memory → Client → ℕ → List ℕ → Met → Why → Option Answered → Option Spot
+    → Answer
+turned_at memory c now response m why d None = out_of_memory response c m
+turned_at memory c now response m why d (Some s) =
+    turned_by memory c now response m why d s (message_bytes c.form c.identity d s.id m.asked)
+
+-- ---- all of it
+
+abbrev pub by_decision : Memory → Client → ℕ → List ℕ → Met → DecisionSeen → Answer
+by_decision memory c now bytes m (answered by) =
+    answered_by c now bytes m (record {
+      end = how.Answered (outcome_of c.understood bytes) by;
+      response = bytes;
+    })
+by_decision memory c now bytes m unauthorized = unauthorized_by c now bytes m
+by_decision memory c now bytes m (turns why place d) =
+    turned_at memory c now bytes m why d (spot_of c m.asked place)
+by_decision memory c now bytes m refuses = dropping_refusal m.number bytes c
+by_decision memory c now bytes m (drops why) = dropping m.number why bytes c
+
+abbrev pub by_met : Memory → Client → ℕ → List ℕ → Option Met → Answer
+by_met memory c now bytes None = (NotOurs, c)
+by_met memory c now bytes (Some m) = by_decision memory c now bytes m (decision_for c now bytes m)
+
+abbrev pub answered_in : List ℕ → Client → Option Met
+answered_in bytes c = if_method bytes (met (transaction_id_field bytes) c)
+
+abbrev pub by_class : Memory → Client → ℕ → List ℕ → MessageClass → Answer
+by_class memory c now bytes Classes.Request = (NotOurs, c)
+by_class memory c now bytes Classes.Indication = (Indication bytes, c)
+by_class memory c now bytes Classes.Success = by_met memory c now bytes (answered_in bytes c)
+by_class memory c now bytes Classes.Error = by_met memory c now bytes (answered_in bytes c)
+
+-- what a datagram from an address comes to, and the client then
+abbrev pub received : Memory → SocketAddr → List ℕ → ℕ → Client → Answer
+received memory from bytes now c =
+    if is_some (refusal bytes) then (NotOurs, c)
+    else if is_same_address from c.server then by_class memory c now bytes (class_in bytes)
+    else (NotOurs, c)
+
+abbrev pub without_memory : List ℕ → Client → Option Met → Answer
+without_memory bytes c None = (NotOurs, c)
+without_memory bytes c (Some m) = out_of_memory bytes c m
+
+-- an answer, whether there was memory for the former message or not. Otherwise an allocation
+-- failed, and the response is dropped
+pub data UnlessMemory (expected : Memory → Answer) (bytes : List ℕ) (c : Client) (answer : Answer)
+    : Type 0 where
+  as_expected : (memory : Memory) → answer ≡ expected memory → UnlessMemory expected bytes c answer
+  forgone : answer ≡ without_memory bytes c (answered_in bytes c)
+      → UnlessMemory expected bytes c answer

@@ -1,0 +1,281 @@
+//! What comes of a datagram.
+ghost use Rattle.std.specs.Option.{option_and_then};
+ghost use Rattle.std.specs.Prelude.{◌≡◌, IfOk, Some};
+ghost use Rattle.stun_base.specs.MessageType.{class_in};
+ghost use Rattle.stun_client.specs.Challenging.{code_in};
+ghost use Rattle.stun_client.specs.Requests.{is_answer};
+ghost use Rattle.stun_client_calls.specs.Deciding.{decision_of};
+ghost use Rattle.stun_client_calls.specs.Ids.{number_in};
+ghost use Rattle.stun_client_calls.specs.Receiving.{Met as MetSeen, UnlessMemory, answered_in, by_class};
+ghost use Rattle.stun_client_calls.specs.Receiving.{by_decision, by_met, current_of, decision_for};
+ghost use Rattle.stun_client_calls.specs.Receiving.{dropping, dropping_refusal, earlier_of, judge_of};
+ghost use Rattle.stun_client_calls.specs.Receiving.{met, received};
+ghost use Rattle.stun_client_endpoint.specs.Endpoints.{is_reliable};
+
+use crate::asked::{Asked, Change};
+use crate::deciding::{Decision, Limits, decide};
+use crate::endpoint::ClientEndpoint;
+use crate::endpoint::changing::change;
+use std::alloc::{AllocError, Allocator};
+use std::marker::Model;
+use std::net::SocketAddr;
+use stun_base::instant::Instant;
+use stun_base::transport::TransportType;
+use stun_client::challenge::Challenge;
+use stun_client_endpoint::ended::DropReason;
+use stun_client_endpoint::told::Received;
+use stun_extra::canonical_address::is_same_address;
+use stun_types::attribute::ErrorCode;
+use stun_types::message::{Message, MessageClass, Method, TransactionId};
+
+/// A message of an outstanding request.
+///
+/// Contracts: they see all of it.
+#[derive(Drop)]
+pub(crate) struct Met<'a, A: Allocator> {
+    number: u64,
+    asked: &'a Asked<A>,
+    is_current: bool,
+    signed_for: &'a Option<Challenge<A>>,
+}
+
+impl<'a, A: Allocator> Model for Met<'a, A> {
+    ghost use Rattle.stun_client_calls.specs.Receiving.{Met as MetSeen};
+
+    ghost Value = { MetSeen };
+
+    ghost view = { λ m. record {
+      number = m.number;
+      asked = m.asked.now;
+      is_current = m.is_current;
+      signed_for = m.signed_for.now;
+    } };
+}
+
+impl<A: Allocator + Copy> ClientEndpoint<A> {
+    /// Reads a datagram that came from this address. If the result is `NotOurs`, offer the datagram
+    /// to the next client on the socket. If it is `Consumed`, `poll` returns what comes of it.
+    ///
+    /// A response to any message of a request ends the request if it is believed (see
+    /// `Credentials::judge`). What else it comes to is decided by `deciding::decide`: it ends the
+    /// request as `Unauthorized`, another message becomes the current one, or it is dropped.
+    ///
+    /// If an allocation fails, or no transaction ID is left, the response is dropped as
+    /// `OutOfMemory`. Only if the former message of a request cannot be stored that another one
+    /// takes the place of, it is forgotten, and a response to it is `NotOurs` then.
+    pub fn receive<'a>(&mut self, bytes: &'a [u8], from: SocketAddr, now: Instant) -> Received<'a>
+        ensures { UnlessMemory (λ memory. received memory from bytes.now now self.old) bytes.now
+            self.old (result, self.new) }
+    {
+        let Ok(message) = Message::from_bytes(bytes) else {
+            return Received::NotOurs;
+        };
+        if is_same_address(from, self.server) {
+            self.by_class(message, now)
+        } else {
+            Received::NotOurs
+        }
+    }
+
+    /// Reads a message from the server.
+    fn by_class<'a>(&mut self, message: Message<'a>, now: Instant) -> Received<'a>
+        ensures { UnlessMemory
+            (λ memory. by_class memory self.old now message.entry (class_in message.entry))
+            message.entry self.old (result, self.new) }
+    {
+        match message.class() {
+            MessageClass::Request => Received::NotOurs,
+            MessageClass::Indication => Received::Indication(message),
+            MessageClass::Success => self.respond(&message, now),
+            MessageClass::Error => self.respond(&message, now),
+        }
+    }
+
+    /// Acts upon a response from the server.
+    fn respond(&mut self, message: &Message<'_>, now: Instant) -> Received<'static>
+        ensures { UnlessMemory
+            (λ memory. by_met memory self.old now message.now (answered_in message.now self.old))
+            message.now self.old (result, self.new) }
+    {
+        let Some(met) = self.answered(message) else {
+            return Received::NotOurs;
+        };
+        let number = met.number;
+        let is_current = met.is_current;
+        match self.decide(&met, message, now) {
+            Ok(decision) => self.act(number, is_current, decision, message, now),
+            Err(_) => self.drop_for(number, DropReason::OutOfMemory, message),
+        }
+    }
+
+    /// Returns the message that a response answers.
+    fn answered(&self, message: &Message<'_>) -> Option<Met<'_, A>>
+        ensures { result ≡ answered_in message.now self.now }
+    {
+        let met = self.met(message.transaction_id())?;
+        if is_answer(met.asked.method(), message) {
+            Some(met)
+        } else {
+            None
+        }
+    }
+
+    /// Returns the message with this transaction ID.
+    fn met(&self, id: TransactionId) -> Option<Met<'_, A>>
+        ensures { result ≡ met id self.now }
+    {
+        match self.requests.number_of(id) {
+            Some(number) => self.current(number),
+            None => self.earlier(id),
+        }
+    }
+
+    /// Returns the current message of a request.
+    fn current(&self, number: u64) -> Option<Met<'_, A>>
+        ensures { result ≡ current_of self.now number }
+    {
+        let asked = self.requests.datum_of(number)?;
+        Some(Met {
+            number,
+            asked,
+            is_current: true,
+            signed_for: asked.signed_for(),
+        })
+    }
+
+    /// Returns the earlier message with this transaction ID.
+    fn earlier(&self, id: TransactionId) -> Option<Met<'_, A>>
+        ensures { result ≡ option_and_then (earlier_of id self.now) (number_in id self.now.earlier) }
+    {
+        let Some(number) = self.earlier.get(&id) else {
+            return None;
+        };
+        let Some(asked) = self.requests.datum_of(*number) else {
+            return None;
+        };
+        match asked.message(id) {
+            Some((_, sent)) => Some(Met {
+                number: *number,
+                asked,
+                is_current: false,
+                signed_for: sent.signed_for(),
+            }),
+            None => None,
+        }
+    }
+
+    /// Returns what a response to a message comes to. Fails if an allocation fails.
+    fn decide(
+        &self,
+        met: &Met<'_, A>,
+        message: &Message<'_>,
+        now: Instant,
+    ) -> Result<Decision<A>, AllocError>
+        ensures { IfOk result (λ decision. decision_of decision
+            ≡ decision_for self.now now message.now met.now) }
+    {
+        let judged = self.credentials.judge(
+            self.alloc,
+            self.requires_fingerprint,
+            met.is_current,
+            &self.standing,
+            met.signed_for,
+            message,
+        )?;
+        decide(met.asked, &self.standing, self.limits(), judged, now)
+    }
+
+    /// Returns how often a request may be sent by another message.
+    fn limits(&self) -> Limits
+        ensures { result ≡ (judge_of self.now).limits }
+    {
+        Limits {
+            turns: self.turns,
+            is_reliable: is_reliable(self.requests.transport()),
+        }
+    }
+
+    /// Drops a response to a request.
+    pub(crate) fn drop_for(
+        &mut self,
+        number: u64,
+        why: DropReason,
+        message: &Message<'_>,
+    ) -> Received<'static>
+        ensures { (result, self.new) ≡ dropping number why message.now self.old }
+    {
+        let noted = Change::Noted(why, code_of(message));
+        change(&mut self.requests, self.alloc, number, noted);
+        Received::Dropped(why)
+    }
+
+    /// Drops the challenge that a message is signed for already.
+    fn refuse(&mut self, number: u64, message: &Message<'_>) -> Received<'static>
+        ensures { (result, self.new) ≡ dropping_refusal number message.now self.old }
+    {
+        let refused = Change::Refused(code_of(message));
+        change(&mut self.requests, self.alloc, number, refused);
+        Received::Dropped(DropReason::Refused)
+    }
+
+    /// Acts upon what a response to a message comes to.
+    fn act(
+        &mut self,
+        number: u64,
+        is_current: bool,
+        decision: Decision<A>,
+        message: &Message<'_>,
+        now: Instant,
+    ) -> Received<'static>
+        ensures { (m : MetSeen) → answered_in message.now self.old ≡ Some m → number ≡ m.number
+            → is_current ≡ m.is_current
+            → UnlessMemory
+            (λ memory. by_decision memory self.old now message.now m (decision_of decision))
+            message.now self.old (result, self.new) }
+    {
+        match decision {
+            Decision::Answered(by) => self.end_answered(number, is_current, by, message, now),
+            Decision::Unauthorized => self.end_unauthorized(number, is_current, message, now),
+            Decision::Turn(why, place, signed_for) => {
+                self.turn(number, why, place, signed_for, message, now)
+            }
+            Decision::Refuse => self.refuse(number, message),
+            Decision::Drop(why) => self.drop_for(number, why, message),
+        }
+    }
+}
+
+/// Returns whether a message is a response with this method.
+fn is_answer(method: Method, message: &Message<'_>) -> bool
+    ensures { result ≡ is_answer method message.now }
+{
+    match message.class() {
+        MessageClass::Success => message.method() == method,
+        MessageClass::Error => message.method() == method,
+        MessageClass::Request => false,
+        MessageClass::Indication => false,
+    }
+}
+
+/// Returns whether nothing is sent again over a transport.
+fn is_reliable(transport: TransportType) -> bool
+    ensures { result ≡ is_reliable transport }
+{
+    match transport {
+        TransportType::Udp => false,
+        TransportType::Tcp => true,
+    }
+}
+
+/// Returns the code of an error response.
+fn code_of(message: &Message<'_>) -> Option<u16>
+    ensures { result ≡ code_in message.now }
+{
+    if message.class() != MessageClass::Error {
+        return None;
+    }
+    match message.attribute::<ErrorCode<'_>>() {
+        Ok(error) => Some(error.code()),
+        Err(_) => None,
+    }
+}

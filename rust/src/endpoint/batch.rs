@@ -46,8 +46,9 @@ impl Server {
     /// The iterator judges a datagram when it is asked for the next result. The k-th result is that of
     /// `receive` for the k-th datagram at this time, and no other datagram of the batch changes it,
     /// so their order does not matter either. Where memory ends, that datagram alone is
-    /// [dropped](super::DropReason::OutOfMemory). Once the buffer has grown to the size of a batch, a response
-    /// takes the one allocation that it takes in [`receive_into`](Self::receive_into), for its nonce.
+    /// [dropped](super::DropReason::OutOfMemory). Once the buffer has grown to the size of a batch, a
+    /// response takes the one allocation that it takes in [`receive_into`](Self::receive_into), for
+    /// its nonce.
     ///
     /// It saves you a buffer for each response that has not been sent yet. If you send each response
     /// before you judge the next datagram, call `receive_into`: a batch does the same work for each

@@ -12,10 +12,12 @@ pub mod Writing
 pub mod Endpoints
 -- a client, and what each call makes of it
 pub mod Clients
--- when the requests of a client end
-pub mod Bounds
--- what follows of all this
+-- what a response comes to at a client, and what follows of it
 pub mod Laws
 -- what a datagram comes to at such a client
 pub mod Receiving
+-- calls of a client, one after the other
+pub mod Runs
+-- when the requests of a client end
+pub mod Bounds
 pub mod code

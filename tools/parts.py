@@ -49,7 +49,7 @@ PARTS = {
     "edits-look": (), "plants-look": (), "proof-record": (), "gate": (),
     "door": (), "make-help": (), "first-minute": (), "models": (),
     # Beside the proofs: the exported crate.
-    "exported": (), "exported-pages": (), "exported-c": (), "users": (), "suite": (),
+    "exported": (), "exported-pages": (), "exported-c": (), "users": (), "forged": (), "suite": (),
     "suite-plants": (),
     "least": (*EXPORT, "rust/src", "rust/capi/src", "tests/export/least.sh",
               "tests/export/debian_rust.sh"),

@@ -6,10 +6,11 @@ use super::client_settings::ClientBuilder;
 use super::indications::Indications;
 use crate::Instant;
 use crate::copies::granted;
-use crate::exported::stun_agent::agent::StunAgentBuilder;
 use crate::exported::stun_client::credentials::Credentials;
-use crate::exported::stun_client_endpoint::endpoint::{ClientEndpoint, Settings};
-use crate::exported::stun_client_endpoint::told::{Polled, Received};
+use crate::exported::stun_client_calls::endpoint::ClientEndpoint;
+use crate::exported::stun_client_calls::told::Polled;
+use crate::exported::stun_client_endpoint::endpoint::Settings;
+use crate::exported::stun_client_endpoint::told::Received;
 use crate::exported::stun_types::message::Method;
 use crate::kit::alloc::Global;
 use crate::message::Message;
@@ -18,6 +19,7 @@ use crate::stats::StunAgentStats;
 use crate::trace::event;
 use crate::trace::record;
 use crate::transaction::TransactionId;
+use crate::types::TransportType;
 use alloc::vec::Vec;
 use core::fmt;
 use core::net::SocketAddr;
@@ -115,14 +117,22 @@ impl fmt::Debug for Client {
 
 impl Client {
     pub(super) fn new(
-        agent: StunAgentBuilder<Global>,
+        transport: TransportType,
         server: SocketAddr,
         credentials: Credentials<Global>,
         settings: Settings<Global>,
         indications: Indications,
         seed: &[u8; 32],
     ) -> Client {
-        let core = ClientEndpoint::new(Global, agent, server, credentials, settings, seed);
+        let core = ClientEndpoint::new(
+            Global,
+            transport,
+            server,
+            credentials,
+            settings,
+            seed,
+            true,
+        );
         Client {
             core: granted(core),
             indications,
@@ -230,8 +240,8 @@ impl Client {
                 // An outstanding request has bytes.
                 Output::Transmit(self.core.bytes_of(number).unwrap_or_default())
             }
-            Polled::Ended(ended) => {
-                let (request, result) = (RequestId(ended.number()), result_of(ended));
+            Polled::Ended(number, end) => {
+                let (request, result) = (RequestId(number), result_of(end));
                 #[cfg(feature = "tracing")]
                 super::verdict::record_end(request, &result);
                 Output::Ended(request, result)
@@ -287,8 +297,7 @@ impl Client {
     /// Returns what was sent and received, in numbers.
     #[expect(clippy::missing_panics_doc, reason = "`build` has them kept")]
     pub fn stats(&self) -> &StunAgentStats {
-        let agent = self.core.state().agent();
-        agent.stats().expect("the agent was built with them")
+        self.core.stats().expect("the client was built with them")
     }
 
     /// Records that the bytes of a request are returned: again, if the agent has counted them now.

@@ -4,6 +4,7 @@ use super::DropReason;
 use crate::Instant;
 use crate::exported::stun_attributes::{AlternateDomain, AlternateServer};
 use crate::exported::stun_client::judged::Outcome;
+use crate::exported::stun_client_calls::asked::End;
 use crate::exported::stun_client_endpoint::{ended, told};
 use crate::exported::stun_types::attribute::{AttributeType, ErrorCode};
 use crate::exported::stun_types::message::{IntegrityAlgorithm, StunWriteError};
@@ -411,14 +412,14 @@ impl From<StunWriteError> for StartError {
 }
 
 /// Returns how a request ended, with the bytes of its response.
-pub(super) fn result_of(ended: ended::Ended<Global>) -> Result<Response, RequestError> {
-    let (outcome, signed_by) = match ended.end() {
+pub(super) fn result_of(ended: End<Global>) -> Result<Response, RequestError> {
+    let (outcome, signed_by) = match ended.end {
         ended::RequestEnd::Answered(outcome, signed_by) => (outcome, signed_by),
         ended::RequestEnd::TimedOut(drops) => return Err(RequestError::TimedOut(drops.into())),
         ended::RequestEnd::Unauthorized => return Err(RequestError::Unauthorized),
         ended::RequestEnd::Cancelled => return Err(RequestError::Cancelled),
     };
-    let bytes = ended.into_response().into_std();
+    let bytes = ended.response.into_std();
     let response = Response { bytes, signed_by };
     Err(match outcome {
         Outcome::Success => return Ok(response),

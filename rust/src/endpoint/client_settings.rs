@@ -5,7 +5,7 @@ use super::indications::Indications;
 use crate::attributes::TYPES;
 use crate::copies::{granted, text};
 use crate::credentials::{LongTermCredentials, ShortTermCredentials};
-use crate::exported::stun_agent::agent::{RequestRto, StunAgent, StunAgentBuilder};
+use crate::exported::stun_agent::agent::RequestRto;
 use crate::exported::stun_auth::auth::Feature;
 use crate::exported::stun_client::credentials as core_credentials;
 use crate::exported::stun_client::preferences::Preferences;
@@ -396,7 +396,7 @@ impl ClientBuilder {
         if let Some(why) = settings_refusal(name, software, &self.preferences) {
             return Err(why.into());
         }
-        let (agent, timeouts) = (self.agent(), self.timeouts());
+        let timeouts = self.timeouts();
         let indications = self.indications(seed);
         let credentials = self
             .credentials
@@ -410,7 +410,7 @@ impl ClientBuilder {
             timeouts,
         };
         Ok(Client::new(
-            agent,
+            self.transport.core(),
             self.server,
             credentials,
             settings,
@@ -450,15 +450,14 @@ impl ClientBuilder {
             last_retransmit: last,
         }
     }
+}
 
-    /// Begins the agent that has the timers of the requests.
-    fn agent(&self) -> StunAgentBuilder<Global> {
-        let transport = match self.transport {
+impl Transport {
+    fn core(self) -> TransportType {
+        match self {
             Transport::Datagram => TransportType::Udp,
             Transport::Stream => TransportType::Tcp,
-        };
-        // The agent only returns its local address, so any will do.
-        StunAgent::builder(Global, transport, self.server).stats(true)
+        }
     }
 }
 

@@ -134,14 +134,7 @@ impl<K: Key, V, A: Allocator> BTreeMap<K, V, A> {
     {
         let order = |row| Ord::cmp(self.rows.get(row).0.borrow(), key);
         let row = self.tree.remove(&Sought::new(key, &order), &self.alloc)?;
-        let last = self.rows.len() - 1;
-        if row != last {
-            // The last entry is moved to the row that is free now.
-            let moved = &self.rows.get(last).0;
-            let order = |row| self.rows.get(row).0.cmp(moved);
-            self.tree.renumber(&Sought::new(moved, &order), row);
-        }
-        Some(self.rows.swap_remove(row, &self.alloc))
+        Some(self.take(row))
     }
 
     /// Removes a key and returns its value. This does not allocate.
@@ -150,6 +143,27 @@ impl<K: Key, V, A: Allocator> BTreeMap<K, V, A> {
         K: Borrow<Q>,
     {
         self.remove_entry(key).map(|(_, value)| value)
+    }
+
+    /// Removes the entry with the least key and returns it. This does not allocate.
+    pub fn pop_first(&mut self) -> Option<(K, V)> {
+        let first = self.tree.seek(Bound::Unbounded).0?.row();
+        let key = &self.rows.get(first).0;
+        let order = |row| self.rows.get(row).0.cmp(key);
+        let row = self.tree.remove(&Sought::new(key, &order), &self.alloc)?;
+        Some(self.take(row))
+    }
+
+    /// Removes the entry of a row that the tree does not have any more.
+    fn take(&mut self, row: usize) -> (K, V) {
+        let last = self.rows.len() - 1;
+        if row != last {
+            // The last entry is moved to the row that is free now.
+            let moved = &self.rows.get(last).0;
+            let order = |row| self.rows.get(row).0.cmp(moved);
+            self.tree.renumber(&Sought::new(moved, &order), row);
+        }
+        self.rows.swap_remove(row, &self.alloc)
     }
 
     /// Retains only the entries for which `condition` returns `true`. It is called in the order of
@@ -272,6 +286,11 @@ impl<K: Key, A: Allocator> BTreeSet<K, A> {
     /// Removes an item and returns `true` if the set contained it. This does not allocate.
     pub fn remove(&mut self, item: &K) -> bool {
         self.map.remove(item).is_some()
+    }
+
+    /// Removes the least item and returns it. This does not allocate.
+    pub fn pop_first(&mut self) -> Option<K> {
+        self.map.pop_first().map(|(item, ())| item)
     }
 
     /// Returns an iterator over the items in their order.

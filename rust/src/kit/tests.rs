@@ -3,7 +3,7 @@
 extern crate std;
 
 use super::alloc::{AllocError, AllocFailed, Allocator, Global};
-use super::collections::{BTreeMap, BTreeSet};
+use super::collections::{BTreeMap, BTreeSet, BinaryHeap};
 use super::convert::{AsSlice, TryClone, from_nanos_u128};
 use super::hashes::{BegunSha1, BegunSha256, Digest, Md5, Sha1, Sha256};
 use super::prelude::{Box, String, Vec};
@@ -113,6 +113,7 @@ fn a_map_is_as_the_standard_one() {
                     },
                     7..=11 => assert_eq!(ours.remove_entry(&key), other.remove_entry(&key)),
                     12 => assert_eq!(ours.get_mut(&key), other.get_mut(&key)),
+                    15 if dice.roll(4) == 0 => assert_eq!(ours.pop_first(), other.pop_first()),
                     13 => {
                         let start = match dice.roll(4) {
                             0 => Bound::Unbounded,
@@ -146,7 +147,7 @@ fn a_map_is_as_the_standard_one() {
 fn a_map_that_shrinks_gives_back_memory() {
     let heap = Sparse::new(0);
     let mut map = BTreeMap::new(&heap);
-    for key in 0..10_000 {
+    for key in 0..10_000_u64 {
         map.insert(key, [0u8; 64]).unwrap();
     }
     let full = heap.bytes();
@@ -168,7 +169,7 @@ fn a_map_that_shrinks_gives_back_memory() {
 fn a_key_that_is_there_takes_no_memory() {
     let heap = Sparse::new(0);
     let mut map = BTreeMap::new(&heap);
-    for key in 0..3_000 {
+    for key in 0..3_000_u64 {
         map.insert(key, key).unwrap();
         let asked = heap.asked.get();
         for again in [0, key / 3, key] {
@@ -182,7 +183,7 @@ fn a_key_that_is_there_takes_no_memory() {
 #[test]
 fn a_map_stands_with_an_empty_node() {
     let mut map = BTreeMap::new(Global);
-    for key in 0..200 {
+    for key in 0..200_u64 {
         map.insert(key, key).unwrap();
     }
     let gone = 40..120;
@@ -249,6 +250,41 @@ fn a_map_of_runs_is_as_the_standard_one() {
         assert!(ours.is_empty() && ours.iter().next().is_none());
         let left = 32 * size_of::<[u64; 4]>(); // where sizes have 64 bits, and less elsewhere
         assert!(heap.bytes() <= left, "that of one node and of one block");
+    });
+}
+
+#[test]
+fn a_heap_is_as_the_standard_one() {
+    play(3_000, |heap, dice, turns| {
+        let mut ours = BinaryHeap::new(heap);
+        let mut other = collections::BinaryHeap::new();
+        for _ in 0..turns {
+            let item = dice.roll(500);
+            match dice.roll(5) {
+                0 => {
+                    let asked = heap.asked.get();
+                    if ours.reserve(8).is_ok() {
+                        let asked_before_pushing = heap.asked.get();
+                        assert!(asked_before_pushing <= asked + 1);
+                        for more in 0..8 {
+                            ours.push(item + more).unwrap();
+                            other.push(item + more);
+                        }
+                        assert_eq!(heap.asked.get(), asked_before_pushing);
+                    }
+                }
+                1..=2 => match ours.push(item) {
+                    Ok(()) => other.push(item),
+                    Err(AllocFailed { value }) => assert_eq!(value, item),
+                },
+                _ => (0..3).for_each(|_| assert_eq!(ours.pop(), other.pop())),
+            }
+        }
+        assert_eq!(format!("{ours:?}"), format!("{other:?}"));
+        while let Some(item) = ours.pop() {
+            assert_eq!(Some(item), other.pop());
+        }
+        assert!(other.is_empty());
     });
 }
 

@@ -12,6 +12,12 @@ pub trait Key: Ord {
     fn head(&self) -> u64;
 }
 
+impl Key for u32 {
+    fn head(&self) -> u64 {
+        u64::from(*self)
+    }
+}
+
 impl Key for u64 {
     fn head(&self) -> u64 {
         *self

@@ -24,32 +24,47 @@ FOREVER = 2**63
 
 # A challenge: what decides how a request is signed.
 Challenge = collections.namedtuple("Challenge", "realm nonce algorithms algorithm is_hashed")
-# What comes of a response: believed and signed by; signed anew for; a refusal, by the challenge of the
-# request (None) or by another one that asks for the same; or dropped because.
+# What a response comes to: believed and signed by; a challenge, which is answered; a refusal, by the
+# challenge of the message (None) or by another one that asks for the same; a doubt, or else dropped
+# because; or dropped because.
 Believed = collections.namedtuple("Believed", "algorithm")
 Anew = collections.namedtuple("Anew", "challenge")
 Refused = collections.namedtuple("Refused", "challenge")
+Doubted = collections.namedtuple("Doubted", "why")
 Dropped = collections.namedtuple("Dropped", "why")
+# For how many doubts, and for how many refusals by another challenge, a request turns to another
+# message.
+DOUBTS, OTHERS = 3, 2
 
 
-class Timer:
-    """A message, the waits that are left of its request, and when the first of them ends."""
+class Message:
+    """What is sent of a request under one ID."""
 
-    def __init__(self, message, waits, at):
-        self.message, self.waits, self.at = message, waits, at
+    def __init__(self, identity, signed_for, octets):
+        self.identity, self.signed_for, self.octets = identity, signed_for, octets
+        self.is_doubted = False
 
 
 class Request:
     def __init__(self, number, method, body):
         self.number, self.method, self.body = number, method, body
-        self.challenges, self.drops = 0, []
-        self.signed_for = None
+        # The messages in the order in which they were sent first, the one that is sent again, the waits
+        # that are left of that one, and when the first of them ends.
+        self.messages, self.current = [], None
+        self.waits, self.at = [], 0
+        # How often another message became the current one, at all and for doubts, and what was dropped.
+        self.turns, self.doubts, self.drops = 0, 0, []
         # Whether it was refused since it was sent last, and before, and how often it was sent again for
         # another refusal.
         self.is_refused = self.was_refused = False
         self.others = 0
-        # When the first plan ends, and as long again has passed.
-        self.until = self.bound = 0
+        # When the first plan ends.
+        self.until = 0
+
+    def note_sending(self):
+        """A refusal counts once for each time that the request is sent."""
+        self.was_refused |= self.is_refused
+        self.is_refused = False
 
 
 class Settings:
@@ -172,8 +187,9 @@ class ClientStage:
         seed = bytes.fromhex(word)
         self.built, self.seed = settings, spelling.drawn(seed)
         self.next_id, self.next_number = 0, 1
-        # What is not sent yet and what has ended, by the number of the request.
-        self.requests, self.due, self.unsent, self.ended = {}, {}, {}, {}
+        # The outstanding requests, what is not sent yet of them, and how others have ended, by the
+        # number of the request.
+        self.requests, self.unsent, self.ended = {}, {}, {}
         # The challenge that new requests are signed for, whether a success has confirmed it, and
         # the one before that was confirmed.
         self.current, self.is_confirmed, self.confirmed = None, False, None
@@ -194,35 +210,34 @@ class ClientStage:
                 return "NotAllowed"
             body.append((kind, value))
         request = Request(self.next_number, int(method, 16), body)
-        request.signed_for = self.current
-        # A request goes on for two plans: after the first no challenge is answered.
-        plan = sum(self.waits())
-        request.until = self.stage.now + plan
-        request.bound = request.until + plan
-        if self.send(request, self.current) is None:
+        # After the first plan nothing is sent.
+        request.until = self.stage.now + sum(self.waits())
+        message = self.new_message(request, self.current)
+        if message is None:
             return "TooLarge"
         self.next_number += 1
+        self.requests[request.number] = request
+        self.begin(request, message)
         return f"request {request.number}"
 
-    def send(self, request, challenge):
-        """Writes a request and plans its transmissions, unless it is too large."""
+    def new_message(self, request, challenge):
+        """Writes a message that is signed for a challenge, or None if it is too large."""
         before = self.next_id
         identity = self.new_id()
-        message = self.written(request, identity, challenge)
-        if message is None:
+        octets = self.written(request, identity, challenge)
+        if octets is None:
             self.next_id = before
             return None
-        self.requests[identity] = request
-        self.note_sending(request)
-        waits = self.waits()
-        self.due[identity] = Timer(message, waits, self.stage.now + waits[0])
-        self.unsent[request.number] = message
-        return identity
+        request.messages.append(Message(identity, challenge, octets))
+        return request.messages[-1]
 
-    def note_sending(self, request):
-        """A refusal counts once for each time that the request is sent."""
-        request.was_refused |= request.is_refused
-        request.is_refused = False
+    def begin(self, request, message):
+        """This message is the current one now. Its plan begins."""
+        request.current, message.is_doubted = message, False
+        request.waits = self.waits()
+        request.at = self.stage.now + request.waits[0]
+        request.note_sending()
+        self.unsent[request.number] = message.octets
 
     def waits(self):
         """How long a request waits after each of its transmissions (section 6.2.1). Over a stream it
@@ -277,64 +292,64 @@ class ClientStage:
 
     def polls(self):
         """New messages come first, then those that are sent again, then ends: of several new ones
-        or ends the one whose request was started first."""
+        or ends the one whose request was started first. After its first plan nothing is sent of a
+        request: it ends instead."""
         if self.unsent:
-            return "sends " + told(self.unsent.pop(min(self.unsent)))
-        for identity, timer in self.due.items():
-            if len(timer.waits) > 1 and timer.at <= self.stage.now:
-                self.note_sending(self.requests[identity])
+            number = min(self.unsent)
+            return self.hand_out(self.requests[number], self.unsent.pop(number))
+        for request in self.by_identity():
+            if len(request.waits) > 1 and request.at <= self.stage.now:
                 # The next wait begins now, even if this transmission is late.
-                timer.waits.pop(0)
-                timer.at = self.stage.now + timer.waits[0]
-                return "sends " + told(timer.message)
-        if not self.ended:
-            self.give_up()
-        if not self.ended:
-            self.time_out()
+                request.waits.pop(0)
+                request.at = self.stage.now + request.waits[0]
+                return self.hand_out(request, request.current.octets)
         if self.ended:
             number = min(self.ended)
             return f"{number} {self.ended.pop(number)}"
+        for request in self.by_identity():
+            if request.at <= self.stage.now:
+                return self.time_out(request)
         if not self.requests:
             return "wait"
-        until = min(timer.at for timer in self.due.values())
-        until = min(until, min(request.bound for request in self.requests.values()))
+        until = min(request.at for request in self.requests.values())
         return f"wait {until // 10**6}ms" if until % 10**6 == 0 else f"wait {until}ns"
 
-    def give_up(self):
-        """The first request ends if two plans have passed since it was started."""
-        first = min(self.requests.items(), key=lambda one: one[1].number, default=None)
-        if first and first[1].bound <= self.stage.now:
-            self.ends_late(*first)
+    def by_identity(self):
+        return sorted(self.requests.values(), key=lambda request: request.current.identity)
 
-    def time_out(self):
-        for identity, timer in list(self.due.items()):
-            if timer.at <= self.stage.now:
-                self.ends_late(identity, self.requests[identity])
-                return
+    def hand_out(self, request, octets):
+        if self.stage.now > request.until:
+            return self.time_out(request)
+        request.note_sending()
+        return "sends " + told(octets)
 
-    def ends_late(self, identity, request):
-        self.end(identity, f"timed out, {self.drops_of(request)} dropped")
-        self.step_back(request.signed_for)
+    def time_out(self, request):
+        self.step_back([message.signed_for for message in request.messages])
+        self.take(request)
+        return f"{request.number} timed out, {self.drops_of(request)} dropped"
 
-    def take(self, identity):
-        del self.due[identity]
-        return self.requests.pop(identity)
+    def take(self, request):
+        del self.requests[request.number]
+        self.unsent.pop(request.number, None)
 
-    def end(self, identity, how):
-        number = self.take(identity).number
-        self.unsent.pop(number, None)
-        self.ended[number] = how
+    def end(self, request, how):
+        self.take(request)
+        self.ended[request.number] = how
+
+    def asked(self, word):
+        """The outstanding request with this number, or None."""
+        return self.requests.get(int(word))
 
     def cancel(self, word):
-        for identity, request in list(self.requests.items()):
-            if str(request.number) == word:
-                self.end(identity, "Cancelled")
-                return "yes"
-        return "no"
+        request = self.asked(word)
+        if request is None:
+            return "no"
+        self.end(request, "Cancelled")
+        return "yes"
 
     def dropped(self, word):
-        return next((self.drops_of(request) for request in self.requests.values()
-                     if str(request.number) == word), "none")
+        request = self.asked(word)
+        return "none" if request is None else self.drops_of(request)
 
     def drops_of(self, request):
         if not request.drops:
@@ -357,26 +372,36 @@ class ClientStage:
         if not kind & 0x100:
             return "indication"
         method = (kind & 0xF) | (kind & 0xE0) >> 1 | (kind & 0x3E00) >> 2
-        request = self.requests.get(identity)
+        request, answered = self.answered(identity)
         if request is None or request.method != method:
             return "not ours"
-        judged = self.judged(request, message)
-        if isinstance(judged, Refused) and judged.challenge is None:
-            judged = self.refused(identity, request)
+        judged = self.judged(request, answered, message)
+        if isinstance(judged, Doubted):
+            judged = self.doubted(request, judged.why)
+        elif isinstance(judged, Refused) and judged.challenge is None:
+            judged = self.refused(request)
         elif isinstance(judged, (Anew, Refused)):
-            judged = self.anew(identity, request, judged.challenge, isinstance(judged, Refused))
+            judged = self.anew(request, judged.challenge, isinstance(judged, Refused))
         if isinstance(judged, Dropped):
             code = code_in(message) if kind & 0x10 else None
             request.drops.append((judged.why, code))
             return f"dropped {judged.why}"
         if isinstance(judged, Believed):
             if not kind & 0x10:
-                self.confirm(request.signed_for)
-            self.end(identity, self.result(message, judged.algorithm))
+                self.confirm(answered.signed_for)
+            self.end(request, self.result(message, judged.algorithm))
         return "consumed"
 
-    def judged(self, request, response):
-        built = self.built
+    def answered(self, identity):
+        """The request and the message with this ID."""
+        for request in self.requests.values():
+            for message in request.messages:
+                if message.identity == identity:
+                    return request, message
+        return None, None
+
+    def judged(self, request, message, response):
+        built, before = self.built, message.signed_for
         fault = fingerprint_fault(response, built.requires_fingerprint)
         if fault:
             return Dropped(fault)
@@ -386,31 +411,47 @@ class ClientStage:
             algorithm = verified(response, built.password.encode())
             return Believed(algorithm) if algorithm == built.algorithm else Dropped("NotVerified")
         code = code_in(response) if response[1] & 0x10 else None
+        if message is not request.current:
+            return self.judged_earlier(before, response, code)
         if code not in (401, 438):
-            return self.by_signature(request, response, "NotVerified")
-        challenge = self.challenge_in(request, response, code)
+            return self.by_signature(before, response, code, "NotVerified")
+        challenge = self.challenge_in(before, response, code)
         if challenge is None:
-            return self.by_signature(request, response, "UnanswerableChallenge")
-        before = request.signed_for
+            return self.by_signature(before, response, code, "UnanswerableChallenge")
         if challenge == before:
             return Refused(None)
-        confirmed = self.last_confirmed()
-        if confirmed and is_weaker(challenge, confirmed):
+        if self.is_too_weak(challenge):
             return Dropped("WeakerChallenge")
         if before and code == 401 and challenge.realm == before.realm:
             if security_bits(challenge.nonce) == security_bits(before.nonce):
                 return Refused(challenge)
         return Anew(challenge)
 
-    def by_signature(self, request, response, why):
-        if request.signed_for is None:
-            return Believed(None) if self.built.accepts_unsigned else Dropped(why)
-        algorithm = verified(response, self.key_of(request.signed_for))
-        return Believed(algorithm) if algorithm else Dropped(why)
+    def judged_earlier(self, before, response, code):
+        """A response to an earlier message counts by its signature alone. No challenge counts."""
+        algorithm = before and verified(response, self.key_of(before))
+        if algorithm and code not in (401, 438):
+            return Believed(algorithm)
+        return Dropped("NotVerified")
 
-    def challenge_in(self, request, response, code):
+    def by_signature(self, before, response, code, why):
+        if before is None:
+            if self.built.accepts_unsigned:
+                return Believed(None)
+            return Doubted(why) if code == 437 else Dropped(why)
+        algorithm = verified(response, self.key_of(before))
+        if algorithm:
+            return Believed(algorithm)
+        return Doubted(why) if code in (400, 437, 441) else Dropped(why)
+
+    def is_too_weak(self, challenge):
+        """Whether a challenge is weaker than what a success has confirmed."""
+        confirmed = self.last_confirmed()
+        return confirmed is not None and challenge is not None and is_weaker(challenge, confirmed)
+
+    def challenge_in(self, before, response, code):
         """The challenge by the rule of section 9.2.5, or None if it is ignored."""
-        values, before = reading(response), request.signed_for
+        values = reading(response)
         realm, nonce = values.get(stun.REALM), values.get(stun.NONCE)
         if any(text is None or len(text) > LIMIT for text in (realm, nonce)):
             return None
@@ -435,34 +476,76 @@ class ClientStage:
         return Challenge(realm, nonce, algorithms, algorithm,
                          may_hash and self.built.hashes != "disabled")
 
-    def refused(self, identity, request):
+    def refused(self, request):
         """The challenge that a request is signed for is dropped. The second one that counts ends the
         request, and so does the first if nothing is sent again."""
         if self.built.is_stream or request.was_refused:
-            self.end(identity, "Unauthorized")
+            self.end(request, "Unauthorized")
             return None
         request.is_refused = True
         return Dropped("Refused")
 
-    def anew(self, identity, request, challenge, is_refusal):
-        """Sends a request again, or ends it if that was done too often. After the first plan of the
-        request the challenge is dropped."""
+    def anew(self, request, challenge, is_refusal):
+        """Sends a request by its message for a challenge, or ends it if that was done too often. After
+        the first plan of the request the challenge is dropped."""
         if self.stage.now > request.until:
             return Dropped("LateChallenge")
-        if request.challenges >= self.built.most or is_refusal and request.others >= 2:
-            self.end(identity, "Unauthorized")
+        if request.turns >= self.built.most or is_refusal and request.others >= OTHERS:
+            self.end(request, "Unauthorized")
             return None
-        if self.send(request, challenge) is None:
+        message = next((one for one in request.messages if one.signed_for == challenge), None)
+        message = message or self.new_message(request, challenge)
+        if message is None:
             return Dropped("UnanswerableChallenge")
-        self.take(identity)
-        request.challenges += 1
-        request.signed_for = challenge
         request.others += is_refusal
-        if challenge != self.current:
+        self.turn(request, message)
+        return None
+
+    def doubted(self, request, why):
+        """An error without a signature throws doubt on the current message: another one takes its
+        place, if there is one."""
+        is_over = self.stage.now > request.until or request.turns >= self.built.most
+        if is_over or request.doubts >= DOUBTS:
+            return Dropped(why)
+        before = request.current
+        before.is_doubted = True
+        message = self.undoubted(request) or self.instead(request)
+        if message is None:
+            before.is_doubted = False
+            return Dropped(why)
+        request.doubts += 1
+        self.turn(request, message)
+        return None
+
+    def undoubted(self, request):
+        """The last message that is neither in doubt nor too weak."""
+        for message in reversed(request.messages):
+            if not message.is_doubted and not self.is_too_weak(message.signed_for):
+                return message
+        return None
+
+    def instead(self, request):
+        """If there is none: an unsigned message in place of a signed one, or the last signed one,
+        without all doubts."""
+        if request.current.signed_for is not None:
+            unsigned = (one for one in request.messages if one.signed_for is None)
+            return next(unsigned, None) or self.new_message(request, None)
+        for message in reversed(request.messages):
+            if message.signed_for is not None and not self.is_too_weak(message.signed_for):
+                for one in request.messages:
+                    one.is_doubted = False
+                return message
+        return None
+
+    def turn(self, request, message):
+        """Another message of a request becomes the current one, and what it is signed for becomes what
+        new requests are signed for."""
+        request.turns += 1
+        self.begin(request, message)
+        if message.signed_for not in (None, self.current):
             if self.is_confirmed:
                 self.confirmed = self.current
-            self.current, self.is_confirmed = challenge, False
-        return None
+            self.current, self.is_confirmed = message.signed_for, False
 
     def last_confirmed(self):
         return self.current if self.is_confirmed else self.confirmed
@@ -484,9 +567,9 @@ class ClientStage:
         else:
             self.is_confirmed, self.confirmed = False, challenge
 
-    def step_back(self, challenge):
-        """A request that times out may have been signed for a forged challenge."""
-        if challenge is not None and challenge == self.current:
+    def step_back(self, challenges):
+        """A request that times out may have a message that is signed for a forged challenge."""
+        if self.current is not None and self.current in challenges:
             self.current, self.confirmed = self.confirmed, None
             self.is_confirmed = self.current is not None
 

@@ -305,7 +305,7 @@ impl Asking {
     fn next(&mut self, words: &[&str]) -> Answer {
         let client = self.client.as_mut().ok_or("no client")?;
         Ok(match client.poll(time(words[0])?) {
-            Output::Transmit(bytes) => hexadecimal(bytes),
+            Output::Transmit { bytes, .. } => hexadecimal(bytes),
             Output::Ended(_, Ok(_)) => "result success".into(),
             Output::Ended(_, Err(error)) => ended(&error),
             _ => "none".into(),

@@ -46,7 +46,7 @@ fn by_endpoint(is_signed: bool, peer: &mut Peer<'_>) {
         client.request(BINDING, Body::new(), now).unwrap();
         loop {
             let response = match client.poll(now) {
-                Output::Transmit(bytes) => peer(bytes),
+                Output::Transmit { bytes, .. } => peer(bytes),
                 Output::Ended(_, result) => {
                     black_box(result.unwrap().message().xor_mapped_address().unwrap());
                     continue;

@@ -26,7 +26,7 @@ fn polled(client: &mut Client, now: Instant, mut sent: impl FnMut(&[u8])) -> usi
     let mut count = 0;
     loop {
         match client.poll(now) {
-            Output::Transmit(bytes) => sent(bytes),
+            Output::Transmit { bytes, .. } => sent(bytes),
             Output::Ended(_, result) => drop(result.unwrap()),
             _ => return count,
         }

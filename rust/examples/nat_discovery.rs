@@ -110,7 +110,7 @@ impl Tests {
         client.request(BINDING, body, clock.now())?;
         loop {
             match client.poll(clock.now()) {
-                Output::Transmit(bytes) => drop(self.socket.send_to(bytes, to)),
+                Output::Transmit { bytes, .. } => drop(self.socket.send_to(bytes, to)),
                 Output::Ended(_, Ok(response)) => return Answer::of(&response).map(Some),
                 Output::Ended(_, Err(RequestError::TimedOut(_))) => return Ok(None),
                 Output::Ended(_, Err(error)) => return Err(error.into()),

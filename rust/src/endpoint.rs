@@ -249,7 +249,8 @@ pub enum DropReason {
     WrongFingerprint,
     /// It is an indication with an attribute that must be understood and is not.
     UnknownAttribute,
-    /// It is a response without the valid signature that it must have.
+    /// It is a response without the valid signature that it must have, or a 401 or a 438 to a message of
+    /// a request in whose place the client has sent another one.
     NotVerified,
     /// It is a 401 or a 438 that the client cannot answer: without realm or nonce, with no algorithm
     /// that the client supports, with a nonce that does not allow hashed names although the client

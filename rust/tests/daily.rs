@@ -49,7 +49,7 @@ fn signed(server: &Server, users: &Users, name: &str, method: Method) -> Vec<u8>
     let client = Client::builder("192.0.2.9:3478".parse().unwrap()).credentials(credentials);
     let mut client = client.build([3; 32]).unwrap();
     client.request(method, Body::new(), Instant::ZERO).unwrap();
-    let Output::Transmit(first) = client.poll(Instant::ZERO) else {
+    let Output::Transmit { bytes: first, .. } = client.poll(Instant::ZERO) else {
         panic!("nothing to send")
     };
     let first = first.to_vec();
@@ -59,7 +59,7 @@ fn signed(server: &Server, users: &Users, name: &str, method: Method) -> Vec<u8>
     let at = "192.0.2.9:3478".parse().unwrap();
     let _ = client.receive(challenge.bytes(), at, Instant::ZERO);
     match client.poll(Instant::ZERO) {
-        Output::Transmit(second) => second.to_vec(),
+        Output::Transmit { bytes: second, .. } => second.to_vec(),
         other => panic!("{other:?}"),
     }
 }
@@ -452,7 +452,7 @@ fn a_client_writes_indications() {
         client.indication(Method::SEND, &body).unwrap(),
     );
     client.request(BINDING, Body::new(), Instant::ZERO).unwrap();
-    let Output::Transmit(request) = client.poll(Instant::ZERO) else {
+    let Output::Transmit { bytes: request, .. } = client.poll(Instant::ZERO) else {
         panic!()
     };
     let messages = [&one[..], &other, request].map(|bytes| Message::from_bytes(bytes).unwrap());

@@ -17,7 +17,7 @@ const HERE: &str = "10.0.0.1:1000";
 /// What `poll` returns, if it is bytes to send.
 fn sent(client: &mut Client, now: u64) -> Option<Vec<u8>> {
     match client.poll(ms(now)) {
-        Output::Transmit(bytes) => Some(bytes.to_vec()),
+        Output::Transmit { bytes, .. } => Some(bytes.to_vec()),
         _ => None,
     }
 }
@@ -64,7 +64,7 @@ fn all_of_many_first_requests_are_served() {
             let (mut wire, mut served, mut datagrams) = (VecDeque::new(), HashSet::new(), 0);
             loop {
                 match client.poll(ms(0)) {
-                    Output::Transmit(bytes) => {
+                    Output::Transmit { bytes, .. } => {
                         datagrams += 1;
                         wire.push_back(bytes.to_vec());
                     }

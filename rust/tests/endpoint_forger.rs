@@ -65,7 +65,7 @@ fn stripped(bytes: &[u8]) -> Vec<u8> {
 /// The bytes that `poll` returns to send.
 fn sent(client: &mut Client, now: Instant) -> Vec<u8> {
     match client.poll(now) {
-        Output::Transmit(bytes) => bytes.to_vec(),
+        Output::Transmit { bytes, .. } => bytes.to_vec(),
         other => panic!("{other:?}"),
     }
 }
@@ -108,7 +108,7 @@ fn nobody_is_bid_down() {
             }
             loop {
                 let bytes = match client.poll(now) {
-                    Output::Transmit(bytes) => bytes.to_vec(),
+                    Output::Transmit { bytes, .. } => bytes.to_vec(),
                     Output::Ended(_, result) => {
                         if let Ok(response) = result {
                             succeeded += 1;
@@ -168,7 +168,7 @@ fn nobody_is_locked_out_by_what_was_forged() {
         let (from, mut seen, mut now) = (at("10.0.0.1:1000"), Vec::new(), ms(0));
         for _ in 0..rng.below(4) {
             binding(&mut client, now);
-            while let Output::Transmit(bytes) = client.poll(now) {
+            while let Output::Transmit { bytes, .. } = client.poll(now) {
                 let bytes = bytes.to_vec();
                 let answer = service.answer(&bytes, from, now);
                 let told = Message::from_bytes(answer.bytes()).unwrap();

@@ -179,7 +179,7 @@ impl Run {
     fn acts(&mut self, i: usize, now: Instant, counts: &mut Counts) {
         loop {
             match self.clients[i].poll(now) {
-                Output::Transmit(bytes) => {
+                Output::Transmit { bytes, .. } => {
                     let (bytes, from) = (bytes.to_vec(), self.addresses[i]);
                     let packet = || Packet::Request(i, from, bytes.clone());
                     self.net.carry(now, true, &bytes, packet);

@@ -112,7 +112,7 @@ fn asked_within(blocks: usize, response: &dyn Fn(&[u8]) -> Vec<u8>) -> (bool, bo
         return (false, false);
     }
     let answer = match within(0, || client.poll(now)) {
-        Output::Transmit(bytes) => response(bytes),
+        Output::Transmit { bytes, .. } => response(bytes),
         other => panic!("{other:?}"),
     };
     match within(blocks, || client.receive(&answer, server, now)) {

@@ -484,7 +484,7 @@ fn a_client_understands_padding() {
     let mut client = Client::builder(server).build([7; 32]).unwrap();
     let body = Body::new().add(&Padding::new(&[0; 1500])).unwrap();
     client.request(BINDING, body, Instant::ZERO).unwrap();
-    let Output::Transmit(request) = client.poll(Instant::ZERO) else {
+    let Output::Transmit { bytes: request, .. } = client.poll(Instant::ZERO) else {
         panic!("a request is sent");
     };
     let request = Message::from_bytes(request).unwrap();

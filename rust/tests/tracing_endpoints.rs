@@ -68,7 +68,7 @@ impl Trace {
     /// The same of what it sends at this time.
     fn sent_at(&self, client: &mut Client, now: Instant, again: &str, request: u64) -> Vec<u8> {
         let (bytes, events) = self.events(|| match client.poll(now) {
-            Output::Transmit(bytes) => bytes.to_vec(),
+            Output::Transmit { bytes, .. } => bytes.to_vec(),
             other => panic!("{other:?}"),
         });
         let (id, length) = (id_of(&bytes), bytes.len());
@@ -354,7 +354,7 @@ fn clients_record_each_end(trace: &Trace) {
         loop {
             match anybody.poll(now) {
                 Output::Wait(until) => now = until.unwrap(),
-                Output::Transmit(_) => again += 1,
+                Output::Transmit { .. } => again += 1,
                 Output::Ended(..) => break,
                 other => panic!("{other:?}"),
             }

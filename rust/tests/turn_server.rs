@@ -162,7 +162,7 @@ impl Bench {
         client.request(method.method(), body, now).unwrap();
         loop {
             match client.poll(now) {
-                Output::Transmit(bytes) => {
+                Output::Transmit { bytes, .. } => {
                     let bytes = bytes.to_vec();
                     let answer = self.receive(link(of.1), &bytes);
                     let _ = client.receive(&answer, server, now);

@@ -161,7 +161,7 @@ fn short_term_users() {
         .unwrap();
     let start = seatcrane_stun::Instant::ZERO;
     client.request(BINDING, Body::new(), start).unwrap();
-    let Output::Transmit(bytes) = client.poll(start) else {
+    let Output::Transmit { bytes, .. } = client.poll(start) else {
         panic!("nothing to send")
     };
     for (users, is_success) in [

@@ -121,7 +121,7 @@ impl Asker {
         let request = self.client.request(method, body, self.clock.now())?;
         loop {
             match self.client.poll(self.clock.now()) {
-                Output::Transmit(bytes) => drop(self.socket.send(bytes)),
+                Output::Transmit { bytes, .. } => drop(self.socket.send(bytes)),
                 Output::Ended(ended, result) if ended == request => {
                     return result.map_err(|error| told(&error).into());
                 }

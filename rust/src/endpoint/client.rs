@@ -31,20 +31,40 @@ use core::net::SocketAddr;
 /// [`Clock`](super::Clock).
 ///
 /// Each request ends in the end, at the latest at the first [`poll`](Self::poll) after its time is
-/// over. If nothing answers, that is after its plan, 39.5 seconds by default. If the server
-/// challenges it, the request is sent again, with a plan of its own: such a request ends after at most
-/// two plans, 79 seconds by default. [`Retransmission`](super::Retransmission) sets the plan.
-///
-/// The algorithm is chosen by the challenge that is answered. Earlier messages count in two cases: a
-/// signed 438 without a list is judged by the list of the challenge before, and a challenge that is
-/// weaker than one which a success confirmed is dropped. So with long-term credentials, forged
-/// challenges cannot make a server accept a request of this client with a weaker algorithm than the
-/// strongest that both support, provided that the server's nonces and lists match its current
-/// settings, as those of [`Server`](super::Server) do.
+/// over. If nothing answers, that is after its plan, 39.5 seconds by default. If the server challenges
+/// it, another message is sent, with a plan of its own. This happens only within the first plan of the
+/// request, after which nothing is sent. So a request ends after at most two plans, 79 seconds by
+/// default. [`Retransmission`](super::Retransmission) sets the plan.
 ///
 /// If an allocation fails, [`request`](Client::request) returns an error, and a datagram is dropped
 /// with [`DropReason::OutOfMemory`](super::DropReason::OutOfMemory). `poll` and `cancel` do not
 /// allocate. Only [`build`](ClientBuilder::build) aborts the program then.
+///
+/// # Challenges, and what an attacker can forge
+///
+/// With long-term credentials a request has a message for each challenge that it answers, and at most
+/// one unsigned message, each with a transaction ID of its own. One of them is the current message,
+/// which is sent until the request ends or another message takes its place:
+///
+/// - A response that is signed with the key of the message which it answers ends the request, whichever
+///   of its messages that is. Every other response to a message that is not the current one is dropped.
+/// - A challenge is answered by the message for it, which is written if there is none. One that is
+///   weaker than what a success has confirmed is dropped. The challenge that the message is signed for
+///   already is a refusal. The first one is dropped, and one that arrives after the message was sent
+///   again ends the request (over a stream the first one does, because nothing is sent again).
+/// - Servers do not sign the errors 400, 437 and 441 by which they refuse a message that is signed for
+///   a challenge which they did not send. The client does not believe them, but goes back to another
+///   message of the request, at most three times.
+///
+/// So over UDP a single forged datagram ends no request, unless the server itself has refused it before
+/// or you accept unsigned responses ([`accept_unsigned`](ClientBuilder::accept_unsigned)). An attacker
+/// who sends several can end a request as [`Unauthorized`](super::RequestError::Unauthorized), and one
+/// who keeps the server's answers from arriving lets it time out.
+///
+/// The algorithm is chosen by the challenge that is answered, and by the list of the challenge before
+/// only if a 438 has none and is signed. So forged challenges cannot make a server accept a request of
+/// this client with a weaker algorithm than the strongest that both support, provided that the server's
+/// nonces and lists match its current settings, as those of [`Server`](super::Server) do.
 ///
 /// # Servers that sign no Binding response
 ///
@@ -77,7 +97,7 @@ use core::net::SocketAddr;
 ///     loop {
 ///         match client.poll(clock.now()) {
 ///             // what is lost is sent again
-///             Output::Transmit(bytes) => drop(socket.send(bytes)),
+///             Output::Transmit { bytes, .. } => drop(socket.send(bytes)),
 ///             Output::Ended(_, result) => {
 ///                 return Ok(result?.message().xor_mapped_address()?);
 ///             }
@@ -229,7 +249,8 @@ impl Client {
     /// First come the bytes that it has not returned yet, then those that are due to be sent again,
     /// then the requests that have ended, and then a request whose timers are over. Among several
     /// requests whose bytes were not returned yet, and among several that have ended, the one that was
-    /// started first comes first.
+    /// started first comes first. A request whose bytes are due after its first plan ends in their
+    /// place.
     pub fn poll(&mut self, now: Instant) -> Output<'_> {
         #[cfg(feature = "tracing")]
         let sent_before = self.stats().bytes_sent();
@@ -238,7 +259,9 @@ impl Client {
                 #[cfg(feature = "tracing")]
                 self.record_sent(number, sent_before);
                 // An outstanding request has bytes.
-                Output::Transmit(self.core.bytes_of(number).unwrap_or_default())
+                let bytes = self.core.bytes_of(number).unwrap_or_default();
+                let (request, id) = (RequestId(number), id_of(bytes));
+                Output::Transmit { bytes, request, id }
             }
             Polled::Ended(number, end) => {
                 let (request, result) = (RequestId(number), result_of(end));
@@ -256,27 +279,26 @@ impl Client {
         self.core.cancel(request.0)
     }
 
-    /// Returns the transaction ID of a request, while it is outstanding. It changes when the client
-    /// sends the request again for a challenge.
+    /// Returns the transaction ID of the current message of a request, while it is outstanding. It
+    /// changes when another message takes its place, for a challenge for example.
     pub fn transaction_id(&self, request: RequestId) -> Option<TransactionId> {
         self.core.transaction_id(request.0).map(TransactionId)
     }
 
-    /// Returns the outstanding request with this transaction ID: that of the bytes in
-    /// [`Output::Transmit`], for example.
+    /// Returns the outstanding request that has a message with this transaction ID, the current one or
+    /// an earlier one. A response with this ID is for that request.
     ///
     /// # Examples
     ///
     /// ```
     /// use seatcrane_stun::Instant;
     /// use seatcrane_stun::endpoint::{Body, Client, Output};
-    /// use seatcrane_stun::types::message::{BINDING, Message};
+    /// use seatcrane_stun::types::message::BINDING;
     ///
     /// let server = "192.0.2.1:3478".parse().unwrap();
     /// let mut client = Client::builder(server).build([7; 32]).unwrap();
     /// let request = client.request(BINDING, Body::new(), Instant::ZERO).unwrap();
-    /// let Output::Transmit(bytes) = client.poll(Instant::ZERO) else { panic!() };
-    /// let id = Message::from_bytes(bytes).unwrap().transaction_id();
+    /// let Output::Transmit { id, .. } = client.poll(Instant::ZERO) else { panic!() };
     /// assert_eq!(client.request_of(id), Some(request));
     /// assert_eq!(client.transaction_id(request), Some(id));
     /// ```
@@ -312,4 +334,10 @@ impl Client {
             event!(id, ?request, %to, bytes, "sent a request");
         }
     }
+}
+
+/// Returns the transaction ID of a message.
+fn id_of(message: &[u8]) -> TransactionId {
+    let id = message.get(8..).and_then(<[u8]>::first_chunk);
+    TransactionId::from(id.copied().unwrap_or_default())
 }

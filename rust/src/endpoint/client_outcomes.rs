@@ -11,6 +11,7 @@ use crate::exported::stun_types::message::{IntegrityAlgorithm, StunWriteError};
 use crate::extra::reason_phrase;
 use crate::kit::alloc::Global;
 use crate::message::Message;
+use crate::transaction::TransactionId;
 use alloc::vec::Vec;
 use core::fmt;
 use core::net::SocketAddr;
@@ -448,7 +449,7 @@ pub(super) fn result_of(ended: End<Global>) -> Result<Response, RequestError> {
 /// ) -> Option<Instant> {
 ///     loop {
 ///         match client.poll(now) {
-///             Output::Transmit(bytes) => drop(socket.send_to(bytes, server)),
+///             Output::Transmit { bytes, .. } => drop(socket.send_to(bytes, server)),
 ///             Output::Ended(request, result) => println!("{request:?}: {result:?}"),
 ///             Output::Wait(until) => return until,
 ///             _ => {}
@@ -460,9 +461,15 @@ pub(super) fn result_of(ended: End<Global>) -> Result<Response, RequestError> {
 #[derive(Clone, Debug, PartialEq, Eq)]
 #[non_exhaustive]
 pub enum Output<'c> {
-    /// Send these bytes to the server. [`Client::request_of`](super::Client::request_of) returns their
-    /// request.
-    Transmit(&'c [u8]),
+    /// Send these bytes to the server.
+    Transmit {
+        /// The message.
+        bytes: &'c [u8],
+        /// The request that it is a message of.
+        request: RequestId,
+        /// Its transaction ID. A request has several messages if it is challenged.
+        id: TransactionId,
+    },
     /// This request ended, with this result.
     Ended(RequestId, Result<Response, RequestError>),
     /// Wait until a datagram arrives, or until this time; `None`: no request is outstanding.

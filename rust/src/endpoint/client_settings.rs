@@ -322,12 +322,14 @@ impl ClientBuilder {
         self
     }
 
-    /// Sets for how many challenges a request is sent again: 6, unless you call this. The next one
-    /// ends it with [`RequestError::Unauthorized`](super::RequestError::Unauthorized). A restart of
-    /// the server, a new address and the end of a nonce take one each, and so do forged ones.
+    /// Sets how often another message of a request may take the place of the one that is sent: 6,
+    /// unless you call this. The next challenge ends the request with
+    /// [`RequestError::Unauthorized`](super::RequestError::Unauthorized). A restart of the server, a new
+    /// address and the end of a nonce take one each, and so do forged challenges and unsigned errors 400,
+    /// 437 and 441.
     ///
     /// A wrong password ends a request earlier: at the second refusal with the nonce that the request
-    /// is signed for, and at the third 401 that has another one.
+    /// is signed for, and at the third 401 for the same realm that has another one.
     pub fn challenges(mut self, most: u32) -> ClientBuilder {
         self.challenges = most;
         self
@@ -338,8 +340,9 @@ impl ClientBuilder {
     /// unsigned responses are always accepted, and with short-term ones never.
     ///
     /// A request is unsigned until it is challenged, and new requests are unsigned again after a
-    /// challenged request timed out. So an attacker who can make requests time out can then also forge
-    /// the response.
+    /// challenged request timed out. A signed request gives way to an unsigned message for an unsigned
+    /// error 400, 437 or 441. So an attacker who can read and forge messages can then also forge the
+    /// response.
     pub fn accept_unsigned(mut self, accepts: bool) -> ClientBuilder {
         self.accepts_unsigned = accepts;
         self

@@ -105,7 +105,7 @@ pub fn exchange(
     let (mut codes, mut ended) = (Vec::new(), Vec::new());
     loop {
         match client.poll(now) {
-            Output::Transmit(bytes) => {
+            Output::Transmit { bytes, .. } => {
                 let answer = service.answer(bytes, from, now);
                 codes.push(code_of(&answer));
                 let _ = client.receive(answer.bytes(), at(SERVER), now);

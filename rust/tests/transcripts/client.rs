@@ -102,7 +102,7 @@ impl ClientStage {
 
     fn poll(&mut self, around: &Around<'_>) -> Option<String> {
         Some(match self.client.as_mut()?.poll(at(around)) {
-            Output::Transmit(bytes) => format!("sends {}", in_words(bytes)),
+            Output::Transmit { bytes, .. } => format!("sends {}", in_words(bytes)),
             Output::Ended(request, result) => {
                 let place = self.requests.iter().position(|one| *one == request)?;
                 format!("{} {}", place + 1, of_result(result))

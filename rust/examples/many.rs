@@ -84,7 +84,8 @@ fn drive(socket: &UdpSocket, server: SocketAddr, mut client: Client, events: &Re
     loop {
         let until = loop {
             match client.poll(clock.now()) {
-                Output::Transmit { bytes, .. } => drop(socket.send(bytes)), // what is lost is sent again
+                // what is lost is sent again
+                Output::Transmit { bytes, .. } => drop(socket.send(bytes)),
                 Output::Ended(request, answer) => {
                     let caller: Option<Sender<Answer>> = callers.remove(&request);
                     caller.map(|caller| caller.send(answer.map_err(Into::into)));

@@ -63,7 +63,7 @@
 //! |---|---|---|
 //! | `answered` | servers | the server wrote a success response |
 //! | `refused` | servers, ICE agents | the answer is an error with this `code`; `reason` is the [`endpoint::Cause`] by its name, or the reason phrase if the server has no causes |
-//! | `accepted` | all | a request or a check is accepted; or a response is, which at a client may be an error or a challenge with this `code` |
+//! | `accepted` | all | a request or a check is accepted; or a response takes effect, which at a client may be an error or a challenge with this `code` |
 //! | `look-up` | [`endpoint::Server::identify`] | the request waits for its user, and [`endpoint::Server::resume`] records the verdict |
 //! | `valid`, `failed` | ICE agents | how the answer ended the check; `reason` is the [`endpoint::ice::Failure`] by its name |
 //! | `indication` | all | the message is for the caller |

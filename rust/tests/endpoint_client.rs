@@ -393,16 +393,22 @@ fn the_bytes_to_send_name_their_request() {
     let mut client = client(1, "wonderland", &BOTH);
     let other = binding(&mut client, ms(0));
     let request = binding(&mut client, ms(0));
-    let id_in = |bytes: &[u8]| Message::from_bytes(bytes).unwrap().transaction_id();
-    let of_other = id_in(&sent(&mut client, 0).unwrap());
+    let sent = |client: &mut Client| match client.poll(ms(0)) {
+        Output::Transmit { bytes, request, id } => (bytes.to_vec(), request, id),
+        other => panic!("{other:?}"),
+    };
+    let (_, first, of_other) = sent(&mut client);
+    assert_eq!(first, other);
     let mut ids = vec![];
     for _ in 0..2 {
-        let bytes = sent(&mut client, 0).unwrap();
-        let id = id_in(&bytes);
-        assert_eq!(client.request_of(id), Some(request));
+        let (bytes, named, id) = sent(&mut client);
+        assert_eq!(named, request);
+        assert_eq!(Message::from_bytes(&bytes).unwrap().transaction_id(), id);
         assert_eq!(client.transaction_id(request), Some(id));
         assert_eq!(client.request_of(of_other), Some(other));
         ids.push(id);
+        // The earlier message belongs to the request, too.
+        assert!(ids.iter().all(|id| client.request_of(*id) == Some(request)));
         let received = service
             .server
             .receive(&bytes, at(HERE), wall(ms(0)), &service.users);

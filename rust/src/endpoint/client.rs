@@ -37,8 +37,9 @@ use core::net::SocketAddr;
 /// default. [`Retransmission`](super::Retransmission) sets the plan.
 ///
 /// If an allocation fails, [`request`](Client::request) returns an error, and a datagram is dropped
-/// with [`DropReason::OutOfMemory`](super::DropReason::OutOfMemory). `poll` and `cancel` do not
-/// allocate. Only [`build`](ClientBuilder::build) aborts the program then.
+/// with [`DropReason::OutOfMemory`](super::DropReason::OutOfMemory), or an earlier message of its
+/// request is forgotten. `poll` and `cancel` do not allocate. Only [`build`](ClientBuilder::build)
+/// aborts the program then.
 ///
 /// # Challenges, and what an attacker can forge
 ///
@@ -46,20 +47,24 @@ use core::net::SocketAddr;
 /// one unsigned message, each with a transaction ID of its own. One of them is the current message,
 /// which is sent until the request ends or another message takes its place:
 ///
-/// - A response that is signed with the key of the message which it answers ends the request, whichever
-///   of its messages that is. Every other response to a message that is not the current one is dropped.
+/// - A response that is signed with the key of the message which it answers ends the request,
+///   whichever of its messages that is, unless it is a challenge (401 or 438). Everything else that
+///   answers another message than the current one is dropped.
 /// - A challenge is answered by the message for it, which is written if there is none. One that is
 ///   weaker than what a success has confirmed is dropped. The challenge that the message is signed for
-///   already is a refusal. The first one is dropped, and one that arrives after the message was sent
-///   again ends the request (over a stream the first one does, because nothing is sent again).
+///   already is a refusal: the first one is dropped, and one that arrives after the message was sent
+///   again ends the request. (Over a stream nothing is sent again, and the first one ends it.)
 /// - Servers do not sign the errors 400, 437 and 441 by which they refuse a message that is signed for
-///   a challenge which they did not send. The client does not believe them, but goes back to another
-///   message of the request, at most three times.
+///   a forged challenge. The client does not believe these errors, but goes back to another message of
+///   the request, at most three times.
+/// - After six other messages ([`challenges`](ClientBuilder::challenges)) the next challenge ends the
+///   request, and so does the third 401 for the same realm with another nonce.
 ///
-/// So over UDP a single forged datagram ends no request, unless the server itself has refused it before
-/// or you accept unsigned responses ([`accept_unsigned`](ClientBuilder::accept_unsigned)). An attacker
-/// who sends several can end a request as [`Unauthorized`](super::RequestError::Unauthorized), and one
-/// who keeps the server's answers from arriving lets it time out.
+/// So over UDP a single forged datagram ends no request, unless the server itself has brought the
+/// request to one of these limits, or you accept unsigned responses
+/// ([`accept_unsigned`](ClientBuilder::accept_unsigned)). An attacker who sends several can end a
+/// request with [`RequestError::Unauthorized`](super::RequestError::Unauthorized), and one who keeps
+/// the server's answers from arriving lets it time out.
 ///
 /// The algorithm is chosen by the challenge that is answered, and by the list of the challenge before
 /// only if a 438 has none and is signed. So forged challenges cannot make a server accept a request of

@@ -107,10 +107,10 @@ impl Credentials {
 /// When a request is sent, and how long the client waits for its response (RFC 8489, section
 /// 6.2.1): the plan of a message, 39.5 seconds by default.
 ///
-/// A message that is sent again for a challenge has a plan of its own, but after its first plan a
-/// request answers no challenge
-/// ([`LateChallenge`](super::DropReason::LateChallenge)). So each request ends within two plans, 79
-/// seconds by default, at the first [`poll`](super::Client::poll) from then on.
+/// A message that is sent for a challenge has a plan of its own, but after its first plan a request
+/// answers no challenge ([`LateChallenge`](super::DropReason::LateChallenge)), and nothing is sent of
+/// it. So each request ends within two plans, 79 seconds by default, at the first
+/// [`poll`](super::Client::poll) from then on.
 ///
 /// # Examples
 ///

@@ -52,7 +52,8 @@ async fn drive(mut client: Client, socket: UdpSocket, mut asked: mpsc::Receiver<
     loop {
         let until = loop {
             match client.poll(clock.now()) {
-                Output::Transmit { bytes, .. } => drop(socket.send(bytes).await), // sent again if it is lost
+                // sent again if it is lost
+                Output::Transmit { bytes, .. } => drop(socket.send(bytes).await),
                 Output::Ended(request, answer) => {
                     let answer = answer.map_err(Into::into);
                     callers.remove(&request).map(|caller| caller.send(answer));

@@ -123,6 +123,8 @@ PLANTS = [
     ("a range that begins one entry later", KIT + "map/node.rs",
      "                Bound::Included(key) => node.search(key).unwrap_or_else(|at| at),",
      "                Bound::Included(key) => node.search(key).unwrap_or_else(|at| at + 1),"),
+    ("a heap that grows without asking", KIT + "heap.rs",
+     "        if least <= before {", "        if least <= before.max(64) {"),
     ("a vector that drops what it refuses", KIT + "vec.rs",
      "        self.reserve(items.len())?;", "        if self.reserve(items.len()).is_err() {\n"
      "            self.items.clear();\n            return Err(AllocError);\n        }"),

@@ -187,7 +187,7 @@ impl<'s> World<'s> {
         let mut traffic = Traffic::new();
         loop {
             let until = match self.client.poll(self.now) {
-                Output::Transmit(bytes) => {
+                Output::Transmit { bytes, .. } => {
                     let bytes = bytes.to_vec();
                     self.serve(&bytes, network, &mut traffic);
                     continue;

@@ -23,7 +23,6 @@ use Rattle.stun_client.specs.Judging.{Verdict, judged}
 use Rattle.stun_client.specs.Outcomes.{outcome_of}
 use Rattle.stun_client.specs.Requests.{is_answer}
 use Rattle.stun_client.specs.Standing.{StandingSeen, after_success}
-use Rattle.stun_client_loop.specs.Loops.{is_success_class}
 use Rattle.stun_client_endpoint.specs.Written.{Page?}
 use Rattle.stun_client_endpoint.specs.declared.ended.DropReason.{DropReason}
 use Rattle.stun_client_endpoint.specs.declared.ended.DropReason.TheVariants as Reasons
@@ -40,6 +39,7 @@ use Rattle.stun_client_calls.specs.Ids.{Earlier, number_in}
 use Rattle.stun_client_calls.specs.Messages.{AskedSeen, SentSeen, TurnSeen, message_at, new_asked}
 use Rattle.stun_client_calls.specs.Messages.{turned}
 use Rattle.stun_client_calls.specs.Receiving.{Answer, Memory, Met, Spot, UnlessMemory, answered_in}
+use Rattle.stun_client_calls.specs.Receiving.{is_success_class}
 use Rattle.stun_client_calls.specs.Receiving.{as_current, as_earlier, as_expected, by_class}
 use Rattle.stun_client_calls.specs.Receiving.{by_decision, by_met}
 use Rattle.stun_client_calls.specs.Receiving.{current_of, decision_for, dropping, dropping_refusal}

@@ -7,7 +7,7 @@ use Rattle.stun_base.specs.declared.wire.transport.TransportType.{TransportType}
 use Rattle.stun_agent.specs.Timing.{Settings}
 use Rattle.stun_client.specs.Judging.{Identity}
 use Rattle.stun_client_endpoint.specs.Bodies.{Body}
-use Rattle.stun_client_endpoint.specs.Endpoints.{plan_of}
+use Rattle.stun_client_endpoint.specs.Settings.{plan_of}
 use Rattle.stun_client_endpoint.specs.Written.{Form}
 use Rattle.stun_client_requests.specs.Laws.{IsRequests}
 use Rattle.stun_client_requests.specs.Requests.{datum_of}

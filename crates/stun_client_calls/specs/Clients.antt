@@ -13,7 +13,7 @@ use Rattle.stun_client.specs.Ids.{id_of}
 use Rattle.stun_client.specs.Judging.{Identity}
 use Rattle.stun_client.specs.Standing.{StandingSeen, new_standing}
 use Rattle.stun_client_endpoint.specs.Bodies.{Body}
-use Rattle.stun_client_endpoint.specs.Endpoints.{plan_of}
+use Rattle.stun_client_endpoint.specs.Settings.{plan_of}
 use Rattle.stun_client_endpoint.specs.Written.{Form, Page?, is_text_too_long, request_bytes}
 use Rattle.stun_client_endpoint.specs.declared.ended.RequestEnd.TheVariants as how
 use Rattle.stun_client_endpoint.specs.declared.told.RequestError.{RequestError}

@@ -18,8 +18,7 @@ use Rattle.stun_client.specs.Clients.{answering, confirming}
 use Rattle.stun_client.specs.Ids.{id_of}
 use Rattle.stun_client.specs.Outcomes.{outcome_of}
 use Rattle.stun_client.specs.Requests.{is_answer}
-use Rattle.stun_client_loop.specs.Loops.{is_success_class}
-use Rattle.stun_client_endpoint.specs.Endpoints.{is_reliable}
+use Rattle.stun_client_endpoint.specs.Settings.{is_reliable}
 use Rattle.stun_client_endpoint.specs.Written.{Page?}
 use Rattle.stun_client_endpoint.specs.declared.ended.DropReason.{DropReason}
 use Rattle.stun_client_endpoint.specs.declared.ended.DropReason.TheVariants as Reasons
@@ -121,6 +120,12 @@ ended_by end bytes now m c = record c {
   requests = after_answering m.number (length bytes) (moment_of now m) end c.requests;
   earlier = forgetting (Some m.asked) c.earlier;
 }
+
+abbrev pub is_success_class : MessageClass → Bool
+is_success_class Classes.Request = false
+is_success_class Classes.Indication = false
+is_success_class Classes.Success = true
+is_success_class Classes.Error = false
 
 -- a response that is believed ends its request. A success confirms the challenge of its message
 abbrev pub answered_by : Client → ℕ → List ℕ → Met → EndSeen → Answer

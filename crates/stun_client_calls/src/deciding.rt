@@ -3,7 +3,6 @@
 ghost use Rattle.std.specs.Option.{option_map};
 ghost use Rattle.std.specs.Prelude.{◌≡◌, IfOk, IsOk, false};
 ghost use Rattle.stun_client.specs.Judging.{verdict_of};
-ghost use Rattle.stun_client_endpoint.specs.Ends.{reason_of};
 ghost use Rattle.stun_client_calls.specs.Deciding.{answered_anew, answered_refusal, back_to};
 ghost use Rattle.stun_client_calls.specs.Deciding.{begun_again, decided, decision_of, is_doubted};
 ghost use Rattle.stun_client_calls.specs.Deciding.{is_idle, on_doubt, place_of, refused_again};
@@ -15,9 +14,9 @@ use crate::turning::Why;
 use std::alloc::{AllocError, Allocator};
 use stun_base::instant::Instant;
 use stun_client::challenge::Challenge;
-use stun_client::judged::{Distrust, Judged};
+use stun_client::judged::Judged;
 use stun_client::standing::Standing;
-use stun_client_endpoint::ended::DropReason;
+use stun_client_endpoint::ended::{DropReason, reason_of};
 use stun_types::message::{IntegrityAlgorithm, TransactionId};
 
 /// How often a request may be sent by another message.
@@ -82,19 +81,6 @@ pub fn decide<A: Allocator + Copy>(
         Judged::Refused(Some(challenge)) => Ok(answered_refusal(asked, limits, challenge, now)),
         Judged::Doubted => on_doubt(asked, standing, limits, now),
         Judged::Dropped(why) => Ok(Decision::Drop(reason_of(why))),
-    }
-}
-
-/// Returns why a response is dropped, from why it is not believed.
-fn reason_of(why: Distrust) -> DropReason
-    ensures { result ≡ reason_of why }
-{
-    match why {
-        Distrust::WrongFingerprint => DropReason::WrongFingerprint,
-        Distrust::MissingFingerprint => DropReason::MissingFingerprint,
-        Distrust::NotVerified => DropReason::NotVerified,
-        Distrust::UnanswerableChallenge => DropReason::UnanswerableChallenge,
-        _ => DropReason::WeakerChallenge,
     }
 }
 

@@ -18,7 +18,7 @@ use stun_base::transport::TransportType;
 use stun_client::credentials::Credentials;
 use stun_client::standing::Standing;
 use stun_client_endpoint::ended::{Drops, RequestEnd};
-use stun_client_endpoint::endpoint::Settings;
+use stun_client_endpoint::settings::Settings;
 use stun_client_endpoint::form::Form;
 use stun_client_requests::requests::Requests;
 use stun_types::attribute::AttributeType;

@@ -1,15 +1,3 @@
 pub mod BodyLemmas
-pub mod BoundLemmas
 pub mod FormLemmas
-pub mod KeptLemmas
-pub mod LawLemmas
-pub mod NumberLemmas
-pub mod PendingLemmas
-pub mod PollLemmas
-pub mod ReceivingLemmas
-pub mod RequestingLemmas
-pub mod SentLemmas
-pub mod StoredLemmas
-pub mod TallyLemmas
-pub mod TurnLemmas
 pub mod WrittenLemmas

@@ -1,5 +1,5 @@
 -- How requests end, and what is dropped for them (RFC 8489, sections 6.3.3, 6.3.4 and 9.2.5).
-use Rattle.std.specs.Prelude.{ℕ, ◌+◌, List, Option, Some, None, min}
+use Rattle.std.specs.Prelude.{ℕ, ◌+◌, Option, Some, None, min}
 use Rattle.stun_client.specs.declared.judged.Distrust.{Distrust}
 use Rattle.stun_client.specs.declared.judged.Distrust.TheVariants as Distrusts
 use Rattle.stun_client_endpoint.specs.declared.ended.DropReason.{DropReason}
@@ -9,13 +9,6 @@ use Rattle.stun_client_endpoint.specs.declared.ended.DropReason.TheVariants.{Not
 use Rattle.stun_client_endpoint.specs.declared.ended.DropReason.TheVariants.{UnanswerableChallenge}
 use Rattle.stun_client_endpoint.specs.declared.ended.DropReason.TheVariants.{WeakerChallenge}
 use Rattle.stun_client_endpoint.specs.declared.ended.Drops.{Drops}
-use Rattle.stun_client_endpoint.specs.declared.ended.RequestEnd.{RequestEnd}
-
--- a request that has ended: its number, how, and the response that ended it, or no bytes
-pub record Ended : Type 0 where
-  pub number : ℕ
-  pub end : RequestEnd
-  pub response : List ℕ
 
 -- why a response is dropped that is not believed
 abbrev pub reason_of : Distrust → DropReason

@@ -1,6 +1,9 @@
--- Of which settings no client is to be made: each of its requests would be refused, or none could be
--- signed.
-use Rattle.std.specs.Prelude.{ℕ, List, ◌||◌, length, nat_lt, if◌then◌else◌, Option, Some, None}
+-- The settings of a client: of which none is to be made, since each of its requests would be refused, or
+-- none could be signed; and how long the plan of a request lasts (RFC 8489, section 6.2).
+use Rattle.std.specs.Prelude.{ℕ, Bool, true, false, List, ◌||◌, length, nat_lt, if◌then◌else◌, Option, Some, None}
+use Rattle.stun_base.specs.declared.wire.transport.TransportType.{TransportType}
+use Rattle.stun_base.specs.declared.wire.transport.TransportType.TheVariants.{Tcp, Udp}
+use Rattle.stun_agent.specs.Timing.{Settings, final_wait}
 use Rattle.stun_types.specs.Limits.{TEXT_LIMIT, USERNAME_LIMIT}
 use Rattle.stun_client.specs.declared.preferences.Preferences.{Preferences}
 use Rattle.stun_client_endpoint.specs.declared.settings.SettingsError.{SettingsError}
@@ -17,3 +20,13 @@ settings_refusal name software preferences =
     else if nat_lt TEXT_LIMIT (length software) then Some SoftwareTooLong
     else if preferences.hmac_sha1 || preferences.hmac_sha256 then None
     else Some NoAlgorithm
+
+-- how long a message that nobody answers is sent and awaited: all its timeouts, and the wait after the
+-- last transmission (section 6.2.1). Over a reliable transport it is awaited as long (section 6.2.2)
+abbrev pub plan_of : Settings → ℕ
+plan_of settings = final_wait Tcp settings
+
+-- whether nothing is sent again over a transport
+abbrev pub is_reliable : TransportType → Bool
+is_reliable Udp = false
+is_reliable Tcp = true

@@ -1,9 +1,7 @@
 //! How requests end, and what is dropped for them.
-ghost use Rattle.std.specs.Prelude.{◌≡◌, ℕ, List};
+ghost use Rattle.std.specs.Prelude.{◌≡◌};
 ghost use Rattle.stun_client_endpoint.specs.Ends.{after_drop, no_drops, reason_of};
 
-use std::alloc::{Allocator, Global};
-use std::marker::Model;
 use stun_client::judged::{Distrust, Outcome};
 use stun_types::message::IntegrityAlgorithm;
 
@@ -34,7 +32,7 @@ pub enum DropReason {
 }
 
 /// Returns why a response is dropped, from why it is not believed.
-pub(crate) fn reason_of(why: Distrust) -> DropReason
+pub fn reason_of(why: Distrust) -> DropReason
     ensures { result ≡ reason_of why }
 {
     match why {
@@ -96,63 +94,4 @@ pub enum RequestEnd {
     Unauthorized,
     /// It was canceled.
     Cancelled,
-}
-
-/// A request that has ended.
-///
-/// Contracts: they see all of it.
-#[derive(Drop)]
-pub struct Ended<A: Allocator = Global> {
-    number: u64,
-    end: RequestEnd,
-    response: Vec<u8, A>,
-}
-
-impl<A: Allocator> Model for Ended<A> {
-    ghost use Rattle.stun_client_endpoint.specs.Ends.{Ended as EndedSeen};
-
-    ghost Value = { EndedSeen };
-
-    ghost view = { λ e. record { number = e.number; end = e.end; response = e.response.items } };
-}
-
-impl<A: Allocator> Ended<A> {
-    /// Joins the number of a request to its end.
-    pub(crate) fn new(number: u64, end: RequestEnd, response: Vec<u8, A>) -> Ended<A>
-        ensures { result ≡ record { number = number; end = end; response = response.items } }
-    {
-        Ended {
-            number,
-            end,
-            response,
-        }
-    }
-
-    /// Returns the number of the request.
-    pub fn number(&self) -> u64
-        ensures { result ≡ self.now.number }
-    {
-        self.number
-    }
-
-    /// Returns how the request ended.
-    pub fn end(&self) -> RequestEnd
-        ensures { result ≡ self.now.end }
-    {
-        self.end
-    }
-
-    /// Returns the bytes of the response that ended it, and none if no response did.
-    pub fn response(&self) -> &[u8]
-        ensures { result.now ≡ self.now.response }
-    {
-        self.response.as_slice()
-    }
-
-    /// Converts it to the bytes of the response.
-    pub fn into_response(self) -> Vec<u8, A>
-        ensures { result.items ≡ self.response }
-    {
-        self.response
-    }
 }

@@ -6,7 +6,7 @@ use stun_types::attribute::ErrorCode;
 use stun_types::message::{Message, MessageClass};
 
 /// Returns the code of an error response.
-pub(crate) fn code_of(message: &Message<'_>) -> Option<u16>
+pub fn code_of(message: &Message<'_>) -> Option<u16>
     ensures { result ≡ code_in message.now }
 {
     if message.class() != MessageClass::Error {

@@ -1,9 +1,29 @@
-//! Which settings no client is to be made of.
+//! The settings of a client, and of which none is to be made.
 ghost use Rattle.std.specs.Prelude.{◌≡◌};
 ghost use Rattle.stun_client_endpoint.specs.Settings.{settings_refusal};
 
+use crate::form::Form;
+use std::alloc::{Allocator, Global};
+use stun_agent::agent::RequestRto;
 use stun_client::preferences::Preferences;
+use stun_types::attribute::AttributeType;
 use stun_types::limits::{TEXT_LIMIT, USERNAME_LIMIT};
+
+/// The settings of a client.
+#[derive(Drop)]
+pub struct Settings<A: Allocator = Global> {
+    /// What each request has beside its body and its signature.
+    pub form: Form<A>,
+    /// Whether a response without FINGERPRINT is dropped (RFC 8489, section 7.3).
+    pub requires_fingerprint: bool,
+    /// The types of attributes that are understood in responses.
+    pub understood: Vec<AttributeType, A>,
+    /// How often another message of a request is sent, for a challenge or a doubt. The next challenge
+    /// ends the request.
+    pub challenges: u32,
+    /// When a request is sent again, and when it ends.
+    pub timeouts: RequestRto,
+}
 
 /// What is wrong with the settings of a client.
 #[derive(Clone, Copy, Debug, PartialEq, Eq)]

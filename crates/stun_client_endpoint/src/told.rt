@@ -1,9 +1,7 @@
 //! What a client returns.
 ghost use Rattle.std.specs.Prelude.{◌≡◌};
 
-use crate::ended::{DropReason, Ended};
-use std::alloc::{Allocator, Global};
-use stun_base::instant::Instant;
+use crate::ended::DropReason;
 use stun_types::message::Message;
 use thiserror::Error;
 
@@ -11,7 +9,7 @@ use thiserror::Error;
 #[derive(Clone, Copy, Debug, PartialEq, Eq, Error)]
 #[non_exhaustive]
 pub enum RequestError {
-    /// The seed has no transaction ID left, or the agent has another remote address than the server.
+    /// The seed has no transaction ID left.
     #[error("no transaction ID is left")]
     NoId,
     /// The message would be too long, or cannot be written otherwise.
@@ -36,16 +34,4 @@ pub enum Received<'a> {
     NotOurs,
     /// A response to a request of this client that was dropped. The request goes on.
     Dropped(DropReason),
-}
-
-/// What to do next.
-#[derive(Drop)]
-#[non_exhaustive]
-pub enum Polled<A: Allocator = Global> {
-    /// Send the bytes of the request with this number to the server (see `ClientEndpoint::bytes_of`).
-    Transmit(u64),
-    /// A request has ended.
-    Ended(Ended<A>),
-    /// Wait until a datagram arrives, or until this time; `None`: no request is outstanding.
-    Wait(Option<Instant>),
 }

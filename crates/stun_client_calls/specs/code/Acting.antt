@@ -3,11 +3,10 @@ use Rattle.std.specs.Prelude.{◌≡◌, ℕ, Bool, if◌then◌else◌, Option,
 use Rattle.stun_base.specs.declared.wire.message_type.MessageClass.{MessageClass}
 use Rattle.stun_client.specs.Challenges.{Answered}
 use Rattle.stun_client.specs.Clients.{answering}
-use Rattle.stun_client_loop.specs.Loops.{is_success_class}
 use Rattle.stun_client_requests.specs.Requests.{after_replacing}
 use Rattle.stun_client_calls.specs.Clients.{Client}
 use Rattle.stun_client_calls.specs.Messages.{AskedSeen, TurnSeen, turned}
-use Rattle.stun_client_calls.specs.Receiving.{Met, exchanged_ids}
+use Rattle.stun_client_calls.specs.Receiving.{Met, exchanged_ids, is_success_class}
 
 -- the challenge that a response confirms: that of the message which a success answers
 abbrev pub confirmed_in : MessageClass → Met → Option Answered

@@ -2,7 +2,6 @@
 ghost use Rattle.std.specs.Option.{option_and_then};
 ghost use Rattle.std.specs.Prelude.{◌≡◌, IfOk, Some};
 ghost use Rattle.stun_base.specs.MessageType.{class_in};
-ghost use Rattle.stun_client.specs.Challenging.{code_in};
 ghost use Rattle.stun_client.specs.Requests.{is_answer};
 ghost use Rattle.stun_client_calls.specs.Deciding.{decision_of};
 ghost use Rattle.stun_client_calls.specs.Ids.{number_in};
@@ -10,7 +9,7 @@ ghost use Rattle.stun_client_calls.specs.Receiving.{Met as MetSeen, UnlessMemory
 ghost use Rattle.stun_client_calls.specs.Receiving.{by_decision, by_met, current_of, decision_for};
 ghost use Rattle.stun_client_calls.specs.Receiving.{dropping, dropping_refusal, earlier_of, judge_of};
 ghost use Rattle.stun_client_calls.specs.Receiving.{met, received};
-ghost use Rattle.stun_client_endpoint.specs.Endpoints.{is_reliable};
+ghost use Rattle.stun_client_endpoint.specs.Settings.{is_reliable};
 
 use crate::asked::{Asked, Change};
 use crate::deciding::{Decision, Limits, decide};
@@ -23,9 +22,9 @@ use stun_base::instant::Instant;
 use stun_base::transport::TransportType;
 use stun_client::challenge::Challenge;
 use stun_client_endpoint::ended::DropReason;
+use stun_client_endpoint::reading::code_of;
 use stun_client_endpoint::told::Received;
 use stun_extra::canonical_address::is_same_address;
-use stun_types::attribute::ErrorCode;
 use stun_types::message::{Message, MessageClass, Method, TransactionId};
 
 /// A message of an outstanding request.
@@ -264,18 +263,5 @@ fn is_reliable(transport: TransportType) -> bool
     match transport {
         TransportType::Udp => false,
         TransportType::Tcp => true,
-    }
-}
-
-/// Returns the code of an error response.
-fn code_of(message: &Message<'_>) -> Option<u16>
-    ensures { result ≡ code_in message.now }
-{
-    if message.class() != MessageClass::Error {
-        return None;
-    }
-    match message.attribute::<ErrorCode<'_>>() {
-        Ok(error) => Some(error.code()),
-        Err(_) => None,
     }
 }

@@ -9,7 +9,7 @@ ghost use Rattle.stun_client.specs.Ids.{id_of};
 ghost use Rattle.stun_client.specs.Judging.{identity_of};
 ghost use Rattle.stun_client_calls.specs.Clients.{chosen, error_of, first_message};
 ghost use Rattle.stun_client_calls.specs.Clients.{refusal_at_once, refusal_to_start, started};
-ghost use Rattle.stun_client_endpoint.specs.Endpoints.{plan_of};
+ghost use Rattle.stun_client_endpoint.specs.Settings.{plan_of};
 ghost use Rattle.stun_client_endpoint.specs.Written.{is_text_too_long, request_bytes};
 ghost use Rattle.stun_client_requests.specs.Requests.{LAST_NUMBER, after_start, start_refusal};
 

@@ -17,8 +17,9 @@ from export_text import closing, mask
 
 PAGE = crates.TOP / "docs/CLAUSES.md"
 # What users call comes first, then what it stands on.
-FIRST = ("stun_endpoint", "stun_client_endpoint", "stun_ice", "stun_datagrams", "stun_exchanges",
-         "stun_sessions", "stun_requests", "stun_meetings", "stun_plans", "stun_peers",
+FIRST = ("stun_endpoint", "stun_client_calls", "stun_client_endpoint", "stun_ice", "stun_datagrams",
+         "stun_exchanges", "stun_sessions", "stun_requests", "stun_client_runs",
+         "stun_client_meetings", "stun_client_strength", "stun_client_plans", "stun_peers",
          "stun_peer_runs", "stun_proto", "stun_agent", "stun_auth", "stun_c", "stun_state",
          "stun_c_endpoint")
 HEAD = """\

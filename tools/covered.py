@@ -16,8 +16,9 @@ import sys
 from definitions import Repository, crates, sources
 
 # Crates that have laws alone, in other files than laws.rt.
-LAWS = ("stun_exchanges", "stun_sessions", "stun_datagrams", "stun_plans", "stun_requests",
-        "stun_meetings", "stun_peers", "stun_peer_runs")
+LAWS = ("stun_exchanges", "stun_sessions", "stun_datagrams", "stun_client_runs",
+        "stun_client_plans", "stun_requests", "stun_client_meetings", "stun_client_strength",
+        "stun_peers", "stun_peer_runs")
 SENTENCE = "-- its own law:"
 # The most definitions without law or sentence. The three archives for C count together, and each
 # crate has at most 20 sentences.

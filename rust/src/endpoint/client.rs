@@ -9,7 +9,7 @@ use crate::copies::granted;
 use crate::exported::stun_client::credentials::Credentials;
 use crate::exported::stun_client_calls::endpoint::ClientEndpoint;
 use crate::exported::stun_client_calls::told::Polled;
-use crate::exported::stun_client_endpoint::endpoint::Settings;
+use crate::exported::stun_client_endpoint::settings::Settings;
 use crate::exported::stun_client_endpoint::told::Received;
 use crate::exported::stun_types::message::Method;
 use crate::kit::alloc::Global;

@@ -465,7 +465,7 @@ typedef enum stunp_kind {
                               * on it. In ICE it keeps a path open, and asks for nothing */
     STUNP_IS_RESPONSE = 4,   /* at a server, a response for a client on the same socket; in ICE, the
                               * answer that ends your check, as `outcome` says; at a client, a response
-                              * that it has accepted, which ends its request or is a challenge */
+                              * that ends its request, or after which another message is sent */
     STUNP_LOOKUP = 5,        /* a request that waits for its user: look up `name`, and call
                               * stunp_endpoint_server_resume. Its signature is not checked yet */
     STUNP_NOT_OURS = 6,      /* at a client: it is for somebody else, or for nobody */
@@ -494,14 +494,16 @@ typedef enum stunp_drop {
                                        * 400 or 401 is not signed, so such a check ends by its
                                        * timeout */
     /* These are of clients alone, and of responses to their requests. */
-    STUNP_DROP_NOT_VERIFIED = 9,      /* it is not signed with the key of the request */
+    STUNP_DROP_NOT_VERIFIED = 9,      /* it is not signed with the key of the message that it
+                                       * answers, or is a challenge to another message than the one
+                                       * that was sent last */
     STUNP_DROP_UNANSWERABLE_CHALLENGE = 10, /* it is a 401 or 438 that the client cannot answer, and is
                                              * not signed; or its list of algorithms is so long that
                                              * the request would not fit into a message */
     STUNP_DROP_WEAKER_CHALLENGE = 11, /* it is a challenge for less protection than a challenge to which
                                        * the server has answered with a success */
-    STUNP_DROP_OUT_OF_MEMORY = 12,    /* an allocation failed, or no transaction ID is left to
-                                       * answer a challenge. The request goes on, and the server
+    STUNP_DROP_OUT_OF_MEMORY = 12,    /* an allocation failed, or no transaction ID is left for
+                                       * another message. The request goes on, and the server
                                        * answers its next transmission. Over a stream there is none,
                                        * so it times out */
     STUNP_DROP_LATE_CHALLENGE = 14,   /* it is a challenge that arrived more than one plan after the
@@ -1510,7 +1512,24 @@ STUNP_INLINED uint64_t stunp_ice_consent_until(const stunp_ice_consent *consent,
 /* ---- Clients
  *
  * A client has one server, and any number of requests at the same time. Use it in one thread at a
- * time. */
+ * time.
+ *
+ * With long-term credentials the client sends a request by one message for each challenge that it
+ * answers, and by at most one message that is not signed. Each message has its own transaction ID.
+ * Only the one that was sent last is sent again, but a response that is signed with the key of any
+ * of them ends the request, unless it is a challenge. Another response counts only if it answers
+ * the message that was sent last:
+ *
+ *   - Another challenge than the one that the message is signed for is answered by the message for
+ *     it, unless it is weaker than what a success has confirmed (STUNP_DROP_WEAKER_CHALLENGE).
+ *   - The challenge that the message is signed for is dropped (STUNP_DROP_REFUSED), and the message
+ *     is sent again by its timer. If the challenge arrives once more after that, the request ends.
+ *     Over a stream, where nothing is sent again, it ends at once.
+ *   - An error 400, 437 or 441 to a signed message, which is not signed itself, may be forged, and
+ *     ends nothing: the client sends another message of the request, or an unsigned one if there is
+ *     no other. In the same way an unsigned 437 to the unsigned message makes it go back to a signed
+ *     one. This happens at most three times for one request. After that, or if there is no other
+ *     message to send, such an error is dropped (STUNP_DROP_NOT_VERIFIED). */
 
 /* The longest body of a request, in bytes. What a client adds to it fits into a message, unless the
  * server's list of algorithms is very long. stunp_endpoint_client_request then fails with
@@ -1543,32 +1562,38 @@ enum { STUNP_BODY_MAX = 60000 };
  *   anonymous_username  with long-term credentials: STUNP_AUTO, the default, sends a hash in place
  *                       of the user name if the server accepts it; STUNP_REQUIRED ignores
  *                       challenges of a server that does not; STUNP_DISABLED always sends the name
- *   challenges          how often a request is sent again because of a challenge. By default 6
- *                       times; the next challenge ends it with STUNP_RESULT_UNAUTHORIZED. A restart
- *                       of the server, a new address of the client, an expired nonce and a forged
- *                       challenge each count as one. A wrong password ends a request earlier: at
- *                       the second refusal with the nonce that the request is signed for, and at
- *                       the third 401 that has another one
+ *   challenges          how often another message of a request is sent in place of the last one,
+ *                       because of a challenge or of an error that is not signed. By default 6
+ *                       times; the next challenge ends it with STUNP_RESULT_UNAUTHORIZED, and the
+ *                       next such error is dropped. A restart of the server, a new address of the
+ *                       client, an expired nonce and a forged challenge each count as one. A wrong
+ *                       password ends a request earlier: at the second refusal with the nonce that
+ *                       the request is signed for, or at the first one over a stream, and at the
+ *                       third 401 that has another nonce. So the first request of a client with a
+ *                       wrong password takes three datagrams if the server repeats its nonce, of
+ *                       which the last two are equal, and four if it does not
  *   initial             how long to wait after the first transmission of a request, in nanoseconds.
  *                       Each further wait is twice the wait before (section 6.2.1). By default
  *                       500000000 (500 ms)
  *   longest             the longest of these waits, in nanoseconds. By default they have no bound
  *   last                how long to wait after the last transmission, in nanoseconds. By default
  *                       8000000000 (8 s), even if `initial` is set
- *   transmissions       how often a request is sent. By default 7 times, so that a request without
- *                       an answer ends after 39.5 s: these transmissions and waits are its plan. A
- *                       message for a challenge has a plan of its own, but after its first plan a
- *                       request answers no challenge. So each request ends within two plans, 79 s by
- *                       default, at the first stunp_endpoint_client_poll from then on
- *   is_stream           whether messages go over a stream, such as TCP. Each request is then sent
+ *   transmissions       how often a message is sent. By default 7 times, so that a request without
+ *                       an answer ends after 39.5 s: these transmissions and waits are its plan.
+ *                       Each message of a request has a plan of its own, but after the first plan of
+ *                       a request nothing is sent of it any more, and no challenge is answered. So
+ *                       each request ends within two plans, 79 s by default, at the first
+ *                       stunp_endpoint_client_poll from then on
+ *   is_stream           whether messages go over a stream, such as TCP. Each message is then sent
  *                       once, and the client waits as long as it would for datagrams. Split the
  *                       stream by stunp_next_frame, or by stunp_next_turn_frame if it also has
  *                       ChannelData, and pass one whole message to each
  *                       stunp_endpoint_client_receive
- *   accepts_unsigned    whether a request that was sent unsigned accepts an unsigned response, with
+ *   accepts_unsigned    whether a message that was sent unsigned accepts an unsigned response, with
  *                       long-term credentials. By default it does not, so a client with a user
  *                       times out at a server that asks for no credentials. If it does, an attacker
- *                       who can make requests time out can forge the response too
+ *                       who sees a request can forge the response to it, also to a signed one: after
+ *                       an error 400 that is not signed, the client may send it unsigned
  *   has_fingerprint     whether requests end with FINGERPRINT
  *   requires_fingerprint  whether a response without FINGERPRINT is dropped (section 7.3). By
  *                       default it is accepted */
@@ -1689,10 +1714,10 @@ typedef struct {
 } stunp_event;
 
 /* The attributes of a request, in a buffer of yours. stunp_endpoint_client_request copies them, so
- * you may reuse the body and its buffer as soon as it returns. The client writes its copy again
- * when it answers a challenge. You may read the fields, but change them only by the calls that take
- * a body. It points to your buffer: do not return one from the function whose variable the buffer
- * is.
+ * you may reuse the body and its buffer as soon as it returns. The client writes its copy again into
+ * each further message of the request, such as one for a challenge. You may read the fields, but
+ * change them only by the calls that take a body. It points to your buffer: do not return one from
+ * the function whose variable the buffer is.
  *
  *     uint8_t room[64];
  *     stunp_body body = stunp_body_on(room, sizeof room);
@@ -1877,13 +1902,14 @@ int64_t stunp_endpoint_client_receive_with(stunp_endpoint_client *client, const 
  *     request. Offer it to the next client on the socket.
  *   - STUNP_IS_INDICATION: it is an indication from the server. Nothing protects it, and neither its
  *     FINGERPRINT nor its attributes were looked at.
- *   - STUNP_IS_RESPONSE: it is a response to a request of this client, and was accepted. It has
- *     ended its request, or it is a challenge and the request is sent again.
+ *   - STUNP_IS_RESPONSE: it is a response to a request of this client. It has ended its request, or
+ *     it is a challenge or an unsigned error after which another message of the request is sent.
  *     stunp_endpoint_client_poll returns which.
  *   - STUNP_DROPPED: it is a response to a request of this client, and was not accepted, for the reason
  *     that is written to `*why`; this pointer may be null. The request goes on. If an allocation
- *     fails, the response is dropped with STUNP_DROP_OUT_OF_MEMORY. stunp_endpoint_client_poll and
- *     stunp_endpoint_client_cancel do not allocate.
+ *     fails, the response is dropped with STUNP_DROP_OUT_OF_MEMORY. Only if the message cannot be
+ *     stored that another one is sent in place of, it is forgotten, and a response to it is then
+ *     STUNP_NOT_OURS. stunp_endpoint_client_poll and stunp_endpoint_client_cancel do not allocate.
  *
  * An IPv4 address and the same address mapped into IPv6 (::ffff:a.b.c.d) count as one address.
  *

@@ -1,18 +1,19 @@
 -- What the calls on a client return, write and leave (RFC 8489, sections 6.2 and 6.3).
 use Rattle.std.specs.Prelude.{◌≡◌, ◌⊎◌, ℕ, ℤ, pos, List, [], ◌++◌, Bool, true, false, ◌==◌}
 use Rattle.std.specs.Prelude.{length, drop, nat_lt, Option, Some, None, Result, Ok, Err}
-use Rattle.std.specs.Option.{is_some, option_map, option_map_or}
+use Rattle.std.specs.Option.{is_some, option_map_or}
 use Rattle.std.specs.declared.net.socket_addr.SocketAddr.{SocketAddr}
 use Rattle.stun_client_endpoint.specs.Bodies.{Body}
-use Rattle.stun_client_endpoint.specs.Endpoints.{Answer, Endpoint, Polls, Told, cancelled, ends}
-use Rattle.stun_client_endpoint.specs.Endpoints.{next_number, out_of_memory, received}
-use Rattle.stun_client_endpoint.specs.Endpoints.{refusal_to_start, started, transmit, waits}
-use Rattle.stun_client_endpoint.specs.Pendings.{outstanding_at}
 use Rattle.stun_client_endpoint.specs.declared.told.Received.{Received}
 use Rattle.stun_client_endpoint.specs.declared.told.Received.TheVariants.{Consumed, Dropped}
 use Rattle.stun_client_endpoint.specs.declared.told.Received.TheVariants.{Indication, NotOurs}
 use Rattle.stun_client_endpoint.specs.declared.told.RequestError.{RequestError}
 use Rattle.stun_client_endpoint.specs.declared.told.RequestError.TheVariants as Errors
+use Rattle.stun_client_requests.specs.Requests.{bytes_at, datum_of}
+use Rattle.stun_client_calls.specs.Clients.{Client as ClientSeen, Told, cancelled, ends}
+use Rattle.stun_client_calls.specs.Clients.{refusal_to_start, started, told, transmit, waits}
+use Rattle.stun_client_calls.specs.Receiving.{Answer, UnlessMemory, received}
+use Rattle.stun_client_calls.specs.Runs.{next_number}
 use Rattle.stun_handles.specs.Addresses.{socket_address}
 use Rattle.stun_handles.specs.declared.address.Address.{Address}
 use Rattle.stun_numbers.specs.Refusals.{refusal_number}
@@ -32,8 +33,8 @@ use Rattle.stun_c_endpoint.specs.declared.handle.endpoint.Kept.TheVariants.{Chec
 use Rattle.stun_c_endpoint.specs.declared.handle.endpoint.Kept.TheVariants.{Server, ShortTerm, Users}
 use Rattle.stun_c_endpoint.specs.declared.handle.endpoint.Kept.TheVariants.{ShortTermUsers}
 
-abbrev pub client_of : Kept → Result Endpoint Refusal
-client_of (Client e) = Ok e
+abbrev pub client_of : Kept → Result ClientSeen Refusal
+client_of (Client c) = Ok c
 client_of (Server s) = Err WrongHandle
 client_of (Users u) = Err WrongHandle
 client_of (Open s) = Err WrongHandle
@@ -41,7 +42,7 @@ client_of (ShortTerm s) = Err WrongHandle
 client_of (ShortTermUsers u) = Err WrongHandle
 client_of (Checker a) = Err WrongHandle
 
-abbrev pub client_in : Option Kept → Result Endpoint Refusal
+abbrev pub client_in : Option Kept → Result ClientSeen Refusal
 client_in handle = at_handle handle (λ kept. client_of kept)
 
 -- ---- requests
@@ -53,17 +54,17 @@ refusal_of_request Errors.OutOfMemory = OutOfMemory
 
 -- a request that is started: its number, and the client then
 abbrev pub Start : Type 0
-Start = Result (ℕ × Endpoint) Refusal
+Start = Result (ℕ × ClientSeen) Refusal
 
-abbrev pub start_unless : Option RequestError → ℕ → Endpoint → Start
-start_unless None number e = Ok (number, e)
-start_unless (Some error) number e = Err (refusal_of_request error)
+abbrev pub start_unless : Option RequestError → ℕ → ClientSeen → Start
+start_unless None number c = Ok (number, c)
+start_unless (Some error) number c = Err (refusal_of_request error)
 
 -- the refusals of the body come first
-abbrev pub starting : ℕ → ℕ → Endpoint → Result Body Refusal → Start
-starting method now e (Err refusal) = Err refusal
-starting method now e (Ok body) =
-    start_unless (refusal_to_start e method body) (next_number e) (started method body now e)
+abbrev pub starting : ℕ → ℕ → ClientSeen → Result Body Refusal → Start
+starting method now c (Err refusal) = Err refusal
+starting method now c (Ok body) =
+    start_unless (refusal_to_start c method body) (next_number c) (started method body now c)
 
 -- nothing is written and nothing changes
 abbrev pub LeavesAsked : Refusal → ℤ → ℕ → ℕ → Option Kept → Option Kept → Type 0
@@ -77,29 +78,29 @@ StartsAs (Err refusal) result id id' before after =
     LeavesAsked refusal result id id' before after
 
 -- a request is started with the body of these bytes, or it is refused
-pub record StartsBy (method : ℕ) (bytes : List ℕ) (now : ℕ) (e : Endpoint) (result : ℤ)
+pub record StartsBy (method : ℕ) (bytes : List ℕ) (now : ℕ) (c : ClientSeen) (result : ℤ)
     (id id' : ℕ) (before after : Option Kept) : Type 0 where
   pub body : Result Body Refusal
   pub reads : Reads [] bytes body
-  pub starts : StartsAs (starting method now e body) result id id' before after
+  pub starts : StartsAs (starting method now c body) result id id' before after
 
 -- a method of more than 12 bits is refused first; or an allocation failed
-abbrev pub AsksBy : Bool → ℕ → List ℕ → ℕ → Endpoint → ℤ → ℕ → ℕ → Option Kept → Option Kept
+abbrev pub AsksBy : Bool → ℕ → List ℕ → ℕ → ClientSeen → ℤ → ℕ → ℕ → Option Kept → Option Kept
     → Type 0
-AsksBy true method bytes now e result id id' before after =
+AsksBy true method bytes now c result id id' before after =
     LeavesAsked BadArgument result id id' before after
-AsksBy false method bytes now e result id id' before after =
-    StartsBy method bytes now e result id id' before after
+AsksBy false method bytes now c result id id' before after =
+    StartsBy method bytes now c result id id' before after
     ⊎ LeavesAsked OutOfMemory result id id' before after
 
 -- what a call that starts a request with these bytes as its body returns, writes and leaves: the
 -- refusals of the handle come first
-abbrev pub AsksAs : Result Endpoint Refusal → ℕ → List ℕ → ℕ → ℤ → ℕ → ℕ → Option Kept → Option Kept
-    → Type 0
+abbrev pub AsksAs : Result ClientSeen Refusal → ℕ → List ℕ → ℕ → ℤ → ℕ → ℕ → Option Kept
+    → Option Kept → Type 0
 AsksAs (Err refusal) method bytes now result id id' before after =
     LeavesAsked refusal result id id' before after
-AsksAs (Ok e) method bytes now result id id' before after =
-    AsksBy (nat_lt 4095 method) method bytes now e result id id' before after
+AsksAs (Ok c) method bytes now result id id' before after =
+    AsksBy (nat_lt 4095 method) method bytes now c result id id' before after
 
 -- ---- datagrams
 
@@ -121,28 +122,29 @@ abbrev pub LeavesHeard : Refusal → ℤ → ℕ → ℕ → Option Kept → Opt
 LeavesHeard refusal result why why' before after =
     (result ≡ refusal_number refusal) × (why' ≡ why) × (after ≡ before)
 
-abbrev pub IsHeard : Answer → ℤ → ℕ → ℕ → Option Kept → Type 0
-IsHeard a result why why' after =
-    (result ≡ pos (received_number a.0)) × (why' ≡ why_told a.0 why) × (after ≡ Some (Client a.1))
+-- what a datagram from an address comes to, and the client then; or an allocation failed
+pub record IsHeard (from : SocketAddr) (bytes : List ℕ) (now : ℕ) (c : ClientSeen) (result : ℤ)
+    (why why' : ℕ) (left : Option Kept) : Type 0 where
+  pub answer : Answer
+  pub receives : UnlessMemory (λ memory. received memory from bytes now c) bytes c answer
+  pub number : result ≡ pos (received_number answer.0)
+  pub why_is : why' ≡ why_told answer.0 why
+  pub left_is : left ≡ Some (Client answer.1)
 
--- what a datagram from an address comes to, and the client then; or an allocation failed, in one of
--- two places
-abbrev pub HearsFrom : Option SocketAddr → List ℕ → ℕ → Endpoint → ℤ → ℕ → ℕ → Option Kept
+abbrev pub HearsFrom : Option SocketAddr → List ℕ → ℕ → ClientSeen → ℤ → ℕ → ℕ → Option Kept
     → Option Kept → Type 0
-HearsFrom None bytes now e result why why' before after =
+HearsFrom None bytes now c result why why' before after =
     LeavesHeard BadArgument result why why' before after
-HearsFrom (Some from) bytes now e result why why' before after =
-    IsHeard (received true from bytes now e) result why why' after
-    ⊎ (IsHeard (received false from bytes now e) result why why' after
-    ⊎ IsHeard (out_of_memory bytes e) result why why' after)
+HearsFrom (Some from) bytes now c result why why' before after =
+    IsHeard from bytes now c result why why' after
 
 -- what a call that reads a datagram returns, writes and leaves
-abbrev pub HearsAs : Result Endpoint Refusal → Address → List ℕ → ℕ → ℤ → ℕ → ℕ → Option Kept
+abbrev pub HearsAs : Result ClientSeen Refusal → Address → List ℕ → ℕ → ℤ → ℕ → ℕ → Option Kept
     → Option Kept → Type 0
 HearsAs (Err refusal) from bytes now result why why' before after =
     LeavesHeard refusal result why why' before after
-HearsAs (Ok e) from bytes now result why why' before after =
-    HearsFrom (socket_address from) bytes now e result why why' before after
+HearsAs (Ok c) from bytes now result why why' before after =
+    HearsFrom (socket_address from) bytes now c result why why' before after
 
 -- ---- polling
 
@@ -151,25 +153,24 @@ or_no_bytes None = []
 or_no_bytes (Some bytes) = bytes
 
 -- the bytes that go with what a client says: a request to send, or the response that ended one
-abbrev pub bytes_told : Endpoint → Told → List ℕ
-bytes_told e (transmit number) =
-    or_no_bytes (option_map (λ p. p.bytes) (outstanding_at number e.requests))
-bytes_told e (ends x) = x.response
-bytes_told e (waits until) = []
+abbrev pub bytes_told : ClientSeen → Told → List ℕ
+bytes_told c (transmit number) = or_no_bytes (bytes_at number c.requests)
+bytes_told c (ends number x) = x.response
+bytes_told c (waits until) = []
 
 -- until when to wait: for ever, if no request is outstanding
 abbrev pub or_for_ever : Option ℕ → ℕ
 or_for_ever None = 18446744073709551615
 or_for_ever (Some until) = until
 
-abbrev pub event_told : Endpoint → Told → Event → Event
-event_told e (transmit number) v = sent_told number (length (bytes_told e (transmit number))) v
-event_told e (ends x) v = ended_told x v
-event_told e (waits until) v = wait_told (or_for_ever until) v
+abbrev pub event_told : ClientSeen → Told → Event → Event
+event_told c (transmit number) v = sent_told number (length (bytes_told c (transmit number))) v
+event_told c (ends number x) v = ended_told number x v
+event_told c (waits until) v = wait_told (or_for_ever until) v
 
 abbrev pub event_number : Told → ℕ
 event_number (transmit number) = 1
-event_number (ends x) = 2
+event_number (ends number x) = 2
 event_number (waits until) = 0
 
 -- bytes that have no room are lost
@@ -180,21 +181,18 @@ WritesTold false bytes number result out out' =
     (result ≡ pos number) × (out' ≡ bytes ++ drop (length bytes) out)
 
 -- what a client says is written
-abbrev pub Tells : Endpoint → Told → ℤ → List ℕ → List ℕ → Event → Event → Type 0
-Tells e told result out out' v v' =
-    (v' ≡ event_unless (nat_lt (length out) (length (bytes_told e told)))
-    (length (bytes_told e told)) (event_told e told v))
-    × WritesTold (nat_lt (length out) (length (bytes_told e told))) (bytes_told e told)
-    (event_number told) result out out'
+abbrev pub Tells : ClientSeen → Told → ℤ → List ℕ → List ℕ → Event → Event → Type 0
+Tells c says result out out' v v' =
+    (v' ≡ event_unless (nat_lt (length out) (length (bytes_told c says)))
+    (length (bytes_told c says)) (event_told c says v))
+    × WritesTold (nat_lt (length out) (length (bytes_told c says))) (bytes_told c says)
+    (event_number says) result out out'
 
 -- a call polls the client, and writes what it says
-pub record IsPolled (now : ℕ) (e : Endpoint) (result : ℤ) (out out' : List ℕ) (v v' : Event)
+pub record IsPolled (now : ℕ) (c : ClientSeen) (result : ℤ) (out out' : List ℕ) (v v' : Event)
     (left : Option Kept) : Type 0 where
-  pub told : Told
-  pub after : Endpoint
-  pub polls : Polls now e told after
-  pub left_is : left ≡ Some (Client after)
-  pub tells : Tells after told result out out' v v'
+  pub left_is : left ≡ Some (Client (told now c).1)
+  pub tells : Tells (told now c).1 (told now c).0 result out out' v v'
 
 abbrev pub LeavesPolled : Refusal → ℤ → List ℕ → List ℕ → Event → Event → Option Kept → Option Kept
     → Type 0
@@ -202,20 +200,20 @@ LeavesPolled refusal result out out' v v' before after =
     (result ≡ refusal_number refusal) × (out' ≡ out) × (v' ≡ v) × (after ≡ before)
 
 -- an event of another size is refused
-abbrev pub PollsBy : Bool → ℕ → Endpoint → ℤ → List ℕ → List ℕ → Event → Event → Option Kept
+abbrev pub PollsBy : Bool → ℕ → ClientSeen → ℤ → List ℕ → List ℕ → Event → Event → Option Kept
     → Option Kept → Type 0
-PollsBy true now e result out out' v v' before after =
-    IsPolled now e result out out' v v' after
-PollsBy false now e result out out' v v' before after =
+PollsBy true now c result out out' v v' before after =
+    IsPolled now c result out out' v v' after
+PollsBy false now c result out out' v v' before after =
     LeavesPolled BadArgument result out out' v v' before after
 
 -- what a call that polls returns, writes and leaves
-abbrev pub PollsAs : Result Endpoint Refusal → ℕ → ℤ → List ℕ → List ℕ → Event → Event → Option Kept
-    → Option Kept → Type 0
+abbrev pub PollsAs : Result ClientSeen Refusal → ℕ → ℤ → List ℕ → List ℕ → Event → Event
+    → Option Kept → Option Kept → Type 0
 PollsAs (Err refusal) now result out out' v v' before after =
     LeavesPolled refusal result out out' v v' before after
-PollsAs (Ok e) now result out out' v v' before after =
-    PollsBy (v.size == EVENT_SIZE) now e result out out' v v' before after
+PollsAs (Ok c) now result out out' v v' before after =
+    PollsBy (v.size == EVENT_SIZE) now c result out out' v v' before after
 
 -- ---- outstanding requests
 
@@ -225,20 +223,20 @@ bit true = pos 1
 bit false = pos 0
 
 -- what a call that cancels a request returns and leaves
-abbrev pub CancelsAs : Result Endpoint Refusal → ℕ → ℤ → Option Kept → Option Kept → Type 0
+abbrev pub CancelsAs : Result ClientSeen Refusal → ℕ → ℤ → Option Kept → Option Kept → Type 0
 CancelsAs (Err refusal) number result before after =
     (result ≡ refusal_number refusal) × (after ≡ before)
-CancelsAs (Ok e) number result before after =
-    (result ≡ bit (is_some (outstanding_at number e.requests)))
-    × (after ≡ Some (Client (cancelled number e)))
+CancelsAs (Ok c) number result before after =
+    (result ≡ bit (is_some (datum_of number c.requests)))
+    × (after ≡ Some (Client (cancelled number c)))
 
 -- what was dropped for an outstanding request, or what was there
-abbrev pub dropped_or : Endpoint → ℕ → DroppedTold → DroppedTold
-dropped_or e number before =
-    option_map_or (λ p. drops_told p.drops) (outstanding_at number e.requests) before
+abbrev pub dropped_or : ClientSeen → ℕ → DroppedTold → DroppedTold
+dropped_or c number before =
+    option_map_or (λ a. drops_told a.drops) (datum_of number c.requests) before
 
 -- what a call that says what was dropped returns and writes
-abbrev pub TellsDropped : Result Endpoint Refusal → ℕ → ℤ → DroppedTold → DroppedTold → Type 0
+abbrev pub TellsDropped : Result ClientSeen Refusal → ℕ → ℤ → DroppedTold → DroppedTold → Type 0
 TellsDropped (Err refusal) number result d d' = (result ≡ refusal_number refusal) × (d' ≡ d)
-TellsDropped (Ok e) number result d d' =
-    (result ≡ bit (is_some (outstanding_at number e.requests))) × (d' ≡ dropped_or e number d)
+TellsDropped (Ok c) number result d d' =
+    (result ≡ bit (is_some (datum_of number c.requests))) × (d' ≡ dropped_or c number d)

@@ -9,11 +9,10 @@ use Rattle.stun_base.specs.declared.wire.transport.TransportType.{TransportType}
 use Rattle.stun_base.specs.declared.wire.transport.TransportType.TheVariants.{Tcp, Udp}
 use Rattle.stun_auth.specs.declared.feature.Feature.{Feature}
 use Rattle.stun_auth.specs.declared.feature.Feature.TheVariants.{Auto, Disabled, Required}
-use Rattle.stun_agent.specs.Agent.{Agent, new_agent}
 use Rattle.stun_agent.specs.Timing.{Settings}
 use Rattle.stun_client.specs.Judging.{Identity, long_term, short_term, unsigned}
 use Rattle.stun_client.specs.declared.preferences.Preferences.{Preferences}
-use Rattle.stun_client_endpoint.specs.Endpoints.{Endpoint, new_endpoint}
+use Rattle.stun_client_calls.specs.Clients.{Client as ClientSeen, new_client}
 use Rattle.stun_extra.specs.Unknown.{types_of}
 use Rattle.stun_types.specs.Limits.{TEXT_LIMIT, USERNAME_LIMIT}
 use Rattle.stun_handles.specs.Addresses.{socket_address}
@@ -103,11 +102,6 @@ timeouts_given o = record {
   last_wait = or_else o.last 8000000000;
 }
 
--- the agent that has the timers
-abbrev pub agent_given : SocketAddr → ClientOptions → Agent
-agent_given server o =
-    record (new_agent (transport_given o.is_stream) server) { settings = timeouts_given o }
-
 -- ---- the client
 
 -- why no client is made at an address, the first reason that holds
@@ -121,13 +115,14 @@ client_refusal g =
     then Some TextTooLong
     else None
 
--- the client of what is given, of the server at an address
-abbrev pub client_given : ClientGiven → SocketAddr → Endpoint
+-- the client of what is given, of the server at an address. It keeps no statistics
+abbrev pub client_given : ClientGiven → SocketAddr → ClientSeen
 client_given g server =
-    new_endpoint (agent_given server g.options) server g.options.requires_fingerprint
+    new_client (transport_given g.options.is_stream) server false g.options.requires_fingerprint
     (identity_given g.name g.password g.options)
     (record { software = if_any g.software; has_fingerprint = g.options.has_fingerprint })
-    (types_of g.understood ++ UNDERSTOOD) (or_else g.options.challenges 6) g.seed
+    (types_of g.understood ++ UNDERSTOOD) (or_else g.options.challenges 6) (timeouts_given g.options)
+    g.seed
 
 -- an address that is none is refused first
 abbrev pub MakesAt : Option SocketAddr → ClientGiven → ℤ → Option Kept → Type 0

@@ -4,7 +4,7 @@ use Rattle.std.specs.Option.{option_map_or}
 use Rattle.stun_client.specs.declared.judged.Outcome.{Outcome}
 use Rattle.stun_client.specs.declared.judged.Outcome.TheVariants.{Malformed, NotUnderstood}
 use Rattle.stun_client.specs.declared.judged.Outcome.TheVariants.{Redirected, Refused, Success}
-use Rattle.stun_client_endpoint.specs.Ends.{Ended}
+use Rattle.stun_client_calls.specs.Endpoints.{EndSeen}
 use Rattle.stun_client_endpoint.specs.declared.ended.DropReason.{DropReason}
 use Rattle.stun_client_endpoint.specs.declared.ended.DropReason.TheVariants.{MissingFingerprint}
 use Rattle.stun_client_endpoint.specs.declared.ended.DropReason.TheVariants.{NotVerified}
@@ -103,6 +103,6 @@ end_told Unauthorized e = record e { result = 5 }
 end_told Cancelled e = record e { result = 8 }
 
 -- which request has ended, and how, and how long the response is that ended it
-abbrev pub ended_told : Ended → Event → Event
-ended_told x e =
-    end_told x.end (record (event_blank 2 e) { request = x.number; length = length x.response })
+abbrev pub ended_told : ℕ → EndSeen → Event → Event
+ended_told number x e =
+    end_told x.end (record (event_blank 2 e) { request = number; length = length x.response })

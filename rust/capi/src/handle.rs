@@ -158,7 +158,7 @@ pub mod state {
 pub mod endpoint {
     //! The handle of a server, a table of users or a client, of the endpoint, or of an agent of ICE.
 
-    use crate::exported::stun_client_endpoint::endpoint::ClientEndpoint;
+    use crate::exported::stun_client_calls::endpoint::ClientEndpoint;
     use crate::exported::stun_endpoint::open::OpenServer;
     use crate::exported::stun_endpoint::server::Server;
     use crate::exported::stun_endpoint::short_term::{ShortTermServer, ShortTermUsers};

@@ -2,7 +2,7 @@
 
 ghost use Rattle.std.specs.Prelude.{◌≡◌, Ok, Some, length, nat_lt};
 ghost use Rattle.stun_handles.specs.Numbers.{done_answer, number_answer};
-ghost use Rattle.stun_client_endpoint.specs.Endpoints.{told_of, transmit as transmitted};
+ghost use Rattle.stun_client_calls.specs.Clients.{told_of, transmit as transmitted};
 ghost use Rattle.stun_c_endpoint.specs.Clients.{AsksAs, CancelsAs, HearsAs, PollsAs};
 ghost use Rattle.stun_c_endpoint.specs.Clients.{Tells, TellsDropped, WritesTold, client_of};
 ghost use Rattle.stun_c_endpoint.specs.Clients.{or_for_ever, received_number, refusal_of_request, why_told};
@@ -14,8 +14,9 @@ use crate::client::event::{Dropped, EVENT_SIZE, Event, drop_number};
 use crate::handle::endpoint::Kept;
 use std::alloc::Global;
 use stun_base::instant::Instant;
-use stun_client_endpoint::endpoint::ClientEndpoint;
-use stun_client_endpoint::told::{Polled, Received, RequestError};
+use stun_client_calls::endpoint::ClientEndpoint;
+use stun_client_calls::told::Polled;
+use stun_client_endpoint::told::{Received, RequestError};
 use stun_handles::address::Address;
 use stun_numbers::buffer::put;
 use stun_numbers::refusal::Refusal;
@@ -200,9 +201,9 @@ fn tell(
 {
     match polled {
         Polled::Transmit(number) => transmit(client, *number, out, event),
-        Polled::Ended(ended) => {
-            event.ends(ended);
-            written(ended.response(), 2, out, event)
+        Polled::Ended(number, end) => {
+            event.ends(*number, end);
+            written(&end.response, 2, out, event)
         }
         Polled::Wait(until) => {
             event.waits(until_told(*until));

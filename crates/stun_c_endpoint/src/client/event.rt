@@ -8,7 +8,8 @@ ghost use Rattle.stun_c_endpoint.specs.Events.{outcome_told, sent_told, wait_tol
 use crate::received::{FAILED, integrity_number};
 use std::alloc::Global;
 use stun_client::judged::Outcome;
-use stun_client_endpoint::ended::{DropReason, Drops, Ended, RequestEnd};
+use stun_client_calls::asked::End;
+use stun_client_endpoint::ended::{DropReason, Drops, RequestEnd};
 
 /// The size of the caller's event, which begins with this number.
 pub const EVENT_SIZE: usize = 72;
@@ -151,14 +152,14 @@ impl Event {
         self.length = length;
     }
 
-    /// Sets the request that ended, and its end.
-    pub fn ends(&mut self, ended: &Ended<Global>)
-        ensures { self.new ≡ ended_told ended.now self.old }
+    /// Sets the number of the request that ended, and its end.
+    pub fn ends(&mut self, request: u64, end: &End<Global>)
+        ensures { self.new ≡ ended_told request end.now self.old }
     {
         self.begin(2);
-        self.request = ended.number();
-        self.length = ended.response().len();
-        self.ended(ended.end());
+        self.request = request;
+        self.length = end.response.len();
+        self.ended(end.end);
     }
 
     /// Sets the end of a request.

@@ -20,15 +20,16 @@ use std::alloc::{AllocError, Global};
 use std::marker::Model;
 use std::net::SocketAddr;
 use std::time::Duration;
-use stun_agent::agent::{RequestRto, StunAgent};
+use stun_agent::agent::RequestRto;
 use stun_auth::auth::Feature;
 use stun_base::attribute_type::AttributeType;
 use stun_base::key::IntegrityKey;
 use stun_base::transport::TransportType;
 use stun_client::credentials::{Credentials, LongTerm, ShortTerm};
 use stun_client::preferences::Preferences;
-use stun_client_endpoint::endpoint::{ClientEndpoint, Settings};
+use stun_client_calls::endpoint::ClientEndpoint;
 use stun_client_endpoint::form::Form;
+use stun_client_endpoint::settings::Settings;
 use stun_handles::address::Address;
 use stun_handles::text::copied;
 use stun_numbers::refusal::Refusal;
@@ -353,8 +354,6 @@ impl<'a> ClientGiven<'a> {
         requires software { software.now ≡ self.now.software }
         ensures { IfOk result (λ client. client ≡ client_given self.now server) }
     {
-        // The agent's own address is never used.
-        let agent = StunAgent::builder(alloc, self.options.transport(), server);
         let credentials = self.options.credentials(alloc, name, password)?;
         let software = text_if_any(alloc, software)?;
         let settings = Settings {
@@ -364,6 +363,14 @@ impl<'a> ClientGiven<'a> {
             challenges: or_else_small(self.options.challenges, CHALLENGES),
             timeouts: self.options.timeouts(),
         };
-        ClientEndpoint::new(alloc, agent, server, credentials, settings, self.seed)
+        ClientEndpoint::new(
+            alloc,
+            self.options.transport(),
+            server,
+            credentials,
+            settings,
+            self.seed,
+            false,
+        )
     }
 }

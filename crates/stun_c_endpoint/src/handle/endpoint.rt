@@ -7,7 +7,7 @@ ghost use Rattle.stun_c_endpoint.specs.code.Handle.{kept_row, kept_coded};
 use std::alloc::Global;
 use std::marker::Model;
 use std::mem::replace;
-use stun_client_endpoint::endpoint::ClientEndpoint;
+use stun_client_calls::endpoint::ClientEndpoint;
 use stun_endpoint::open::OpenServer;
 use stun_endpoint::server::Server;
 use stun_endpoint::short_term::{ShortTermServer, ShortTermUsers};

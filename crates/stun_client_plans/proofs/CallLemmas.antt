@@ -1,0 +1,187 @@
+-- What calls make of the requests of a client, in few changes.
+use Rattle.std.proofs.Common.{◌≡◌, ◌∙◌, ◌⊎◌, [], ℕ, Bool, true, false, List, Option, Some, None, Ok}
+use Rattle.std.proofs.Common.{Err, ap, cond, inl, inr, length, refl, subst, sym}
+use Rattle.std.specs.BTreeMap.{is_at}
+use Rattle.std.specs.Option.{is_some, option_map, option_map_or}
+use Rattle.std.specs.Ordering.{nat_cmp}
+use Rattle.std.specs.declared.net.socket_addr.SocketAddr.{SocketAddr}
+use Rattle.stun_base.specs.Header.{transaction_id_field}
+use Rattle.stun_base.specs.MessageType.{class_in}
+use Rattle.stun_base.specs.declared.wire.message_type.MessageClass.{MessageClass}
+use Rattle.stun_base.specs.declared.wire.message_type.MessageClass.TheVariants as Classes
+use Rattle.stun_types.specs.Message.{refusal}
+use Rattle.stun_extra.specs.CanonicalAddress.{is_same_address}
+use Rattle.stun_client.specs.Challenges.{Answered}
+use Rattle.stun_client.specs.Challenging.{code_in}
+use Rattle.stun_client.specs.Ids.{id_of}
+use Rattle.stun_client.specs.Outcomes.{outcome_of}
+use Rattle.stun_client_endpoint.specs.Bodies.{Body}
+use Rattle.stun_client_endpoint.specs.Written.{Page?}
+use Rattle.stun_client_endpoint.specs.declared.ended.DropReason.TheVariants as Reasons
+use Rattle.stun_client_endpoint.specs.declared.ended.RequestEnd.TheVariants as how
+use Rattle.stun_client_endpoint.specs.declared.told.Received.TheVariants.{NotOurs}
+use Rattle.stun_client_requests.specs.Requests.{Answering, after_again, after_answering}
+use Rattle.stun_client_requests.specs.Requests.{after_replacing, datum_of, start_refusal}
+use Rattle.stun_client_requests.specs.declared.requests.StartRefusal.{StartRefusal}
+use Rattle.stun_client_calls.specs.Clients.{Client, changed, changed_at, chosen, error_of}
+use Rattle.stun_client_calls.specs.Clients.{first_message, refusal_of_number, refusal_of_page}
+use Rattle.stun_client_calls.specs.Clients.{refusal_to_start, started, started_at, started_by}
+use Rattle.stun_client_calls.specs.Clients.{started_with}
+use Rattle.stun_client_calls.specs.Deciding.{DecisionSeen, answered, drops, refuses, turns}
+use Rattle.stun_client_calls.specs.Deciding.{unauthorized}
+use Rattle.stun_client_calls.specs.Endpoints.{EndSeen}
+use Rattle.stun_client_calls.specs.Messages.{AskedSeen, new_asked, turned}
+use Rattle.stun_client_calls.specs.Receiving.{Answer, Memory, Met, Spot, UnlessMemory, answered_in}
+use Rattle.stun_client_calls.specs.Receiving.{as_expected, by_class, by_decision, by_met}
+use Rattle.stun_client_calls.specs.Receiving.{decision_for, forgone, moment_of, received, spot_of}
+use Rattle.stun_client_calls.specs.Receiving.{turn_to, turned_at, turned_by, unwritten}
+use Rattle.stun_client_calls.specs.Receiving.{without_memory}
+use Rattle.stun_client_calls.specs.Writing.{message_bytes}
+use Rattle.stun_client_calls.specs.declared.asked.Change.{Change}
+use Rattle.stun_client_calls.specs.declared.asked.Change.TheVariants.{Noted, Refused, SentOut}
+use Rattle.stun_client_calls.specs.declared.turning.Why.{Why}
+use Rattle.stun_client_calls.proofs.ReceivingLemmas.{met_is_stored}
+use Rattle.stun_client_requests.proofs.NumberLemmas.{same_key}
+use Rattle.stun_client_plans.proofs.HoldLemmas.{All}
+use Rattle.stun_client_plans.proofs.PolledLemmas.{not_same}
+
+-- two numbers are the same, or not
+pub same_or_not : (n m : ℕ) → (m ≡ n) ⊎ (m ≡ n → ⊥)
+same_or_not n m = by (is_at (nat_cmp n) m) refl
+  where
+    by : (b : Bool) → is_at (nat_cmp n) m ≡ b → (m ≡ n) ⊎ (m ≡ n → ⊥)
+    by true is = inl (same_key n m is)
+    by false is = inr (not_same n m is)
+
+-- a change of what is stored keeps the end of the first plan
+pub until_stays : (change : Change) (a : AskedSeen) → (changed change a).until ≡ a.until
+until_stays SentOut a = refl
+until_stays (Noted why code) a = refl
+until_stays (Refused code) a = refl
+
+-- ---- datagrams
+
+-- what holds of the requests after each change that a datagram makes of an outstanding one holds of
+-- the requests after the datagram
+module _ (c : Client) (P : All → Type 0) (same : P c.requests)
+    (noted : (m : ℕ) (a b : AskedSeen) → datum_of m c.requests ≡ Some a → b.until ≡ a.until
+    → P (after_replacing m b c.requests))
+    (ended : (m count : ℕ) (a : AskedSeen) (moment : Option ℕ) (end : EndSeen)
+    → datum_of m c.requests ≡ Some a → P (after_answering m count moment end c.requests))
+    (sent : (m id now : ℕ) (a b empty : AskedSeen) (x : Answering) (bytes : List ℕ)
+    → datum_of m c.requests ≡ Some a
+    → P (after_replacing m b (after_again m x id bytes c.plan empty now c.requests))) where
+  pub changed_so : (change : Change) (m : ℕ) → P (changed_at change m c.requests)
+  changed_so change m = by (datum_of m c.requests) refl
+    where
+      by : (o : Option AskedSeen) → datum_of m c.requests ≡ o
+          → P (option_map_or (λ a. after_replacing m (changed change a) c.requests) o c.requests)
+      by None there = same
+      by (Some a) there = noted m a (changed change a) there (until_stays change a)
+
+  forgone_so : (bytes : List ℕ) (o : Option Met) → P (without_memory bytes c o).1.requests
+  forgone_so bytes None = same
+  forgone_so bytes (Some m) = changed_so (Noted Reasons.OutOfMemory (code_in bytes)) m.number
+
+  module _ (memory : Memory) (now : ℕ) (bytes : List ℕ) (m : Met)
+      (there : datum_of m.number c.requests ≡ Some m.asked) where
+    turned_so : (why : Why) (d : Option Answered) (s : Spot) (page : Page?)
+        → P (turned_by memory c now bytes m why d s page).1.requests
+    turned_so why d s (Err refused) =
+        changed_so (Noted (unwritten why) (code_in bytes)) m.number
+    turned_so why d s (Ok new) =
+        sent m.number s.id now m.asked
+        (turned memory.is_kept (transaction_id_field bytes) (turn_to s why d) m.asked)
+        (new_asked m.asked.method [] 0 None) (record { count = length bytes; moment = Some now })
+        new
+        there
+
+    spot_so : (why : Why) (d : Option Answered) (o : Option Spot)
+        → P (turned_at memory c now bytes m why d o).1.requests
+    spot_so why d None = changed_so (Noted Reasons.OutOfMemory (code_in bytes)) m.number
+    spot_so why d (Some s) =
+        turned_so why d s (message_bytes c.form c.identity d s.id m.asked)
+
+    decided_so : (d : DecisionSeen) → P (by_decision memory c now bytes m d).1.requests
+    decided_so (answered by) =
+        ended m.number (length bytes) m.asked (moment_of now m)
+        (record { end = how.Answered (outcome_of c.understood bytes) by; response = bytes }) there
+    decided_so unauthorized =
+        ended m.number (length bytes) m.asked (moment_of now m)
+        (record { end = how.Unauthorized; response = [] }) there
+    decided_so (turns why place d) = spot_so why d (spot_of c m.asked place)
+    decided_so refuses = changed_so (Refused (code_in bytes)) m.number
+    decided_so (drops why) = changed_so (Noted why (code_in bytes)) m.number
+
+  met_so : (memory : Memory) (now : ℕ) (bytes : List ℕ)
+      → P (by_met memory c now bytes (answered_in bytes c)).1.requests
+  met_so memory now bytes = by (answered_in bytes c) refl
+    where
+      by : (o : Option Met) → answered_in bytes c ≡ o → P (by_met memory c now bytes o).1.requests
+      by None found = same
+      by (Some m) found =
+          decided_so memory now bytes m (met_is_stored bytes c m m.number found refl)
+          (decision_for c now bytes m)
+
+  class_so : (memory : Memory) (now : ℕ) (bytes : List ℕ) (class : MessageClass)
+      → P (by_class memory c now bytes class).1.requests
+  class_so memory now bytes Classes.Request = same
+  class_so memory now bytes Classes.Indication = same
+  class_so memory now bytes Classes.Success = met_so memory now bytes
+  class_so memory now bytes Classes.Error = met_so memory now bytes
+
+  received_so : (memory : Memory) (from : SocketAddr) (bytes : List ℕ) (now : ℕ)
+      → P (received memory from bytes now c).1.requests
+  received_so memory from bytes now =
+      by (is_some (refusal bytes)) (is_same_address from c.server)
+    where
+      by : (refused is_from_server : Bool) → P (cond refused (NotOurs, c)
+          (cond is_from_server (by_class memory c now bytes (class_in bytes))
+          (NotOurs, c))).1.requests
+      by true b = same
+      by false true = class_so memory now bytes (class_in bytes)
+      by false false = same
+
+  pub receives_so : (from : SocketAddr) (bytes : List ℕ) (now : ℕ) (given : Answer)
+      → UnlessMemory (λ memory. received memory from bytes now c) bytes c given
+      → P given.1.requests
+  receives_so from bytes now given (as_expected memory is) =
+      subst (λ (x : Answer). P x.1.requests) (sym is) (received_so memory from bytes now)
+  receives_so from bytes now given (forgone is) =
+      subst (λ (x : Answer). P x.1.requests) (sym is) (forgone_so bytes (answered_in bytes c))
+
+-- ---- a request that is started
+
+-- its number of an ID, and its bytes
+pub record IsStarted (c : Client) (method : ℕ) (body : Body) : Type 0 where
+  pub number : ℕ
+  pub bytes : List ℕ
+  pub free : start_refusal c.requests (id_of c.seed number) ≡ None
+  pub is_so : (now : ℕ) → started method body now c ≡ started_by c number method body bytes now
+
+pub started_is : (c : Client) (method : ℕ) (body : Body) → refusal_to_start c method body ≡ None
+    → IsStarted c method body
+started_is c method body none = by (chosen c) refl none
+  where
+    unrefused : (o : Option StartRefusal) → option_map error_of o ≡ None → o ≡ None
+    unrefused None is = refl
+    unrefused (Some why) is = cc
+
+    page_is : (number : ℕ) (page : Page?) → chosen c ≡ Some number
+        → first_message c method number body ≡ page → refusal_of_page c number page ≡ None
+        → IsStarted c method body
+    page_is number (Err why) is written none = cc
+    page_is number (Ok bytes) is written none = record {
+      number = number;
+      bytes = bytes;
+      free = unrefused (start_refusal c.requests (id_of c.seed number)) none;
+      is_so = λ now.
+          ap (λ (o : Option ℕ). started_at c method body now o) is
+          ∙ ap (λ (p : Page?). started_with c number method body now p) written;
+    }
+
+    by : (o : Option ℕ) → chosen c ≡ o → refusal_of_number c method body o ≡ None
+        → IsStarted c method body
+    by None is none = cc
+    by (Some number) is none =
+        page_is number (first_message c method number body) is refl none

@@ -1,0 +1,8 @@
+-- What the contracts of this crate say, in the order to read it.
+
+-- what holds of every client
+pub mod Kept
+-- the requests of a client over any calls
+pub mod Laws
+-- whose bytes are sent
+pub mod Sent

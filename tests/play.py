@@ -6,7 +6,10 @@ Messages and their digests are spelled here (spelling.py), so they come from out
 Each answer is compared with that of the transcript. Then each allocation of each line is refused in
 turn, as rust/checks/src/player/refusals.rs does: the call must say so. If the call is made again,
 everything goes on as the transcript says, and if it is not, as in a transcript without its line.
-Each play frees all blocks.
+Only a client that hears a response after which it sends another message may succeed all the same,
+and forget the message that it sent before: then everything goes on as the transcript says up to a
+response to the forgotten message, or up to a message that is sent in place of it. Each play frees
+all blocks.
 
 Calls that the archives do not have are left out, and counted: a call that only reads something
 alone, and one that changes something together with the rest of its paragraph. The last lines are
@@ -51,6 +54,20 @@ def leaves_rest(left, call):
     a message."""
     is_change = str(left).split()[0] not in APART and str(left) not in TELLING
     return is_change or "=" in call.split()[1:3]
+
+
+def forgets(answer):
+    """Whether a client has heard a response although an allocation was refused."""
+    return (answer.name, answer.came) == ("endpoint client", "consumed")
+
+
+def until_forgotten(came, whole):
+    """What came up to what a client that has forgotten a message does otherwise, and then what is
+    written."""
+    differing = sorted(at for at in whole if came.get(at) != whole[at])
+    if differing and came.get(differing[0], "").startswith(("not ours", "sends ")):
+        return {at: came.get(at) if at < differing[0] else whole[at] for at in whole}
+    return came
 
 
 def told(answers):
@@ -155,13 +172,17 @@ class Transcript:
                 return
             alone, other, is_clean_too = self.play(lines, Cut(at, REFUSED, nth))
             self.refused += 1
+            turns = [("made again", told(again), whole), ("not made again", told(alone), without)]
+            if forgets(other):
+                came = told({**alone, at: other})
+                turns = [("not made again", until_forgotten(came, whole), whole)]
             for came in {refusal.came, other.came} - {"OutOfMemory"}:
-                self.wrong(first + at, lines[at], f"{came}, at refused allocation {nth}")
+                if not forgets(other):
+                    self.wrong(first + at, lines[at], f"{came}, at refused allocation {nth}")
             if not (is_clean and is_clean_too):
                 self.wrong(first + at, lines[at],
                            f"blocks are left at the end, at refused allocation {nth}")
-            for turn, came, wanted in (("made again", told(again), whole),
-                                       ("not made again", told(alone), without)):
+            for turn, came, wanted in turns:
                 for place in sorted(place for place in wanted if came.get(place) != wanted[place]):
                     self.wrong(first + place, lines[place],
                                f"{came.get(place)}, where line {first + at} is {turn} after "

@@ -15,6 +15,8 @@ static struct {
     bool has_ended[MOST_REQUESTS]; /* each by its number */
     bool is_right;                 /* the server has this user, of this kind of credentials */
     bool has_refused;              /* the twin dropped something for want of memory */
+    bool has_forgotten;            /* it may have forgotten a message that another one was sent in
+                                    * place of, for want of memory, and be asked otherwise since */
     uint8_t sent[STORED][ROOM];    /* the latest messages that were sent */
     size_t sent_lengths[STORED], sent_number;
 } asking;
@@ -135,8 +137,9 @@ static void poll_clients(void) {
     for (int polls = 0; polls < MOST_POLLS; polls++) {
         size_t room = maybe(32) ? choose() : ROOM;
         int64_t kind = poll_client(&asking.client, &event, out, room);
-        require(poll_client(&asking.twin, &same, again, room) == kind, "a twin is asked otherwise");
-        require_same_event(&event, &same);
+        int64_t twins = poll_client(&asking.twin, &same, again, room);
+        require(twins == kind || asking.has_forgotten, "a twin is asked otherwise");
+        if (!asking.has_forgotten) require_same_event(&event, &same);
         if (kind == STUNP_WAIT) {
             require(event.until > asking.now || asking.now == UINT64_MAX, "a wait in the past");
             return;
@@ -161,15 +164,19 @@ static int64_t hear(const uint8_t *bytes, size_t length, const stunp_address *fr
                                                        asking.now, why));
     for (size_t n = choose() % 32;; n = 0) {
         same_why = 7;
+        size_t asked = stunp_heap_asked();
         stunp_heap_refuse(n);
         int64_t same = stunp_endpoint_client_receive(&asking.twin, bytes, length, from, asking.now,
                                                      &same_why);
+        bool was_refused = n > 0 && stunp_heap_asked() - asked >= n;
         stunp_heap_refuse(0);
-        if (n > 0 && same == STUNP_DROPPED && same_why == STUNP_DROP_OUT_OF_MEMORY) {
+        if (was_refused && same == STUNP_DROPPED && same_why == STUNP_DROP_OUT_OF_MEMORY) {
             asking.has_refused = true;
             continue;
         }
-        require(same == kind && same_why == *why, "a twin hears otherwise");
+        require((same == kind && same_why == *why) || asking.has_forgotten,
+                "a twin hears otherwise");
+        asking.has_forgotten = asking.has_forgotten || was_refused;
         break;
     }
     require(kind == STUNP_DROPPED || *why == 7 || *why == 0, "a reason for nothing");
@@ -200,8 +207,10 @@ static void meet_server(void) {
     } else if (kind != STUNP_ANSWER) return;
     if (maybe(4)) answered = change(answer, answered), is_changed = true;
     const stunp_address *from = maybe(8) ? choose_place() : places;
+    int64_t code = stunp_error_code(answer, answered);
     kind = hear(answer, answered, from, &why);
-    if (!is_changed && from == places && asking.is_right)
+    /* A challenge to another message than the one that was sent last counts as forged. */
+    if (!is_changed && from == places && asking.is_right && code != 401 && code != 438)
         require(kind != STUNP_DROPPED || why != STUNP_DROP_NOT_VERIFIED, "a true answer is forged");
 }
 
@@ -209,13 +218,15 @@ static void cancel_some(void) {
     uint64_t number = choose() % (MOST_REQUESTS + 1);
     stunp_dropped dropped, same;
     int64_t is_there = named(stunp_endpoint_client_dropped(&asking.client, number, &dropped));
-    require(is_there == stunp_endpoint_client_dropped(&asking.twin, number, &same), "a twin");
+    int64_t twins = stunp_endpoint_client_dropped(&asking.twin, number, &same);
+    require(is_there == twins || asking.has_forgotten, "a twin");
     require(is_there == (number < asking.requests && !asking.has_ended[number]) || is_there == 0,
             "a request that has ended is there");
     size_t asked = stunp_heap_asked();
     int64_t cancelled = named(stunp_endpoint_client_cancel(&asking.client, number));
     require(cancelled == is_there, "cancelled otherwise");
-    require(stunp_endpoint_client_cancel(&asking.twin, number) == cancelled, "a twin");
+    twins = stunp_endpoint_client_cancel(&asking.twin, number);
+    require(cancelled == twins || asking.has_forgotten, "a twin");
     require(stunp_heap_asked() == asked, "cancelling allocates");
 }
 

@@ -68,7 +68,8 @@ module _ (memory : Memory) (from : SocketAddr) (bytes : List ℕ) (now : ℕ) (c
   abbrev answered_end : EndSeen
   answered_end = record { end = how.Answered (outcome_of c.understood bytes) by; response = bytes }
 
-  by_decision_ends : IsEndedAs m.number answered_end (by_decision memory c now bytes m (answered by)).1
+  by_decision_ends : IsEndedAs m.number answered_end
+      (by_decision memory c now bytes m (answered by)).1
   by_decision_ends =
       answering_ends m.number (length bytes) m.asked (moment_of now m) answered_end c.requests
       (met_is_stored bytes c m m.number is.answers refl)
@@ -77,10 +78,11 @@ module _ (memory : Memory) (from : SocketAddr) (bytes : List ℕ) (now : ℕ) (c
   by_met_ends =
       subst (λ (o : Option Met). IsEndedAs m.number answered_end (by_met memory c now bytes o).1)
       (sym is.answers)
-      (subst (λ (d : DecisionSeen). IsEndedAs m.number answered_end (by_decision memory c now bytes m d).1)
+      (subst (λ (d : DecisionSeen).
+      IsEndedAs m.number answered_end (by_decision memory c now bytes m d).1)
       (sym is.is_so) by_decision_ends)
 
-  -- what is no response answered_end nothing
+  -- what is no response answers nothing
   unanswering : (o : Option Met) → ((method : ℕ) → is_answer method bytes ≡ false)
       → if_method bytes o ≡ Some m → ⊥
   unanswering None none found = cc

@@ -65,19 +65,21 @@ answering_ends n count a moment end r there =
 
 module _ (memory : Memory) (from : SocketAddr) (bytes : List ℕ) (now : ℕ) (c : Client) (m : Met)
     (by : Option IntegrityAlgorithm) (is : IsBelieved from bytes now c m by) where
-  abbrev end : EndSeen
-  end = record { end = how.Answered (outcome_of c.understood bytes) by; response = bytes }
+  abbrev answered_end : EndSeen
+  answered_end = record { end = how.Answered (outcome_of c.understood bytes) by; response = bytes }
 
-  by_decision_ends : IsEndedAs m.number end (by_decision memory c now bytes m (answered by)).1
+  by_decision_ends : IsEndedAs m.number answered_end
+      (by_decision memory c now bytes m (answered by)).1
   by_decision_ends =
-      answering_ends m.number (length bytes) m.asked (moment_of now m) end c.requests
+      answering_ends m.number (length bytes) m.asked (moment_of now m) answered_end c.requests
       (met_is_stored bytes c m m.number is.answers refl)
 
-  by_met_ends : IsEndedAs m.number end (by_met memory c now bytes (answered_in bytes c)).1
+  by_met_ends : IsEndedAs m.number answered_end (by_met memory c now bytes (answered_in bytes c)).1
   by_met_ends =
-      subst (λ (o : Option Met). IsEndedAs m.number end (by_met memory c now bytes o).1)
+      subst (λ (o : Option Met). IsEndedAs m.number answered_end (by_met memory c now bytes o).1)
       (sym is.answers)
-      (subst (λ (d : DecisionSeen). IsEndedAs m.number end (by_decision memory c now bytes m d).1)
+      (subst (λ (d : DecisionSeen).
+      IsEndedAs m.number answered_end (by_decision memory c now bytes m d).1)
       (sym is.is_so) by_decision_ends)
 
   -- what is no response answers nothing
@@ -90,7 +92,7 @@ module _ (memory : Memory) (from : SocketAddr) (bytes : List ℕ) (now : ℕ) (c
       cc
 
   by_class_ends : (class : MessageClass) → class_in bytes ≡ class
-      → IsEndedAs m.number end (by_class memory c now bytes class).1
+      → IsEndedAs m.number answered_end (by_class memory c now bytes class).1
   by_class_ends Classes.Request said = absurd (unanswering (met (transaction_id_field bytes) c)
       (λ method. ap (λ k. is_answer_of method k bytes) said) is.answers)
   by_class_ends Classes.Indication said = absurd (unanswering (met (transaction_id_field bytes) c)
@@ -98,13 +100,13 @@ module _ (memory : Memory) (from : SocketAddr) (bytes : List ℕ) (now : ℕ) (c
   by_class_ends Classes.Success said = by_met_ends
   by_class_ends Classes.Error said = by_met_ends
 
-  pub answers_end : IsEndedAs m.number end (received memory from bytes now c).1
+  pub answers_end : IsEndedAs m.number answered_end (received memory from bytes now c).1
   answers_end =
-      subst (λ (o : Option StunParseError). IsEndedAs m.number end
+      subst (λ (o : Option StunParseError). IsEndedAs m.number answered_end
       (cond (is_some o) (NotOurs, c)
       (cond (is_same_address from c.server) (by_class memory c now bytes (class_in bytes))
       (NotOurs, c))).1) (sym is.is_read)
-      (subst (λ b. IsEndedAs m.number end
+      (subst (λ b. IsEndedAs m.number answered_end
       (cond b (by_class memory c now bytes (class_in bytes)) (NotOurs, c)).1)
       (sym is.is_from_server)
       (by_class_ends (class_in bytes) refl))

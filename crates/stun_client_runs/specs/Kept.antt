@@ -1,9 +1,11 @@
 -- What holds of every client, from its creation on and over any calls (RFC 8489, sections 5, 6.1, 6.2.1
 -- and 9.2.5).
-use Rattle.std.specs.Prelude.{◌≡◌, ℕ, Bool, List, Option, Some, None, Ok}
+use Rattle.std.specs.Prelude.{◌≡◌, ℕ, Bool, true, List, Option, Some, Ok}
 use Rattle.std.specs.BTreeMap.{is_at}
+use Rattle.std.specs.List.{AllByRecursion, list_any}
 use Rattle.std.specs.List.Sorted.{IsStrictlySortedBy}
-use Rattle.std.specs.Map.{keys_of, lookup}
+use Rattle.std.specs.Map.{lookup}
+use Rattle.std.specs.Option.{IsSome}
 use Rattle.std.specs.Ordering.{nat_cmp}
 use Rattle.std.specs.declared.net.socket_addr.SocketAddr.{SocketAddr}
 use Rattle.stun_base.specs.Header.{transaction_id_field}
@@ -17,10 +19,9 @@ use Rattle.stun_client.specs.Ids.{id_of}
 use Rattle.stun_client.specs.Judging.{Identity}
 use Rattle.stun_client_endpoint.specs.Written.{Form}
 use Rattle.stun_client_requests.specs.Laws.{IsRequests}
-use Rattle.stun_client_requests.specs.Requests.{number_at}
+use Rattle.stun_client_requests.specs.Numbers.{id_at}
 use Rattle.stun_client_requests.specs.declared.requests.Request.{Request}
 use Rattle.stun_client_calls.specs.Clients.{Client, new_client}
-use Rattle.stun_client_calls.specs.Ids.{number_in}
 use Rattle.stun_client_calls.specs.Messages.{AllSent, AskedSeen, SentSeen}
 use Rattle.stun_client_calls.specs.Runs.{Calls, Event}
 use Rattle.stun_client_calls.specs.Writing.{message_bytes}
@@ -43,40 +44,37 @@ pub record IsCurrent (c : Client) (id : ℕ) (a : AskedSeen) : Type 0 where
   pub written : message_bytes c.form c.identity a.signed_for id a ≡ Ok transaction.bytes
   pub named : transaction_id_field transaction.bytes ≡ id
 
--- an earlier message of the request with this number has an ID that is derived from the seed and noted
--- under the number. It is that of no current message
-pub record IsEarlier (c : Client) (number : ℕ) (s : SentSeen) : Type 0 where
-  pub from_seed : IsDerived c.seed s.id
-  pub noted : number_in s.id c.earlier ≡ Some number
-  pub apart : number_at s.id c.requests.table.attached ≡ None
-
 -- the earlier message with a rank
 abbrev pub sent_at : ℕ → AllSent → Option SentSeen
 sent_at rank earlier = lookup (is_at (nat_cmp rank)) earlier
 
--- the earlier messages of a request are in the order of their ranks, and no two have the same ID
-pub record AreEarlier (c : Client) (number : ℕ) (earlier : AllSent) : Type 0 where
-  pub ascending : IsStrictlySortedBy nat_cmp (keys_of earlier)
-  pub each : (rank : ℕ) (s : SentSeen) → sent_at rank earlier ≡ Some s → IsEarlier c number s
-  pub distinct : (rank other : ℕ) (s t : SentSeen) → sent_at rank earlier ≡ Some s
-      → sent_at other earlier ≡ Some t → s.id ≡ t.id → rank ≡ other
+-- the transaction IDs of earlier messages are derived from the seed, too
+abbrev pub AreDerived : List ℕ → AllSent → Type 0
+AreDerived seed earlier = AllByRecursion (λ e. IsDerived seed e.1.id) earlier
 
 -- ---- a client
 
--- what holds of every client: each outstanding request is in its table once (`requests`), with a timer
--- (`timed`), and the messages of each are in order (`current`, `earlier`). The table goes to the server.
--- No two messages of outstanding requests have the same transaction ID: those of current messages are
--- the keys of the table, and those of earlier ones are keys of `earlier` and not of the table
+-- whether the bytes of the request with this number were not handed out yet
+abbrev pub is_unsent : ℕ → List ℕ → Bool
+is_unsent number unsent = list_any (is_at (nat_cmp number)) unsent
+
+-- what holds of every client: each outstanding request is in its table once (`requests`), under the
+-- transaction ID of its current message, and each timer is that of an outstanding request (`owned`).
+-- Bytes that were not handed out yet are those of an outstanding request (`unsent`). The table goes to
+-- the server. The messages of each request are in order (`current`, `earlier`)
 pub record IsClient (c : Client) : Type 0 where
   pub requests : IsRequests c.requests
   pub timers : IsAscending c.requests.table.requests
-  pub timed : keys_of c.requests.table.attached ≡ keys_of c.requests.table.requests
+  pub owned : (id : ℕ) (t : Transaction) → transaction_at id c.requests.table.requests ≡ Some t
+      → IsSome (datum_at id c.requests.table.attached)
+  pub in_order : IsStrictlySortedBy nat_cmp c.requests.numbers.unsent
+  pub unsent : (number : ℕ) → is_unsent number c.requests.numbers.unsent ≡ true
+      → IsSome (id_at number c.requests.numbers)
   pub server : c.requests.table.to ≡ c.server
-  pub ids : IsStrictlySortedBy nat_cmp (keys_of c.earlier)
   pub current : (id : ℕ) (q : Request AskedSeen) → datum_at id c.requests.table.attached ≡ Some q
       → IsCurrent c id q.datum
   pub earlier : (id : ℕ) (q : Request AskedSeen) → datum_at id c.requests.table.attached ≡ Some q
-      → AreEarlier c q.number q.datum.earlier
+      → AreDerived c.seed q.datum.earlier
 
 -- it holds of a client that has asked nothing
 abbrev pub BeginsAsClient : Type 0

@@ -3,10 +3,10 @@ ghost use Rattle.stun_client_runs.specs.Kept.{BeginsAsClient, StaysAClient};
 ghost use Rattle.stun_client_runs.specs.Laws.{EndsOnce, StartsOne, StaysOver, TransmitsWhatIsThere};
 ghost use Rattle.stun_client_runs.specs.Sent.{KeepsItsBytes, SendsItsBytes};
 
-/// From the creation of a client on and over any calls, each outstanding request is stored once. Its
-/// current message has a transaction ID that is derived from the seed, and the bytes of the request's
-/// method and body, which are sent to the server. No two messages of outstanding requests have the same
-/// ID, be they current or earlier ones.
+/// From the creation of a client on and over any calls, each outstanding request is stored once, under
+/// the transaction ID of its current message, which is derived from the seed. This message has the bytes
+/// of the request's method and body under this ID, signed for the challenge that is stored with it, and
+/// is sent to the server. The transaction IDs of its earlier messages are derived from the seed, too.
 pub fn clients_stay_in_order()
     ensures begins { BeginsAsClient }
     ensures stays { StaysAClient }

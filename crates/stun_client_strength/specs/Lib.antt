@@ -1,4 +1,8 @@
 -- What the contracts of this crate say.
 
+-- which message a datagram answers
+pub mod Hearing
 -- what is sent is not bid down
 pub mod Strength
+-- how often a request may be refused
+pub mod Refusing

@@ -1,0 +1,92 @@
+-- How often a request may be refused (RFC 8489, section 9.2.5): a wrong password ends it soon.
+use Rattle.std.specs.Prelude.{◌≡◌, ◌⊎◌, ◌≤◌, ◌==◌, ◌||◌, ℕ, Bool, true, false, List, [], ◌∷◌}
+use Rattle.std.specs.Prelude.{Option, Some, None}
+use Rattle.std.specs.declared.net.socket_addr.SocketAddr.{SocketAddr}
+use Rattle.stun_base.specs.declared.wire.transport.TransportType.TheVariants.{Tcp, Udp}
+use Rattle.stun_client.specs.Challenges.{Answered}
+use Rattle.stun_client.specs.Judging.{refused}
+use Rattle.stun_client_endpoint.specs.Refusals.{OTHERS}
+use Rattle.stun_client_endpoint.specs.declared.ended.DropReason.TheVariants.{Refused}
+use Rattle.stun_client_endpoint.specs.declared.ended.RequestEnd.TheVariants as how
+use Rattle.stun_client_endpoint.specs.declared.told.Received.TheVariants.{Consumed, Dropped}
+use Rattle.stun_client_requests.specs.Numbers.{known_at}
+use Rattle.stun_client_requests.specs.Requests.{datum_of}
+use Rattle.stun_client_requests.specs.declared.numbers.Known.TheVariants.{Ended}
+use Rattle.stun_client_calls.specs.Clients.{Client, Told, ends, transmit, waits}
+use Rattle.stun_client_calls.specs.Messages.{AskedSeen}
+use Rattle.stun_client_calls.specs.Receiving.{Memory, Met, received}
+use Rattle.stun_client_calls.specs.Runs.{Calls, Event, cancels, polled, silent, starts}
+use Rattle.stun_client_runs.specs.Kept.{IsClient}
+use Rattle.stun_client_strength.specs.Hearing.{message_answered, response_verdict}
+
+-- a datagram ends a request as not authorized, which `poll` hands out
+pub record IsGivenUp (memory : Memory) (from : SocketAddr) (bytes : List ℕ) (now number : ℕ)
+    (c : Client) : Type 0 where
+  pub next : Client
+  pub consumed : received memory from bytes now c ≡ (Consumed, next)
+  pub ended : known_at number next.requests.numbers.known
+      ≡ Some (Ended (record { end = how.Unauthorized; response = [] }))
+
+-- a datagram is dropped as a refusal, which is remembered, and the request goes on by its timer,
+-- with the message that it had
+pub record IsRemembered (memory : Memory) (from : SocketAddr) (bytes : List ℕ) (now number : ℕ)
+    (signed_for : Option Answered) (c : Client) : Type 0 where
+  pub next : Client
+  pub dropped_so : received memory from bytes now c ≡ (Dropped Refused, next)
+  pub asked : AskedSeen
+  pub there : datum_of number next.requests ≡ Some asked
+  pub recent : asked.refusals.is_recent ≡ true
+  pub message : asked.signed_for ≡ signed_for
+  pub timers : next.requests.table.requests ≡ c.requests.table.requests
+
+-- the challenge that the current message of a request is signed for: the first time it is
+-- remembered. Once the request was sent again after that, or over a reliable transport, it ends the
+-- request
+abbrev pub SecondRefusalsEnd : Type 0
+SecondRefusalsEnd =
+    (memory : Memory) (from : SocketAddr) (bytes : List ℕ) (now : ℕ) (c : Client) (m : Met)
+    → message_answered c from bytes ≡ Some m → response_verdict c bytes m ≡ refused None
+    → (c.requests.table.transport ≡ Udp → m.asked.refusals.is_earlier ≡ false
+    → IsRemembered memory from bytes now m.number m.asked.signed_for c)
+    × ((c.requests.table.transport ≡ Tcp) ⊎ (m.asked.refusals.is_earlier ≡ true)
+    → IsGivenUp memory from bytes now m.number c)
+
+-- a 401 for the realm and the security bits that the current message of a request is signed for,
+-- with another nonce or list: if the request was sent by another message for two of these, the next
+-- one within its first plan ends it
+abbrev pub ThirdRefusalsEnd : Type 0
+ThirdRefusalsEnd =
+    (memory : Memory) (from : SocketAddr) (bytes : List ℕ) (now : ℕ) (c : Client) (m : Met)
+    (x : Answered) → message_answered c from bytes ≡ Some m
+    → response_verdict c bytes m ≡ refused (Some x)
+    → now ≤ m.asked.until → OTHERS ≤ m.asked.refusals.others
+    → IsGivenUp memory from bytes now m.number c
+
+-- ---- over calls
+
+-- whether a poll says to send the request with this number
+abbrev pub is_sending : ℕ → Told → Bool
+is_sending number (transmit other) = other == number
+is_sending number (ends other end) = false
+is_sending number (waits until) = false
+
+abbrev pub sends : ℕ → Event → Bool
+sends number (starts other) = false
+sends number (cancels other) = false
+sends number (polled says) = is_sending number says
+sends number silent = false
+
+-- whether one of the polls among calls says so
+abbrev pub is_sent_in : ℕ → List Event → Bool
+is_sent_in number [] = false
+is_sent_in number (event ∷ events) = sends number event || is_sent_in number events
+
+-- a refusal is remembered, any calls follow, and one of them hands out the bytes of the request. If
+-- the request is still outstanding, the next refusal ends it
+abbrev pub RefusalsAreRemembered : Type 0
+RefusalsAreRemembered =
+    (c later : Client) (events : List Event) (number : ℕ) (a : AskedSeen) (memory : Memory)
+    (from : SocketAddr) (bytes : List ℕ) (now : ℕ) (m : Met) → IsClient c
+    → datum_of number c.requests ≡ Some a → a.refusals.is_recent ≡ true → Calls c events later
+    → is_sent_in number events ≡ true → message_answered later from bytes ≡ Some m
+    → m.number ≡ number → response_verdict later bytes m ≡ refused None → IsGivenUp memory from bytes now number later

@@ -1,6 +1,6 @@
 -- The requests of a client stay punctual over each call.
 use Rattle.std.proofs.Common.{◌≡◌, ◌∙◌, ◌≤◌, ℕ, Bool, true, false, List, Option, Some}
-use Rattle.std.proofs.Common.{None, Ok, Err, ap, arith, cond, max, refl, subst, sym}
+use Rattle.std.proofs.Common.{None, Ok, Err, ap, arith, cond, length, max, refl, subst, sym}
 use Rattle.std.specs.Option.{option_and_then, option_map, option_map_or}
 use Rattle.std.specs.Prelude.{◌==◌, nat_lt}
 use Rattle.std.specs.declared.net.socket_addr.SocketAddr.{SocketAddr}
@@ -18,27 +18,31 @@ use Rattle.stun_client_endpoint.specs.Written.{Form, Page?}
 use Rattle.stun_client_requests.specs.Laws.{IsRequests}
 use Rattle.stun_client_requests.specs.Numbers.{id_at}
 use Rattle.stun_client_requests.specs.OneTable.{IsOneTable}
-use Rattle.stun_client_requests.specs.Requests.{Poll as PollOf, RequestsSeen}
+use Rattle.stun_client_requests.specs.Requests.{Poll as PollOf}
 use Rattle.stun_client_requests.specs.Requests.{after_replacing, datum_of, polled, stored_at}
 use Rattle.stun_client_requests.specs.Timely.{IsInTime, IsTimely, bound_after}
 use Rattle.stun_client_requests.specs.declared.requests.Polled.TheVariants as Of
 use Rattle.stun_client_requests.specs.declared.requests.Request.{Request}
-use Rattle.stun_client_requests.proofs.TimelyLemmas.{all_no_later, cancel_timely, named_is_one}
+use Rattle.stun_client_requests.proofs.TimelyLemmas.{all_no_later, answer_timely, cancel_timely}
+use Rattle.stun_client_requests.proofs.TimelyLemmas.{named_is_one}
 use Rattle.stun_client_requests.proofs.TimelyLemmas.{none_timely, polls_keep_time, removed_timely}
 use Rattle.stun_client_requests.proofs.TimelyLemmas.{replace_timely, start_timely, waits_in_time}
-use Rattle.stun_client_calls.specs.Bounds.{Call, IsPunctual, cancels, polls, requests, until_of}
-use Rattle.stun_client_calls.specs.Clients.{Client, Poll, by_polled, changed}
+use Rattle.stun_client_calls.specs.Bounds.{IsPunctual, until_of}
+use Rattle.stun_client_calls.specs.Clients.{Client, Poll, by_polled, changed, changed_at}
 use Rattle.stun_client_calls.specs.Clients.{chosen, first_asked, first_message, given_up}
 use Rattle.stun_client_calls.specs.Clients.{handed_out_of, new_client}
 use Rattle.stun_client_calls.specs.Clients.{sent_by}
 use Rattle.stun_client_calls.specs.Clients.{started_at, started_with, told, waits}
 use Rattle.stun_client_calls.specs.Clients.{with_requests}
 use Rattle.stun_client_calls.specs.Endpoints.{EndSeen}
-use Rattle.stun_client_calls.specs.Messages.{AskedSeen, is_late, sent_out}
-use Rattle.stun_client_calls.specs.declared.asked.Change.TheVariants.{SentOut}
-
-abbrev All : Type 0
-All = RequestsSeen AskedSeen EndSeen
+use Rattle.stun_client_calls.specs.Messages.{AskedSeen, is_late}
+use Rattle.stun_client_calls.specs.Receiving.{Answer, UnlessMemory, moment_of, received}
+use Rattle.stun_client_calls.specs.Runs.{Call, Event, changes_nothing, ends_one, polls, receives}
+use Rattle.stun_client_calls.specs.Runs.{requests}
+use Rattle.stun_client_calls.specs.declared.asked.Change.{Change}
+use Rattle.stun_client_calls.specs.declared.asked.Change.TheVariants.{Noted, Refused, SentOut}
+use Rattle.stun_client_calls.proofs.HeardLemmas.{answering_of, heard, nothing_of, turned_of}
+use Rattle.stun_client_calls.proofs.TurnLemmas.{All, no_more, some_is, timely_after}
 
 not_late : (until now : ℕ) → nat_lt until now ≡ false → now ≤ until
 not_late until now is = grind arith
@@ -62,6 +66,42 @@ started_punctual c method body now low is (Some number) =
     by (Ok bytes) =
         start_timely c.plan until_of c.requests is (id_of c.seed number) bytes
         (first_asked c method body now) now (until_low now (plan_of c.plan) low)
+
+-- ---- changes of what is stored
+
+pub changed_until : (change : Change) (a : AskedSeen) → (changed change a).until ≡ a.until
+changed_until SentOut a = refl
+changed_until (Noted why code) a = refl
+changed_until (Refused code) a = refl
+
+changed_punctual : (change : Change) (n : ℕ) (c : Client) → IsPunctual c
+    → IsPunctual (with_requests (changed_at change n c.requests) c)
+changed_punctual change n c is = by (datum_of n c.requests) refl
+  where
+    by : (o : Option AskedSeen) → datum_of n c.requests ≡ o
+        → IsTimely c.plan until_of
+        (option_map_or (λ a. after_replacing n (changed change a) c.requests) o c.requests)
+    by None some = is
+    by (Some a) some =
+        replace_timely c.plan until_of c.requests is n (changed change a)
+        (λ q stored. no_more q.datum.until (changed change a).until
+        (ap (λ (x : AskedSeen). x.until) (some_is q.datum a
+        (sym (ap (λ (o : Option (Request AskedSeen)). option_map (λ x. x.datum) o) stored) ∙ some))
+        ∙ sym (changed_until change a)))
+
+-- ---- datagrams
+
+heard_punctual : (from : SocketAddr) (bytes : List ℕ) (now : ℕ) (c : Client) (answer : Answer)
+    → IsRequests c.requests → IsPunctual c
+    → UnlessMemory (λ memory. received memory from bytes now c) bytes c answer → IsPunctual answer.1
+heard_punctual from bytes now c answer i is =
+    heard IsPunctual c now bytes is (λ change n. changed_punctual change n c is)
+    (λ end m standing. answer_timely c.plan until_of c.requests is i.one.in_order m.number
+    (length bytes) (moment_of now m) end)
+    (λ memory m why d s page t. timely_after c.requests c.plan now m.number s.id
+    (answering_of now bytes) page (nothing_of m) m.asked (turned_of memory bytes m why d s) i.one is
+    t.there t.free t.in_time refl)
+    from answer
 
 -- ---- polling
 
@@ -140,21 +180,7 @@ module _ (now n : ℕ) (c : Client)
   sent_punctual : (a : AskedSeen) → datum_of n c.requests ≡ Some a → now ≤ a.until
       → IsPunctual (sent_by n c).1
   sent_punctual a some low =
-      subst (λ o. IsTimely c.plan until_of
-      (option_map_or (λ x. after_replacing n (changed SentOut x) c.requests) o c.requests)) (sym some)
-      (replace_timely c.plan until_of c.requests
-      (in_time c.plan now n c.requests one is a some low) n (sent_out a)
-      (λ q stored. by q
-      (ap (λ (o : Option (Request AskedSeen)). option_map (λ x. x.datum) o) stored)))
-    where
-      by : (q : Request AskedSeen) → datum_of n c.requests ≡ Some q.datum → q.datum.until ≤ a.until
-      by q other =
-          let same : q.datum ≡ a = same_asked q.datum a (sym other ∙ some) in
-          let until : q.datum.until ≡ a.until = ap (λ x. x.until) same in
-          omega (arith, until)
-        where
-          same_asked : (x y : AskedSeen) → Some x ≡ Some y → x ≡ y
-          same_asked x y e = cc
+      changed_punctual SentOut n c (in_time c.plan now n c.requests one is a some low)
 
   handed_punctual : (o : Option AskedSeen) → datum_of n c.requests ≡ o
       → IsPunctual (handed_out_of now n c o).1
@@ -197,14 +223,18 @@ pub begins_punctual : (transport : TransportType) (server : SocketAddr)
 begins_punctual transport server counts requires_fingerprint identity form understood turns plan seed =
     none_timely plan until_of
 
-pub stays_punctual : (c after : Client) → IsRequests c.requests → IsPunctual c → Call c after
-    → IsPunctual after
-stays_punctual c after i is (requests _ method body now low none) =
-    started_punctual c method body now low is (chosen c)
-stays_punctual c after i is (cancels _ number) =
-    cancel_timely c.plan until_of c.requests is i.one.in_order number _
-stays_punctual c after i is (polls _ _ now says said) =
+pub stays_punctual : (c after : Client) (event : Event) → IsRequests c.requests → IsPunctual c
+    → Call c event after → IsPunctual after
+stays_punctual c after event i is (requests _ _ method body now low none made) =
+    subst IsPunctual (sym made) (started_punctual c method body now low is (chosen c))
+stays_punctual c after event i is (receives _ _ from bytes now answer low hears made) =
+    subst IsPunctual (sym made) (heard_punctual from bytes now c answer i is hears)
+stays_punctual c after event i is (polls _ _ now says said) =
     subst IsPunctual (ap (λ (p : Poll). p.1) said) (told_punctual now c i is)
+stays_punctual c after event i is (ends_one _ _ number a some made) =
+    subst IsPunctual (sym made)
+    (cancel_timely c.plan until_of c.requests is i.one.in_order number _)
+stays_punctual c after event i is (changes_nothing _) = is
 
 -- what is stored of an outstanding request is in the table
 stored_there : (n : ℕ) (a : AskedSeen) (r : All) → datum_of n r ≡ Some a
@@ -228,7 +258,7 @@ stored_there n a r some = by (id_at n r.numbers) some
     by None some = cc
     by (Some id) some = at id (datum_at id r.table.attached) refl some
 
-not_told : (now n : ℕ) (until : Option ℕ) (c after : Client) (o : Option AskedSeen)
+pub not_told : (now n : ℕ) (until : Option ℕ) (c after : Client) (o : Option AskedSeen)
     → handed_out_of now n c o ≡ (waits until, after) → ⊥
 not_told now n until c after None said = let no = ap (λ (p : Poll). p.0) said in cc
 not_told now n until c after (Some a) said = by (is_late now a) said

@@ -22,12 +22,13 @@ use Rattle.stun_client_endpoint.specs.Refusals.{OTHERS}
 use Rattle.stun_client_endpoint.specs.declared.ended.DropReason.TheVariants.{LateChallenge}
 use Rattle.stun_client_endpoint.specs.declared.ended.DropReason.TheVariants.{NotVerified}
 use Rattle.stun_client_calls.specs.Deciding.{DecisionSeen, Place, answered, back_to, decided, drops}
-use Rattle.stun_client_calls.specs.Deciding.{giving_way, is_idle, is_late, is_spent, place_of}
+use Rattle.stun_client_calls.specs.Deciding.{giving_way, is_idle, is_spent, place_of}
 use Rattle.stun_client_calls.specs.Deciding.{refuses, turns, unauthorized, undoubted}
 use Rattle.stun_client_calls.specs.Laws.{IsAnswerOrDrop, IsNoEnd, IsUnspent, IsWithinLimits, Judge}
 use Rattle.stun_client_calls.specs.Laws.{decision_on}
 use Rattle.stun_client_calls.specs.Messages.{AskedSeen, DOUBTS, SentSeen, TurnSeen, eligible}
-use Rattle.stun_client_calls.specs.Messages.{has_unsigned, is_doubt, is_eligible, is_refusal}
+use Rattle.stun_client_calls.specs.Messages.{has_unsigned, is_doubt, is_eligible, is_late}
+use Rattle.stun_client_calls.specs.Messages.{is_refusal}
 use Rattle.stun_client_calls.specs.Messages.{is_signed_eligible, is_too_weak, message_for, refusing}
 use Rattle.stun_client_calls.specs.Messages.{signed_eligible, turned}
 use Rattle.stun_client_calls.specs.declared.deciding.Limits.{Limits}

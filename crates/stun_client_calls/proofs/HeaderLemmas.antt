@@ -6,7 +6,7 @@ use Rattle.std.specs.Prelude.{nat_lt}
 use Rattle.std.proofs.lemmas.List.{drop-append-le, length-drop}
 use Rattle.byteorder.specs.Endian.{big_bytes}
 use Rattle.byteorder.specs.Numbers.{big_from-append, big_number-reads_back}
-use Rattle.stun_base.specs.Header.{BeginsWithHeader, MAGIC_COOKIE, cookie_field, length_field}
+use Rattle.stun_base.specs.Header.{MAGIC_COOKIE, cookie_field, length_field}
 use Rattle.stun_base.specs.Header.{transaction_id_field, type_field}
 use Rattle.stun_base.specs.MessageType.{type_number}
 use Rattle.stun_base.specs.declared.wire.error.StunWriteError.{StunWriteError}

@@ -1,9 +1,13 @@
 pub mod BoundLemmas
 pub mod ChangeLemmas
 pub mod DecidingLemmas
+pub mod EndLemmas
 pub mod HeaderLemmas
+pub mod HeardLemmas
 pub mod IdLemmas
 pub mod KeepingLemmas
 pub mod OptionLemmas
 pub mod ReceivingLemmas
 pub mod RequestingLemmas
+pub mod StoredLemmas
+pub mod TurnLemmas

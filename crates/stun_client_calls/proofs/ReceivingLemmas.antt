@@ -1,11 +1,11 @@
 -- What a client makes of a response, from what its steps make of it.
 use Rattle.std.proofs.Common.{◌≡◌, ◌∙◌, [], ℕ, Bool, true, false, List, Option, Some, None, Result}
-use Rattle.std.proofs.Common.{Ok, Err, ap, cond, inl, inr, length, refl, subst, sym}
+use Rattle.std.proofs.Common.{Err, ap, cond, inl, inr, length, refl, subst, sym}
 use Rattle.std.specs.BTreeMap.{insert_entry, is_at}
 use Rattle.std.specs.Map.{remove_entry}
 use Rattle.std.specs.Option.{is_some, option_and_then, option_map}
 use Rattle.std.specs.Ordering.{nat_cmp}
-use Rattle.std.specs.Prelude.{◌⊎◌, IfErr, OnErr, OnOk, if◌then◌else◌, is_ok}
+use Rattle.std.specs.Prelude.{◌⊎◌, IfErr, if◌then◌else◌}
 use Rattle.std.specs.declared.net.socket_addr.SocketAddr.{SocketAddr}
 use Rattle.stun_base.specs.Header.{transaction_id_field}
 use Rattle.stun_base.specs.MessageType.{class_in}
@@ -28,7 +28,8 @@ use Rattle.stun_client_endpoint.specs.declared.ended.DropReason.{DropReason}
 use Rattle.stun_client_endpoint.specs.declared.ended.DropReason.TheVariants as Reasons
 use Rattle.stun_client_endpoint.specs.declared.ended.RequestEnd.{RequestEnd}
 use Rattle.stun_client_endpoint.specs.declared.ended.RequestEnd.TheVariants as how
-use Rattle.stun_client_endpoint.specs.declared.told.Received.TheVariants.{Consumed, Indication, NotOurs}
+use Rattle.stun_client_endpoint.specs.declared.told.Received.TheVariants.{Consumed, Indication}
+use Rattle.stun_client_endpoint.specs.declared.told.Received.TheVariants.{NotOurs}
 use Rattle.stun_client_requests.specs.Requests.{RequestsSeen, after_again, after_answering}
 use Rattle.stun_client_requests.specs.Requests.{after_replacing, datum_of, number_at}
 use Rattle.stun_client_calls.specs.Clients.{Client, with_requests}
@@ -44,8 +45,10 @@ use Rattle.stun_client_calls.specs.Receiving.{as_current, as_earlier, as_expecte
 use Rattle.stun_client_calls.specs.Receiving.{by_decision, by_met}
 use Rattle.stun_client_calls.specs.Receiving.{current_of, decision_for, dropping, dropping_refusal}
 use Rattle.stun_client_calls.specs.Receiving.{earlier_of, received, unwritten}
-use Rattle.stun_client_calls.specs.Receiving.{exchanged_ids, forgone, if_method, judge_of, met, met_by}
-use Rattle.stun_client_calls.specs.Receiving.{moment_of, spot_of, turned_at, turned_by, turned_to}
+use Rattle.stun_client_calls.specs.Receiving.{exchanged_ids, forgone, if_method, judge_of, met}
+use Rattle.stun_client_calls.specs.Receiving.{met_by}
+use Rattle.stun_client_calls.specs.Receiving.{moment_of, notes, spot_of, turned_at, turned_by}
+use Rattle.stun_client_calls.specs.Receiving.{turned_to}
 use Rattle.stun_client_calls.specs.Receiving.{without_memory}
 use Rattle.stun_client_calls.specs.Writing.{message_bytes}
 use Rattle.stun_client_calls.specs.code.Acting.{IsExchanged, confirmed_in}
@@ -341,29 +344,28 @@ unauthorized_so c mid now bytes m number is_current end a earlier found same cur
 
 -- ---- the message that was the current one
 
--- its transaction ID is noted, or there was no memory for that
-pub ids_so : {T E : Type 0} (r : Result T E) (former id number : ℕ) (old removed new : Earlier)
+-- its transaction ID is noted, or it is not
+pub ids_so : (is_noted : Bool) (former id number : ℕ) (old removed new : Earlier)
     → removed ≡ remove_entry (is_at (nat_cmp id)) old
-    → OnOk r (new ≡ insert_entry nat_cmp removed former number) → OnErr r (new ≡ removed)
-    → new ≡ exchanged_ids (is_ok r) former id number old
-ids_so (Ok x) former id number old removed new is noted same =
-    noted ∙ ap (λ (y : Earlier). insert_entry nat_cmp y former number) is
-ids_so (Err why) former id number old removed new is noted same = same ∙ is
+    → new ≡ (if is_noted then insert_entry nat_cmp removed former number else removed)
+    → new ≡ exchanged_ids is_noted former id number old
+ids_so is_noted former id number old removed new is noted =
+    noted
+    ∙ ap (λ (y : Earlier). if is_noted then insert_entry nat_cmp y former number else y) is
 
 -- another message is stored as the current one
 pub exchanged_so : (old : Client) (number former next id : ℕ) (a b : AskedSeen) (t : TurnSeen)
-    (is_kept is_noted : Bool) (standing : StandingSeen) (requests : RequestsSeen AskedSeen EndSeen)
-    (earlier : Earlier) → next ≡ t.next_id → id ≡ t.id → b ≡ turned is_kept former t a
+    (memory : Memory) (standing : StandingSeen) (requests : RequestsSeen AskedSeen EndSeen)
+    (earlier : Earlier) → next ≡ t.next_id → id ≡ t.id → b ≡ turned memory.is_kept former t a
     → standing ≡ answering old.standing t.answered
     → requests ≡ after_replacing number b old.requests
-    → earlier ≡ exchanged_ids is_noted former id number old.earlier
+    → earlier ≡ exchanged_ids (notes memory) former id number old.earlier
     → IsExchanged number former a t old
     (record old { next_id = next; standing = standing; requests = requests; earlier = earlier })
-exchanged_so old number former next id a b t is_kept is_noted standing requests earlier next_is id_is
-    turns_to stands stored noted =
+exchanged_so old number former next id a b t memory standing requests earlier next_is id_is turns_to
+    stands stored noted =
     record {
-      is_kept = is_kept;
-      is_noted = is_noted;
+      memory = memory;
       after =
           ap (λ (x : ℕ). record old {
             next_id = x;
@@ -386,33 +388,33 @@ exchanged_so old number former next id a b t is_kept is_noted standing requests 
           ∙ ap (λ (x : Earlier). record old {
             next_id = t.next_id;
             standing = answering old.standing t.answered;
-            requests = after_replacing number (turned is_kept former t a) old.requests;
+            requests = after_replacing number (turned memory.is_kept former t a) old.requests;
             earlier = x;
-          }) (noted ∙ ap (λ (y : ℕ). exchanged_ids is_noted former y number old.earlier) id_is);
+          }) (noted ∙ ap (λ (y : ℕ). exchanged_ids (notes memory) former y number old.earlier) id_is);
     }
 
 pub exchanged_at : (c old : Client) (number former next id : ℕ) (a b : AskedSeen) (t : TurnSeen)
-    (is_kept is_noted : Bool) (standing : StandingSeen) (requests : RequestsSeen AskedSeen EndSeen)
-    (earlier : Earlier) → old ≡ c → next ≡ t.next_id → id ≡ t.id → b ≡ turned is_kept former t a
-    → standing ≡ answering old.standing t.answered
+    (memory : Memory) (standing : StandingSeen) (requests : RequestsSeen AskedSeen EndSeen)
+    (earlier : Earlier) → old ≡ c → next ≡ t.next_id → id ≡ t.id
+    → b ≡ turned memory.is_kept former t a → standing ≡ answering old.standing t.answered
     → requests ≡ after_replacing number b old.requests
-    → earlier ≡ exchanged_ids is_noted former id number old.earlier
+    → earlier ≡ exchanged_ids (notes memory) former id number old.earlier
     → IsExchanged number former a t c
     (record old { next_id = next; standing = standing; requests = requests; earlier = earlier })
-exchanged_at c old number former next id a b t is_kept is_noted standing requests earlier is next_is
-    id_is turns_to stands stored noted =
+exchanged_at c old number former next id a b t memory standing requests earlier is next_is id_is
+    turns_to stands stored noted =
     subst (λ (x : Client). IsExchanged number former a t x
     (record old { next_id = next; standing = standing; requests = requests; earlier = earlier })) is
-    (exchanged_so old number former next id a b t is_kept is_noted standing requests earlier next_is
-    id_is turns_to stands stored noted)
+    (exchanged_so old number former next id a b t memory standing requests earlier next_is id_is
+    turns_to stands stored noted)
 
 -- a client once another message is stored as the current one of a request
-abbrev exchanging : Bool → Bool → ℕ → ℕ → AskedSeen → TurnSeen → Client → Client
-exchanging is_kept is_noted number former a t c = record c {
+abbrev exchanging : Memory → ℕ → ℕ → AskedSeen → TurnSeen → Client → Client
+exchanging memory number former a t c = record c {
   next_id = t.next_id;
   standing = answering c.standing t.answered;
-  requests = after_replacing number (turned is_kept former t a) c.requests;
-  earlier = exchanged_ids is_noted former t.id number c.earlier;
+  requests = after_replacing number (turned memory.is_kept former t a) c.requests;
+  earlier = exchanged_ids (notes memory) former t.id number c.earlier;
 }
 
 abbrev pub turn_with : Spot → Why → Option Answered → Option Answered → TurnSeen
@@ -441,21 +443,21 @@ pub turned_so : (c before new : Client) (now : ℕ) (response : List ℕ) (m : M
     (Consumed, new)
 turned_so c before new now response m number why d o s bytes a kept found same answers stored keeps
     before_is x =
-    as_expected (record { is_kept = x.is_kept; is_noted = x.is_noted })
+    as_expected x.memory
     (ap (λ (e : Client). consumed e)
     (x.after
-    ∙ ap (λ (y : Client). exchanging x.is_kept x.is_noted number (transaction_id_field response) a
+    ∙ ap (λ (y : Client). exchanging x.memory number (transaction_id_field response) a
     (turn_with s why d o) y) before_is
-    ∙ ap (λ (y : AskedSeen). exchanging x.is_kept x.is_noted number (transaction_id_field response) a
+    ∙ ap (λ (y : AskedSeen). exchanging x.memory number (transaction_id_field response) a
     (turn_with s why d o) (sent_again number y.method response s bytes now c))
     (same_asked response c m number kept found same keeps)
-    ∙ ap (λ (y : Option Answered). exchanging x.is_kept x.is_noted number
+    ∙ ap (λ (y : Option Answered). exchanging x.memory number
     (transaction_id_field response) a (turn_with s why d y)
     (sent_again number m.asked.method response s bytes now c)) answers
-    ∙ ap (λ (y : AskedSeen). exchanging x.is_kept x.is_noted number (transaction_id_field response) y
+    ∙ ap (λ (y : AskedSeen). exchanging x.memory number (transaction_id_field response) y
     (turn_with s why d d) (sent_again number m.asked.method response s bytes now c))
     (same_asked response c m number a found same (sym stored))
-    ∙ ap (λ (y : ℕ). exchanging x.is_kept x.is_noted y (transaction_id_field response) m.asked
+    ∙ ap (λ (y : ℕ). exchanging x.memory y (transaction_id_field response) m.asked
     (turn_with s why d d) (sent_again y m.asked.method response s bytes now c)) same))
 
 pub turned_from : (c e new : Client) (requests : RequestsSeen AskedSeen EndSeen) (now : ℕ)

@@ -1,6 +1,6 @@
 -- What a response to a message of an outstanding request comes to, once it is judged (RFC 8489,
 -- sections 5, 6.2.1 and 9.2.5).
-use Rattle.std.specs.Prelude.{ℕ, Bool, true, false, ◌||◌, nat_le, nat_lt}
+use Rattle.std.specs.Prelude.{ℕ, Bool, true, false, ◌||◌, nat_le}
 use Rattle.std.specs.Prelude.{if◌then◌else◌, Option, Some, None}
 use Rattle.std.specs.Option.{is_none, option_map}
 use Rattle.stun_base.specs.declared.keys.algorithm.IntegrityAlgorithm.{IntegrityAlgorithm}
@@ -12,7 +12,7 @@ use Rattle.stun_client_endpoint.specs.Refusals.{OTHERS}
 use Rattle.stun_client_endpoint.specs.declared.ended.DropReason.{DropReason}
 use Rattle.stun_client_endpoint.specs.declared.ended.DropReason.TheVariants.{LateChallenge}
 use Rattle.stun_client_endpoint.specs.declared.ended.DropReason.TheVariants.{NotVerified}
-use Rattle.stun_client_calls.specs.Messages.{AskedSeen, DOUBTS, SentSeen, eligible}
+use Rattle.stun_client_calls.specs.Messages.{AskedSeen, DOUBTS, SentSeen, eligible, is_late}
 use Rattle.stun_client_calls.specs.Messages.{has_unsigned, message_for, signed_eligible}
 use Rattle.stun_client_calls.specs.declared.turning.Why.{Why}
 use Rattle.stun_client_calls.specs.declared.turning.Why.TheVariants.{Challenged, Doubted, Refused}
@@ -51,11 +51,8 @@ decision_of (Drop why) = drops why
 
 -- ---- how long another message may become the current one
 
--- after the first plan of the request none does
-abbrev pub is_late : ℕ → AskedSeen → Bool
-is_late now a = nat_lt a.until now
-
--- nor once that has happened as often as the limit says
+-- none does after the first plan of the request, nor once that has happened as often as the limit
+-- says
 abbrev pub is_spent : Limits → AskedSeen → Bool
 is_spent limits a = nat_le limits.turns a.turns
 

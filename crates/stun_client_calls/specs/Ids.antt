@@ -3,7 +3,7 @@ use Rattle.std.specs.Prelude.{ℕ, ◌+◌, ◌-◌, ◌||◌, Bool, List, if◌
 use Rattle.std.specs.Prelude.{suc, zero}
 use Rattle.std.specs.BTreeMap.{is_at}
 use Rattle.std.specs.Map.{lookup}
-use Rattle.std.specs.Option.{is_some}
+use Rattle.std.specs.Option.{is_some, option_or}
 use Rattle.std.specs.Ordering.{nat_cmp}
 use Rattle.stun_agent.specs.Tables.{Attached}
 use Rattle.stun_client.specs.Ids.{id_of}
@@ -17,6 +17,11 @@ Earlier = List (ℕ × ℕ)
 
 abbrev pub number_in : ℕ → Earlier → Option ℕ
 number_in id earlier = lookup (is_at (nat_cmp id)) earlier
+
+-- the number of the outstanding request that the message with a transaction ID belongs to, which is
+-- its current message or an earlier one
+abbrev pub number_with : ℕ → Attached (Request AskedSeen) → Earlier → Option ℕ
+number_with id all earlier = option_or (number_at id all) (number_in id earlier)
 
 -- whether an ID is that of a message of an outstanding request
 abbrev pub is_message : ℕ → Attached (Request AskedSeen) → Earlier → Bool

@@ -1,6 +1,6 @@
 -- What a datagram comes to, and the client then (RFC 8489, sections 5, 6.3 and 9.2.5).
-use Rattle.std.specs.Prelude.{◌≡◌, ◌+◌, ℕ, Bool, true, false, List, [], length, Option, Some, None}
-use Rattle.std.specs.Prelude.{if◌then◌else◌, Ok, Err}
+use Rattle.std.specs.Prelude.{◌≡◌, ◌+◌, ◌&&◌, ℕ, Bool, true, false, List, [], length, Option}
+use Rattle.std.specs.Prelude.{if◌then◌else◌, Some, None, Ok, Err}
 use Rattle.std.specs.BTreeMap.{insert_entry, is_at}
 use Rattle.std.specs.Map.{remove_entry}
 use Rattle.std.specs.Option.{is_some, option_and_then, option_map}
@@ -148,9 +148,13 @@ pub record Spot : Type 0 where
   pub rank : ℕ
   pub next_id : ℕ
 
--- an earlier message has its own, and a new one gets the next ones. There may be no ID left
+-- an earlier message has its own, and a new one gets the next ones. There may be no ID left. Nor is there
+-- one for an earlier message whose ID was not noted for want of memory, if it is that of another
+-- request's current message now
 abbrev pub spot_of : Client → AskedSeen → Option Place → Option Spot
-spot_of c a (Some p) = Some (record { id = p.1; rank = p.0; next_id = c.next_id })
+spot_of c a (Some p) =
+    if is_some (number_at p.1 c.requests.table.attached) then None
+    else Some (record { id = p.1; rank = p.0; next_id = c.next_id })
 spot_of c a None =
     option_map
     (λ number. record {
@@ -170,17 +174,21 @@ turn_to s why d = record {
 }
 
 -- the number of the request that earlier messages belong to, once one of them has become the
--- current one in place of another, which is noted, or there is no memory for it
+-- current one in place of another, which is noted or is not
 abbrev pub exchanged_ids : Bool → ℕ → ℕ → ℕ → Earlier → Earlier
 exchanged_ids is_noted former id number earlier =
     if is_noted then insert_entry nat_cmp (remove_entry (is_at (nat_cmp id)) earlier) former number
     else remove_entry (is_at (nat_cmp id)) earlier
 
--- whether there was memory to keep the message that was the current one: what it is signed for, and
--- its transaction ID
+-- whether there was memory to keep the message that was the current one as an earlier one, and to
+-- note its transaction ID
 pub record Memory : Type 0 where
   pub is_kept : Bool
   pub is_noted : Bool
+
+-- only a message that is kept is noted
+abbrev pub notes : Memory → Bool
+notes memory = memory.is_kept && memory.is_noted
 
 -- another message becomes the current one, with these bytes. Its challenge becomes the standing
 -- one. The response ends the former message
@@ -195,7 +203,7 @@ turned_to memory c now response m why d s bytes = (
         (turned memory.is_kept (transaction_id_field response) (turn_to s why d) m.asked)
         (after_again m.number (record { count = length response; moment = Some now }) s.id bytes c.plan
         (new_asked m.asked.method [] 0 None) now c.requests);
-    earlier = exchanged_ids memory.is_noted (transaction_id_field response) s.id m.number c.earlier;
+    earlier = exchanged_ids (notes memory) (transaction_id_field response) s.id m.number c.earlier;
   },
 )
 

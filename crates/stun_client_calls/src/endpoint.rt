@@ -4,6 +4,7 @@ ghost use Rattle.std.specs.Prelude.{◌≡◌, IfOk};
 ghost use Rattle.stun_agent.specs.Timing.{settings_of};
 ghost use Rattle.stun_client.specs.Judging.{identity_of};
 ghost use Rattle.stun_client_calls.specs.Clients.{cancelled, new_client};
+ghost use Rattle.stun_client_calls.specs.Ids.{number_with};
 ghost use Rattle.stun_client_requests.specs.Numbers.{id_at};
 ghost use Rattle.stun_client_requests.specs.Requests.{bytes_at, datum_of, outstanding_count};
 
@@ -149,6 +150,17 @@ impl<A: Allocator + Copy> ClientEndpoint<A> {
         ensures { result ≡ id_at number self.now.requests.numbers }
     {
         self.requests.id_of(number)
+    }
+
+    /// Returns the number of the outstanding request that the message with this transaction ID
+    /// belongs to, which is its current message or an earlier one.
+    pub fn request_of(&self, id: TransactionId) -> Option<u64>
+        ensures { result ≡ number_with id self.now.requests.table.attached self.now.earlier }
+    {
+        match self.requests.number_of(id) {
+            Some(number) => Some(number),
+            None => self.earlier.get(&id).copied(),
+        }
     }
 
     /// Returns what was dropped for a request, while it is outstanding.

@@ -5,7 +5,8 @@ ghost use Rattle.stun_base.specs.declared.keys.algorithm.IntegrityAlgorithm.{Int
 ghost use Rattle.stun_client.specs.Challenges.{Answered, is_one};
 ghost use Rattle.stun_client.specs.Judging.{Verdict, refused, signed_with, takes_unsigned};
 ghost use Rattle.stun_client.specs.Standing.{StandingSeen};
-ghost use Rattle.stun_client_calls.specs.Bounds.{BeginsPunctual, KeepsPlan, StaysPunctual};
+ghost use Rattle.stun_client_calls.specs.Bounds.{BeginsPunctual, BeginsStored, EndsWithinTwoPlans};
+ghost use Rattle.stun_client_calls.specs.Bounds.{KeepsPlan, StartsPlan, StaysPunctual, StaysStored};
 ghost use Rattle.stun_client_calls.specs.Bounds.{WaitsInTime};
 ghost use Rattle.stun_client_calls.specs.Deciding.{Place, answered, decided, refuses, turns};
 ghost use Rattle.stun_client_calls.specs.Laws.{IsAnswerOrDrop, IsNoEnd, IsUnspent, IsWithinLimits};
@@ -86,14 +87,23 @@ pub fn responses_to_earlier_messages_answer_or_are_dropped()
         → IsAnswerOrDrop (decision_on j false now a before bytes) }
 {}
 
-/// A request that `ClientEndpoint::poll` leaves outstanding, when it says to wait, is not older than two
-/// plans, and the wait ends no later than when it is (`waits`; RFC 8489, sections 6.2.1 and 9.2.5). This
-/// holds however late `poll` is called, because nothing is sent of a request after its first plan, from
-/// the creation of a client on (`begins`) and over any calls of `request`, `cancel` and `poll` (`stays`).
-/// None of these calls changes when the first plan of a request ends (`keeps`).
+/// A request is over from the end of two plans after its start on, as soon as
+/// `ClientEndpoint::poll` says to wait, whatever calls come before and between (`ends`; RFC 8489,
+/// sections 6.2.1 and 9.2.5).
+///
+/// A request that `poll` leaves outstanding, when it says to wait, is not older than two plans, and
+/// the wait ends no later than when it is (`waits`). This holds however late `poll` is called,
+/// because nothing is sent of a request after its first plan, from the creation of a client on
+/// (`begins`) and over each call (`stays`). The first plan of a request ends once a whole plan has
+/// passed since its start (`starts`), which no call changes (`keeps`). All this is of a client that
+/// stores each request once (`first`, `stored`).
 pub fn a_request_ends_within_two_plans()
+    ensures ends { EndsWithinTwoPlans }
+    ensures first { BeginsStored }
+    ensures stored { StaysStored }
     ensures begins { BeginsPunctual }
     ensures stays { StaysPunctual }
+    ensures starts { StartsPlan }
     ensures keeps { KeepsPlan }
     ensures waits { WaitsInTime }
 {}

@@ -1,26 +1,25 @@
 -- What single steps make of a client that acts upon a response.
-use Rattle.std.specs.Prelude.{◌≡◌, ℕ, Bool, if◌then◌else◌, Option, None}
+use Rattle.std.specs.Prelude.{◌≡◌, ℕ, if◌then◌else◌, Option, None}
 use Rattle.stun_base.specs.declared.wire.message_type.MessageClass.{MessageClass}
 use Rattle.stun_client.specs.Challenges.{Answered}
 use Rattle.stun_client.specs.Clients.{answering}
 use Rattle.stun_client_requests.specs.Requests.{after_replacing}
 use Rattle.stun_client_calls.specs.Clients.{Client}
 use Rattle.stun_client_calls.specs.Messages.{AskedSeen, TurnSeen, turned}
-use Rattle.stun_client_calls.specs.Receiving.{Met, exchanged_ids, is_success_class}
+use Rattle.stun_client_calls.specs.Receiving.{Memory, Met, exchanged_ids, is_success_class, notes}
 
 -- the challenge that a response confirms: that of the message which a success answers
 abbrev pub confirmed_in : MessageClass → Met → Option Answered
 confirmed_in class m = if is_success_class class then m.signed_for else None
 
--- another message is stored as the current one of a request. What the former one is signed for is
--- kept, and its transaction ID is noted, or there was no memory for that
+-- another message is stored as the current one of a request. The former one is kept, and its
+-- transaction ID is noted, or there was no memory for that
 pub record IsExchanged (number former : ℕ) (a : AskedSeen) (t : TurnSeen) (old new : Client)
     : Type 0 where
-  pub is_kept : Bool
-  pub is_noted : Bool
+  pub memory : Memory
   pub after : new ≡ record old {
     next_id = t.next_id;
     standing = answering old.standing t.answered;
-    requests = after_replacing number (turned is_kept former t a) old.requests;
-    earlier = exchanged_ids is_noted former t.id number old.earlier;
+    requests = after_replacing number (turned memory.is_kept former t a) old.requests;
+    earlier = exchanged_ids (notes memory) former t.id number old.earlier;
   }

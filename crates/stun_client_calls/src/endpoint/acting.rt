@@ -1,5 +1,8 @@
 //! Ends by a response, and other messages.
-ghost use Rattle.std.specs.Prelude.{◌≡◌, ◌⊎◌, Err, IfErr, IfOk, None, Ok, Some, if◌then◌else◌, length};
+ghost use Rattle.std.specs.BTreeMap.{insert_entry};
+ghost use Rattle.std.specs.Ordering.{nat_cmp};
+ghost use Rattle.std.specs.Prelude.{◌≡◌, ◌⊎◌, ◌&&◌, Err, IfErr, IfOk, None, Ok, Some};
+ghost use Rattle.std.specs.Prelude.{if◌then◌else◌, length};
 ghost use Rattle.stun_agent.specs.Transactions.{IsRequestOf};
 ghost use Rattle.stun_base.specs.MessageType.{class_in};
 ghost use Rattle.stun_client_calls.specs.Clients.{with_requests};
@@ -18,6 +21,7 @@ use crate::endpoint::changing::nothing;
 use crate::turning::{Turn, Why};
 use crate::writing::message as written;
 use std::alloc::{AllocError, Allocator};
+use std::collections::BTreeMap;
 use std::marker::Model;
 use stun_base::instant::Instant;
 use stun_client::challenge::Challenge;
@@ -178,11 +182,17 @@ impl<A: Allocator + Copy> ClientEndpoint<A> {
     {
         let asked = self.requests.datum_of(number)?;
         match place {
-            Some((rank, id)) => Some(Spot {
-                id,
-                rank,
-                next_id: self.next_id,
-            }),
+            Some((rank, id)) => {
+                // Its ID may be that of another message by now if there was no memory to note it.
+                if self.requests.number_of(id).is_some() {
+                    return None;
+                }
+                Some(Spot {
+                    id,
+                    rank,
+                    next_id: self.next_id,
+                })
+            }
             None => {
                 let free = self.chosen()?;
                 Some(Spot {
@@ -276,14 +286,28 @@ impl<A: Allocator + Copy> ClientEndpoint<A> {
     {
         self.next_id = turn.next_id;
         self.earlier.remove(&turn.id);
-        // Without memory for it the former message is forgotten.
-        let _is_noted = self.earlier.insert(former, number).is_ok();
-        let (asked, _is_kept, answered) = asked.turned(former, turn);
+        let (asked, is_kept, answered) = asked.turned(former, turn);
+        let _is_noted = note(&mut self.earlier, is_kept, former, number);
         self.requests.replace(number, asked);
         if let Some(challenge) = answered {
             self.standing.answer(challenge);
         }
     }
+}
+
+/// Notes which request an earlier message belongs to, if the message is kept. Returns `false` if it
+/// is not kept, or an allocation fails.
+fn note<A: Allocator + Copy>(
+    earlier: &mut BTreeMap<TransactionId, u64, A>,
+    is_kept: bool,
+    id: TransactionId,
+    number: u64,
+) -> bool
+    ensures { earlier.new.entries ≡ if is_kept && result
+        then insert_entry nat_cmp earlier.old.entries id number else earlier.old.entries }
+{
+    // The end of its request would leave the ID of a message noted that is not kept.
+    is_kept && earlier.insert(id, number).is_ok()
 }
 
 /// Returns why a response is dropped for which writing a message fails.

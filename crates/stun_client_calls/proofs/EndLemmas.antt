@@ -12,7 +12,7 @@ use Rattle.stun_agent.specs.Tables.{after_transmission, datum_at}
 use Rattle.stun_agent.specs.Timing.{Settings}
 use Rattle.stun_client.specs.Judging.{Identity}
 use Rattle.stun_client_endpoint.specs.Bodies.{Body}
-use Rattle.stun_client_endpoint.specs.Endpoints.{plan_of}
+use Rattle.stun_client_endpoint.specs.Settings.{plan_of}
 use Rattle.stun_client_endpoint.specs.Written.{Form, Page?}
 use Rattle.stun_client_requests.specs.Laws.{IsOver, IsRequests}
 use Rattle.stun_client_requests.specs.Numbers.{NumbersSeen, end_in, end_of_first, first_ended}

@@ -20,7 +20,7 @@ use Rattle.stun_agent.specs.Transactions.{Transaction, at, round_trip}
 use Rattle.stun_agent.proofs.Ascending.{IsAscending-insert}
 use Rattle.stun_client.specs.Ids.{id_of}
 use Rattle.stun_client_endpoint.specs.Bodies.{Body}
-use Rattle.stun_client_endpoint.specs.Endpoints.{plan_of}
+use Rattle.stun_client_endpoint.specs.Settings.{plan_of}
 use Rattle.stun_client_endpoint.specs.Written.{Page?}
 use Rattle.stun_client_requests.specs.Laws.{IsRequests}
 use Rattle.stun_client_requests.specs.Numbers.{after_end, after_mark, after_removal, after_rename}

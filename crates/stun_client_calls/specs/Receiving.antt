@@ -1,9 +1,9 @@
 -- What a datagram comes to, and the client then (RFC 8489, sections 5, 6.3 and 9.2.5).
-use Rattle.std.specs.Prelude.{◌≡◌, ◌+◌, ◌&&◌, ℕ, Bool, true, false, List, [], length, Option}
+use Rattle.std.specs.Prelude.{◌≡◌, ◌+◌, ◌&&◌, ◌||◌, ℕ, Bool, true, false, List, [], length, Option}
 use Rattle.std.specs.Prelude.{if◌then◌else◌, Some, None, Ok, Err}
 use Rattle.std.specs.BTreeMap.{insert_entry, is_at}
 use Rattle.std.specs.Map.{remove_entry}
-use Rattle.std.specs.Option.{is_some, option_and_then, option_map}
+use Rattle.std.specs.Option.{is_none, is_some, option_and_then, option_map}
 use Rattle.std.specs.Ordering.{nat_cmp}
 use Rattle.std.specs.declared.net.socket_addr.SocketAddr.{SocketAddr}
 use Rattle.stun_base.specs.Header.{transaction_id_field}
@@ -16,6 +16,7 @@ use Rattle.stun_client.specs.Challenges.{Answered}
 use Rattle.stun_client.specs.Challenging.{code_in}
 use Rattle.stun_client.specs.Clients.{answering, confirming}
 use Rattle.stun_client.specs.Ids.{id_of}
+use Rattle.stun_client.specs.Judging.{Verdict, judged, needs_memory}
 use Rattle.stun_client.specs.Outcomes.{outcome_of}
 use Rattle.stun_client.specs.Requests.{is_answer}
 use Rattle.stun_client_endpoint.specs.Settings.{is_reliable}
@@ -30,7 +31,7 @@ use Rattle.stun_client_requests.specs.Requests.{after_again, after_answering, af
 use Rattle.stun_client_requests.specs.Requests.{datum_of, number_at}
 use Rattle.stun_client_calls.specs.Clients.{Client, changed_at, chosen, forgetting, with_requests}
 use Rattle.stun_client_calls.specs.Deciding.{DecisionSeen, Place, answered, drops, refuses, turns}
-use Rattle.stun_client_calls.specs.Deciding.{unauthorized}
+use Rattle.stun_client_calls.specs.Deciding.{is_doubted, unauthorized}
 use Rattle.stun_client_calls.specs.Endpoints.{EndSeen}
 use Rattle.stun_client_calls.specs.Ids.{Earlier, number_in}
 use Rattle.stun_client_calls.specs.Laws.{Judge, decision_on}
@@ -273,3 +274,27 @@ pub data UnlessMemory (expected : Memory → Answer) (bytes : List ℕ) (c : Cli
   as_expected : (memory : Memory) → answer ≡ expected memory → UnlessMemory expected bytes c answer
   forgone : answer ≡ without_memory bytes c (answered_in bytes c)
       → UnlessMemory expected bytes c answer
+
+-- ---- what needs no memory
+
+-- whether a datagram is a response from the server to a message of an outstanding request
+abbrev pub is_heeded : SocketAddr → List ℕ → Client → Bool
+is_heeded from bytes c =
+    is_none (refusal bytes) && is_same_address from c.server && is_some (answered_in bytes c)
+
+abbrev pub verdict_on : Client → List ℕ → Met → Verdict
+verdict_on c bytes m =
+    judged c.requires_fingerprint m.is_current c.identity c.standing m.signed_for bytes
+
+-- whether it needs memory to decide on a response: to judge it, or for a doubt
+abbrev pub takes_memory : Client → List ℕ → Met → Bool
+takes_memory c bytes m =
+    needs_memory c.requires_fingerprint c.identity m.signed_for bytes
+    || is_doubted (verdict_on c bytes m)
+
+-- a response is dropped for this reason, if it needs no memory to decide that
+abbrev pub IsDropped : SocketAddr → List ℕ → ℕ → Client → Answer → Type 0
+IsDropped from bytes now c answer =
+    (m : Met) (why : DropReason) → is_heeded from bytes c ≡ true → answered_in bytes c ≡ Some m
+    → decision_for c now bytes m ≡ drops why → takes_memory c bytes m ≡ false
+    → answer ≡ dropping m.number why bytes c

@@ -1,15 +1,18 @@
 //! What comes of a datagram.
 ghost use Rattle.std.specs.Option.{option_and_then};
-ghost use Rattle.std.specs.Prelude.{◌≡◌, IfOk, Some};
+ghost use Rattle.std.specs.Prelude.{◌≡◌, false, IfOk, IsOk, None, Some};
 ghost use Rattle.stun_base.specs.MessageType.{class_in};
 ghost use Rattle.stun_client.specs.Requests.{is_answer};
-ghost use Rattle.stun_client_calls.specs.Deciding.{decision_of};
+ghost use Rattle.stun_client_calls.specs.Deciding.{decision_of, drops};
 ghost use Rattle.stun_client_calls.specs.Ids.{number_in};
 ghost use Rattle.stun_client_calls.specs.Receiving.{Met as MetSeen, UnlessMemory, answered_in, by_class};
 ghost use Rattle.stun_client_calls.specs.Receiving.{by_decision, by_met, current_of, decision_for};
 ghost use Rattle.stun_client_calls.specs.Receiving.{dropping, dropping_refusal, earlier_of, judge_of};
-ghost use Rattle.stun_client_calls.specs.Receiving.{met, received};
+ghost use Rattle.stun_client_calls.specs.Receiving.{IsDropped, Memory, is_heeded, met, received};
+ghost use Rattle.stun_client_calls.specs.Receiving.{takes_memory, without_memory};
+ghost use Rattle.stun_client_calls.specs.code.Acting.{DropsResponse};
 ghost use Rattle.stun_client_endpoint.specs.Settings.{is_reliable};
+ghost use Rattle.stun_client_endpoint.specs.declared.ended.DropReason.{DropReason};
 
 use crate::asked::{Asked, Change};
 use crate::deciding::{Decision, Limits, decide};
@@ -63,8 +66,11 @@ impl<A: Allocator + Copy> ClientEndpoint<A> {
     /// `OutOfMemory`. Only if the former message of a request cannot be stored that another one
     /// takes the place of, it is forgotten, and a response to it is `NotOurs` then.
     pub fn receive<'a>(&mut self, bytes: &'a [u8], from: SocketAddr, now: Instant) -> Received<'a>
-        ensures { UnlessMemory (λ memory. received memory from bytes.now now self.old) bytes.now
-            self.old (result, self.new) }
+        ensures received { UnlessMemory (λ memory. received memory from bytes.now now self.old)
+            bytes.now self.old (result, self.new) }
+        ensures unheeded { is_heeded from bytes.now self.old ≡ false → (memory : Memory)
+            → (result, self.new) ≡ received memory from bytes.now now self.old }
+        ensures drops { IsDropped from bytes.now now self.old (result, self.new) }
     {
         let Ok(message) = Message::from_bytes(bytes) else {
             return Received::NotOurs;
@@ -78,9 +84,13 @@ impl<A: Allocator + Copy> ClientEndpoint<A> {
 
     /// Reads a message from the server.
     fn by_class<'a>(&mut self, message: Message<'a>, now: Instant) -> Received<'a>
-        ensures { UnlessMemory
+        ensures acted { UnlessMemory
             (λ memory. by_class memory self.old now message.entry (class_in message.entry))
             message.entry self.old (result, self.new) }
+        ensures unheeded { answered_in message.entry self.old ≡ None → (memory : Memory)
+            → (result, self.new)
+            ≡ by_class memory self.old now message.entry (class_in message.entry) }
+        ensures drops { DropsResponse message.entry now self.old (result, self.new) }
     {
         match message.class() {
             MessageClass::Request => Received::NotOurs,
@@ -92,9 +102,12 @@ impl<A: Allocator + Copy> ClientEndpoint<A> {
 
     /// Acts upon a response from the server.
     fn respond(&mut self, message: &Message<'_>, now: Instant) -> Received<'static>
-        ensures { UnlessMemory
+        ensures acted { UnlessMemory
             (λ memory. by_met memory self.old now message.now (answered_in message.now self.old))
             message.now self.old (result, self.new) }
+        ensures unheeded { answered_in message.now self.old ≡ None
+            → (result, self.new) ≡ without_memory message.now self.old None }
+        ensures drops { DropsResponse message.now now self.old (result, self.new) }
     {
         let Some(met) = self.answered(message) else {
             return Received::NotOurs;
@@ -170,8 +183,9 @@ impl<A: Allocator + Copy> ClientEndpoint<A> {
         message: &Message<'_>,
         now: Instant,
     ) -> Result<Decision<A>, AllocError>
-        ensures { IfOk result (λ decision. decision_of decision
+        ensures decided { IfOk result (λ decision. decision_of decision
             ≡ decision_for self.now now message.now met.now) }
+        ensures no_memory { takes_memory self.now message.now met.now ≡ false → IsOk result }
     {
         let judged = self.credentials.judge(
             self.alloc,
@@ -226,11 +240,13 @@ impl<A: Allocator + Copy> ClientEndpoint<A> {
         message: &Message<'_>,
         now: Instant,
     ) -> Received<'static>
-        ensures { (m : MetSeen) → answered_in message.now self.old ≡ Some m → number ≡ m.number
-            → is_current ≡ m.is_current
+        ensures acted { (m : MetSeen) → answered_in message.now self.old ≡ Some m
+            → number ≡ m.number → is_current ≡ m.is_current
             → UnlessMemory
             (λ memory. by_decision memory self.old now message.now m (decision_of decision))
             message.now self.old (result, self.new) }
+        ensures drops { (why : DropReason) → decision_of decision ≡ drops why
+            → (result, self.new) ≡ dropping number why message.now self.old }
     {
         match decision {
             Decision::Answered(by) => self.end_answered(number, is_current, by, message, now),

@@ -4,35 +4,35 @@ use Rattle.stun_client_calls.specs.Deciding.{answered, decision_of, turns, unaut
 use Rattle.stun_client_calls.proofs.ReceivingLemmas.{decided_as, dropped_so, refused_so}
 use Rattle.stun_client_calls.proofs.endpoint.ClientEndpoint.act.Goals as goal
 
-pub returns-in-Answered : goal.returns-in-Answered
-returns-in-Answered g c =
+pub returns-in-Answered-clause-acted : goal.returns-in-Answered-clause-acted
+returns-in-Answered-clause-acted g c =
     λ m found same current.
     decided_as c.args.message.now c.args.self.now c.args.now m (decision_of c.args.decision)
     (answered c.in-Answered.by) _ (ap decision_of c.in-Answered.is)
     (c.end_answered.ensures m found same current)
 
-pub returns-in-Unauthorized : goal.returns-in-Unauthorized
-returns-in-Unauthorized g c =
+pub returns-in-Unauthorized-clause-acted : goal.returns-in-Unauthorized-clause-acted
+returns-in-Unauthorized-clause-acted g c =
     λ m found same current.
     decided_as c.args.message.now c.args.self.now c.args.now m (decision_of c.args.decision)
     unauthorized _ (ap decision_of c.in-Unauthorized.is)
     (c.end_unauthorized.ensures m found same current)
 
-pub returns-in-Turn : goal.returns-in-Turn
-returns-in-Turn g c =
+pub returns-in-Turn-clause-acted : goal.returns-in-Turn-clause-acted
+returns-in-Turn-clause-acted g c =
     λ m found same current.
     decided_as c.args.message.now c.args.self.now c.args.now m (decision_of c.args.decision)
     (turns c.in-Turn.why c.in-Turn.place c.in-Turn.signed_for) _ (ap decision_of c.in-Turn.is)
     (c.turn.ensures m found same)
 
-pub returns-in-Refuse : goal.returns-in-Refuse
-returns-in-Refuse g c =
+pub returns-in-Refuse-clause-acted : goal.returns-in-Refuse-clause-acted
+returns-in-Refuse-clause-acted g c =
     λ m found same current.
     refused_so c.args.message.now c.args.self.now c.args.now m (decision_of c.args.decision)
     c.args.number _ (ap decision_of c.in-Refuse.is) same c.refuse.ensures
 
-pub returns-in-Drop : goal.returns-in-Drop
-returns-in-Drop g c =
+pub returns-in-Drop-clause-acted : goal.returns-in-Drop-clause-acted
+returns-in-Drop-clause-acted g c =
     λ m found same current.
     dropped_so c.args.message.now c.args.self.now c.args.now m (decision_of c.args.decision)
     c.args.number c.in-Drop.why _ (ap decision_of c.in-Drop.is) same c.drop_for.ensures

@@ -4,17 +4,17 @@ use Rattle.stun_base.specs.declared.wire.message_type.MessageClass.TheVariants a
 use Rattle.stun_client_calls.proofs.ReceivingLemmas.{class_so, indication_so}
 use Rattle.stun_client_calls.proofs.endpoint.ClientEndpoint.by_class.Goals as goal
 
-pub returns-in-Indication : goal.returns-in-Indication
-returns-in-Indication g c =
+pub returns-in-Indication-clause-acted : goal.returns-in-Indication-clause-acted
+returns-in-Indication-clause-acted g c =
     indication_so c.args.message c.args.self.now c.args.now
     (sym c.class.ensures ∙ c.in-Indication.is)
 
-pub returns-in-Success : goal.returns-in-Success
-returns-in-Success g c =
+pub returns-in-Success-clause-acted : goal.returns-in-Success-clause-acted
+returns-in-Success-clause-acted g c =
     class_so c.args.message c.args.self.now c.args.now Classes.Success _
-    (sym c.class.ensures ∙ c.in-Success.is) c.respond.ensures
+    (sym c.class.ensures ∙ c.in-Success.is) c.respond.ensures.acted
 
-pub returns-in-Error : goal.returns-in-Error
-returns-in-Error g c =
+pub returns-in-Error-clause-acted : goal.returns-in-Error-clause-acted
+returns-in-Error-clause-acted g c =
     class_so c.args.message c.args.self.now c.args.now Classes.Error _
-    (sym c.class.ensures ∙ c.in-Error.is) c.respond-in-Error.ensures
+    (sym c.class.ensures ∙ c.in-Error.is) c.respond-in-Error.ensures.acted

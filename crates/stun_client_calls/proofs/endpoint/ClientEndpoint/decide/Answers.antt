@@ -4,8 +4,8 @@ use Rattle.stun_client_calls.specs.Deciding.{decision_of}
 use Rattle.stun_client_calls.proofs.ReceivingLemmas.{decided_at}
 use Rattle.stun_client_calls.proofs.endpoint.ClientEndpoint.decide.Goals as goal
 
-pub returns : goal.returns
-returns g c =
+pub returns-clause-decided : goal.returns-clause-decided
+returns-clause-decided g c =
     IfOk-weaker c.decide.result _ _
     (λ d is. decided_at c.args.self.now _ c.args.now c.args.message.now c.args.met.now _
     c.limits.result _ (decision_of d) c.self.view_is c.met.view_is c.limits.ensures

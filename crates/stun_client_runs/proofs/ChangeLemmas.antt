@@ -40,7 +40,8 @@ use Rattle.stun_client_calls.specs.Endpoints.{EndSeen}
 use Rattle.stun_client_calls.specs.Ids.{Earlier, first_free, is_taken, number_in}
 use Rattle.stun_client_calls.specs.Messages.{AskedSeen}
 use Rattle.stun_client_runs.specs.Kept.{AreDerived, IsClient, IsCurrent, IsDerived, is_unsent}
-use Rattle.stun_client_runs.proofs.EntryLemmas.{among_insert, among_remove, at_other, at_own, at_set}
+use Rattle.stun_client_runs.proofs.EntryLemmas.{among_insert, among_remove, at_other, at_own}
+use Rattle.stun_client_runs.proofs.EntryLemmas.{at_set}
 use Rattle.stun_client_runs.proofs.EntryLemmas.{at_split, ordered_insert}
 use Rattle.stun_client_runs.proofs.EntryLemmas.{ordered_remove, some_is}
 
@@ -322,7 +323,8 @@ started_client c number method body bytes now is some written = record {
   earlier = λ k p there. elim (at_split id (Some q) all (with_datum id q all) all_at k (Some p)
       there) [
         | inl new ↦
-            subst (λ (x : Request AskedSeen). AreDerived c.seed x.datum.earlier) (some_is q p new.1) tt
+            subst (λ (x : Request AskedSeen). AreDerived c.seed x.datum.earlier)
+            (some_is q p new.1) tt
         | inr old ↦ is.earlier k p old.1
       ];
 }
@@ -371,7 +373,8 @@ started_client c number method body bytes now is some written = record {
       sent = at_own id (Some t) timers (with id t timers) timers_at;
       to = is.server;
       written = written;
-      named = request_id c.form c.identity c.standing.current method number c.seed body bytes written;
+      named =
+          request_id c.form c.identity c.standing.current method number c.seed body bytes written;
     }
 
 -- ---- a request is outstanding no more
@@ -482,7 +485,8 @@ set_client c n id q b is named there number keeps = record {
             (current_on c after id q.datum b same keeps.method keeps.body keeps.signed_for
             (λ t found. (t, found, refl, refl)) (is.current id q there)))
         | inr old ↦
-            current_on c after k p.datum p.datum same refl refl refl (λ t found. (t, found, refl, refl))
+            current_on c after k p.datum p.datum same refl refl refl
+            (λ t found. (t, found, refl, refl))
             (is.current k p old.1)
       ];
   earlier = λ k p here. elim (at_split id (Some w) all (set_datum id w all) all_at k (Some p)

@@ -1,5 +1,7 @@
--- Each request that is outstanding after a call was outstanding before it, with its method and its body.
-use Rattle.std.proofs.Common.{◌≡◌, ◌∙◌, ◌⊎◌, ℕ, Bool, true, false, List, [], ◌∷◌, Option, Some, None}
+-- Each request that is outstanding after a call was outstanding before it, with its method and its
+-- body.
+use Rattle.std.proofs.Common.{◌≡◌, ◌∙◌, ◌⊎◌, ℕ, Bool, true, false, List, [], ◌∷◌, Option, Some}
+use Rattle.std.proofs.Common.{None}
 use Rattle.std.proofs.Common.{ap, cond, inl, inr, refl, subst, sym}
 use Rattle.std.specs.BTreeMap.{is_at}
 use Rattle.std.specs.Map.{lookup, set_value}
@@ -7,7 +9,8 @@ use Rattle.std.specs.Option.{option_map_or}
 use Rattle.std.specs.Ordering.{nat_cmp}
 use Rattle.stun_agent.specs.Agent.{tally_of_end}
 use Rattle.stun_agent.specs.Statistics.{Tally, request_cancelled, response_received}
-use Rattle.stun_agent.specs.Tables.{TableSeen, after_answer, after_cancel, after_transmission, counted}
+use Rattle.stun_agent.specs.Tables.{TableSeen, after_answer, after_cancel, after_transmission}
+use Rattle.stun_agent.specs.Tables.{counted}
 use Rattle.stun_agent.specs.Tables.{datum_at, over_in, set_datum, with_datum, with_other_datum}
 use Rattle.stun_agent.specs.Tables.{without_datum, without_request}
 use Rattle.stun_agent.specs.Transactions.{Transaction, at as transaction_at, round_trip}
@@ -15,7 +18,8 @@ use Rattle.stun_client_requests.specs.Numbers.{after_end, after_removal, end_of_
 use Rattle.stun_client_requests.specs.Numbers.{id_at}
 use Rattle.stun_client_requests.specs.Requests.{after_answering, after_canceling, after_removing}
 use Rattle.stun_client_requests.specs.Requests.{after_replacing, ends_or, over, over_or}
-use Rattle.stun_client_requests.specs.Requests.{polled as polled_in, repeated, repeats_or, unsent_or}
+use Rattle.stun_client_requests.specs.Requests.{polled as polled_in, repeated, repeats_or}
+use Rattle.stun_client_requests.specs.Requests.{unsent_or}
 use Rattle.stun_client_requests.specs.declared.requests.Request.{Request}
 use Rattle.stun_client_requests.proofs.NumberLemmas.{Ascend}
 use Rattle.stun_client_requests.proofs.RequestLemmas.{at_insert, at_remove, attached_sent}
@@ -238,7 +242,8 @@ after_then c next after one other = record {
 }
 
 -- other requests, and besides them anything
-pub after_around : (c : Client) (r : All) (standing : StandingSeen) (next_id : ℕ) (earlier : Earlier)
+pub after_around : (c : Client) (r : All) (standing : StandingSeen) (next_id : ℕ)
+    (earlier : Earlier)
     → IsAfter c (with_requests r c)
     → IsAfter c (record c {
       requests = r;

@@ -1,5 +1,6 @@
 -- Each call leaves a request stored, or hands out its end, and names none that is over.
-use Rattle.std.proofs.Common.{◌≡◌, ◌∙◌, ◌⊎◌, ◌<◌, ◌≤◌, ℕ, Bool, true, false, List, [], ◌∷◌, Option, Some}
+use Rattle.std.proofs.Common.{◌≡◌, ◌∙◌, ◌⊎◌, ◌<◌, ◌≤◌, ℕ, Bool, true, false, List, [], ◌∷◌, Option}
+use Rattle.std.proofs.Common.{Some}
 use Rattle.std.proofs.Common.{None, Ok, Err, ap, arith, cond, inl, inr, length, refl, subst, sym}
 use Rattle.std.specs.BTreeMap.{insert_entry, is_at}
 use Rattle.std.specs.Cmp.{ranked}
@@ -32,7 +33,8 @@ use Rattle.stun_client_endpoint.specs.declared.told.Received.TheVariants.{NotOur
 use Rattle.stun_client_requests.specs.Laws.{IsOver as IsOverIn, IsRequests}
 use Rattle.stun_client_requests.specs.Laws.{polls as polls_in, removes, starts_one}
 use Rattle.stun_client_requests.specs.Numbers.{AllKnown, after_end, after_mark, after_removal}
-use Rattle.stun_client_requests.specs.Numbers.{after_rename, end_of_first, first_unsent, id_at, id_in}
+use Rattle.stun_client_requests.specs.Numbers.{after_rename, end_of_first, first_unsent, id_at}
+use Rattle.stun_client_requests.specs.Numbers.{id_in}
 use Rattle.stun_client_requests.specs.Numbers.{known_at}
 use Rattle.stun_client_requests.specs.Requests.{Answering, Poll as PollOf, after_again}
 use Rattle.stun_client_requests.specs.Requests.{after_answering, after_canceling, after_removing}
@@ -49,7 +51,8 @@ use Rattle.stun_client_requests.proofs.NumberLemmas.{own_key, same_key}
 use Rattle.stun_client_requests.proofs.RequestLemmas.{at_insert}
 use Rattle.stun_client_calls.specs.Clients.{Client, Poll, by_polled, changed}
 use Rattle.stun_client_calls.specs.Clients.{changed_at, chosen, ends, error_of, first_asked}
-use Rattle.stun_client_calls.specs.Clients.{first_message, given_up, handed_out_of, refusal_of_number}
+use Rattle.stun_client_calls.specs.Clients.{first_message, given_up, handed_out_of}
+use Rattle.stun_client_calls.specs.Clients.{refusal_of_number}
 use Rattle.stun_client_calls.specs.Clients.{refusal_of_page, refusal_to_start, sent_by, started}
 use Rattle.stun_client_calls.specs.Clients.{started_at, started_by, started_with, told, transmit}
 use Rattle.stun_client_calls.specs.Clients.{waits, with_requests}
@@ -62,7 +65,8 @@ use Rattle.stun_client_calls.specs.Receiving.{as_expected, by_class, by_decision
 use Rattle.stun_client_calls.specs.Receiving.{decision_for, forgone, moment_of, received, spot_of}
 use Rattle.stun_client_calls.specs.Receiving.{turn_to, turned_at, turned_by, turned_to, unwritten}
 use Rattle.stun_client_calls.specs.Receiving.{without_memory}
-use Rattle.stun_client_calls.specs.Runs.{Call, Calls, Event, call, cancels, changes_nothing, count_ends}
+use Rattle.stun_client_calls.specs.Runs.{Call, Calls, Event, call, cancels, changes_nothing}
+use Rattle.stun_client_calls.specs.Runs.{count_ends}
 use Rattle.stun_client_calls.specs.Runs.{count_names, ends_one, hands_out, names, no_call}
 use Rattle.stun_client_calls.specs.Runs.{polled, polls, receives, requests, silent, starts}
 use Rattle.stun_client_calls.specs.Writing.{message_bytes}

@@ -1,5 +1,6 @@
 -- A client stays in order over any calls.
-use Rattle.std.proofs.Common.{◌≡◌, ℕ, Bool, List, [], Option, Some, None, Ok, Err, ap, refl, subst, sym}
+use Rattle.std.proofs.Common.{◌≡◌, ℕ, Bool, List, [], Option, Some, None, Ok, Err, ap, refl, subst}
+use Rattle.std.proofs.Common.{sym}
 use Rattle.std.specs.declared.net.socket_addr.SocketAddr.{SocketAddr}
 use Rattle.stun_base.specs.declared.wire.attribute_type.AttributeType.{AttributeType}
 use Rattle.stun_base.specs.declared.wire.transport.TransportType.{TransportType}
@@ -9,9 +10,11 @@ use Rattle.stun_client_endpoint.specs.Bodies.{Body}
 use Rattle.stun_client_endpoint.specs.Written.{Form, Page?}
 use Rattle.stun_client_endpoint.specs.declared.ended.RequestEnd.TheVariants as how
 use Rattle.stun_client_requests.specs.Requests.{after_canceling}
-use Rattle.stun_client_calls.specs.Clients.{Client, Poll, cancelled, chosen, first_message, new_client}
+use Rattle.stun_client_calls.specs.Clients.{Client, Poll, cancelled, chosen, first_message}
+use Rattle.stun_client_calls.specs.Clients.{new_client}
 use Rattle.stun_client_calls.specs.Clients.{started, started_at, started_with, with_requests}
-use Rattle.stun_client_calls.specs.Runs.{Call, Calls, Event, call, changes_nothing, ends_one, no_call}
+use Rattle.stun_client_calls.specs.Runs.{Call, Calls, Event, call, changes_nothing, ends_one}
+use Rattle.stun_client_calls.specs.Runs.{no_call}
 use Rattle.stun_client_calls.specs.Runs.{polls, receives, requests}
 use Rattle.stun_client_runs.specs.Kept.{IsClient}
 use Rattle.stun_client_runs.proofs.ChangeLemmas.{around_client, started_client}
@@ -20,28 +23,30 @@ use Rattle.stun_client_runs.proofs.PollLemmas.{canceling_client, told_after}
 use Rattle.stun_client_runs.proofs.ReceivingLemmas.{heard_after}
 
 pub new_is : (transport : TransportType) (server : SocketAddr) (counts requires_fingerprint : Bool)
-    (identity : Identity) (form : Form) (understood : List AttributeType) (turns : ℕ) (plan : Settings)
-    (seed : List ℕ)
+    (identity : Identity) (form : Form) (understood : List AttributeType) (turns : ℕ)
+    (plan : Settings) (seed : List ℕ)
     → IsClient
-    (new_client transport server counts requires_fingerprint identity form understood turns plan seed)
-new_is transport server counts requires_fingerprint identity form understood turns plan seed = record {
-  requests = record {
-    one = record {
+    (new_client transport server counts requires_fingerprint identity form understood turns plan
+    seed)
+new_is transport server counts requires_fingerprint identity form understood turns plan
+    seed = record {
+      requests = record {
+        one = record {
+          in_order = no_keys;
+          named = λ id number there. cc;
+          timed = λ number id there. cc;
+          fresh = λ number high. refl;
+        };
+        ascending = no_keys;
+      };
+      timers = no_keys;
+      owned = λ id t there. cc;
       in_order = no_keys;
-      named = λ id number there. cc;
-      timed = λ number id there. cc;
-      fresh = λ number high. refl;
-    };
-    ascending = no_keys;
-  };
-  timers = no_keys;
-  owned = λ id t there. cc;
-  in_order = no_keys;
-  unsent = λ number hit. cc;
-  server = refl;
-  current = λ id q there. cc;
-  earlier = λ id q there. cc;
-}
+      unsent = λ number hit. cc;
+      server = refl;
+      current = λ id q there. cc;
+      earlier = λ id q there. cc;
+    }
 
 pub started_is : (method : ℕ) (body : Body) (now : ℕ) (c : Client) → IsClient c
     → IsClient (started method body now c)

@@ -15,7 +15,8 @@ use Rattle.stun_agent.specs.Tables.{after_answer, after_cancel, after_transmissi
 use Rattle.stun_agent.specs.Tables.{datum_at, over_in, sent_in, without_request}
 use Rattle.stun_agent.specs.Transactions.{Transaction, at as transaction_at, round_trip}
 use Rattle.stun_agent.proofs.Ascending.{IsAscending-insert, IsAscending-remove}
-use Rattle.stun_client_requests.specs.Numbers.{AllKnown, IsAt, NumbersSeen, after_end, after_removal}
+use Rattle.stun_client_requests.specs.Numbers.{AllKnown, IsAt, NumbersSeen, after_end}
+use Rattle.stun_client_requests.specs.Numbers.{after_removal}
 use Rattle.stun_client_requests.specs.Numbers.{end_in, end_of_first, first_ended, first_in}
 use Rattle.stun_client_requests.specs.Numbers.{first_unsent, id_at, id_in}
 use Rattle.stun_client_requests.specs.Numbers.{known_at, others_in, without_first}
@@ -45,7 +46,8 @@ use Rattle.stun_client_runs.specs.Kept.{IsClient}
 use Rattle.stun_client_runs.proofs.ChangeLemmas.{All, HasSameMessages, id_is}
 use Rattle.stun_client_runs.proofs.ChangeLemmas.{other_client, out_client, replaced_client}
 use Rattle.stun_client_runs.proofs.ChangeLemmas.{sent_client, there_by_datum, there_by_id}
-use Rattle.stun_client_runs.proofs.EachLemmas.{Each, IsAfter, Was, after_around, after_none, after_then}
+use Rattle.stun_client_runs.proofs.EachLemmas.{Each, IsAfter, Was, after_around, after_none}
+use Rattle.stun_client_runs.proofs.EachLemmas.{after_then}
 use Rattle.stun_client_runs.proofs.EachLemmas.{after_with, polls_each, remove_each, replace_each}
 use Rattle.stun_client_runs.proofs.EachLemmas.{was_same, was_there}
 use Rattle.stun_client_runs.proofs.EntryLemmas.{among, at_split, some_is}

@@ -1,5 +1,6 @@
 -- A client stays in order over each datagram.
-use Rattle.std.proofs.Common.{◌≡◌, ◌∙◌, ◌⊎◌, ℕ, Bool, true, false, List, [], ◌∷◌, Option, Some, None, Ok, Err}
+use Rattle.std.proofs.Common.{◌≡◌, ◌∙◌, ◌⊎◌, ℕ, Bool, true, false, List, [], ◌∷◌, Option, Some}
+use Rattle.std.proofs.Common.{None, Ok, Err}
 use Rattle.std.proofs.Common.{◌+◌, cond, inl, inr, length, refl, subst, sym}
 use Rattle.std.specs.BTreeMap.{is_at}
 use Rattle.std.specs.Option.{is_none, is_some, option_and_then, option_map}
@@ -45,10 +46,12 @@ use Rattle.stun_client_calls.specs.Ids.{number_in}
 use Rattle.stun_client_calls.specs.Laws.{IsAnswerOrDrop, decision_on}
 use Rattle.stun_client_calls.specs.Messages.{AllSent, AskedSeen, SentSeen, eligible, has_unsigned}
 use Rattle.stun_client_calls.specs.Messages.{is_late, message_at, message_for}
-use Rattle.stun_client_calls.specs.Messages.{counted_on, new_asked, rank_after, signed_eligible, turned}
+use Rattle.stun_client_calls.specs.Messages.{counted_on, new_asked, rank_after, signed_eligible}
+use Rattle.stun_client_calls.specs.Messages.{turned}
 use Rattle.stun_client_calls.specs.Receiving.{Answer, Memory, Met, Spot, UnlessMemory}
 use Rattle.stun_client_calls.specs.Receiving.{answered_in, as_current, as_earlier, as_expected}
-use Rattle.stun_client_calls.specs.Receiving.{by_class, by_decision, by_met, current_of, decision_for}
+use Rattle.stun_client_calls.specs.Receiving.{by_class, by_decision, by_met, current_of}
+use Rattle.stun_client_calls.specs.Receiving.{decision_for}
 use Rattle.stun_client_calls.specs.Receiving.{dropping, earlier_of, ended_by, forgone, if_method}
 use Rattle.stun_client_calls.specs.Receiving.{judge_of, met, met_by, moment_of, received, spot_of}
 use Rattle.stun_client_calls.specs.Receiving.{turn_to, turned_at, turned_by, turned_to}
@@ -104,7 +107,8 @@ module _ (seed : List ℕ) (a : AskedSeen) (are : AreDerived seed a.earlier) whe
       by (Some e) each = each e refl
 
   placed_anew : (why : Why) (c : Answered) (late spent : Bool)
-      → IsPlaced seed (cond late (drops LateChallenge) (cond spent unauthorized (turns_for why c a)))
+      → IsPlaced seed
+      (cond late (drops LateChallenge) (cond spent unauthorized (turns_for why c a)))
   placed_anew why c true spent = tt
   placed_anew why c false true = tt
   placed_anew why c false false = placed_for c
@@ -156,7 +160,8 @@ module _ (seed : List ℕ) (a : AskedSeen) (are : AreDerived seed a.earlier) whe
 
 -- ---- the message that a response answers
 
--- it is a message of an outstanding request, and its ID is that of the request if it is the current one
+-- it is a message of an outstanding request, and its ID is that of the request if it is the current
+-- one
 pub record IsMet (c : Client) (id : ℕ) (m : Met) : Type 0 where
   pub stored : IsThere c.requests m.number m.asked
   pub current : m.is_current ≡ true → stored.id ≡ id
@@ -240,7 +245,8 @@ spot_is c a None s at is = by (chosen c) refl is
 spot_is c a (Some p) s at is = by (number_at p.1 c.requests.table.attached) refl is
   where
     by : (o : Option ℕ) → number_at p.1 c.requests.table.attached ≡ o
-        → cond (is_some o) None (Some (record { id = p.1; rank = p.0; next_id = c.next_id })) ≡ Some s
+        → cond (is_some o) None (Some (record { id = p.1; rank = p.0; next_id = c.next_id }))
+        ≡ Some s
         → IsSpot c s
     by None none is =
         subst (λ (x : Spot). IsSpot c x) (some_is _ s is) (record { free = none; from_seed = at })
@@ -380,7 +386,8 @@ decided_after : (memory : Memory) (c : Client) (now : ℕ) (bytes : List ℕ) (m
     → IfTurn m.is_current v → IsAfter c (by_decision memory c now bytes m v).1
 decided_after memory c now bytes m (answered by) is at where_it_is turn =
     ended_after c (confirming (is_success_class (class_in bytes)) c.standing m.signed_for)
-    (record { end = how.Answered (outcome_of c.understood bytes) by; response = bytes }) bytes now m is
+    (record { end = how.Answered (outcome_of c.understood bytes) by; response = bytes }) bytes now m
+    is
 decided_after memory c now bytes m unauthorized is at where_it_is turn =
     ended_after c c.standing (record { end = how.Unauthorized; response = [] }) bytes now m is
 decided_after memory c now bytes m (turns why place d) is at where_it_is turn =

@@ -20,7 +20,8 @@ use Rattle.stun_client_calls.specs.Clients.{sent_by, started, started_by, told, 
 use Rattle.stun_client_calls.specs.Clients.{with_requests}
 use Rattle.stun_client_calls.specs.Endpoints.{EndSeen}
 use Rattle.stun_client_calls.specs.Messages.{AskedSeen, is_late}
-use Rattle.stun_client_calls.specs.Runs.{Call, Calls, Event, call, changes_nothing, ends_one, next_number}
+use Rattle.stun_client_calls.specs.Runs.{Call, Calls, Event, call, changes_nothing, ends_one}
+use Rattle.stun_client_calls.specs.Runs.{next_number}
 use Rattle.stun_client_calls.specs.Runs.{no_call, polls, receives, requests}
 use Rattle.stun_client_calls.specs.declared.asked.Change.{Change}
 use Rattle.stun_client_calls.specs.declared.asked.Change.TheVariants.{SentOut}
@@ -32,7 +33,8 @@ use Rattle.stun_client_runs.proofs.EachLemmas.{Each, IsAfter, Was, after_around,
 use Rattle.stun_client_runs.proofs.EachLemmas.{cancel_each, put_each, was_same}
 use Rattle.stun_client_runs.proofs.EffectLemmas.{call_step, start_is}
 use Rattle.stun_client_runs.proofs.KeptLemmas.{started_is}
-use Rattle.stun_client_runs.proofs.PollLemmas.{IsPolled, canceling_client, polled_client, told_after}
+use Rattle.stun_client_runs.proofs.PollLemmas.{IsPolled, canceling_client, polled_client}
+use Rattle.stun_client_runs.proofs.PollLemmas.{told_after}
 use Rattle.stun_client_runs.proofs.ReceivingLemmas.{heard_after}
 
 -- ---- what is to be sent is there
@@ -261,7 +263,9 @@ sent_as : (s : Asking) (c : Client) (a : AskedSeen) → s.method < 4096 → IsLi
     → datum_of s.number c.requests ≡ Some a → IsSentAs s a c
 sent_as s c a low like some =
     let at = there_by_datum c.requests s.number a like.is.requests some in
-    by at (subst (λ (x : AskedSeen). IsCurrent c at.id x) at.datum (like.is.current at.id at.q at.there))
+    by at
+    (subst (λ (x : AskedSeen). IsCurrent c at.id x) at.datum
+    (like.is.current at.id at.q at.there))
     (let own = like.each at.id at.q at.there at.number in (
       ap (λ (x : AskedSeen). x.method) (sym at.datum) ∙ own.0,
       ap (λ (x : AskedSeen). x.body) (sym at.datum) ∙ own.1,
@@ -275,8 +279,9 @@ sent_as s c a low like some =
         ∙ ap (λ seed. id_of seed current.from_seed.id_number) like.seed in
         let written : request_bytes s.form s.identity a.signed_for s.method at.id s.body
         ≡ Ok current.transaction.bytes =
-        written_alike s.form c.form s.identity c.identity a.signed_for a.signed_for s.method a.method
-        at.id s.body a.body (sym like.form) (sym like.identity) refl (sym own.0) (sym own.1)
+        written_alike s.form c.form s.identity c.identity a.signed_for a.signed_for s.method
+        a.method at.id s.body a.body (sym like.form) (sym like.identity) refl (sym own.0)
+        (sym own.1)
         ∙ current.written in
         record {
           method = own.0;

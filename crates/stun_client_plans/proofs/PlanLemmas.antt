@@ -23,7 +23,7 @@ use Rattle.stun_client_endpoint.specs.Endpoints.{plan_of}
 use Rattle.stun_client_requests.specs.Numbers.{id_at, id_in, known_at}
 use Rattle.stun_client_requests.specs.declared.numbers.Known.TheVariants.{Outstanding}
 use Rattle.stun_client_calls.specs.Clients.{Client, Poll, Told, ends, first_asked, refusal_to_start}
-use Rattle.stun_client_calls.specs.Clients.{started, started_by, told, transmit}
+use Rattle.stun_client_calls.specs.Clients.{started, started_by, transmit}
 use Rattle.stun_client_calls.specs.Runs.{Call, Event, call, is_told_of, next_number, no_call}
 use Rattle.stun_client_calls.specs.Runs.{polled, polls}
 use Rattle.stun_client_runs.specs.Kept.{IsClient, StaysAClient}

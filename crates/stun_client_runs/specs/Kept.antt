@@ -1,5 +1,5 @@
--- What holds of every client, from its creation on and over any calls (RFC 8489, sections 5, 6.1, 6.2.1
--- and 9.2.5).
+-- What holds of every client, from its creation on and over any calls (RFC 8489, sections 5, 6.1,
+-- 6.2.1 and 9.2.5).
 use Rattle.std.specs.Prelude.{◌≡◌, ℕ, Bool, true, List, Option, Some, Ok}
 use Rattle.std.specs.BTreeMap.{is_at}
 use Rattle.std.specs.List.{AllByRecursion, list_any}
@@ -33,9 +33,9 @@ pub record IsDerived (seed : List ℕ) (id : ℕ) : Type 0 where
   pub id_number : ℕ
   pub derived : id ≡ id_of seed id_number
 
--- the current message of a request has this transaction ID, which is derived from the seed. Its bytes
--- are those of the request's method and body, signed for the challenge that is stored with it. They have
--- this ID, and the table has sent them to the server and sends them again
+-- the current message of a request has this transaction ID, which is derived from the seed. Its
+-- bytes are those of the request's method and body, signed for the challenge that is stored with
+-- it. They have this ID, and the table has sent them to the server and sends them again
 pub record IsCurrent (c : Client) (id : ℕ) (a : AskedSeen) : Type 0 where
   pub from_seed : IsDerived c.seed id
   pub transaction : Transaction
@@ -59,9 +59,9 @@ abbrev pub is_unsent : ℕ → List ℕ → Bool
 is_unsent number unsent = list_any (is_at (nat_cmp number)) unsent
 
 -- what holds of every client: each outstanding request is in its table once (`requests`), under the
--- transaction ID of its current message, and each timer is that of an outstanding request (`owned`).
--- Bytes that were not handed out yet are those of an outstanding request (`unsent`). The table goes to
--- the server. The messages of each request are in order (`current`, `earlier`)
+-- transaction ID of its current message, and each timer is that of an outstanding request
+-- (`owned`). Bytes that were not handed out yet are those of an outstanding request (`unsent`). The
+-- table goes to the server. The messages of each request are in order (`current`, `earlier`)
 pub record IsClient (c : Client) : Type 0 where
   pub requests : IsRequests c.requests
   pub timers : IsAscending c.requests.table.requests
@@ -78,11 +78,12 @@ pub record IsClient (c : Client) : Type 0 where
 
 -- it holds of a client that has asked nothing
 abbrev pub BeginsAsClient : Type 0
-BeginsAsClient = (transport : TransportType) (server : SocketAddr) (counts requires_fingerprint : Bool)
-    (identity : Identity) (form : Form) (understood : List AttributeType) (turns : ℕ) (plan : Settings)
-    (seed : List ℕ)
+BeginsAsClient = (transport : TransportType) (server : SocketAddr)
+    (counts requires_fingerprint : Bool) (identity : Identity) (form : Form)
+    (understood : List AttributeType) (turns : ℕ) (plan : Settings) (seed : List ℕ)
     → IsClient
-    (new_client transport server counts requires_fingerprint identity form understood turns plan seed)
+    (new_client transport server counts requires_fingerprint identity form understood turns plan
+    seed)
 
 -- over any calls, what holds of every client still holds
 abbrev pub StaysAClient : Type 0

@@ -1,5 +1,5 @@
--- Laws of the requests of a client over any calls. Their times may go back (RFC 8489, sections 6.2 and
--- 6.3).
+-- Laws of the requests of a client over any calls. Their times may go back (RFC 8489, sections 6.2
+-- and 6.3).
 use Rattle.std.specs.Prelude.{◌≡◌, ◌⊎◌, ℕ, List, None}
 use Rattle.std.specs.Option.{IsSome}
 use Rattle.stun_client_requests.specs.Laws.{IsOver as IsOverIn, IsStored}

@@ -1,5 +1,5 @@
--- Whose bytes are sent: over any calls, those of the request that was started (RFC 8489, sections 6.1,
--- 6.2.1 and 9.2.5).
+-- Whose bytes are sent: over any calls, those of the request that was started (RFC 8489, sections
+-- 6.1, 6.2.1 and 9.2.5).
 use Rattle.std.specs.Prelude.{◌≡◌, ◌<◌, ℕ, List, None, Some, Ok}
 use Rattle.std.specs.declared.net.socket_addr.SocketAddr.{SocketAddr}
 use Rattle.stun_base.specs.Header.{transaction_id_field, type_field}
@@ -17,9 +17,9 @@ use Rattle.stun_client_calls.specs.Messages.{AskedSeen}
 use Rattle.stun_client_calls.specs.Runs.{Calls, Event, next_number}
 use Rattle.stun_client_runs.specs.Kept.{IsClient}
 
--- a request that was started: its number, its method and its body, and what its client is: the address
--- of the server, what each request has beside its body, who the client is, and the seed of its
--- transaction IDs
+-- a request that was started: its number, its method and its body, and what its client is: the
+-- address of the server, what each request has beside its body, who the client is, and the seed of
+-- its transaction IDs
 pub record Asking : Type 0 where
   pub server : SocketAddr
   pub form : Form
@@ -41,10 +41,11 @@ asking c method body = record {
   body = body;
 }
 
--- what is stored of an outstanding request is as it was started: its method and its body. Its current
--- message has a transaction ID that is derived from the seed. `bytes_of` returns the bytes of a request
--- with its method, this ID and its body, signed for the challenge that is stored with it. Their header
--- has this method and this ID, and they are what the table has sent to the server and sends again
+-- what is stored of an outstanding request is as it was started: its method and its body. Its
+-- current message has a transaction ID that is derived from the seed. `bytes_of` returns the bytes
+-- of a request with its method, this ID and its body, signed for the challenge that is stored with
+-- it. Their header has this method and this ID, and they are what the table has sent to the server
+-- and sends again
 pub record IsSentAs (s : Asking) (a : AskedSeen) (c : Client) : Type 0 where
   pub method : a.method ≡ s.method
   pub body : a.body ≡ s.body
@@ -68,8 +69,8 @@ pub record HasItsBytes (s : Asking) (c : Client) : Type 0 where
   pub there : datum_of s.number c.requests ≡ Some asked
   pub sent : IsSentAs s asked c
 
--- a request is started, and any calls follow. As long as it is outstanding, its bytes are those that
--- it was started for. A method has 12 bits
+-- a request is started, and any calls follow. As long as it is outstanding, its bytes are those
+-- that it was started for. A method has 12 bits
 abbrev pub KeepsItsBytes : Type 0
 KeepsItsBytes = (c later : Client) (between : List Event) (method : ℕ) (body : Body) (now : ℕ)
     (a : AskedSeen) → IsClient c → method < 4096 → refusal_to_start c method body ≡ None

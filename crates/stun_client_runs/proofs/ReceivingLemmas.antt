@@ -1,0 +1,449 @@
+-- A client stays in order over each datagram.
+use Rattle.std.proofs.Common.{◌≡◌, ◌∙◌, ◌⊎◌, ℕ, Bool, true, false, List, [], ◌∷◌, Option, Some}
+use Rattle.std.proofs.Common.{None, Ok, Err}
+use Rattle.std.proofs.Common.{◌+◌, cond, inl, inr, length, refl, subst, sym}
+use Rattle.std.specs.BTreeMap.{is_at}
+use Rattle.std.specs.Option.{is_none, is_some, option_and_then, option_map}
+use Rattle.std.specs.Ordering.{nat_cmp}
+use Rattle.std.specs.Prelude.{◌||◌, ⊤, find}
+use Rattle.std.specs.declared.net.socket_addr.SocketAddr.{SocketAddr}
+use Rattle.stun_base.specs.Header.{transaction_id_field}
+use Rattle.stun_base.specs.MessageType.{class_in}
+use Rattle.stun_base.specs.declared.wire.message_type.MessageClass.{MessageClass}
+use Rattle.stun_base.specs.declared.wire.message_type.MessageClass.TheVariants as Classes
+use Rattle.stun_types.specs.Message.{refusal}
+use Rattle.stun_extra.specs.CanonicalAddress.{is_same_address}
+use Rattle.stun_agent.specs.Statistics.{Tally}
+use Rattle.stun_agent.specs.Tables.{datum_at, request_in}
+use Rattle.stun_client.specs.Challenges.{Answered}
+use Rattle.stun_client.specs.Challenging.{code_in}
+use Rattle.stun_client.specs.Clients.{confirming}
+use Rattle.stun_client.specs.Ids.{id_of}
+use Rattle.stun_client.specs.Judging.{Verdict, anew, believed, doubted, dropped, refused}
+use Rattle.stun_client.specs.Outcomes.{outcome_of}
+use Rattle.stun_client.specs.Requests.{is_answer}
+use Rattle.stun_client.specs.Standing.{StandingSeen}
+use Rattle.stun_client_loop.specs.Loops.{is_success_class}
+use Rattle.stun_client_endpoint.specs.Written.{Page?}
+use Rattle.stun_client_endpoint.specs.declared.ended.DropReason.{DropReason}
+use Rattle.stun_client_endpoint.specs.declared.ended.DropReason.TheVariants.{LateChallenge}
+use Rattle.stun_client_endpoint.specs.declared.ended.DropReason.TheVariants as Reasons
+use Rattle.stun_client_endpoint.specs.declared.ended.DropReason.TheVariants.{NotVerified}
+use Rattle.stun_client_endpoint.specs.declared.ended.RequestEnd.TheVariants as how
+use Rattle.stun_client_endpoint.specs.declared.told.Received.TheVariants.{NotOurs}
+use Rattle.stun_client_requests.specs.Laws.{IsRequests}
+use Rattle.stun_client_requests.specs.Requests.{after_again, after_answering, after_replacing}
+use Rattle.stun_client_requests.specs.Requests.{datum_of, number_at}
+use Rattle.stun_client_requests.specs.declared.requests.Request.{Request}
+use Rattle.stun_client_requests.proofs.NumberLemmas.{apart}
+use Rattle.stun_client_calls.specs.Clients.{Client, chosen}
+use Rattle.stun_client_calls.specs.Deciding.{DecisionSeen, Place, answered, begun_again}
+use Rattle.stun_client_calls.specs.Deciding.{decided, drops, giving_way, is_idle, is_spent}
+use Rattle.stun_client_calls.specs.Deciding.{place_of, refuses, turns, turns_for, unauthorized}
+use Rattle.stun_client_calls.specs.Deciding.{undoubted}
+use Rattle.stun_client_calls.specs.Endpoints.{EndSeen, without_all}
+use Rattle.stun_client_calls.specs.Ids.{number_in}
+use Rattle.stun_client_calls.specs.Laws.{IsAnswerOrDrop, decision_on}
+use Rattle.stun_client_calls.specs.Messages.{AllSent, AskedSeen, SentSeen, eligible, has_unsigned}
+use Rattle.stun_client_calls.specs.Messages.{is_late, message_at, message_for}
+use Rattle.stun_client_calls.specs.Messages.{counted_on, new_asked, rank_after, signed_eligible}
+use Rattle.stun_client_calls.specs.Messages.{turned}
+use Rattle.stun_client_calls.specs.Receiving.{Answer, Memory, Met, Spot, UnlessMemory}
+use Rattle.stun_client_calls.specs.Receiving.{answered_in, as_current, as_earlier, as_expected}
+use Rattle.stun_client_calls.specs.Receiving.{by_class, by_decision, by_met, current_of}
+use Rattle.stun_client_calls.specs.Receiving.{decision_for}
+use Rattle.stun_client_calls.specs.Receiving.{dropping, earlier_of, ended_by, forgone, if_method}
+use Rattle.stun_client_calls.specs.Receiving.{judge_of, met, met_by, moment_of, received, spot_of}
+use Rattle.stun_client_calls.specs.Receiving.{turn_to, turned_at, turned_by, turned_to}
+use Rattle.stun_client_calls.specs.Receiving.{unwritten, without_memory}
+use Rattle.stun_client_calls.specs.Writing.{message_bytes}
+use Rattle.stun_client_calls.specs.declared.asked.Change.TheVariants.{Noted, Refused as RefusedOf}
+use Rattle.stun_client_calls.specs.declared.deciding.Limits.{Limits}
+use Rattle.stun_client_calls.specs.declared.turning.Why.{Why}
+use Rattle.stun_client_calls.specs.declared.turning.Why.TheVariants.{Challenged, Doubted, Refused}
+use Rattle.stun_client_calls.proofs.DecidingLemmas.{earlier_answers_or_drops}
+use Rattle.stun_client_runs.specs.Kept.{AreDerived, IsClient, IsCurrent, IsDerived}
+use Rattle.stun_client_runs.proofs.ChangeLemmas.{All, IsThere, chosen_is, number_is}
+use Rattle.stun_client_runs.proofs.ChangeLemmas.{there_by_datum}
+use Rattle.stun_client_runs.proofs.EachLemmas.{IsAfter, Was, after_around, after_none, after_with}
+use Rattle.stun_client_runs.proofs.EachLemmas.{answer_each, was_same, was_there}
+use Rattle.stun_client_runs.proofs.EntryLemmas.{some_is}
+use Rattle.stun_client_runs.proofs.PollLemmas.{answering_client, changed_after}
+use Rattle.stun_client_runs.proofs.TurnLemmas.{IsMoved, derived_former, moved, moved_is, moved_so}
+
+-- ---- where a message stands that becomes the current one again
+
+-- the ID of an earlier message is derived from the seed
+abbrev IsPlace : List ℕ → Option Place → Type 0
+IsPlace seed None = ⊤
+IsPlace seed (Some p) = IsDerived seed p.1
+
+abbrev IsPlaced : List ℕ → DecisionSeen → Type 0
+IsPlaced seed (answered by) = ⊤
+IsPlaced seed unauthorized = ⊤
+IsPlaced seed (turns why place d) = IsPlace seed place
+IsPlaced seed refuses = ⊤
+IsPlaced seed (drops why) = ⊤
+
+found_derived : (seed : List ℕ) (p : ℕ × SentSeen → Bool) (es : AllSent) → AreDerived seed es
+    → (e : ℕ × SentSeen) → find p es ≡ Some e → IsDerived seed e.1.id
+found_derived seed p [] are e is = cc
+found_derived seed p (x ∷ xs) are e is = by (p x) is (found_derived seed p xs are.1 e)
+  where
+    by : (b : Bool) → cond b (Some x) (find p xs) ≡ Some e
+        → (find p xs ≡ Some e → IsDerived seed e.1.id) → IsDerived seed e.1.id
+    by true is rest =
+        subst (λ (y : ℕ × SentSeen). IsDerived seed y.1.id) (some_is x e is) are.0
+    by false is rest = rest is
+
+module _ (seed : List ℕ) (a : AskedSeen) (are : AreDerived seed a.earlier) where
+  placed_for : (c : Answered) → IsPlace seed (option_map place_of (message_for c a.earlier))
+  placed_for c =
+      by (message_for c a.earlier) (found_derived seed _ a.earlier are)
+    where
+      by : (o : Option (ℕ × SentSeen)) → ((e : ℕ × SentSeen) → o ≡ Some e → IsDerived seed e.1.id)
+          → IsPlace seed (option_map place_of o)
+      by None each = tt
+      by (Some e) each = each e refl
+
+  placed_anew : (why : Why) (c : Answered) (late spent : Bool)
+      → IsPlaced seed
+      (cond late (drops LateChallenge) (cond spent unauthorized (turns_for why c a)))
+  placed_anew why c true spent = tt
+  placed_anew why c false true = tt
+  placed_anew why c false false = placed_for c
+
+  placed_undoubted : (o : Option (ℕ × SentSeen))
+      → ((e : ℕ × SentSeen) → o ≡ Some e → IsDerived seed e.1.id) → IsPlaced seed (undoubted o)
+  placed_undoubted None each = tt
+  placed_undoubted (Some e) each = each e refl
+
+  placed_again : (b : Bool)
+      → IsPlaced seed (cond b (drops NotVerified) (turns Doubted None None))
+  placed_again true = tt
+  placed_again false = tt
+
+  placed_without : (standing : StandingSeen) (b : Bool)
+      → IsPlaced seed
+      (cond b (undoubted (signed_eligible standing a.earlier)) (begun_again a))
+  placed_without standing true =
+      placed_undoubted (signed_eligible standing a.earlier) (found_derived seed _ a.earlier are)
+  placed_without standing false = placed_again (has_unsigned a.earlier)
+
+  placed_way : (standing : StandingSeen) (o : Option (ℕ × SentSeen))
+      → ((e : ℕ × SentSeen) → o ≡ Some e → IsDerived seed e.1.id)
+      → IsPlaced seed (giving_way standing a o)
+  placed_way standing None each = placed_without standing (is_none a.signed_for)
+  placed_way standing (Some e) each = each e refl
+
+  placed_doubt : (standing : StandingSeen) (b : Bool)
+      → IsPlaced seed
+      (cond b (drops NotVerified) (giving_way standing a (eligible standing a.earlier)))
+  placed_doubt standing true = tt
+  placed_doubt standing false =
+      placed_way standing (eligible standing a.earlier) (found_derived seed _ a.earlier are)
+
+  placed_refusal : (b : Bool) → IsPlaced seed (cond b unauthorized refuses)
+  placed_refusal true = tt
+  placed_refusal false = tt
+
+  placed : (limits : Limits) (standing : StandingSeen) (now : ℕ) (v : Verdict)
+      → IsPlaced seed (decided limits standing now a v)
+  placed limits standing now (believed by) = tt
+  placed limits standing now (anew c) =
+      placed_anew Challenged c (is_late now a) (is_spent limits a)
+  placed limits standing now (refused None) =
+      placed_refusal (limits.is_reliable || a.refusals.is_earlier)
+  placed limits standing now (refused (Some c)) = placed_anew Refused c (is_late now a) _
+  placed limits standing now doubted = placed_doubt standing (is_idle limits now a)
+  placed limits standing now (dropped why) = tt
+
+-- ---- the message that a response answers
+
+-- it is a message of an outstanding request, and its ID is that of the request if it is the current
+-- one
+pub record IsMet (c : Client) (id : ℕ) (m : Met) : Type 0 where
+  pub stored : IsThere c.requests m.number m.asked
+  pub current : m.is_current ≡ true → stored.id ≡ id
+
+met_current : (c : Client) (id n : ℕ) (m : Met) → IsRequests c.requests
+    → number_at id c.requests.table.attached ≡ Some n → current_of c n ≡ Some m → IsMet c id m
+met_current c id n m i there is = by (datum_of n c.requests) refl is
+  where
+    by : (o : Option AskedSeen) → datum_of n c.requests ≡ o → option_map (as_current n) o ≡ Some m
+        → IsMet c id m
+    by None some is = cc
+    by (Some a) some is =
+        let found = there_by_datum c.requests n a i some in
+        subst (λ (x : Met). IsMet c id x) (some_is (as_current n a) m is) (record {
+          stored = found;
+          current = λ now. some_is found.id id (sym found.named ∙ i.one.named id n there);
+        })
+
+met_earlier : (c : Client) (id n : ℕ) (m : Met) → IsRequests c.requests
+    → earlier_of id c n ≡ Some m → IsMet c id m
+met_earlier c id n m i is = by (datum_of n c.requests) refl is
+  where
+    of : (a : AskedSeen) → datum_of n c.requests ≡ Some a → (o : Option (ℕ × SentSeen))
+        → option_map (as_earlier n a) o ≡ Some m → IsMet c id m
+    of a some None is = cc
+    of a some (Some e) is =
+        subst (λ (x : Met). IsMet c id x) (some_is (as_earlier n a e) m is) (record {
+          stored = there_by_datum c.requests n a i some;
+          current = λ now. cc;
+        })
+
+    by : (o : Option AskedSeen) → datum_of n c.requests ≡ o
+        → option_and_then (λ a. option_map (as_earlier n a) (message_at id a.earlier)) o ≡ Some m
+        → IsMet c id m
+    by None some is = cc
+    by (Some a) some is = of a some (message_at id a.earlier) is
+
+met_is : (c : Client) (id : ℕ) (m : Met) → IsRequests c.requests → met id c ≡ Some m → IsMet c id m
+met_is c id m i is = by (number_at id c.requests.table.attached) refl is
+  where
+    noted : (o : Option ℕ) → option_and_then (earlier_of id c) o ≡ Some m → IsMet c id m
+    noted None is = cc
+    noted (Some n) is = met_earlier c id n m i is
+
+    by : (o : Option ℕ) → number_at id c.requests.table.attached ≡ o → met_by id c o ≡ Some m
+        → IsMet c id m
+    by (Some n) there is = met_current c id n m i there is
+    by None none is = noted (number_in id c.earlier) is
+
+answered_is : (bytes : List ℕ) (o : Option Met) (m : Met) → if_method bytes o ≡ Some m → o ≡ Some m
+answered_is bytes None m is = cc
+answered_is bytes (Some x) m is = by (is_answer x.asked.method bytes) is
+  where
+    by : (b : Bool) → cond b (Some x) None ≡ Some m → Some x ≡ Some m
+    by true is = is
+    by false is = cc
+
+-- ---- another message
+
+-- where another message stands is free, and its ID is derived from the seed
+pub record IsSpot (c : Client) (s : Spot) : Type 0 where
+  pub free : number_at s.id c.requests.table.attached ≡ None
+  pub from_seed : IsDerived c.seed s.id
+
+spot_is : (c : Client) (a : AskedSeen) (place : Option Place) (s : Spot) → IsPlace c.seed place
+    → spot_of c a place ≡ Some s → IsSpot c s
+spot_is c a None s at is = by (chosen c) refl is
+  where
+    by : (o : Option ℕ) → chosen c ≡ o → option_map
+        (λ number. record {
+          id = id_of c.seed number;
+          rank = rank_after (counted_on a.turns);
+          next_id = number + 1;
+        }) o ≡ Some s → IsSpot c s
+    by None some is = cc
+    by (Some number) some is =
+        subst (λ (x : Spot). IsSpot c x) (some_is _ s is) (record {
+          free = chosen_is c number some;
+          from_seed = record { id_number = number; derived = refl };
+        })
+spot_is c a (Some p) s at is = by (number_at p.1 c.requests.table.attached) refl is
+  where
+    by : (o : Option ℕ) → number_at p.1 c.requests.table.attached ≡ o
+        → cond (is_some o) None (Some (record { id = p.1; rank = p.0; next_id = c.next_id }))
+        ≡ Some s
+        → IsSpot c s
+    by None none is =
+        subst (λ (x : Spot). IsSpot c x) (some_is _ s is) (record { free = none; from_seed = at })
+    by (Some n) some is = cc
+
+turned_to_after : (memory : Memory) (c : Client) (now : ℕ) (response : List ℕ) (m : Met) (why : Why)
+    (d : Option Answered) (s : Spot) (bytes : List ℕ) → IsClient c
+    → IsMet c (transaction_id_field response) m → m.is_current ≡ true → IsSpot c s
+    → message_bytes c.form c.identity d s.id m.asked ≡ Ok bytes
+    → IsAfter c (turned_to memory c now response m why d s bytes).1
+turned_to_after memory c now response m why d s bytes is at now_current spot written =
+    after_around c requests last.standing last.next_id last.earlier
+    (after_with c requests moving.client
+    (λ k p here. by k p (moving.which k p here)))
+  where
+    last : Client
+    last = (turned_to memory c now response m why d s bytes).1
+
+    b : AskedSeen
+    b = turned memory.is_kept (transaction_id_field response) (turn_to s why d) m.asked
+
+    empty : AskedSeen
+    empty = new_asked m.asked.method [] 0 None
+
+    requests : All
+    requests =
+        after_replacing m.number b
+        (after_again m.number (record { count = length response; moment = Some now }) s.id bytes
+        c.plan empty now c.requests)
+
+    current : IsCurrent c at.stored.id at.stored.q.datum
+    current = is.current at.stored.id at.stored.q at.stored.there
+
+    own : IsDerived c.seed (transaction_id_field response)
+    own = subst (λ k. IsDerived c.seed k) (at.current now_current) current.from_seed
+
+    off : is_at (nat_cmp s.id) at.stored.id ≡ false
+    off = apart s.id at.stored.id (λ same. differs same)
+      where
+        differs : s.id ≡ at.stored.id → ⊥
+        differs same =
+            let none : number_at at.stored.id c.requests.table.attached ≡ None =
+            subst (λ k. number_at k c.requests.table.attached ≡ None) same spot.free in
+            let some =
+            number_is at.stored.id m.number at.stored.q c.requests.table.attached at.stored.there
+            at.stored.number in
+            cc
+
+    moves : (sent : Tally) × (answered : Tally)
+        × (after_replacing m.number b
+        (after_again m.number (record { count = length response; moment = Some now }) s.id bytes
+        c.plan empty now c.requests)
+        ≡ moved c.requests m.number at.stored.id s.id (request_in c.requests.table bytes c.plan now)
+        empty b sent answered)
+    moves =
+        moved_is c.requests m.number at.stored.id s.id now
+        (record { count = length response; moment = Some now }) bytes c.plan empty b
+        current.transaction at.stored.named current.sent off
+
+    moving : IsMoved c m.number b requests
+    moving =
+        subst (λ (r : All). IsMoved c m.number b r) (sym moves.2)
+        (moved_so c m.number at.stored.id s.id at.stored.q empty b
+        (request_in c.requests.table bytes c.plan now) moves.0 moves.1 is at.stored.named
+        at.stored.there at.stored.number spot.free spot.from_seed is.server written
+        (derived_former c.seed memory.is_kept m.asked.rank s.rank _ m.asked.earlier own
+        (subst (λ (x : AskedSeen). AreDerived c.seed x.earlier) at.stored.datum
+        (is.earlier at.stored.id at.stored.q at.stored.there))))
+
+    by : (k : ℕ) (p : Request AskedSeen)
+        → (record { number = m.number; datum = b } ≡ p)
+        ⊎ (datum_at k c.requests.table.attached ≡ Some p) → Was c p
+    by k p (inl new) = subst (λ (x : Request AskedSeen). Was c x) new
+        (was_there c m.number m.asked b at.stored refl refl)
+    by k p (inr old) = was_same c k p old
+
+dropping_after : (n : ℕ) (why : DropReason) (bytes : List ℕ) (c : Client) → IsClient c
+    → IsAfter c (dropping n why bytes c).1
+dropping_after n why bytes c is = changed_after (Noted why (code_in bytes)) n c is
+
+turned_by_after : (memory : Memory) (c : Client) (now : ℕ) (response : List ℕ) (m : Met) (why : Why)
+    (d : Option Answered) (s : Spot) → IsClient c → IsMet c (transaction_id_field response) m
+    → m.is_current ≡ true → IsSpot c s → (page : Page?)
+    → message_bytes c.form c.identity d s.id m.asked ≡ page
+    → IsAfter c (turned_by memory c now response m why d s page).1
+turned_by_after memory c now response m why d s is at now_current spot (Err error) written =
+    dropping_after m.number (unwritten why) response c is
+turned_by_after memory c now response m why d s is at now_current spot (Ok bytes) written =
+    turned_to_after memory c now response m why d s bytes is at now_current spot written
+
+turned_at_after : (memory : Memory) (c : Client) (now : ℕ) (response : List ℕ) (m : Met) (why : Why)
+    (d : Option Answered) (place : Option Place) → IsClient c
+    → IsMet c (transaction_id_field response) m → m.is_current ≡ true → IsPlace c.seed place
+    → IsAfter c (turned_at memory c now response m why d (spot_of c m.asked place)).1
+turned_at_after memory c now response m why d place is at now_current where_it_is =
+    by (spot_of c m.asked place) refl
+  where
+    by : (o : Option Spot) → spot_of c m.asked place ≡ o
+        → IsAfter c (turned_at memory c now response m why d o).1
+    by None some = dropping_after m.number Reasons.OutOfMemory response c is
+    by (Some s) some =
+        turned_by_after memory c now response m why d s is at now_current
+        (spot_is c m.asked place s where_it_is some)
+        (message_bytes c.form c.identity d s.id m.asked) refl
+
+-- ---- all of it
+
+-- another message becomes the current one only in place of the current one
+abbrev IfTurn : Bool → DecisionSeen → Type 0
+IfTurn is_current (answered by) = ⊤
+IfTurn is_current unauthorized = ⊤
+IfTurn is_current (turns why place d) = is_current ≡ true
+IfTurn is_current refuses = ⊤
+IfTurn is_current (drops why) = ⊤
+
+turn_of_current : (b : Bool) (v : DecisionSeen) → (b ≡ false → IsAnswerOrDrop v) → IfTurn b v
+turn_of_current b (answered by) quiet = tt
+turn_of_current b unauthorized quiet = tt
+turn_of_current true (turns why place d) quiet = refl
+turn_of_current false (turns why place d) quiet = absurd (quiet refl)
+turn_of_current b refuses quiet = tt
+turn_of_current b (drops why) quiet = tt
+
+ended_after : (c : Client) (standing : StandingSeen) (end : EndSeen) (bytes : List ℕ) (now : ℕ)
+    (m : Met) → IsClient c
+    → IsAfter c (ended_by end bytes now m (record c { standing = standing }))
+ended_after c standing end bytes now m is =
+    after_around c (after_answering m.number (length bytes) (moment_of now m) end c.requests)
+    standing c.next_id (without_all m.asked.earlier c.earlier)
+    (after_with c (after_answering m.number (length bytes) (moment_of now m) end c.requests)
+    (answering_client m.number (length bytes) (moment_of now m) end c is)
+    (answer_each (Was c) c.requests (was_same c) is.requests.one.in_order m.number (length bytes)
+    (moment_of now m) end))
+
+decided_after : (memory : Memory) (c : Client) (now : ℕ) (bytes : List ℕ) (m : Met)
+    (v : DecisionSeen) → IsClient c → IsMet c (transaction_id_field bytes) m → IsPlaced c.seed v
+    → IfTurn m.is_current v → IsAfter c (by_decision memory c now bytes m v).1
+decided_after memory c now bytes m (answered by) is at where_it_is turn =
+    ended_after c (confirming (is_success_class (class_in bytes)) c.standing m.signed_for)
+    (record { end = how.Answered (outcome_of c.understood bytes) by; response = bytes }) bytes now m
+    is
+decided_after memory c now bytes m unauthorized is at where_it_is turn =
+    ended_after c c.standing (record { end = how.Unauthorized; response = [] }) bytes now m is
+decided_after memory c now bytes m (turns why place d) is at where_it_is turn =
+    turned_at_after memory c now bytes m why d place is at turn where_it_is
+decided_after memory c now bytes m refuses is at where_it_is turn =
+    changed_after (RefusedOf (code_in bytes)) m.number c is
+decided_after memory c now bytes m (drops why) is at where_it_is turn =
+    dropping_after m.number why bytes c is
+
+met_after : (memory : Memory) (c : Client) (now : ℕ) (bytes : List ℕ) → IsClient c
+    → IsAfter c (by_met memory c now bytes (answered_in bytes c)).1
+met_after memory c now bytes is = by (answered_in bytes c) refl
+  where
+    by : (o : Option Met) → answered_in bytes c ≡ o → IsAfter c (by_met memory c now bytes o).1
+    by None none = after_none c is
+    by (Some m) some =
+        let at =
+        met_is c (transaction_id_field bytes) m is.requests
+        (answered_is bytes (met (transaction_id_field bytes) c) m some) in
+        let are : AreDerived c.seed m.asked.earlier =
+        subst (λ (x : AskedSeen). AreDerived c.seed x.earlier) at.stored.datum
+        (is.earlier at.stored.id at.stored.q at.stored.there) in
+        decided_after memory c now bytes m (decision_for c now bytes m) is at
+        (placed c.seed m.asked are (judge_of c).limits c.standing now _)
+        (turn_of_current m.is_current (decision_for c now bytes m) (λ off.
+        subst
+        (λ b. IsAnswerOrDrop (decision_on (judge_of c) b now m.asked m.signed_for bytes))
+        (sym off) (earlier_answers_or_drops (judge_of c) now m.asked m.signed_for bytes)))
+
+class_after : (memory : Memory) (c : Client) (now : ℕ) (bytes : List ℕ) (class : MessageClass)
+    → IsClient c → IsAfter c (by_class memory c now bytes class).1
+class_after memory c now bytes Classes.Request is = after_none c is
+class_after memory c now bytes Classes.Indication is = after_none c is
+class_after memory c now bytes Classes.Success is = met_after memory c now bytes is
+class_after memory c now bytes Classes.Error is = met_after memory c now bytes is
+
+pub received_after : (memory : Memory) (from : SocketAddr) (bytes : List ℕ) (now : ℕ) (c : Client)
+    → IsClient c → IsAfter c (received memory from bytes now c).1
+received_after memory from bytes now c is =
+    by (is_some (refusal bytes)) (is_same_address from c.server)
+  where
+    by : (a b : Bool)
+        → IsAfter c (cond a (NotOurs, c) (cond b (by_class memory c now bytes (class_in bytes))
+        (NotOurs, c))).1
+    by true b = after_none c is
+    by false true = class_after memory c now bytes (class_in bytes) is
+    by false false = after_none c is
+
+pub heard_after : (from : SocketAddr) (bytes : List ℕ) (now : ℕ) (c : Client) (answer : Answer)
+    → IsClient c → UnlessMemory (λ memory. received memory from bytes now c) bytes c answer
+    → IsAfter c answer.1
+heard_after from bytes now c answer is (as_expected memory same) =
+    subst (λ (a : Answer). IsAfter c a.1) (sym same) (received_after memory from bytes now c is)
+heard_after from bytes now c answer is (forgone same) =
+    subst (λ (a : Answer). IsAfter c a.1) (sym same) (by (answered_in bytes c))
+  where
+    by : (o : Option Met) → IsAfter c (without_memory bytes c o).1
+    by None = after_none c is
+    by (Some m) = dropping_after m.number Reasons.OutOfMemory bytes c is

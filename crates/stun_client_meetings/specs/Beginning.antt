@@ -13,7 +13,7 @@ use Rattle.stun_auth.specs.Signed.{plain_name}
 use Rattle.stun_auth.specs.declared.feature.Feature.TheVariants.{Disabled}
 use Rattle.stun_client.specs.Ids.{id_of}
 use Rattle.stun_client_endpoint.specs.Bodies.{Body, with_value}
-use Rattle.stun_client_endpoint.specs.Endpoints.{plan_of}
+use Rattle.stun_client_endpoint.specs.Settings.{plan_of}
 use Rattle.stun_client_calls.specs.Clients.{refusal_to_start, started}
 use Rattle.stun_client_calls.specs.Receiving.{Memory}
 use Rattle.stun_endpoint.specs.Nonces.{current_nonce}

@@ -19,7 +19,7 @@ use Rattle.stun_agent.proofs.ResponseLemmas.{same_end}
 use Rattle.stun_agent.proofs.TimingLemmas.{sum_of_timeouts-zero}
 use Rattle.stun_client.specs.Ids.{id_of}
 use Rattle.stun_client_endpoint.specs.Bodies.{Body}
-use Rattle.stun_client_endpoint.specs.Endpoints.{plan_of}
+use Rattle.stun_client_endpoint.specs.Settings.{plan_of}
 use Rattle.stun_client_requests.specs.Numbers.{id_at, id_in, known_at}
 use Rattle.stun_client_requests.specs.declared.numbers.Known.TheVariants.{Outstanding}
 use Rattle.stun_client_calls.specs.Clients.{Client, Poll, Told, ends, first_asked, refusal_to_start}

@@ -23,7 +23,7 @@ use Rattle.stun_client.specs.Judging.{Verdict, anew, believed, doubted, dropped,
 use Rattle.stun_client.specs.Outcomes.{outcome_of}
 use Rattle.stun_client.specs.Requests.{is_answer}
 use Rattle.stun_client.specs.Standing.{StandingSeen}
-use Rattle.stun_client_loop.specs.Loops.{is_success_class}
+use Rattle.stun_client_calls.specs.Receiving.{is_success_class}
 use Rattle.stun_client_endpoint.specs.Written.{Page?}
 use Rattle.stun_client_endpoint.specs.declared.ended.DropReason.{DropReason}
 use Rattle.stun_client_endpoint.specs.declared.ended.DropReason.TheVariants.{LateChallenge}

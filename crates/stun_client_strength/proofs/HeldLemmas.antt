@@ -20,7 +20,7 @@ use Rattle.stun_client.specs.Judging.{Identity}
 use Rattle.stun_client.specs.Outcomes.{outcome_of}
 use Rattle.stun_client.specs.Requests.{is_answer}
 use Rattle.stun_client.specs.Standing.{StandingSeen, after_success}
-use Rattle.stun_client_loop.specs.Loops.{is_success_class}
+use Rattle.stun_client_calls.specs.Receiving.{is_success_class}
 use Rattle.stun_client_endpoint.specs.Bodies.{Body}
 use Rattle.stun_client_endpoint.specs.Written.{Form, Page?}
 use Rattle.stun_client_endpoint.specs.declared.ended.DropReason.{DropReason}

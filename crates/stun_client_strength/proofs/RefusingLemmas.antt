@@ -19,7 +19,7 @@ use Rattle.stun_client.specs.Challenges.{Answered}
 use Rattle.stun_client.specs.Challenging.{code_in}
 use Rattle.stun_client.specs.Judging.{Identity, Verdict, refused}
 use Rattle.stun_client.specs.Standing.{StandingSeen}
-use Rattle.stun_client_endpoint.specs.Endpoints.{is_reliable}
+use Rattle.stun_client_endpoint.specs.Settings.{is_reliable}
 use Rattle.stun_client_endpoint.specs.Refusals.{OTHERS}
 use Rattle.stun_client_endpoint.specs.Written.{Form}
 use Rattle.stun_client_endpoint.specs.declared.ended.DropReason.TheVariants.{LateChallenge}

@@ -17,7 +17,7 @@ use Rattle.stun_client.specs.Judging.{long_term}
 use Rattle.stun_client.specs.Rule.{IsByRule}
 use Rattle.stun_client.specs.Standing.{confirmed, is_standing, is_stronger_than}
 use Rattle.stun_client.specs.declared.preferences.Preferences.{Preferences}
-use Rattle.stun_client_loop.specs.Loops.{is_success_class}
+use Rattle.stun_client_calls.specs.Receiving.{is_success_class}
 use Rattle.stun_client_endpoint.specs.Bodies.{Body}
 use Rattle.stun_client_endpoint.specs.Written.{Form}
 use Rattle.stun_client_endpoint.specs.declared.ended.RequestEnd.{RequestEnd}

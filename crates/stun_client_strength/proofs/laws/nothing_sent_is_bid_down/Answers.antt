@@ -16,7 +16,7 @@ use Rattle.stun_client.specs.Standing.{is_stronger_than}
 use Rattle.stun_client.proofs.ChosenLemmas.{chosen_of_rule}
 use Rattle.stun_base.specs.MessageType.{class_in}
 use Rattle.stun_client_endpoint.specs.Written.{Form, request_bytes}
-use Rattle.stun_client_loop.specs.Loops.{is_success_class}
+use Rattle.stun_client_calls.specs.Receiving.{is_success_class}
 use Rattle.stun_client_requests.specs.Numbers.{id_at}
 use Rattle.stun_client_requests.specs.Requests.{bytes_at, datum_of}
 use Rattle.stun_client_requests.specs.declared.requests.Request.{Request}

@@ -11,13 +11,15 @@ from pathlib import Path
 TOOL = Path(__file__).resolve().parent.parent / "tools/refusals.py"
 REQUEST = ("stun_endpoint/src/server/receiving.rt", "        let epoch = self.epoch(now);\n"
            "        let nonce = self.nonce_in(&self.secret, from, epoch)?;\n")
-RESEND = ("stun_client_endpoint/src/endpoint/receiving.rt",
-          "        let Some(free) = self.chosen() else {\n"
-          "            return self.forgo(message);\n")
-ANSWERED = ("stun_client_endpoint/src/endpoint/receiving.rt",
+TURN = ("stun_client_calls/src/endpoint/acting.rt",
+        "        let Some(spot) = self.spot(number, place) else {\n"
+        "            return self.drop_for(number, DropReason::OutOfMemory, message);\n")
+ANSWERED = ("stun_client_calls/src/endpoint/acting.rt",
             "        let end = RequestEnd::Answered(Outcome::of(message, &self.understood), by);\n")
 SEND = ("stun_agent/src/calls/send.rt", "        let id = self.id_to_ask(bytes, to)?;\n")
-BEGIN = ("stun_client_endpoint/src/endpoint/requesting.rt", "        let id = free.id;\n")
+BEGIN = ("stun_client_calls/src/endpoint/requesting.rt",
+         "        let bytes = self.first_message(method, free.id, &body)?;\n")
+FORGO = "        return self.drop_for(number, DropReason::OutOfMemory, message);\n"
 ADD = ("stun_client_endpoint/src/body.rt", "        if !self.has_room(value.len()) {\n")
 KEY = ("stun_base/src/keys/credentials.rt",
        "        IntegrityKey::from_bytes(*self.password.allocator(), self.password.as_bytes())\n")
@@ -26,8 +28,8 @@ PLANTS = {
     "a request of an odd port fails": (
         *REQUEST, "        if from.port() % 2 == 1 {\n"
         "            return Err(AllocError);\n        }\n"),
-    "no challenge is answered": (*RESEND, "        return self.forgo(message);\n"),
-    "no response ends a request": (*ANSWERED, "        return self.forgo(message);\n"),
+    "no challenge is answered": (*TURN, FORGO),
+    "no response ends a request": (*ANSWERED, FORGO),
     "no request is sent": (*SEND, "        return Err(StunError::OutOfMemory);\n"),
     "a long request is not sent": (
         *SEND, "        if bytes.len() > 100 {\n"

@@ -54,7 +54,7 @@ first_free_is taken number (suc many) found is =
     by false here is rest = subst (λ k. taken k ≡ false) (some_is number found is) here
 
 -- the ID of a new message is that of no current message
-chosen_is_free : (c : Client) (number : ℕ) → chosen c ≡ Some number
+pub chosen_is_free : (c : Client) (number : ℕ) → chosen c ≡ Some number
     → number_at (id_of c.seed number) c.requests.table.attached ≡ None
 chosen_is_free c number some =
     not_some (number_at (id_of c.seed number) c.requests.table.attached)

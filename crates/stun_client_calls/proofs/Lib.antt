@@ -7,6 +7,7 @@ pub mod HeardLemmas
 pub mod IdLemmas
 pub mod KeepingLemmas
 pub mod OptionLemmas
+pub mod PassingLemmas
 pub mod ReceivingLemmas
 pub mod RequestingLemmas
 pub mod StoredLemmas

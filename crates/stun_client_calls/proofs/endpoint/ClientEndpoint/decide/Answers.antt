@@ -1,6 +1,7 @@
 -- The response is judged, and what it is judged as is decided on.
 use Rattle.std.proofs.lemmas.Result.{IfOk-weaker}
 use Rattle.stun_client_calls.specs.Deciding.{decision_of}
+use Rattle.stun_client_calls.proofs.PassingLemmas.{doubting_free, judging_free}
 use Rattle.stun_client_calls.proofs.ReceivingLemmas.{decided_at}
 use Rattle.stun_client_calls.proofs.endpoint.ClientEndpoint.decide.Goals as goal
 
@@ -11,3 +12,15 @@ returns-clause-decided g c =
     c.limits.result _ (decision_of d) c.self.view_is c.met.view_is c.limits.ensures
     c.in_ok-judged.ensures.judged is)
     c.decide.ensures.decided
+
+pub returns-in_err-judged-clause-no_memory : goal.returns-in_err-judged-clause-no_memory
+returns-in_err-judged-clause-no_memory g c =
+    λ free. c.in_err-judged.ensures.no_memory
+    (judging_free c.args.self.now _ c.args.message.now c.args.met.now _ c.self.view_is c.met.view_is
+    free)
+
+pub returns-clause-no_memory : goal.returns-clause-no_memory
+returns-clause-no_memory g c =
+    λ free. c.decide.ensures.no_memory
+    (doubting_free c.args.self.now _ c.args.message.now c.args.met.now _ _ c.self.view_is
+    c.met.view_is c.in_ok-judged.ensures.judged free)

@@ -11,8 +11,8 @@ pub returns-in-Some : goal.returns-in-Some
 returns-in-Some g c =
     exchanged_at c.args.self.now _ c.args.number c.args.former c.turn.inside.next_id
     c.turn.inside.id c.args.asked c.turned-asked.result.0 c.args.turn
-    (record { is_kept = c.turned-asked.result.1; is_noted = c.note.result })
-    c.answer.new.self c.replace.new.self c.note.new.earlier.entries
+    (record { is_kept = c.turned-asked.result.1; is_noted = c.note-is_noted.result })
+    c.answer.new.self c.replace.new.self c.note-is_noted.new.earlier.entries
     c.self.view_is (ap (λ (t : TurnSeen). t.next_id) c.turn.view_is)
     (ap (λ (t : TurnSeen). t.id) c.turn.view_is)
     c.turned-asked.ensures.turned
@@ -20,22 +20,22 @@ returns-in-Some g c =
     ∙ ap (λ (o : Option Answered). answering c.self.inside.standing o)
     (sym c.in-Some.is ∙ c.turned-asked.ensures.answered))
     c.replace.ensures.after
-    (ids_so (c.turned-asked.result.1 && c.note.result) c.args.former c.turn.inside.id c.args.number
-    c.self.inside.earlier.entries c.remove.new.self.entries c.note.new.earlier.entries
-    c.remove.ensures.entries c.note.ensures)
+    (ids_so (c.turned-asked.result.1 && c.note-is_noted.result) c.args.former c.turn.inside.id c.args.number
+    c.self.inside.earlier.entries c.remove.new.self.entries c.note-is_noted.new.earlier.entries
+    c.remove.ensures.entries c.note-is_noted.ensures)
 
 pub returns-in_default : goal.returns-in_default
 returns-in_default g c =
     exchanged_at c.args.self.now _ c.args.number c.args.former c.turn.inside.next_id
     c.turn.inside.id c.args.asked c.turned-asked.result.0 c.args.turn
-    (record { is_kept = c.turned-asked.result.1; is_noted = c.note.result })
-    c.self.inside.standing c.replace.new.self c.note.new.earlier.entries
+    (record { is_kept = c.turned-asked.result.1; is_noted = c.note-is_noted.result })
+    c.self.inside.standing c.replace.new.self c.note-is_noted.new.earlier.entries
     c.self.view_is (ap (λ (t : TurnSeen). t.next_id) c.turn.view_is)
     (ap (λ (t : TurnSeen). t.id) c.turn.view_is)
     c.turned-asked.ensures.turned
     (ap (λ (o : Option Answered). answering c.self.inside.standing o)
     (sym c.in_default.is ∙ c.turned-asked.ensures.answered))
     c.replace.ensures.after
-    (ids_so (c.turned-asked.result.1 && c.note.result) c.args.former c.turn.inside.id c.args.number
-    c.self.inside.earlier.entries c.remove.new.self.entries c.note.new.earlier.entries
-    c.remove.ensures.entries c.note.ensures)
+    (ids_so (c.turned-asked.result.1 && c.note-is_noted.result) c.args.former c.turn.inside.id c.args.number
+    c.self.inside.earlier.entries c.remove.new.self.entries c.note-is_noted.new.earlier.entries
+    c.remove.ensures.entries c.note-is_noted.ensures)

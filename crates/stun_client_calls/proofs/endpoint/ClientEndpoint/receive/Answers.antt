@@ -2,6 +2,7 @@
 use Rattle.std.proofs.Common.{◌∙◌, ap, sym}
 use Rattle.stun_extra.specs.CanonicalAddress.{is_same_address}
 use Rattle.stun_client_calls.specs.Clients.{Client}
+use Rattle.stun_client_calls.proofs.PassingLemmas.{dropped_so_in, unheeded_so}
 use Rattle.stun_client_calls.proofs.ReceivingLemmas.{elsewhere_so, received_so, unread_so}
 use Rattle.stun_client_calls.proofs.endpoint.ClientEndpoint.receive.Goals as goal
 
@@ -21,3 +22,15 @@ returns-else-is_same_address-clause-received g c =
     elsewhere_so c.args.from c.args.bytes.now c.args.now c.args.self.now
     (ap (λ (x : Client). is_same_address c.args.from x.server) (sym c.self.view_is)
     ∙ sym c.is_same_address.ensures ∙ c.if-is_same_address.false)
+
+pub returns-then-is_same_address-clause-unheeded : goal.returns-then-is_same_address-clause-unheeded
+returns-then-is_same_address-clause-unheeded g c =
+    unheeded_so c.args.from c.args.bytes.now c.in-Ok.message c.args.now c.args.self.now _
+    c.in-Ok.ensures.value c.in-Ok.ensures.accepted
+    (ap (λ (x : Client). is_same_address c.args.from x.server) (sym c.self.view_is)
+    ∙ sym c.is_same_address.ensures ∙ c.if-is_same_address.true) c.by_class.ensures.unheeded
+
+pub returns-then-is_same_address-clause-drops : goal.returns-then-is_same_address-clause-drops
+returns-then-is_same_address-clause-drops g c =
+    dropped_so_in c.args.from c.args.bytes.now c.in-Ok.message c.args.now c.args.self.now _
+    c.in-Ok.ensures.value c.by_class.ensures.drops

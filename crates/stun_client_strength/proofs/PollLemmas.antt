@@ -1,8 +1,8 @@
 -- What a poll of the table says of its requests, and what it leaves of them.
-use Rattle.std.proofs.Common.{◌≡◌, ◌∙◌, ℕ, Bool, true, false, List, [], ◌∷◌, Option, Some, None}
+use Rattle.std.proofs.Common.{◌≡◌, ◌∙◌, ℕ, Option, Some, None}
 use Rattle.std.proofs.Common.{ap, refl, subst, sym}
 use Rattle.std.specs.Option.{option_and_then}
-use Rattle.stun_agent.specs.Tables.{TableSeen, after_transmission, datum_at, over_in}
+use Rattle.stun_agent.specs.Tables.{after_transmission, datum_at, over_in}
 use Rattle.stun_agent.specs.Transactions.{Transaction}
 use Rattle.stun_client_requests.specs.Numbers.{end_of_first, first_unsent}
 use Rattle.stun_client_requests.specs.Requests.{datum_of, ends_or, over, over_or, polled, repeated}
@@ -16,7 +16,7 @@ use Rattle.stun_client_requests.proofs.TimelyLemmas.{named_is_one}
 use Rattle.stun_client_calls.specs.Endpoints.{EndSeen}
 use Rattle.stun_client_calls.specs.Messages.{AskedSeen}
 use Rattle.stun_client_strength.proofs.EachLemmas.{All, Each, IsOne, Stored, is_there, numbered}
-use Rattle.stun_client_strength.proofs.EachLemmas.{over_each, some_is, stored_one}
+use Rattle.stun_client_strength.proofs.EachLemmas.{over_each, stored_one}
 
 -- the requests once what is due is sent again
 abbrev sent_again : ℕ → All → All

@@ -3,7 +3,7 @@ use Rattle.std.proofs.Common.{◌≡◌, ◌∙◌, ◌⊎◌, ◌≤◌, ◌+�
 use Rattle.std.proofs.Common.{◌∷◌, length, Option, Some, None, ap, arith, cond, refl, subst, sym}
 use Rattle.std.specs.Bool.{⊤}
 use Rattle.std.specs.Option.{is_some, option_and_then, option_map, option_map_or}
-use Rattle.std.specs.Prelude.{◌==◌, ◌||◌, nat_le}
+use Rattle.std.specs.Prelude.{◌||◌, nat_le}
 use Rattle.std.specs.declared.net.socket_addr.SocketAddr.{SocketAddr}
 use Rattle.std.proofs.lemmas.Bool.{eqb-true, le-leb, le-ltb}
 use Rattle.stun_base.specs.MessageType.{class_in, is_response}
@@ -12,7 +12,6 @@ use Rattle.stun_base.specs.declared.wire.message_type.MessageClass.TheVariants a
 use Rattle.stun_base.specs.declared.wire.transport.TransportType.TheVariants.{Tcp, Udp}
 use Rattle.stun_types.specs.Message.{refusal}
 use Rattle.stun_agent.specs.Tables.{after_answer, datum_at, set_datum, with_other_datum}
-use Rattle.stun_agent.specs.Transactions.{Transactions}
 use Rattle.stun_agent.proofs.Ascending.{lookup-insert_same}
 use Rattle.stun_extra.specs.CanonicalAddress.{is_same_address}
 use Rattle.stun_client.specs.Challenges.{Answered}
@@ -39,9 +38,9 @@ use Rattle.stun_client_calls.specs.Clients.{transmit, waits, with_requests}
 use Rattle.stun_client_calls.specs.Deciding.{DecisionSeen, decided, drops, is_late, is_spent}
 use Rattle.stun_client_calls.specs.Deciding.{refuses, turns_for, unauthorized}
 use Rattle.stun_client_calls.specs.Endpoints.{EndSeen}
-use Rattle.stun_client_calls.specs.Messages.{AskedSeen, TurnSeen, refusing, sent_out, turned}
-use Rattle.stun_client_calls.specs.Receiving.{Answer, Memory, Met, answered_in, by_class}
-use Rattle.stun_client_calls.specs.Receiving.{by_decision, by_met, decision_for, dropping_refusal, judge_of}
+use Rattle.stun_client_calls.specs.Messages.{AskedSeen, refusing, sent_out}
+use Rattle.stun_client_calls.specs.Receiving.{Memory, Met, answered_in, by_class}
+use Rattle.stun_client_calls.specs.Receiving.{by_decision, by_met, dropping_refusal, judge_of}
 use Rattle.stun_client_calls.specs.Receiving.{received, unauthorized_by}
 use Rattle.stun_client_calls.specs.Runs.{Call, Calls, Event, call, changes_nothing, ends_one}
 use Rattle.stun_client_calls.specs.Runs.{no_call, polled as says_so, polls, receives, requests}

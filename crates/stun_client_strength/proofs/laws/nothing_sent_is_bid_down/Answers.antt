@@ -1,6 +1,6 @@
 -- What holds of the challenges of a client holds over any calls.
 use Rattle.std.proofs.Common.{◌≡◌, ◌∙◌, ℕ, Bool, true, false, List, [], ◌∷◌, Option, Some, None}
-use Rattle.std.proofs.Common.{Ok, ap, arith, refl, subst, sym}
+use Rattle.std.proofs.Common.{Ok, ap, arith, refl, sym}
 use Rattle.std.specs.Bool.{⊤}
 use Rattle.std.specs.Prelude.{IsUtf8}
 use Rattle.std.specs.Option.{IfSome, IsSome, is_some, option_and_then, option_map}
@@ -10,9 +10,8 @@ use Rattle.stun_auth.specs.Signed.{IsText}
 use Rattle.stun_client.specs.Challenges.{Answered}
 use Rattle.stun_client.specs.Clients.{confirming}
 use Rattle.stun_client.specs.Judging.{Identity, long_term}
-use Rattle.stun_client.specs.Rule.{IsByRule, IsChosen}
-use Rattle.stun_client.specs.Standing.{StandingSeen, after_success, confirmed, is_standing}
-use Rattle.stun_client.specs.Standing.{is_stronger_than}
+use Rattle.stun_client.specs.Rule.{IsChosen}
+use Rattle.stun_client.specs.Standing.{after_success, confirmed}
 use Rattle.stun_client.proofs.ChosenLemmas.{chosen_of_rule}
 use Rattle.stun_base.specs.MessageType.{class_in}
 use Rattle.stun_client_endpoint.specs.Written.{Form, request_bytes}
@@ -21,21 +20,21 @@ use Rattle.stun_client_requests.specs.Numbers.{id_at}
 use Rattle.stun_client_requests.specs.Requests.{bytes_at, datum_of}
 use Rattle.stun_client_requests.specs.declared.requests.Request.{Request}
 use Rattle.stun_client_calls.specs.Clients.{Client, Told, ends, started, told, transmit}
-use Rattle.stun_client_calls.specs.Deciding.{DecisionSeen, answered}
-use Rattle.stun_client_calls.specs.Messages.{AskedSeen, challenge_for}
+use Rattle.stun_client_calls.specs.Deciding.{DecisionSeen}
+use Rattle.stun_client_calls.specs.Messages.{AskedSeen}
 use Rattle.stun_client_calls.specs.Receiving.{Answer, Memory, Met, by_decision, received}
 use Rattle.stun_client_calls.specs.Runs.{Call, Calls, Event, call, changes_nothing, ends_one}
 use Rattle.stun_client_calls.specs.Runs.{next_number, no_call, polled, polls, receives, requests}
 use Rattle.stun_client_calls.specs.Runs.{starts}
 use Rattle.stun_client_endpoint.specs.declared.ended.RequestEnd.TheVariants as how
-use Rattle.stun_client_runs.specs.Kept.{IsClient, StaysAClient}
+use Rattle.stun_client_runs.specs.Kept.{IsClient}
 use Rattle.stun_requests.specs.ReadBack.{added_to}
-use Rattle.stun_client_strength.specs.Strength.{IsByRuleFor, IsNoWeaker, IsSentStrongly, NewClient}
+use Rattle.stun_client_strength.specs.Strength.{IsByRuleFor, NewClient}
 use Rattle.stun_client_strength.specs.Strength.{OfCall, OfEachPoll, SaysNoTimeout, as_before}
 use Rattle.stun_client_strength.specs.Strength.{in_doubt}
 use Rattle.stun_client_strength.specs.Strength.{IsStrongSince, made_of, signed}
-use Rattle.stun_client_strength.proofs.EachLemmas.{is_there, numbered, some_is, stored_one}
-use Rattle.stun_client_strength.proofs.HeldLemmas.{AreHeld, calls_held, poll_held, started_held}
+use Rattle.stun_client_strength.proofs.EachLemmas.{is_there, numbered, stored_one}
+use Rattle.stun_client_strength.proofs.HeldLemmas.{AreHeld, calls_held, poll_held}
 use Rattle.stun_client_strength.proofs.RefusingLemmas.{heard_comes}
 use Rattle.stun_client_strength.proofs.RuleLemmas.{AreFine, ChallengeLaws, IsFine, IsFineFor}
 use Rattle.stun_client_strength.proofs.RuleLemmas.{always, fine_rules, sent_there}

@@ -145,7 +145,7 @@ changed_timers n w r = by (id_at n r.numbers)
     by None = refl
     by (Some id) = refl
 
-ended_there : (n count : ℕ) (moment : Option ℕ) (end : EndSeen) (a : AskedSeen) (r : All)
+pub ended_there : (n count : ℕ) (moment : Option ℕ) (end : EndSeen) (a : AskedSeen) (r : All)
     → datum_of n r ≡ Some a
     → known_at n (after_answering n count moment end r).numbers.known ≡ Some (Ended end)
 ended_there n count moment end a r some = by (id_at n r.numbers) some
@@ -170,7 +170,7 @@ module _ (memory : Memory) (from : SocketAddr) (bytes : List ℕ) (now : ℕ) (c
       ∙ ap (λ (x : Verdict). by_decision memory c now bytes m
       (decided (judge_of c).limits c.standing now m.asked x)) is
 
-  decides : (v : Verdict) (d : DecisionSeen) → response_verdict c bytes m ≡ v
+  pub decides : (v : Verdict) (d : DecisionSeen) → response_verdict c bytes m ≡ v
       → decided (judge_of c).limits c.standing now m.asked v ≡ d
       → received memory from bytes now c ≡ by_decision memory c now bytes m d
   decides v d is so =

@@ -1,14 +1,13 @@
 -- What each answer of a server that refuses a request leaves of it.
-use Rattle.std.proofs.Common.{◌≡◌, ◌∙◌, ◌≤◌, ◌+◌, ℕ, Bool, true, false, List, [], ◌∷◌, length, Option}
-use Rattle.std.proofs.Common.{Some, None, Ok, Err, ap, arith, cond, refl, subst, sym}
+use Rattle.std.proofs.Common.{◌≡◌, ◌∙◌, ◌≤◌, ◌+◌, ℕ, Bool, true, false, List, [], ◌∷◌, length}
+use Rattle.std.proofs.Common.{Option, Some, None, Ok, Err, ap, arith, cond, refl, subst, sym}
 use Rattle.std.specs.Bool.{⊤}
-use Rattle.std.specs.Option.{IsSome, is_none, is_some, option_and_then, option_map}
+use Rattle.std.specs.Option.{IsSome, is_none, option_and_then, option_map}
 use Rattle.std.specs.Prelude.{◌||◌}
 use Rattle.std.specs.declared.net.socket_addr.SocketAddr.{SocketAddr}
 use Rattle.stun_base.specs.Header.{transaction_id_field}
 use Rattle.stun_base.specs.Moments.{last_moment}
 use Rattle.stun_agent.specs.Tables.{datum_at}
-use Rattle.stun_agent.specs.Transactions.{Transaction, at as transaction_at}
 use Rattle.stun_agent.proofs.Ascending.{lookup-insert_same}
 use Rattle.stun_client.specs.Challenges.{Answered}
 use Rattle.stun_client.specs.Challenging.{code_in}
@@ -23,7 +22,7 @@ use Rattle.stun_client_endpoint.specs.declared.ended.RequestEnd.TheVariants as h
 use Rattle.stun_client_endpoint.specs.declared.refusals.Refusals.{Refusals}
 use Rattle.stun_client_endpoint.specs.declared.told.Received.TheVariants.{Consumed}
 use Rattle.stun_client_requests.specs.Numbers.{id_at, id_in}
-use Rattle.stun_client_requests.specs.Requests.{Poll as PollOf, after_replacing, bytes_at}
+use Rattle.stun_client_requests.specs.Requests.{Poll as PollOf, after_replacing}
 use Rattle.stun_client_requests.specs.Requests.{datum_of, polled}
 use Rattle.stun_client_requests.specs.declared.numbers.Known.TheVariants.{Outstanding}
 use Rattle.stun_client_requests.specs.declared.requests.Polled.TheVariants as Of
@@ -36,31 +35,28 @@ use Rattle.stun_client_calls.specs.Clients.{with_requests}
 use Rattle.stun_client_calls.specs.Deciding.{drops, is_late, is_spent, place_of, refuses}
 use Rattle.stun_client_calls.specs.Deciding.{turns_for, unauthorized}
 use Rattle.stun_client_calls.specs.Endpoints.{EndSeen}
-use Rattle.stun_client_calls.specs.Messages.{AskedSeen, is_late as is_late_in, message_for, refusing}
-use Rattle.stun_client_calls.specs.Messages.{sent_out, turned}
+use Rattle.stun_client_calls.specs.Messages.{AskedSeen, is_late as is_late_in, message_for}
+use Rattle.stun_client_calls.specs.Messages.{refusing, sent_out, turned}
 use Rattle.stun_client_calls.specs.Receiving.{Answer, Memory, Met, Spot, as_expected, by_decision}
 use Rattle.stun_client_calls.specs.Receiving.{judge_of, moment_of, received, spot_of, turn_to}
 use Rattle.stun_client_calls.specs.Receiving.{turned_at, turned_by, unauthorized_by}
 use Rattle.stun_client_calls.specs.Runs.{Call, Event, call, next_number, no_call}
-use Rattle.stun_client_calls.specs.Runs.{polled as says_so, polls, receives, requests, silent, starts}
+use Rattle.stun_client_calls.specs.Runs.{polled as says_so, polls, receives, requests}
+use Rattle.stun_client_calls.specs.Runs.{silent, starts}
 use Rattle.stun_client_calls.specs.Writing.{message_bytes}
 use Rattle.stun_client_calls.specs.declared.asked.Change.TheVariants.{Refused, SentOut}
 use Rattle.stun_client_calls.specs.declared.turning.Why.TheVariants as Why
 use Rattle.stun_client_runs.specs.Kept.{IsClient, StaysAClient}
 use Rattle.stun_client_runs.specs.Laws.{TransmitsWhatIsThere}
-use Rattle.stun_client_strength.specs.Costs.{IsRefused, between, challenged, over}
+use Rattle.stun_client_strength.specs.Costs.{IsRefusedRun, between, challenged, over}
 use Rattle.stun_client_strength.specs.Costs.{refused_by, sent}
 use Rattle.stun_client_strength.specs.Hearing.{message_answered, response_verdict}
-use Rattle.stun_client_strength.proofs.EachLemmas.{All, IsOne, numbered, replaced_is, some_is}
-use Rattle.stun_client_strength.proofs.PollLemmas.{sent_datum}
+use Rattle.stun_client_strength.proofs.EachLemmas.{All, IsOne, datum_in, numbered, replaced_is}
+use Rattle.stun_client_strength.proofs.EachLemmas.{some_is}
+use Rattle.stun_client_strength.proofs.PollLemmas.{outstanding, sent_datum}
 use Rattle.stun_client_strength.proofs.RefusingLemmas.{changed_is, decides, ended_there, heard_met}
 
 -- ---- what is stored then
-
-abbrev datum_in : All → Option ℕ → Option AskedSeen
-datum_in r o =
-    option_map (λ (q : Request AskedSeen). q.datum)
-    (option_and_then (λ id. datum_at id r.table.attached) o)
 
 -- of a request that a response has ended, nothing
 ended_none : (c : Client) (now : ℕ) (bytes : List ℕ) (m : Met)
@@ -83,8 +79,8 @@ nothing_left number r b P none some =
     let clash : ◌≡◌ {A = Option AskedSeen} None (Some b) = sym none ∙ some in
     cc
 
-module _ (memory : Memory) (from : SocketAddr) (bytes : List ℕ) (now : ℕ) (c next : Client) (m : Met)
-    (hears : message_answered c from bytes ≡ Some m) where
+module _ (memory : Memory) (from : SocketAddr) (bytes : List ℕ) (now : ℕ) (c next : Client)
+    (m : Met) (hears : message_answered c from bytes ≡ Some m) where
   stored : datum_of m.number c.requests ≡ Some m.asked
   stored = (heard_met from bytes c m hears).stored
 
@@ -122,7 +118,8 @@ module _ (memory : Memory) (from : SocketAddr) (bytes : List ℕ) (now : ℕ) (c
           let its : refusing (code_in bytes) m.asked ≡ b =
           replaced_is m.number (refusing (code_in bytes) m.asked) b c.requests
           (ap (λ (r : All). datum_of m.number r)
-          (sym (changed_is (Refused (code_in bytes)) m.number m.asked c.requests stored) ∙ left) ∙ some) in (
+          (sym (changed_is (Refused (code_in bytes)) m.number m.asked c.requests stored) ∙ left)
+          ∙ some) in (
             was,
             record {
               signed = ap (λ (x : AskedSeen). x.signed_for) (sym its);
@@ -139,8 +136,8 @@ module _ (memory : Memory) (from : SocketAddr) (bytes : List ℕ) (now : ℕ) (c
       by (is_late now m.asked) (is_spent (judge_of c).limits m.asked)
       (sym (decides memory from bytes now c m hears (anew x)
       (cond (is_late now m.asked) (drops LateChallenge)
-      (cond (is_spent (judge_of c).limits m.asked) unauthorized (turns_for Why.Challenged x m.asked)))
-      verdict refl) ∙ is)
+      (cond (is_spent (judge_of c).limits m.asked) unauthorized
+      (turns_for Why.Challenged x m.asked))) verdict refl) ∙ is)
     where
       by_page : (s : Spot) (page : Page?)
           → turned_by memory c now bytes m Why.Challenged (Some x) s page ≡ (Consumed, next)
@@ -316,34 +313,6 @@ refused_bound count w a b off fresh left low =
     (subst (λ (f : Refusals). count + 0 ≤ units a.signed_for f) left.counts
     (subst (λ (o : Option Answered). count + 0 ≤ units o b.refusals) left.signed low))
 
--- a request whose bytes are there is outstanding
-pub record IsOutstanding (number : ℕ) (c : Client) : Type 0 where
-  pub asked : AskedSeen
-  pub there : datum_of number c.requests ≡ Some asked
-
-pub outstanding : (number : ℕ) (c : Client) → IsOne c.requests → IsSome (bytes_at number c.requests)
-    → IsOutstanding number c
-outstanding number c one some = by (id_at number c.requests.numbers) refl
-  where
-    stored : (id : ℕ) → id_at number c.requests.numbers ≡ Some id
-        → (o : Option (Request AskedSeen)) → datum_at id c.requests.table.attached ≡ o
-        → option_map (λ q. q.number) o ≡ Some number → IsOutstanding number c
-    stored id named None there numbers = cc
-    stored id named (Some q) there numbers = record {
-      asked = q.datum;
-      there = ap (λ o. datum_in c.requests o) named
-          ∙ ap (λ (o : Option (Request AskedSeen)). option_map (λ x. x.datum) o) there;
-    }
-
-    by : (o : Option ℕ) → id_at number c.requests.numbers ≡ o → IsOutstanding number c
-    by None named =
-        let none : is_some (bytes_at number c.requests) ≡ false =
-        ap (λ o. is_some (option_and_then (λ id. option_map (λ (t : Transaction). t.bytes)
-        (transaction_at id c.requests.table.requests)) o)) named in
-        cc
-    by (Some id) named =
-        stored id named (datum_at id c.requests.table.attached) refl (one.timed number id named)
-
 module _ (stays : StaysAClient) (transmits : TransmitsWhatIsThere) (number : ℕ) where
   next_client : (c : Client) (event : Event) (next : Client) → IsClient c → Call c event next
       → IsClient next
@@ -360,21 +329,23 @@ module _ (stays : StaysAClient) (transmits : TransmitsWhatIsThere) (number : ℕ
       (as_expected memory refl) (sym same))
 
   costs : (w : Bool) (c : Client) (count : ℕ) (later : Client) → IsClient c
-      → IsRefused number w c count later → (o : Option AskedSeen) → datum_of number c.requests ≡ o
+      → IsRefusedRun number w c count later → (o : Option AskedSeen)
+      → datum_of number c.requests ≡ o
       → IsFresh w o → IsBound w count o
   costs w c count later is (over _ _) o there fresh = none_more 0 w o (omega arith)
   costs w c count later is (sent _ next _ now n said rest) o there fresh =
       let next_is = next_client c (says_so (transmit number)) next is
       (polls c next now (transmit number) said) in
-      let out = outstanding number next next_is.requests.one (transmits now number c next is said) in
+      let out = outstanding number next.requests next_is.requests.one
+      (transmits now number c next is said) in
       let left = sent_left now number c next out.asked is.requests.one out.there said in
       let low = costs true next n later next_is rest (Some out.asked) out.there
       (λ so. ap (λ (x : AskedSeen). x.refusals.is_recent) (sym left.same)) in
       subst (λ (x : Option AskedSeen). IsBound false (n + 1) x) (sym left.there ∙ there)
       (sent_bound n left.before out.asked left.same low)
   costs w c count later is
-      (challenged _ _ next _ memory from bytes now n m x low hears named unsigned verdict comes rest)
-      o there fresh =
+      (challenged _ _ next _ memory from bytes now n m x low hears named unsigned verdict comes
+      rest) o there fresh =
       by (datum_of number next.requests) refl
       (costs false next n later
       (heard_client memory from bytes now c next is low (ap (λ (a : Answer). a.1) comes)) rest
@@ -425,7 +396,8 @@ module _ (stays : StaysAClient) (transmits : TransmitsWhatIsThere) (number : ℕ
           (subst (λ (y : Option AskedSeen). IsFresh w y) (sym there ∙ met) fresh) left.1 bound)
   costs w c count later is (between _ _ next _ events n calls unsent untouched rest) o there fresh =
       by (datum_of number next.requests) refl
-      (λ p some its_fresh. costs w next n later (stays c next events is calls) rest p some its_fresh)
+      (λ p some its_fresh.
+      costs w next n later (stays c next events is calls) rest p some its_fresh)
     where
       by : (p : Option AskedSeen) → datum_of number next.requests ≡ p
           → ((y : Option AskedSeen) → datum_of number next.requests ≡ y → IsFresh w y
@@ -514,9 +486,9 @@ unforced : (o : Option AskedSeen) → IsFresh false o
 unforced None = tt
 unforced (Some a) = λ so. cc
 
-pub costs_three : StaysAClient → TransmitsWhatIsThere → (c later : Client) (method : ℕ) (body : Body)
-    (start count : ℕ) → IsClient c → start ≤ last_moment → refusal_to_start c method body ≡ None
-    → IsRefused (next_number c) false (started method body start c) count later
+pub costs_three : StaysAClient → TransmitsWhatIsThere → (c later : Client) (method : ℕ)
+    (body : Body) (start count : ℕ) → IsClient c → start ≤ last_moment
+    → refusal_to_start c method body ≡ None → IsRefusedRun (next_number c) false (started method body start c) count later
     → (count ≤ 3) × (IsSome c.standing.current → count ≤ 2)
 costs_three stays transmits c later method body start count is in_time none run =
     let number = next_number c in
@@ -524,7 +496,8 @@ costs_three stays transmits c later method body start count is in_time none run 
     let first_is = next_client stays transmits number c (starts number) first is
     (requests c first method body start in_time none refl) in
     let o = datum_of number first.requests in
-    let bound = costs stays transmits number false first count later first_is run o refl (unforced o) in (
+    let bound =
+    costs stays transmits number false first count later first_is run o refl (unforced o) in (
       three count o bound,
       λ some. two count o c.standing.current
           (λ a there. first_signed c method body start a is.requests.one there) some bound,

@@ -62,8 +62,8 @@ use Rattle.stun_client_calls.proofs.ReceivingLemmas.{met_is_stored}
 use Rattle.stun_client_runs.specs.Kept.{IsClient, StaysAClient}
 use Rattle.stun_client_strength.specs.Strength.{OfCall, OfEachPoll}
 use Rattle.stun_client_strength.proofs.EachLemmas.{All, Each, IsOne, answer_each, asked_at}
-use Rattle.stun_client_strength.proofs.EachLemmas.{cancel_each, is_there, numbered, remove_each, replace_each}
-use Rattle.stun_client_strength.proofs.EachLemmas.{same_next, start_each, turn_each}
+use Rattle.stun_client_strength.proofs.EachLemmas.{cancel_each, is_there, numbered, remove_each}
+use Rattle.stun_client_strength.proofs.EachLemmas.{replace_each, same_next, start_each, turn_each}
 use Rattle.stun_client_strength.proofs.PollLemmas.{poll_next, polls_each, sent_datum, timed_is}
 
 -- ---- messages

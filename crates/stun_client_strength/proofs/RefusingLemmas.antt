@@ -33,8 +33,8 @@ use Rattle.stun_client_requests.specs.declared.requests.Request.{Request}
 use Rattle.stun_client_requests.proofs.RequestLemmas.{set_same}
 use Rattle.stun_client_requests.proofs.TimelyLemmas.{named_is_one}
 use Rattle.stun_client_calls.specs.Clients.{Client, Poll, Told, by_polled, changed, changed_at}
-use Rattle.stun_client_calls.specs.Clients.{ends, given_up as given_up_at, handed_out_of, sent_by, told}
-use Rattle.stun_client_calls.specs.Clients.{transmit, waits, with_requests}
+use Rattle.stun_client_calls.specs.Clients.{ends, given_up as given_up_at, handed_out_of, sent_by}
+use Rattle.stun_client_calls.specs.Clients.{told, transmit, waits, with_requests}
 use Rattle.stun_client_calls.specs.Deciding.{DecisionSeen, decided, drops, is_late, is_spent}
 use Rattle.stun_client_calls.specs.Deciding.{refuses, turns_for, unauthorized}
 use Rattle.stun_client_calls.specs.Endpoints.{EndSeen}
@@ -52,7 +52,7 @@ use Rattle.stun_client_strength.specs.Hearing.{message_answered, response_verdic
 use Rattle.stun_client_strength.specs.Refusing.{IsGivenUp, IsRemembered, is_sending, is_sent_in}
 use Rattle.stun_client_strength.specs.Refusing.{sends}
 use Rattle.stun_client_strength.specs.Strength.{OfCall, OfEachPoll}
-use Rattle.stun_client_strength.proofs.EachLemmas.{All, Each, IsOne, is_there, numbered}
+use Rattle.stun_client_strength.proofs.EachLemmas.{All, Each, IsOne, datum_in, is_there, numbered}
 use Rattle.stun_client_strength.proofs.EachLemmas.{replaced_is, some_is, stored_one}
 use Rattle.stun_client_strength.proofs.HeldLemmas.{AreHeld, AreRules, IsMet, call_held, calls_held}
 use Rattle.stun_client_strength.proofs.HeldLemmas.{met_of}
@@ -106,11 +106,6 @@ heard_met from bytes c m is =
 
 abbrev replaced_at : ℕ → AskedSeen → All → ℕ → All
 replaced_at n w r id = record r { table = with_other_datum id (numbered n w) r.table }
-
-abbrev datum_in : All → Option ℕ → Option AskedSeen
-datum_in r o =
-    option_map (λ (x : Request AskedSeen). x.datum)
-    (option_and_then (λ id. datum_at id r.table.attached) o)
 
 pub replaced_there : (n : ℕ) (a w : AskedSeen) (r : All) → datum_of n r ≡ Some a
     → datum_of n (after_replacing n w r) ≡ Some w
@@ -223,7 +218,8 @@ module _ (memory : Memory) (from : SocketAddr) (bytes : List ℕ) (now : ℕ) (c
           or_right (is_reliable c.requests.table.transport) m.asked.refusals.is_earlier earlier
 
   pub third_ends : (x : Answered) → response_verdict c bytes m ≡ refused (Some x)
-      → now ≤ m.asked.until → OTHERS ≤ m.asked.refusals.others → IsGivenUp memory from bytes now m.number c
+      → now ≤ m.asked.until → OTHERS ≤ m.asked.refusals.others
+      → IsGivenUp memory from bytes now m.number c
   third_ends x is in_time many =
       let limits = (judge_of c).limits in
       let spent = is_spent limits m.asked || nat_le OTHERS m.asked.refusals.others in
@@ -502,7 +498,8 @@ pub given_up_then : StaysAClient → (c later : Client) (events : List Event) (n
     (a : AskedSeen) (memory : Memory) (from : SocketAddr) (bytes : List ℕ) (now : ℕ) (m : Met)
     → IsClient c → datum_of number c.requests ≡ Some a → a.refusals.is_recent ≡ true
     → Calls c events later → is_sent_in number events ≡ true
-    → message_answered later from bytes ≡ Some m → m.number ≡ number → response_verdict later bytes m ≡ refused None
+    → message_answered later from bytes ≡ Some m → m.number ≡ number
+    → response_verdict later bytes m ≡ refused None
     → IsGivenUp memory from bytes now number later
 given_up_then stays c later events number a memory from bytes now m is there recent calls sent hears
     named verdict =

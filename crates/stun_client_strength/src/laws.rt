@@ -26,7 +26,7 @@ pub fn refusals_end_requests()
 /// signed one twice. It costs two if the client has a challenge to sign the request for when it
 /// starts.
 ///
-/// Premises (`IsRefused`): each datagram is answered before the next one is sent, one without a
+/// Premises (`IsRefusedRun`): each datagram is answered before the next one is sent, one without a
 /// signature with a challenge and a signed one with the challenge that it is signed for. Other
 /// calls between may be any, if they leave the message of the request and its refusals as they are.
 pub fn a_wrong_password_costs_three_datagrams()

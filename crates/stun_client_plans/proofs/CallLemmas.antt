@@ -93,8 +93,7 @@ module _ (c : Client) (P : All → Type 0) (same : P c.requests)
         sent m.number s.id now m.asked
         (turned memory.is_kept (transaction_id_field bytes) (turn_to s why d) m.asked)
         (new_asked m.asked.method [] 0 None) (record { count = length bytes; moment = Some now })
-        new
-        there
+        new there
 
     spot_so : (why : Why) (d : Option Answered) (o : Option Spot)
         → P (turned_at memory c now bytes m why d o).1.requests

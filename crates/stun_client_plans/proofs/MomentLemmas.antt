@@ -193,8 +193,7 @@ found_first p [] k v e sorted here passes found before = cc
 found_first {X} p (x ∷ xs) k v e sorted here passes found before =
     by (is_at (nat_cmp k) x.0) (p x) refl refl here found
     (λ there among. found_first p xs k v e (sorted_tail nat_cmp x.0 (keys_of xs) sorted)
-    there passes
-    among before)
+    there passes among before)
   where
     by : (b c : Bool) → is_at (nat_cmp k) x.0 ≡ b → p x ≡ c
         → cond b (Some x.1) (lookup (is_at (nat_cmp k)) xs) ≡ Some v

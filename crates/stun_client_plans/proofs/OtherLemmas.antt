@@ -269,8 +269,7 @@ module _ (transport : TransportType) (n id : ℕ) (a : AskedSeen) (t : Transacti
       let it = started_is c method body none in
       subst (λ (x : Client). IfIts x.requests) (sym (it.is_so now))
       (as_it_was (after_start (id_of c.seed it.number) it.bytes c.plan
-      (first_asked c method body now) now
-      c.requests)
+      (first_asked c method body now) now c.requests)
       (starting_holds transport n id q t u c.requests one h (id_of c.seed it.number) it.bytes c.plan
       (first_asked c method body now) now
       (taken (id_of c.seed it.number) (unrefused (id_of c.seed it.number) it.free)) next_apart))

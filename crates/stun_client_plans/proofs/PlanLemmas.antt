@@ -231,14 +231,12 @@ module _ (stays : StaysAClient) (r : Sent) where
             (cond b ((now, says) ∷ said_of r.number more_said) (said_of r.number more_said)))
             (sym quiet.unnamed)
             (follow u k more last (due_after due now says)
-            next mid after more_said is_mid quiet.stands
-            others)
+            next mid after more_said is_mid quiet.stands others)
         | inr (inl sent) ↦
             let at_once : due_after due now says ≡ due = ap (due_after due now) sent.told in
             let tail =
             follow false sent.was sent.now_left sent.was_last (due_after due now says)
-            next mid after
-            more_said is_mid
+            next mid after more_said is_mid
             (subst (λ m. Stands r false sent.was sent.now_left sent.was_last m mid) (sym at_once)
             sent.stands) others in
             said_so (transmit r.number) sent.told (eq-eqb r.number r.number refl)
@@ -278,8 +276,7 @@ module _ (stays : StaysAClient) (r : Sent) where
           next mid after more_said is_mid
           (gone_after u k more last due now c mid is s
           (subst (λ (p : Poll). c.requests.next ≤ p.1.requests.next) polled_so (told_next now c))
-          unknown
-          unsent) others
+          unknown unsent) others
 
 -- ---- a request that is started
 

@@ -359,8 +359,7 @@ module _ (transport : TransportType) (n id : ℕ) (q : Request AskedSeen) (t : T
       r.table.requests x.0 x.1 timers found)) ∙ h.timed) in
       let passes : (is_due r.table.transport now x.1 && repeats x.1.sending) ≡ true =
       found_passes (λ (y : ℕ × Transaction). is_due r.table.transport now y.1 && repeats
-      y.1.sending)
-      r.table.requests x found in
+      y.1.sending) r.table.requests x found in
       let due : is_due r.table.transport now t ≡ true =
       subst (λ (y : Transaction). is_due r.table.transport now y ≡ true) timer
       (left_part (is_due r.table.transport now x.1) (repeats x.1.sending) passes) in
@@ -411,8 +410,7 @@ module _ (transport : TransportType) (n id : ℕ) (q : Request AskedSeen) (t : T
           beside differ o there =
               goes o there (mid_holds false false h
               (not_passed x h found differ (is_reached sent_id id) (is_due r.table.transport now t)
-              refl
-              refl))
+              refl refl))
             where
               goes : (o : Option ℕ) → number_at x.0 r.table.attached ≡ o
                   → Holds transport n id q t false mid

@@ -387,8 +387,7 @@ module _ (r : Sent) (u : Bool) (k more last due now : ℕ) (c : Client) (is : Is
   quiet_says (Of.Wait until, x) ones quiet = record {
     unnamed = refl;
     stands = stands_with r u k more last due (due_after due now (waits until)) c (with_requests x c)
-        s
-        s.asked quiet.holds refl
+        s s.asked quiet.holds refl
         (wait_low r u k more last due c s now until
         (λ m some. quiet.awaits m (ap (λ o. Of.Wait o) some)))
         (λ on. absurd (quiet.sent_first on until refl));
@@ -575,24 +574,21 @@ module _ (r : Sent) (u : Bool) (k more last due now : ℕ) (c : Client) (is : Is
       elim (polled_goes transport r.number s.id q s.timer now c.requests is.requests.one
       is.requests.ascending is.timers s.goes_on u s.holds) [
         | inl quiet ↦ inl (quiet_says (polled now c.requests)
-            (λ m said. named_is_one now m c.requests is.requests.one said)
-            quiet)
+            (λ m said. named_is_one now m c.requests is.requests.one said) quiet)
         | inr (inl first) ↦
             subst (λ (x : Polled AskedSeen EndSeen). Says r u k more last due now
             (by_polled now (mid (polled now c.requests)) x)) (sym first.told)
             (first_says (polled now c.requests)
             (named_is_one now r.number c.requests is.requests.one first.told)
             (subst Ascend (sym (named_known now r.number c.requests first.told))
-            is.requests.ascending)
-            first)
+            is.requests.ascending) first)
         | inr (inr (inl again)) ↦
             subst (λ (x : Polled AskedSeen EndSeen). Says r u k more last due now
             (by_polled now (mid (polled now c.requests)) x)) (sym again.told)
             (again_says (polled now c.requests)
             (named_is_one now r.number c.requests is.requests.one again.told)
             (subst Ascend (sym (named_known now r.number c.requests again.told))
-            is.requests.ascending)
-            again)
+            is.requests.ascending) again)
         | inr (inr (inr over)) ↦
             subst (λ (x : Polled AskedSeen EndSeen). Says r u k more last due now
             (by_polled now (mid (polled now c.requests)) x)) (sym over.told)

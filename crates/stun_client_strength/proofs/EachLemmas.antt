@@ -250,6 +250,12 @@ turn_each P r each sorted n w a id bytes plan datum now own = by (id_at n r.numb
 
 -- ---- one request
 
+-- what is stored under an ID
+abbrev pub datum_in : All → Option ℕ → Option AskedSeen
+datum_in r o =
+    option_map (λ (x : Request AskedSeen). x.datum)
+    (option_and_then (λ id. datum_at id r.table.attached) o)
+
 -- a request is stored under its ID, which is named
 pub record IsThere (n : ℕ) (a : AskedSeen) (r : All) : Type 0 where
   pub id : ℕ

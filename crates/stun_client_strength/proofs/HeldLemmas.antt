@@ -1,6 +1,6 @@
 -- What holds of the standing challenges of a client, and of each request, after each change that a
 -- call makes, holds over any calls.
-use Rattle.std.proofs.Common.{◌≡◌, ◌∙◌, ◌≤◌, ◌+◌, ℕ, Bool, true, false, List, [], ◌∷◌, length}
+use Rattle.std.proofs.Common.{◌≡◌, ◌∙◌, ◌≤◌, ℕ, Bool, true, false, List, [], ◌∷◌, length}
 use Rattle.std.proofs.Common.{Option, Some, None, Ok, Err, ap, arith, cond, refl, subst, sym}
 use Rattle.std.specs.Option.{is_some, option_and_then, option_map, option_map_or}
 use Rattle.std.specs.Prelude.{◌==◌, find}
@@ -26,7 +26,7 @@ use Rattle.stun_client_endpoint.specs.Written.{Form, Page?}
 use Rattle.stun_client_endpoint.specs.declared.ended.DropReason.{DropReason}
 use Rattle.stun_client_endpoint.specs.declared.ended.DropReason.TheVariants as Reasons
 use Rattle.stun_client_endpoint.specs.declared.ended.RequestEnd.TheVariants as how
-use Rattle.stun_client_endpoint.specs.declared.told.Received.TheVariants.{Indication, NotOurs}
+use Rattle.stun_client_endpoint.specs.declared.told.Received.TheVariants.{NotOurs}
 use Rattle.stun_client_requests.specs.Numbers.{id_at}
 use Rattle.stun_client_requests.specs.Requests.{Answering, Poll as PollOf, after_again}
 use Rattle.stun_client_requests.specs.Requests.{after_replacing, datum_of, number_at, polled}
@@ -47,7 +47,7 @@ use Rattle.stun_client_calls.specs.Messages.{new_asked, stepped_back, turned}
 use Rattle.stun_client_calls.specs.Receiving.{Answer, Memory, Met, Spot, UnlessMemory, answered_by}
 use Rattle.stun_client_calls.specs.Receiving.{answered_in, as_current, as_earlier, as_expected}
 use Rattle.stun_client_calls.specs.Receiving.{by_class, by_decision, by_met, decision_for}
-use Rattle.stun_client_calls.specs.Receiving.{dropping, dropping_refusal, earlier_of, ended_by}
+use Rattle.stun_client_calls.specs.Receiving.{dropping, earlier_of, ended_by}
 use Rattle.stun_client_calls.specs.Receiving.{forgone, if_method, judge_of, met, met_by, moment_of}
 use Rattle.stun_client_calls.specs.Receiving.{received, spot_of, turn_to, turned_at, turned_by}
 use Rattle.stun_client_calls.specs.Receiving.{turned_to, unwritten, without_memory}
@@ -62,8 +62,8 @@ use Rattle.stun_client_calls.proofs.ReceivingLemmas.{met_is_stored}
 use Rattle.stun_client_runs.specs.Kept.{IsClient, StaysAClient}
 use Rattle.stun_client_strength.specs.Strength.{OfCall, OfEachPoll}
 use Rattle.stun_client_strength.proofs.EachLemmas.{All, Each, IsOne, answer_each, asked_at}
-use Rattle.stun_client_strength.proofs.EachLemmas.{cancel_each, is_there, numbered, remove_each, replace_each}
-use Rattle.stun_client_strength.proofs.EachLemmas.{same_next, start_each, turn_each}
+use Rattle.stun_client_strength.proofs.EachLemmas.{cancel_each, is_there, numbered, remove_each}
+use Rattle.stun_client_strength.proofs.EachLemmas.{replace_each, same_next, start_each, turn_each}
 use Rattle.stun_client_strength.proofs.PollLemmas.{poll_next, polls_each, sent_datum, timed_is}
 
 -- ---- messages

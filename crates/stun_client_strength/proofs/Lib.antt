@@ -14,3 +14,5 @@ pub mod RuleLemmas
 pub mod StrengthLemmas
 -- what a refusal comes to
 pub mod RefusingLemmas
+-- how often the bytes of a request are handed out that is refused
+pub mod CostLemmas

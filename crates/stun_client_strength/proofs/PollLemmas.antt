@@ -1,10 +1,11 @@
 -- What a poll of the table says of its requests, and what it leaves of them.
-use Rattle.std.proofs.Common.{◌≡◌, ◌∙◌, ℕ, Bool, true, false, List, [], ◌∷◌, Option, Some, None}
+use Rattle.std.proofs.Common.{◌≡◌, ◌∙◌, ℕ, false, Option, Some, None}
 use Rattle.std.proofs.Common.{ap, refl, subst, sym}
-use Rattle.std.specs.Option.{option_and_then}
-use Rattle.stun_agent.specs.Tables.{TableSeen, after_transmission, datum_at, over_in}
-use Rattle.stun_agent.specs.Transactions.{Transaction}
-use Rattle.stun_client_requests.specs.Numbers.{end_of_first, first_unsent}
+use Rattle.std.specs.Option.{IsSome, is_some, option_and_then, option_map}
+use Rattle.stun_agent.specs.Tables.{after_transmission, datum_at, over_in}
+use Rattle.stun_agent.specs.Transactions.{Transaction, at as transaction_at}
+use Rattle.stun_client_requests.specs.Numbers.{end_of_first, first_unsent, id_at}
+use Rattle.stun_client_requests.specs.Requests.{bytes_at}
 use Rattle.stun_client_requests.specs.Requests.{datum_of, ends_or, over, over_or, polled, repeated}
 use Rattle.stun_client_requests.specs.Requests.{repeats_or, unsent_or}
 use Rattle.stun_client_requests.specs.declared.requests.Polled.{Polled}
@@ -15,8 +16,9 @@ use Rattle.stun_client_requests.proofs.RequestLemmas.{attached_sent}
 use Rattle.stun_client_requests.proofs.TimelyLemmas.{named_is_one}
 use Rattle.stun_client_calls.specs.Endpoints.{EndSeen}
 use Rattle.stun_client_calls.specs.Messages.{AskedSeen}
-use Rattle.stun_client_strength.proofs.EachLemmas.{All, Each, IsOne, Stored, is_there, numbered}
-use Rattle.stun_client_strength.proofs.EachLemmas.{over_each, some_is, stored_one}
+use Rattle.stun_client_strength.proofs.EachLemmas.{All, Each, IsOne, Stored, datum_in, is_there}
+use Rattle.stun_client_strength.proofs.EachLemmas.{numbered}
+use Rattle.stun_client_strength.proofs.EachLemmas.{over_each, stored_one}
 
 -- the requests once what is due is sent again
 abbrev sent_again : ℕ → All → All
@@ -127,3 +129,31 @@ sent_datum now r n a one says some =
     (stored_one t.id (numbered n a) r one
     (polls_each (λ id q. datum_at id r.table.attached ≡ Some q) r (λ id q there. there) one.in_order
     now t.id (numbered n a) t.there)).1
+
+-- a request whose bytes are there is outstanding
+pub record IsOutstanding (number : ℕ) (r : All) : Type 0 where
+  pub asked : AskedSeen
+  pub there : datum_of number r ≡ Some asked
+
+pub outstanding : (number : ℕ) (r : All) → IsOne r → IsSome (bytes_at number r)
+    → IsOutstanding number r
+outstanding number r one some = by (id_at number r.numbers) refl
+  where
+    stored : (id : ℕ) → id_at number r.numbers ≡ Some id
+        → (o : Option (Request AskedSeen)) → datum_at id r.table.attached ≡ o
+        → option_map (λ q. q.number) o ≡ Some number → IsOutstanding number r
+    stored id named None there numbers = cc
+    stored id named (Some q) there numbers = record {
+      asked = q.datum;
+      there = ap (λ o. datum_in r o) named
+          ∙ ap (λ (o : Option (Request AskedSeen)). option_map (λ x. x.datum) o) there;
+    }
+
+    by : (o : Option ℕ) → id_at number r.numbers ≡ o → IsOutstanding number r
+    by None named =
+        let none : is_some (bytes_at number r) ≡ false =
+        ap (λ o. is_some (option_and_then (λ id. option_map (λ (t : Transaction). t.bytes)
+        (transaction_at id r.table.requests)) o)) named in
+        cc
+    by (Some id) named =
+        stored id named (datum_at id r.table.attached) refl (one.timed number id named)

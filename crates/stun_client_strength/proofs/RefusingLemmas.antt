@@ -3,7 +3,7 @@ use Rattle.std.proofs.Common.{◌≡◌, ◌∙◌, ◌⊎◌, ◌≤◌, ◌+�
 use Rattle.std.proofs.Common.{◌∷◌, length, Option, Some, None, ap, arith, cond, refl, subst, sym}
 use Rattle.std.specs.Bool.{⊤}
 use Rattle.std.specs.Option.{is_some, option_and_then, option_map, option_map_or}
-use Rattle.std.specs.Prelude.{◌==◌, ◌||◌, nat_le}
+use Rattle.std.specs.Prelude.{◌||◌, nat_le}
 use Rattle.std.specs.declared.net.socket_addr.SocketAddr.{SocketAddr}
 use Rattle.std.proofs.lemmas.Bool.{eqb-true, le-leb, le-ltb}
 use Rattle.stun_base.specs.MessageType.{class_in, is_response}
@@ -12,7 +12,6 @@ use Rattle.stun_base.specs.declared.wire.message_type.MessageClass.TheVariants a
 use Rattle.stun_base.specs.declared.wire.transport.TransportType.TheVariants.{Tcp, Udp}
 use Rattle.stun_types.specs.Message.{refusal}
 use Rattle.stun_agent.specs.Tables.{after_answer, datum_at, set_datum, with_other_datum}
-use Rattle.stun_agent.specs.Transactions.{Transactions}
 use Rattle.stun_agent.proofs.Ascending.{lookup-insert_same}
 use Rattle.stun_extra.specs.CanonicalAddress.{is_same_address}
 use Rattle.stun_client.specs.Challenges.{Answered}
@@ -34,14 +33,14 @@ use Rattle.stun_client_requests.specs.declared.requests.Request.{Request}
 use Rattle.stun_client_requests.proofs.RequestLemmas.{set_same}
 use Rattle.stun_client_requests.proofs.TimelyLemmas.{named_is_one}
 use Rattle.stun_client_calls.specs.Clients.{Client, Poll, Told, by_polled, changed, changed_at}
-use Rattle.stun_client_calls.specs.Clients.{ends, given_up as given_up_at, handed_out_of, sent_by, told}
-use Rattle.stun_client_calls.specs.Clients.{transmit, waits, with_requests}
+use Rattle.stun_client_calls.specs.Clients.{ends, given_up as given_up_at, handed_out_of, sent_by}
+use Rattle.stun_client_calls.specs.Clients.{told, transmit, waits, with_requests}
 use Rattle.stun_client_calls.specs.Deciding.{DecisionSeen, decided, drops, is_late, is_spent}
 use Rattle.stun_client_calls.specs.Deciding.{refuses, turns_for, unauthorized}
 use Rattle.stun_client_calls.specs.Endpoints.{EndSeen}
-use Rattle.stun_client_calls.specs.Messages.{AskedSeen, TurnSeen, refusing, sent_out, turned}
-use Rattle.stun_client_calls.specs.Receiving.{Answer, Memory, Met, answered_in, by_class}
-use Rattle.stun_client_calls.specs.Receiving.{by_decision, by_met, decision_for, dropping_refusal, judge_of}
+use Rattle.stun_client_calls.specs.Messages.{AskedSeen, refusing, sent_out}
+use Rattle.stun_client_calls.specs.Receiving.{Memory, Met, answered_in, by_class}
+use Rattle.stun_client_calls.specs.Receiving.{by_decision, by_met, dropping_refusal, judge_of}
 use Rattle.stun_client_calls.specs.Receiving.{received, unauthorized_by}
 use Rattle.stun_client_calls.specs.Runs.{Call, Calls, Event, call, changes_nothing, ends_one}
 use Rattle.stun_client_calls.specs.Runs.{no_call, polled as says_so, polls, receives, requests}
@@ -53,7 +52,7 @@ use Rattle.stun_client_strength.specs.Hearing.{message_answered, response_verdic
 use Rattle.stun_client_strength.specs.Refusing.{IsGivenUp, IsRemembered, is_sending, is_sent_in}
 use Rattle.stun_client_strength.specs.Refusing.{sends}
 use Rattle.stun_client_strength.specs.Strength.{OfCall, OfEachPoll}
-use Rattle.stun_client_strength.proofs.EachLemmas.{All, Each, IsOne, is_there, numbered}
+use Rattle.stun_client_strength.proofs.EachLemmas.{All, Each, IsOne, datum_in, is_there, numbered}
 use Rattle.stun_client_strength.proofs.EachLemmas.{replaced_is, some_is, stored_one}
 use Rattle.stun_client_strength.proofs.HeldLemmas.{AreHeld, AreRules, IsMet, call_held, calls_held}
 use Rattle.stun_client_strength.proofs.HeldLemmas.{met_of}
@@ -108,11 +107,6 @@ heard_met from bytes c m is =
 abbrev replaced_at : ℕ → AskedSeen → All → ℕ → All
 replaced_at n w r id = record r { table = with_other_datum id (numbered n w) r.table }
 
-abbrev datum_in : All → Option ℕ → Option AskedSeen
-datum_in r o =
-    option_map (λ (x : Request AskedSeen). x.datum)
-    (option_and_then (λ id. datum_at id r.table.attached) o)
-
 pub replaced_there : (n : ℕ) (a w : AskedSeen) (r : All) → datum_of n r ≡ Some a
     → datum_of n (after_replacing n w r) ≡ Some w
 replaced_there n a w r some = by (id_at n r.numbers) refl some
@@ -146,7 +140,7 @@ changed_timers n w r = by (id_at n r.numbers)
     by None = refl
     by (Some id) = refl
 
-ended_there : (n count : ℕ) (moment : Option ℕ) (end : EndSeen) (a : AskedSeen) (r : All)
+pub ended_there : (n count : ℕ) (moment : Option ℕ) (end : EndSeen) (a : AskedSeen) (r : All)
     → datum_of n r ≡ Some a
     → known_at n (after_answering n count moment end r).numbers.known ≡ Some (Ended end)
 ended_there n count moment end a r some = by (id_at n r.numbers) some
@@ -171,7 +165,7 @@ module _ (memory : Memory) (from : SocketAddr) (bytes : List ℕ) (now : ℕ) (c
       ∙ ap (λ (x : Verdict). by_decision memory c now bytes m
       (decided (judge_of c).limits c.standing now m.asked x)) is
 
-  decides : (v : Verdict) (d : DecisionSeen) → response_verdict c bytes m ≡ v
+  pub decides : (v : Verdict) (d : DecisionSeen) → response_verdict c bytes m ≡ v
       → decided (judge_of c).limits c.standing now m.asked v ≡ d
       → received memory from bytes now c ≡ by_decision memory c now bytes m d
   decides v d is so =
@@ -224,7 +218,8 @@ module _ (memory : Memory) (from : SocketAddr) (bytes : List ℕ) (now : ℕ) (c
           or_right (is_reliable c.requests.table.transport) m.asked.refusals.is_earlier earlier
 
   pub third_ends : (x : Answered) → response_verdict c bytes m ≡ refused (Some x)
-      → now ≤ m.asked.until → OTHERS ≤ m.asked.refusals.others → IsGivenUp memory from bytes now m.number c
+      → now ≤ m.asked.until → OTHERS ≤ m.asked.refusals.others
+      → IsGivenUp memory from bytes now m.number c
   third_ends x is in_time many =
       let limits = (judge_of c).limits in
       let spent = is_spent limits m.asked || nat_le OTHERS m.asked.refusals.others in
@@ -503,7 +498,8 @@ pub given_up_then : StaysAClient → (c later : Client) (events : List Event) (n
     (a : AskedSeen) (memory : Memory) (from : SocketAddr) (bytes : List ℕ) (now : ℕ) (m : Met)
     → IsClient c → datum_of number c.requests ≡ Some a → a.refusals.is_recent ≡ true
     → Calls c events later → is_sent_in number events ≡ true
-    → message_answered later from bytes ≡ Some m → m.number ≡ number → response_verdict later bytes m ≡ refused None
+    → message_answered later from bytes ≡ Some m → m.number ≡ number
+    → response_verdict later bytes m ≡ refused None
     → IsGivenUp memory from bytes now number later
 given_up_then stays c later events number a memory from bytes now m is there recent calls sent hears
     named verdict =

@@ -11,7 +11,7 @@ use Rattle.stun_client.specs.Standing.{StandingSeen}
 use Rattle.stun_client_endpoint.specs.Refusals.{OTHERS}
 use Rattle.stun_client_endpoint.specs.declared.ended.DropReason.TheVariants.{LateChallenge}
 use Rattle.stun_client_endpoint.specs.declared.ended.DropReason.TheVariants.{NotVerified}
-use Rattle.stun_client_calls.specs.Deciding.{DecisionSeen, Place, back_to, decided, drops}
+use Rattle.stun_client_calls.specs.Deciding.{Place, back_to, decided, drops}
 use Rattle.stun_client_calls.specs.Deciding.{giving_way, is_idle, is_late, is_spent, place_of}
 use Rattle.stun_client_calls.specs.Deciding.{refuses, turns, unauthorized, undoubted}
 use Rattle.stun_client_calls.specs.Messages.{AskedSeen, SentSeen, eligible, has_unsigned, is_doubt}

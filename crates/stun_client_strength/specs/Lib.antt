@@ -6,3 +6,5 @@ pub mod Hearing
 pub mod Strength
 -- how often a request may be refused
 pub mod Refusing
+-- how many datagrams a wrong password costs
+pub mod Costs

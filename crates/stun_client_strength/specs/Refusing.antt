@@ -89,4 +89,5 @@ RefusalsAreRemembered =
     (from : SocketAddr) (bytes : List ℕ) (now : ℕ) (m : Met) → IsClient c
     → datum_of number c.requests ≡ Some a → a.refusals.is_recent ≡ true → Calls c events later
     → is_sent_in number events ≡ true → message_answered later from bytes ≡ Some m
-    → m.number ≡ number → response_verdict later bytes m ≡ refused None → IsGivenUp memory from bytes now number later
+    → m.number ≡ number → response_verdict later bytes m ≡ refused None
+    → IsGivenUp memory from bytes now number later

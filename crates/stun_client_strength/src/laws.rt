@@ -1,4 +1,5 @@
 //! What a client sends is not bid down, and how soon it gives up.
+ghost use Rattle.stun_client_strength.specs.Costs.{CostsThreeDatagrams};
 ghost use Rattle.stun_client_strength.specs.Refusing.{RefusalsAreRemembered, SecondRefusalsEnd};
 ghost use Rattle.stun_client_strength.specs.Refusing.{ThirdRefusalsEnd};
 ghost use Rattle.stun_client_strength.specs.Strength.{NewRequestsAreStrong, NothingIsBidDown};
@@ -19,6 +20,20 @@ pub fn refusals_end_requests()
     ensures third { ThirdRefusalsEnd }
 {
     stun_client_runs::laws::clients_stay_in_order();
+}
+
+/// A request with a wrong password costs at most three datagrams: one without a signature, and the
+/// signed one twice. It costs two if the client has a challenge to sign the request for when it
+/// starts.
+///
+/// Premises (`IsRefusedRun`): each datagram is answered before the next one is sent, one without a
+/// signature with a challenge and a signed one with the challenge that it is signed for. Other
+/// calls between may be any, if they leave the message of the request and its refusals as they are.
+pub fn a_wrong_password_costs_three_datagrams()
+    ensures { CostsThreeDatagrams }
+{
+    stun_client_runs::laws::clients_stay_in_order();
+    stun_client_runs::laws::what_is_to_be_sent_is_there();
 }
 
 /// No downgrade, of the bytes that `poll` says to send. Whatever datagrams a client with long-term

@@ -12,5 +12,4 @@ returns-clause-answered v = λ memory from bytes now c m by is.
 pub returns-clause-said : goal.returns-clause-said
 returns-clause-said v = λ c later last between now number end said is ended calls says_so.
     said_as_it_came v.clients_stay_in_order.ensures.stays number end said c later last between now
-    is
-    ended calls says_so
+    is ended calls says_so

@@ -1,41 +1,38 @@
 -- What holds of the challenges of a client holds over any calls.
-use Rattle.std.proofs.Common.{◌≡◌, ◌∙◌, ℕ, Bool, true, false, List, [], ◌∷◌, Option, Some, None}
-use Rattle.std.proofs.Common.{Ok, ap, arith, refl, subst, sym}
+use Rattle.std.proofs.Common.{◌≡◌, ◌∙◌, ℕ, Bool, true, List, [], ◌∷◌, Option, Some, None}
+use Rattle.std.proofs.Common.{Ok, ap, arith, refl, sym}
 use Rattle.std.specs.Bool.{⊤}
 use Rattle.std.specs.Prelude.{IsUtf8}
-use Rattle.std.specs.Option.{IfSome, IsSome, is_some, option_and_then, option_map}
-use Rattle.stun_agent.specs.Tables.{datum_at}
-use Rattle.stun_agent.specs.Transactions.{Transaction, at as transaction_at}
+use Rattle.std.specs.Option.{IfSome}
 use Rattle.stun_auth.specs.Signed.{IsText}
 use Rattle.stun_client.specs.Challenges.{Answered}
 use Rattle.stun_client.specs.Clients.{confirming}
 use Rattle.stun_client.specs.Judging.{Identity, long_term}
-use Rattle.stun_client.specs.Rule.{IsByRule, IsChosen}
-use Rattle.stun_client.specs.Standing.{StandingSeen, after_success, confirmed, is_standing}
-use Rattle.stun_client.specs.Standing.{is_stronger_than}
+use Rattle.stun_client.specs.Rule.{IsChosen}
+use Rattle.stun_client.specs.Standing.{after_success, confirmed}
 use Rattle.stun_client.proofs.ChosenLemmas.{chosen_of_rule}
 use Rattle.stun_base.specs.MessageType.{class_in}
 use Rattle.stun_client_endpoint.specs.Written.{Form, request_bytes}
 use Rattle.stun_client_calls.specs.Receiving.{is_success_class}
 use Rattle.stun_client_requests.specs.Numbers.{id_at}
-use Rattle.stun_client_requests.specs.Requests.{bytes_at, datum_of}
-use Rattle.stun_client_requests.specs.declared.requests.Request.{Request}
+use Rattle.stun_client_requests.specs.Requests.{datum_of}
 use Rattle.stun_client_calls.specs.Clients.{Client, Told, ends, started, told, transmit}
-use Rattle.stun_client_calls.specs.Deciding.{DecisionSeen, answered}
-use Rattle.stun_client_calls.specs.Messages.{AskedSeen, challenge_for}
+use Rattle.stun_client_calls.specs.Deciding.{DecisionSeen}
+use Rattle.stun_client_calls.specs.Messages.{AskedSeen}
 use Rattle.stun_client_calls.specs.Receiving.{Answer, Memory, Met, by_decision, received}
 use Rattle.stun_client_calls.specs.Runs.{Call, Calls, Event, call, changes_nothing, ends_one}
 use Rattle.stun_client_calls.specs.Runs.{next_number, no_call, polled, polls, receives, requests}
 use Rattle.stun_client_calls.specs.Runs.{starts}
 use Rattle.stun_client_endpoint.specs.declared.ended.RequestEnd.TheVariants as how
-use Rattle.stun_client_runs.specs.Kept.{IsClient, StaysAClient}
+use Rattle.stun_client_runs.specs.Kept.{IsClient}
 use Rattle.stun_requests.specs.ReadBack.{added_to}
-use Rattle.stun_client_strength.specs.Strength.{IsByRuleFor, IsNoWeaker, IsSentStrongly, NewClient}
+use Rattle.stun_client_strength.specs.Strength.{IsByRuleFor, NewClient}
 use Rattle.stun_client_strength.specs.Strength.{OfCall, OfEachPoll, SaysNoTimeout, as_before}
 use Rattle.stun_client_strength.specs.Strength.{in_doubt}
 use Rattle.stun_client_strength.specs.Strength.{IsStrongSince, made_of, signed}
-use Rattle.stun_client_strength.proofs.EachLemmas.{is_there, numbered, some_is, stored_one}
-use Rattle.stun_client_strength.proofs.HeldLemmas.{AreHeld, calls_held, poll_held, started_held}
+use Rattle.stun_client_strength.proofs.EachLemmas.{is_there, numbered, stored_one}
+use Rattle.stun_client_strength.proofs.HeldLemmas.{AreHeld, calls_held, poll_held}
+use Rattle.stun_client_strength.proofs.PollLemmas.{outstanding}
 use Rattle.stun_client_strength.proofs.RefusingLemmas.{heard_comes}
 use Rattle.stun_client_strength.proofs.RuleLemmas.{AreFine, ChallengeLaws, IsFine, IsFineFor}
 use Rattle.stun_client_strength.proofs.RuleLemmas.{always, fine_rules, sent_there}
@@ -135,7 +132,8 @@ returns-clause-any g = λ c e later last before between method body start now te
     let first = started method body start e in
     let stays = g.clients_stay_in_order.ensures.stays in
     let e_is = stays (made_of c) e before (made_is g c) begun in
-    let made : Call e (starts number) first = requests e first method body start in_time none refl in
+    let made : Call e (starts number) first =
+    requests e first method body start in_time none refl in
     let first_is = stays e first (starts number ∷ []) e_is
     (call e first first (starts number) [] made (no_call first)) in
     let later_is = stays first later between first_is calls in
@@ -223,8 +221,8 @@ module _ (g : goal.After-requests_can_be_written) (c : NewClient) (strong : Answ
     strong_begins before begun is =
         let sound = calls_held (who_of c) c.form 0 IsSound any_asked always
         (sound_rules g.requests_never_turn_to_weaker_messages.ensures (who_of c)) no_fact
-        (λ x n a its there. tt) g.clients_stay_in_order.ensures.stays (made_of c) before e (made_is g c)
-        begun (of_calls (made_of c) before e begun) (record {
+        (λ x n a its there. tt) g.clients_stay_in_order.ensures.stays (made_of c) before e
+        (made_is g c) begun (of_calls (made_of c) before e begun) (record {
           identity_is = refl;
           form_is = refl;
           next_is = omega arith;
@@ -242,8 +240,9 @@ module _ (g : goal.After-requests_can_be_written) (c : NewClient) (strong : Answ
           asked = λ id q there. by_time q.datum there refl;
         }
 
-    strong_calls : (later : Client) (events : List Event) → IsClient e → (calls : Calls e events later)
-        → OfEachPoll SaysNoTimeout e events later calls → Strong e → Strong later
+    strong_calls : (later : Client) (events : List Event) → IsClient e
+        → (calls : Calls e events later) → OfEachPoll SaysNoTimeout e events later calls
+        → Strong e → Strong later
     strong_calls later events is calls usual held =
         calls_held (who_of c) c.form 0 (AreStrong strong)
         (IsStrongFor strong e.requests.table.attached) is_other
@@ -257,8 +256,8 @@ module _ (g : goal.After-requests_can_be_written) (c : NewClient) (strong : Answ
         poll_held (who_of c) c.form 0 (AreStrong strong)
         (IsStrongFor strong e.requests.table.attached) is_other
         (strong_rules g.requests_never_turn_to_weaker_messages.ensures (who_of c) strong
-        e.requests.table.attached) SaysNoTimeout lets_other now later last (transmit number) is said tt
-        held
+        e.requests.table.attached) SaysNoTimeout lets_other now later last (transmit number) is said
+        tt held
 
     -- a request that is so is sent strongly
     since : (number : ℕ) (last : Client) (a : AskedSeen) (id : ℕ) → IsClient e
@@ -276,42 +275,9 @@ module _ (g : goal.After-requests_can_be_written) (c : NewClient) (strong : Answ
           signed_for = same;
         })
 
--- a request whose bytes are there is outstanding
-record IsOutstanding (number : ℕ) (c : Client) : Type 0 where
-  asked : AskedSeen
-  there : datum_of number c.requests ≡ Some asked
-
-abbrev datum_in : Client → Option ℕ → Option AskedSeen
-datum_in c o =
-    option_map (λ (q : Request AskedSeen). q.datum)
-    (option_and_then (λ id. datum_at id c.requests.table.attached) o)
-
-outstanding : (number : ℕ) (c : Client) → IsClient c → IsSome (bytes_at number c.requests)
-    → IsOutstanding number c
-outstanding number c is some = by (id_at number c.requests.numbers) refl
-  where
-    stored : (id : ℕ) → id_at number c.requests.numbers ≡ Some id → (o : Option (Request AskedSeen))
-        → datum_at id c.requests.table.attached ≡ o → option_map (λ q. q.number) o ≡ Some number
-        → IsOutstanding number c
-    stored id named None there numbers = cc
-    stored id named (Some q) there numbers = record {
-      asked = q.datum;
-      there = ap (λ o. datum_in c o) named
-          ∙ ap (λ (o : Option (Request AskedSeen)). option_map (λ x. x.datum) o) there;
-    }
-
-    by : (o : Option ℕ) → id_at number c.requests.numbers ≡ o → IsOutstanding number c
-    by None named =
-        let none : is_some (bytes_at number c.requests) ≡ false =
-        ap (λ o. is_some (option_and_then (λ id. option_map (λ (t : Transaction). t.bytes)
-        (transaction_at id c.requests.table.requests)) o)) named in
-        cc
-    by (Some id) named =
-        stored id named (datum_at id c.requests.table.attached) refl
-        (is.requests.one.timed number id named)
-
 pub returns-clause-since : goal.returns-clause-since
-returns-clause-since g = λ c e later last before between strong now number begun is calls usual said.
+returns-clause-since g = λ c e later last before between strong now number begun is calls usual
+    said.
     let stays = g.clients_stay_in_order.ensures.stays in
     let e_is = stays (made_of c) e before (made_is g c) begun in
     let later_is = stays e later between e_is calls in
@@ -321,7 +287,7 @@ returns-clause-since g = λ c e later last before between strong now number begu
     let held = strong_poll g c strong e now number later last later_is said
     (strong_calls g c strong e later between e_is calls usual
     (strong_begins g c strong e before begun is)) in
-    let out = outstanding number last last_is
+    let out = outstanding number last.requests last_is.requests.one
     (g.what_is_to_be_sent_is_there.ensures now number later last later_is said) in
     let t = is_there number out.asked last.requests last_is.requests.one out.there in
     record {

@@ -14,7 +14,7 @@ use Rattle.stun_client.specs.Challenging.{code_in}
 use Rattle.stun_client.specs.Ids.{id_of}
 use Rattle.stun_client.specs.Judging.{anew, refused}
 use Rattle.stun_client_endpoint.specs.Bodies.{Body}
-use Rattle.stun_client_endpoint.specs.Endpoints.{is_reliable}
+use Rattle.stun_client_endpoint.specs.Settings.{is_reliable}
 use Rattle.stun_client_endpoint.specs.Refusals.{after_refusal, after_sending}
 use Rattle.stun_client_endpoint.specs.Written.{Page?}
 use Rattle.stun_client_endpoint.specs.declared.ended.DropReason.TheVariants.{LateChallenge}

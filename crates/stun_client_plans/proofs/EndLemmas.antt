@@ -32,7 +32,7 @@ use Rattle.stun_client_calls.specs.Runs.{Call, Calls, Event, call, changes_nothi
 use Rattle.stun_client_calls.specs.Runs.{no_call, polls, receives, requests}
 use Rattle.stun_client_calls.proofs.ReceivingLemmas.{met_is_stored}
 use Rattle.stun_client_runs.specs.Kept.{IsClient, StaysAClient}
-use Rattle.stun_client_plans.specs.Ends.{IsBelieved, IsEndedAs}
+use Rattle.stun_client_plans.specs.Ends.{IsBelievedResponse, IsEndedAs}
 use Rattle.stun_client_plans.proofs.HoldLemmas.{All}
 use Rattle.stun_client_plans.proofs.OtherLemmas.{stored_id}
 use Rattle.stun_client_plans.proofs.PlanLemmas.{stays_one}
@@ -64,7 +64,7 @@ answering_ends n count a moment end r there =
     (lookup-insert_same n (Numbers.Ended end) r.numbers.known)
 
 module _ (memory : Memory) (from : SocketAddr) (bytes : List ℕ) (now : ℕ) (c : Client) (m : Met)
-    (by : Option IntegrityAlgorithm) (is : IsBelieved from bytes now c m by) where
+    (by : Option IntegrityAlgorithm) (is : IsBelievedResponse from bytes now c m by) where
   abbrev answered_end : EndSeen
   answered_end = record { end = how.Answered (outcome_of c.understood bytes) by; response = bytes }
 

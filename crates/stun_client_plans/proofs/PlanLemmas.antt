@@ -30,7 +30,7 @@ use Rattle.stun_client_runs.specs.Kept.{IsClient, StaysAClient}
 use Rattle.stun_client_plans.specs.Plan.{CallsInTime, ComesWithin, GoesOnByPlan, IsSentByPlan}
 use Rattle.stun_client_plans.specs.Plan.{awaits, begins, due_after, id_of_request, is_given_up}
 use Rattle.stun_client_plans.specs.Plan.{is_never_sent, is_poll, is_unsent, no_more, other, poll}
-use Rattle.stun_client_plans.specs.Plan.{said_of, sends, times_out, unanswered}
+use Rattle.stun_client_plans.specs.Plan.{said_of, sends, times_out, unanswered_end}
 use Rattle.stun_client_plans.proofs.CallLemmas.{started_is}
 use Rattle.stun_client_plans.proofs.MomentLemmas.{awaited_end, awaited_slot, first_moment}
 use Rattle.stun_client_plans.proofs.MomentLemmas.{late_together, one_more, sent_at}
@@ -243,13 +243,13 @@ module _ (stays : StaysAClient) (r : Sent) where
             (sends_next r u k more last due now next c says mid s early soon sent
             (said_of r.number more_said) tail)
         | inr (inr (inl given)) ↦
-            said_so (ends r.number (unanswered given.drops)) given.told
+            said_so (ends r.number (unanswered_end given.drops)) given.told
             (eq-eqb r.number r.number refl)
             (subst (λ (xs : List (ℕ × Told)). Follows r u next k last ((now, says) ∷ xs))
             (sym (nothing given.unknown given.unsent))
             (given_up_there r u k more last due now next c says mid s early soon given))
         | inr (inr (inr over)) ↦
-            said_so (ends r.number (unanswered over.drops)) over.told
+            said_so (ends r.number (unanswered_end over.drops)) over.told
             (eq-eqb r.number r.number refl)
             (subst (λ (xs : List (ℕ × Told)). Follows r u next k last ((now, says) ∷ xs))
             (sym (nothing over.unknown over.unsent))

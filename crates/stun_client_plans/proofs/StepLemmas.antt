@@ -32,7 +32,7 @@ use Rattle.stun_client_calls.specs.Runs.{is_told_of}
 use Rattle.stun_client_calls.specs.declared.asked.Change.TheVariants.{SentOut}
 use Rattle.stun_client_runs.specs.Kept.{IsClient}
 use Rattle.stun_client_plans.specs.Plan.{ComesWithin, due_after, plan_ends, request_due}
-use Rattle.stun_client_plans.specs.Plan.{timeouts_of, unanswered}
+use Rattle.stun_client_plans.specs.Plan.{timeouts_of, unanswered_end}
 use Rattle.stun_client_plans.proofs.HoldLemmas.{All, Holds, IsOne, own_holds, removing_holds}
 use Rattle.stun_client_plans.proofs.HoldLemmas.{replacing_holds}
 use Rattle.stun_client_plans.proofs.MomentLemmas.{awaited_after, awaited_slot, late_wait, one_more}
@@ -144,7 +144,7 @@ pub record IsToRepeat (r : Sent) (k more last now : ℕ) : Type 0 where
 -- it would be sent after its plan, and ends instead
 pub record IsGivenUp (r : Sent) (is_unsent : Bool) (k more last now : ℕ) (p : Poll) : Type 0 where
   pub drops : Drops
-  pub told : p.0 ≡ ends r.number (unanswered drops)
+  pub told : p.0 ≡ ends r.number (unanswered_end drops)
   pub after_plan : end_at r < now
   pub which : cond is_unsent (is_unsent ≡ true) (IsToRepeat r k more last now)
   pub unknown : known_at r.number p.1.requests.numbers.known ≡ None
@@ -153,7 +153,7 @@ pub record IsGivenUp (r : Sent) (is_unsent : Bool) (k more last now : ℕ) (p : 
 -- it ends, because its time is over
 pub record IsTimedOut (r : Sent) (is_unsent : Bool) (k more last now : ℕ) (p : Poll) : Type 0 where
   pub drops : Drops
-  pub told : p.0 ≡ ends r.number (unanswered drops)
+  pub told : p.0 ≡ ends r.number (unanswered_end drops)
   pub was_sent : is_unsent ≡ false
   pub none_left : more ≡ 0
   pub is_due : IsDue r k last now

@@ -23,7 +23,7 @@ IsEndedAs number end c = known_at number c.requests.numbers.known ≡ Some (Ende
 
 -- a datagram is a response from the server to a message of an outstanding request, and is believed:
 -- it is signed so, or is accepted without a signature
-pub record IsBelieved (from : SocketAddr) (bytes : List ℕ) (now : ℕ) (c : Client) (m : Met)
+pub record IsBelievedResponse (from : SocketAddr) (bytes : List ℕ) (now : ℕ) (c : Client) (m : Met)
     (by : Option IntegrityAlgorithm) : Type 0 where
   pub is_read : refusal bytes ≡ None
   pub is_from_server : is_same_address from c.server ≡ true
@@ -38,7 +38,7 @@ CancelsEnd = (c : Client) (number : ℕ) (a : AskedSeen) → datum_of number c.r
 -- a response that is believed ends its request with what it says, and is stored with it
 abbrev pub AnswersEnd : Type 0
 AnswersEnd = (memory : Memory) (from : SocketAddr) (bytes : List ℕ) (now : ℕ) (c : Client) (m : Met)
-    (by : Option IntegrityAlgorithm) → IsBelieved from bytes now c m by
+    (by : Option IntegrityAlgorithm) → IsBelievedResponse from bytes now c m by
     → IsEndedAs m.number (record {
       end = how.Answered (outcome_of c.understood bytes) by;
       response = bytes;

@@ -60,8 +60,8 @@ said_of number said = filter (λ t. is_told_of number t.1) said
 -- ---- the plan of a request
 
 -- the end of a request that got no response which counts, and what was dropped for it
-abbrev pub unanswered : Drops → EndSeen
-unanswered drops = record { end = TimedOut drops; response = [] }
+abbrev pub unanswered_end : Drops → EndSeen
+unanswered_end drops = record { end = TimedOut drops; response = [] }
 
 -- how many timeouts the plan of a client's requests has, each with a transmission at its end
 abbrev pub timeouts_of : Client → ℕ
@@ -113,12 +113,12 @@ pub data GoesOnByPlan (late : ℕ) (c : Client) (start number next : ℕ) :
       → ComesWithin (suc k * late) (planned_at c start (suc k)) now
       → IsTooLate late c start (suc k) now
       → GoesOnByPlan late c start number next k last
-      ((now, ends number (unanswered drops)) ∷ [])
+      ((now, ends number (unanswered_end drops)) ∷ [])
   times_out : (k last now : ℕ) (drops : Drops) → k ≡ timeouts_of c
       → ComesWithin late (request_due c k last) now
       → ComesWithin (suc k * late) (plan_ends c start) now
       → GoesOnByPlan late c start number next k last
-      ((now, ends number (unanswered drops)) ∷ [])
+      ((now, ends number (unanswered_end drops)) ∷ [])
 
 -- what is said of a request from its start on: it is sent, and then goes on. If the client is not
 -- polled in its plan, it is not sent at all
@@ -130,7 +130,7 @@ pub data IsSentByPlan (late : ℕ) (c : Client) (start number next : ℕ) :
       → IsSentByPlan late c start number next ((now, transmit number) ∷ said)
   is_never_sent : (now : ℕ) (drops : Drops) → ComesWithin late start now
       → plan_ends c start < now
-      → IsSentByPlan late c start number next ((now, ends number (unanswered drops)) ∷ [])
+      → IsSentByPlan late c start number next ((now, ends number (unanswered_end drops)) ∷ [])
 
 -- ---- the law
 

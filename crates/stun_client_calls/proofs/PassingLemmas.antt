@@ -18,6 +18,9 @@ use Rattle.stun_client_calls.specs.code.Acting.{DropsResponse}
 
 -- ---- judging and deciding
 
+pub impossible : false ≡ true → ⊥
+impossible is = cc
+
 neither_first : (a b : Bool) → (a || b) ≡ false → a ≡ false
 neither_first true b is = is
 neither_first false b is = refl

@@ -157,13 +157,10 @@ impl<A: Allocator + Copy> ClientEndpoint<A> {
     pub fn request_of(&self, id: TransactionId) -> Option<u64>
         ensures { result ≡ number_with id self.now.requests.table.attached self.now.earlier }
     {
-        if let Some(number) = self.requests.number_of(id) {
-            return Some(number);
+        match self.requests.number_of(id) {
+            Some(number) => Some(number),
+            None => self.earlier.get(&id).copied(),
         }
-        let Some(number) = self.earlier.get(&id) else {
-            return None;
-        };
-        Some(*number)
     }
 
     /// Returns what was dropped for a request, while it is outstanding.

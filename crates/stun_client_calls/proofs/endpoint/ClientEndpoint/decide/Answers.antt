@@ -1,7 +1,7 @@
 -- The response is judged, and what it is judged as is decided on.
 use Rattle.std.proofs.lemmas.Result.{IfOk-weaker}
 use Rattle.stun_client_calls.specs.Deciding.{decision_of}
-use Rattle.stun_client_calls.proofs.PassingLemmas.{doubting_free, judging_free}
+use Rattle.stun_client_calls.proofs.PassingLemmas.{doubting_free, impossible, judging_free}
 use Rattle.stun_client_calls.proofs.ReceivingLemmas.{decided_at}
 use Rattle.stun_client_calls.proofs.endpoint.ClientEndpoint.decide.Goals as goal
 
@@ -15,9 +15,11 @@ returns-clause-decided g c =
 
 pub returns-in_err-judged-clause-no_memory : goal.returns-in_err-judged-clause-no_memory
 returns-in_err-judged-clause-no_memory g c =
-    λ free. c.in_err-judged.ensures.no_memory
-    (judging_free c.args.self.now _ c.args.message.now c.args.met.now _ c.self.view_is c.met.view_is
-    free)
+    λ free. absurd
+    (impossible
+    (c.in_err-judged.ensures.no_memory
+    (judging_free c.args.self.now _ c.args.message.now c.args.met.now _ c.self.view_is
+    c.met.view_is free)))
 
 pub returns-clause-no_memory : goal.returns-clause-no_memory
 returns-clause-no_memory g c =

@@ -459,6 +459,8 @@ pub record HasSameMessages (a b : AskedSeen) : Type 0 where
   pub body : b.body ≡ a.body
   pub signed_for : b.signed_for ≡ a.signed_for
   pub earlier : b.earlier ≡ a.earlier
+  pub rank : b.rank ≡ a.rank
+  pub turns : b.turns ≡ a.turns
 
 set_client : (c : Client) (n id : ℕ) (q : Request AskedSeen) (b : AskedSeen) → IsClient c
     → id_at n c.requests.numbers ≡ Some id → datum_at id c.requests.table.attached ≡ Some q

@@ -29,6 +29,7 @@ use Rattle.stun_client_calls.specs.Ids.{Earlier}
 use Rattle.stun_client_calls.specs.Messages.{AskedSeen}
 use Rattle.stun_client.specs.Standing.{StandingSeen}
 use Rattle.stun_client_runs.specs.Kept.{IsClient}
+use Rattle.stun_client_runs.specs.Noted.{AreNoted, NotesMessages}
 use Rattle.stun_client_runs.proofs.ChangeLemmas.{All, IsSame, IsThere, Stored}
 use Rattle.stun_client_runs.proofs.ChangeLemmas.{around_client, same_client, same_then}
 use Rattle.stun_client_runs.proofs.EntryLemmas.{at_split, some_is}
@@ -230,37 +231,44 @@ pub record IsAfter (c after : Client) : Type 0 where
   pub client : IsClient after
   pub each : Each (Was c) after.requests.table.attached
   pub same : IsSame c after
+  pub noted : NotesMessages c → NotesMessages after
 
 pub after_none : (c : Client) → IsClient c → IsAfter c c
-after_none c is = record { client = is; each = was_same c; same = same_client c }
+after_none c is =
+    record { client = is; each = was_same c; same = same_client c; noted = λ notes. notes }
 
 pub after_then : (c next after : Client) → IsAfter c next → IsAfter next after → IsAfter c after
 after_then c next after one other = record {
   client = other.client;
   each = λ id p there. was_then c next p one.each (other.each id p there);
   same = same_then c next after one.same other.same;
+  noted = λ notes. other.noted (one.noted notes);
 }
 
 -- other requests, and besides them anything
 pub after_around : (c : Client) (r : All) (standing : StandingSeen) (next_id : ℕ)
-    (earlier : Earlier)
-    → IsAfter c (with_requests r c)
+    (earlier : Earlier) → IsClient (with_requests r c) → Each (Was c) r.table.attached
+    → (NotesMessages c → AreNoted c.turns earlier r.table.attached)
     → IsAfter c (record c {
       requests = r;
       standing = standing;
       next_id = next_id;
       earlier = earlier;
     })
-after_around c r standing next_id earlier is = record {
-  client = around_client (with_requests r c) standing next_id earlier is.client;
-  each = is.each;
+after_around c r standing next_id earlier is each noted = record {
+  client = around_client (with_requests r c) standing next_id earlier is;
+  each = each;
   same = record { server = refl; form = refl; identity = refl; seed = refl };
+  noted = noted;
 }
 
 pub after_with : (c : Client) (r : All) → IsClient (with_requests r c)
-    → Each (Was c) r.table.attached → IsAfter c (with_requests r c)
-after_with c r is each = record {
+    → Each (Was c) r.table.attached
+    → (NotesMessages c → AreNoted c.turns c.earlier r.table.attached)
+    → IsAfter c (with_requests r c)
+after_with c r is each noted = record {
   client = is;
   each = each;
   same = record { server = refl; form = refl; identity = refl; seed = refl };
+  noted = noted;
 }

@@ -1,25 +1,34 @@
 -- A client stays in order over any calls.
-use Rattle.std.proofs.Common.{◌≡◌, ℕ, Bool, List, [], Option, Some, None, Ok, Err, ap, refl, subst}
-use Rattle.std.proofs.Common.{sym}
+use Rattle.std.proofs.Common.{◌≡◌, ◌≤◌, ℕ, Bool, List, [], Option, Some, None, Ok, Err, ap, arith}
+use Rattle.std.proofs.Common.{refl}
+use Rattle.std.proofs.Common.{subst, sym}
 use Rattle.std.specs.declared.net.socket_addr.SocketAddr.{SocketAddr}
 use Rattle.stun_base.specs.declared.wire.attribute_type.AttributeType.{AttributeType}
 use Rattle.stun_base.specs.declared.wire.transport.TransportType.{TransportType}
 use Rattle.stun_agent.specs.Timing.{Settings}
+use Rattle.stun_client.specs.Ids.{id_of}
 use Rattle.stun_client.specs.Judging.{Identity}
 use Rattle.stun_client_endpoint.specs.Bodies.{Body}
 use Rattle.stun_client_endpoint.specs.Written.{Form, Page?}
 use Rattle.stun_client_endpoint.specs.declared.ended.RequestEnd.TheVariants as how
-use Rattle.stun_client_requests.specs.Requests.{after_canceling}
+use Rattle.stun_client_requests.specs.Requests.{after_canceling, datum_of}
 use Rattle.stun_client_calls.specs.Clients.{Client, Poll, cancelled, chosen, first_message}
 use Rattle.stun_client_calls.specs.Clients.{new_client}
-use Rattle.stun_client_calls.specs.Clients.{started, started_at, started_with, with_requests}
+use Rattle.stun_client_calls.specs.Clients.{started, started_at, started_with}
+use Rattle.stun_client_calls.specs.Clients.{first_asked, forgetting}
+use Rattle.stun_client_calls.specs.Endpoints.{EndSeen}
 use Rattle.stun_client_calls.specs.Runs.{Call, Calls, Event, call, changes_nothing, ends_one}
 use Rattle.stun_client_calls.specs.Runs.{no_call}
 use Rattle.stun_client_calls.specs.Runs.{polls, receives, requests}
+use Rattle.stun_client_calls.specs.Messages.{AskedSeen}
 use Rattle.stun_client_runs.specs.Kept.{IsClient}
-use Rattle.stun_client_runs.proofs.ChangeLemmas.{around_client, started_client}
+use Rattle.stun_client_runs.specs.Noted.{AreNoted, AreRanked, NotesMessages}
+use Rattle.stun_client_runs.proofs.ChangeLemmas.{chosen_is, none_at, started_client}
+use Rattle.stun_client_runs.proofs.ChangeLemmas.{there_by_datum}
+use Rattle.stun_client_runs.proofs.EachLemmas.{IsAfter, Was, after_around, cancel_each, was_same}
 use Rattle.stun_client_runs.proofs.EntryLemmas.{no_keys}
-use Rattle.stun_client_runs.proofs.PollLemmas.{canceling_client, told_after}
+use Rattle.stun_client_runs.proofs.NotedLemmas.{noted_put}
+use Rattle.stun_client_runs.proofs.PollLemmas.{canceling_client, canceling_noted, told_after}
 use Rattle.stun_client_runs.proofs.ReceivingLemmas.{heard_after}
 
 pub new_is : (transport : TransportType) (server : SocketAddr) (counts requires_fingerprint : Bool)
@@ -63,13 +72,20 @@ started_is method body now c is = by (chosen c) refl
     by None some = is
     by (Some number) some = written number some (first_message c method number body) refl
 
-pub cancelled_is : (number : ℕ) (c : Client) → IsClient c → IsClient (cancelled number c)
-cancelled_is number c is =
-    around_client
-    (with_requests
-    (after_canceling number (record { end = how.Cancelled; response = [] }) c.requests) c)
-    c.standing c.next_id (cancelled number c).earlier
-    (canceling_client number (record { end = how.Cancelled; response = [] }) c is)
+pub cancelled_after : (number : ℕ) (a : AskedSeen) (c : Client) → IsClient c
+    → datum_of number c.requests ≡ Some a → IsAfter c (cancelled number c)
+cancelled_after number a c is some =
+    after_around c (after_canceling number last c.requests) c.standing c.next_id
+    (forgetting (datum_of number c.requests) c.earlier) (canceling_client number last c is)
+    (cancel_each (Was c) c.requests (was_same c) is.requests.one.in_order number last)
+    (λ notes.
+    subst (λ (o : Option AskedSeen). AreNoted c.turns (forgetting o c.earlier)
+    (after_canceling number last c.requests).table.attached) (sym some)
+    (canceling_noted number last c a is (there_by_datum c.requests number a is.requests some)
+    notes))
+  where
+    last : EndSeen
+    last = record { end = how.Cancelled; response = [] }
 
 pub call_is : (c after : Client) (event : Event) → IsClient c → Call c event after → IsClient after
 call_is c after event is (requests _ _ method body now low none made) =
@@ -79,7 +95,7 @@ call_is c after event is (receives _ _ from bytes now answer low heard made) =
 call_is c after event is (polls _ _ now says said) =
     subst IsClient (ap (λ (p : Poll). p.1) said) (told_after now c is).client
 call_is c after event is (ends_one _ _ number a some made) =
-    subst IsClient (sym made) (cancelled_is number c is)
+    subst IsClient (sym made) (cancelled_after number a c is some).client
 call_is c after event is (changes_nothing _) = is
 
 pub stays_kept : (c after : Client) (events : List Event) → IsClient c → Calls c events after
@@ -87,3 +103,64 @@ pub stays_kept : (c after : Client) (events : List Event) → IsClient c → Cal
 stays_kept c after events is (no_call _) = is
 stays_kept c after events is (call _ next _ event others made rest) =
     stays_kept next after others (call_is c next event is made) rest
+
+-- ---- what is noted
+
+pub new_noted : (transport : TransportType) (server : SocketAddr)
+    (counts requires_fingerprint : Bool) (identity : Identity) (form : Form)
+    (understood : List AttributeType) (turns : ℕ) (plan : Settings) (seed : List ℕ)
+    → turns ≤ 4294967295
+    → NotesMessages
+    (new_client transport server counts requires_fingerprint identity form understood turns plan
+    seed)
+new_noted transport server counts requires_fingerprint identity form understood turns plan seed
+    low = record {
+      limit = low;
+      in_order = no_keys;
+      ranked = λ id q there. cc;
+      noted = λ id number there. cc;
+    }
+
+started_noted : (method : ℕ) (body : Body) (now : ℕ) (c : Client) → NotesMessages c
+    → NotesMessages (started method body now c)
+started_noted method body now c notes = by (chosen c) refl
+  where
+    first : AreRanked c.turns (first_asked c method body now)
+    first = record {
+      ascending = no_keys;
+      turns = omega arith;
+      current = omega arith;
+      apart = refl;
+      above = λ rank s there. cc;
+    }
+
+    written : (number : ℕ) → chosen c ≡ Some number → (page : Page?)
+        → NotesMessages (started_with c number method body now page)
+    written number some (Err why) = notes
+    written number some (Ok bytes) =
+        noted_put c.turns c.earlier c.requests.table.attached notes (id_of c.seed number)
+        (record { number = c.requests.next; datum = first_asked c method body now })
+        (none_at (id_of c.seed number) c.requests.table.attached (chosen_is c number some)) first
+
+    by : (o : Option ℕ) → chosen c ≡ o → NotesMessages (started_at c method body now o)
+    by None some = notes
+    by (Some number) some = written number some (first_message c method number body)
+
+call_noted : (c after : Client) (event : Event) → IsClient c → NotesMessages c
+    → Call c event after → NotesMessages after
+call_noted c after event is notes (requests _ _ method body now low none made) =
+    subst NotesMessages (sym made) (started_noted method body now c notes)
+call_noted c after event is notes (receives _ _ from bytes now answer low heard made) =
+    subst NotesMessages (sym made) ((heard_after from bytes now c answer is heard).noted notes)
+call_noted c after event is notes (polls _ _ now says said) =
+    subst NotesMessages (ap (λ (p : Poll). p.1) said) ((told_after now c is).noted notes)
+call_noted c after event is notes (ends_one _ _ number a some made) =
+    subst NotesMessages (sym made) ((cancelled_after number a c is some).noted notes)
+call_noted c after event is notes (changes_nothing _) = notes
+
+pub stays_noted : (c after : Client) (events : List Event) → IsClient c → NotesMessages c
+    → Calls c events after → NotesMessages after
+stays_noted c after events is notes (no_call _) = notes
+stays_noted c after events is notes (call _ next _ event others made rest) =
+    stays_noted next after others (call_is c next event is made)
+    (call_noted c next event is notes made) rest

@@ -6,6 +6,8 @@ pub mod EntryLemmas
 pub mod ChangeLemmas
 -- another message becomes the current one
 pub mod TurnLemmas
+-- IDs that are noted
+pub mod NotedLemmas
 -- each request was there before
 pub mod EachLemmas
 -- one poll

@@ -11,10 +11,13 @@ use Rattle.std.specs.Set.{remove_key}
 use Rattle.std.proofs.lemmas.Map.Keys.{sorted_tail}
 use Rattle.stun_agent.specs.Agent.{tally_of_end}
 use Rattle.stun_agent.specs.Statistics.{Tally, request_cancelled, response_received}
+use Rattle.stun_agent.specs.Tables.{after_end as after_end_in}
 use Rattle.stun_agent.specs.Tables.{after_answer, after_cancel, after_transmission, counted}
-use Rattle.stun_agent.specs.Tables.{datum_at, over_in, sent_in, without_request}
+use Rattle.stun_agent.specs.Tables.{datum_at, over_in, sent_in, with_other_datum, without_datum}
+use Rattle.stun_agent.specs.Tables.{without_request}
 use Rattle.stun_agent.specs.Transactions.{Transaction, at as transaction_at, round_trip}
 use Rattle.stun_agent.proofs.Ascending.{IsAscending-insert, IsAscending-remove}
+use Rattle.stun_client_requests.specs.Laws.{IsRequests}
 use Rattle.stun_client_requests.specs.Numbers.{AllKnown, IsAt, NumbersSeen, after_end}
 use Rattle.stun_client_requests.specs.Numbers.{after_removal}
 use Rattle.stun_client_requests.specs.Numbers.{end_in, end_of_first, first_ended, first_in}
@@ -34,7 +37,9 @@ use Rattle.stun_client_requests.specs.declared.requests.Request.{Request}
 use Rattle.stun_client_requests.proofs.IndexLemmas.{without_some}
 use Rattle.stun_client_requests.proofs.LawLemmas.{has}
 use Rattle.stun_client_requests.proofs.NumberLemmas.{Ascend, own_key}
-use Rattle.stun_client_requests.proofs.RequestLemmas.{at_insert, at_remove, ids_changed}
+use Rattle.stun_client_requests.proofs.RequestLemmas.{at_insert, at_remove, attached_over}
+use Rattle.stun_client_requests.proofs.RequestLemmas.{attached_sent}
+use Rattle.stun_client_requests.proofs.RequestLemmas.{former_datum, ids_changed}
 use Rattle.stun_client_requests.proofs.RequestLemmas.{one_handed_out}
 use Rattle.stun_client_calls.specs.Clients.{Client, by_polled, changed, changed_at, given_up}
 use Rattle.stun_client_calls.specs.Clients.{handed_out_of, sent_by, told, with_requests}
@@ -43,24 +48,61 @@ use Rattle.stun_client_calls.specs.Messages.{AskedSeen, is_late, stepped_back}
 use Rattle.stun_client_calls.specs.declared.asked.Change.{Change}
 use Rattle.stun_client_calls.specs.declared.asked.Change.TheVariants.{Noted, Refused, SentOut}
 use Rattle.stun_client_runs.specs.Kept.{IsClient}
-use Rattle.stun_client_runs.proofs.ChangeLemmas.{All, HasSameMessages, id_is}
+use Rattle.stun_client_runs.specs.Noted.{AreNoted, NotesMessages}
+use Rattle.stun_client_runs.proofs.ChangeLemmas.{All, HasSameMessages, IsThere, Stored, id_is}
 use Rattle.stun_client_runs.proofs.ChangeLemmas.{other_client, out_client, replaced_client}
 use Rattle.stun_client_runs.proofs.ChangeLemmas.{sent_client, there_by_datum, there_by_id}
 use Rattle.stun_client_runs.proofs.EachLemmas.{Each, IsAfter, Was, after_around, after_none}
 use Rattle.stun_client_runs.proofs.EachLemmas.{after_then}
 use Rattle.stun_client_runs.proofs.EachLemmas.{after_with, polls_each, remove_each, replace_each}
 use Rattle.stun_client_runs.proofs.EachLemmas.{was_same, was_there}
+use Rattle.stun_client_runs.proofs.NotedLemmas.{noted_out, noted_set}
 use Rattle.stun_client_runs.proofs.EntryLemmas.{among, at_split, some_is}
 
 -- ---- changes of what is stored of a request
 
 same_messages : (change : Change) (a : AskedSeen) → HasSameMessages a (changed change a)
-same_messages SentOut a =
-    record { method = refl; body = refl; signed_for = refl; earlier = refl }
-same_messages (Noted why code) a =
-    record { method = refl; body = refl; signed_for = refl; earlier = refl }
-same_messages (Refused code) a =
-    record { method = refl; body = refl; signed_for = refl; earlier = refl }
+same_messages SentOut a = record {
+  method = refl;
+  body = refl;
+  signed_for = refl;
+  earlier = refl;
+  rank = refl;
+  turns = refl;
+}
+same_messages (Noted why code) a = record {
+  method = refl;
+  body = refl;
+  signed_for = refl;
+  earlier = refl;
+  rank = refl;
+  turns = refl;
+}
+same_messages (Refused code) a = record {
+  method = refl;
+  body = refl;
+  signed_for = refl;
+  earlier = refl;
+  rank = refl;
+  turns = refl;
+}
+
+replaced_noted : (c : Client) (n : ℕ) (b : AskedSeen) → IsRequests c.requests
+    → ((a : AskedSeen) → datum_of n c.requests ≡ Some a → HasSameMessages a b) → NotesMessages c
+    → AreNoted c.turns c.earlier (after_replacing n b c.requests).table.attached
+replaced_noted c n b i keeps notes = by (id_at n c.requests.numbers) refl
+  where
+    by : (o : Option ℕ) → id_at n c.requests.numbers ≡ o
+        → AreNoted c.turns c.earlier (option_map_or (λ id. record c.requests {
+          table = with_other_datum id (record { number = n; datum = b }) c.requests.table;
+        }) o c.requests).table.attached
+    by None named = notes
+    by (Some id) named =
+        let found = there_by_id c.requests n id i named in
+        let stored : datum_of n c.requests ≡ Some found.0.datum =
+        former_datum c.requests n id found.0 named found.1 in
+        noted_set c.turns c.earlier c.requests.table.attached notes id found.0
+        (record { number = n; datum = b }) found.1 (sym found.2) (keeps found.0.datum stored)
 
 pub changed_after : (change : Change) (n : ℕ) (c : Client) → IsClient c
     → IsAfter c (with_requests (changed_at change n c.requests) c)
@@ -72,13 +114,17 @@ changed_after change n c is = by (datum_of n c.requests) refl
     by None some = after_none c is
     by (Some a) some =
         let keeps = same_messages change a in
-        after_with c (after_replacing n (changed change a) c.requests)
-        (replaced_client c n (changed change a) is (λ b stored.
+        let its : (b : AskedSeen) → datum_of n c.requests ≡ Some b
+        → HasSameMessages b (changed change a) =
+        λ b stored.
         subst (λ (x : AskedSeen). HasSameMessages x (changed change a))
-        (some_is a b (sym some ∙ stored)) keeps))
+        (some_is a b (sym some ∙ stored)) keeps in
+        after_with c (after_replacing n (changed change a) c.requests)
+        (replaced_client c n (changed change a) is its)
         (replace_each (Was c) c.requests (was_same c) n (changed change a)
         (was_there c n a (changed change a) (there_by_datum c.requests n a is.requests some)
         keeps.method keeps.body))
+        (λ notes. replaced_noted c n (changed change a) is.requests its notes)
 
 -- ---- ends
 
@@ -164,6 +210,67 @@ answering_client n count moment end c is = by (id_at n c.requests.numbers) refl
         refl (at_insert n (Ended end) c.requests.numbers.known)
         (IsAscending-insert c.requests.numbers.known n (Ended end) is.requests.ascending)
 
+-- the IDs of its earlier messages are forgotten then
+ending_noted : (c : Client) (k : ℕ) (q : Request AskedSeen) (tally : Transaction → Tally)
+    → IsClient c → datum_at k c.requests.table.attached ≡ Some q → NotesMessages c
+    → AreNoted c.turns (without_all q.datum.earlier c.earlier)
+    (option_map_or (λ t. counted (tally t) (without_request k c.requests.table))
+    (transaction_at k c.requests.table.requests) c.requests.table).attached
+ending_noted c k q tally is there notes = by (transaction_at k c.requests.table.requests) refl
+  where
+    by : (o : Option Transaction) → transaction_at k c.requests.table.requests ≡ o
+        → AreNoted c.turns (without_all q.datum.earlier c.earlier)
+        (option_map_or (λ t. counted (tally t) (without_request k c.requests.table)) o
+        c.requests.table).attached
+    by None missing = let found = (is.current k q there).sent in cc
+    by (Some t) here =
+        noted_out c.turns c.earlier c.requests.table.attached notes
+        (without_datum k c.requests.table.attached) k q there
+        (at_remove k c.requests.table.attached is.requests.one.in_order)
+
+removing_noted : (n : ℕ) (c : Client) (a : AskedSeen) → IsClient c → IsThere c.requests n a
+    → NotesMessages c
+    → AreNoted c.turns (without_all a.earlier c.earlier)
+    (after_removing n c.requests).table.attached
+removing_noted n c a is at notes =
+    subst (λ (o : Option ℕ). AreNoted c.turns (without_all a.earlier c.earlier)
+    (option_map_or (λ id. record c.requests {
+      table = after_cancel id c.requests.table;
+      numbers = after_removal n c.requests.numbers;
+    }) o c.requests).table.attached) (sym at.named)
+    (subst (λ (x : AskedSeen). AreNoted c.turns (without_all x.earlier c.earlier)
+    (after_cancel at.id c.requests.table).attached) at.datum
+    (ending_noted c at.id at.q (λ t. request_cancelled) is at.there notes))
+
+pub canceling_noted : (n : ℕ) (end : EndSeen) (c : Client) (a : AskedSeen) → IsClient c
+    → IsThere c.requests n a → NotesMessages c
+    → AreNoted c.turns (without_all a.earlier c.earlier)
+    (after_canceling n end c.requests).table.attached
+canceling_noted n end c a is at notes =
+    subst (λ (o : Option ℕ). AreNoted c.turns (without_all a.earlier c.earlier)
+    (option_map_or (λ id. record c.requests {
+      table = after_cancel id c.requests.table;
+      numbers = after_end n end c.requests.numbers;
+    }) o c.requests).table.attached) (sym at.named)
+    (subst (λ (x : AskedSeen). AreNoted c.turns (without_all x.earlier c.earlier)
+    (after_cancel at.id c.requests.table).attached) at.datum
+    (ending_noted c at.id at.q (λ t. request_cancelled) is at.there notes))
+
+pub answering_noted : (n count : ℕ) (moment : Option ℕ) (end : EndSeen) (c : Client)
+    (a : AskedSeen) → IsClient c → IsThere c.requests n a → NotesMessages c
+    → AreNoted c.turns (without_all a.earlier c.earlier)
+    (after_answering n count moment end c.requests).table.attached
+answering_noted n count moment end c a is at notes =
+    subst (λ (o : Option ℕ). AreNoted c.turns (without_all a.earlier c.earlier)
+    (option_map_or (λ id. record c.requests {
+      table = after_answer id count moment c.requests.table;
+      numbers = after_end n end c.requests.numbers;
+    }) o c.requests).table.attached) (sym at.named)
+    (subst (λ (x : AskedSeen). AreNoted c.turns (without_all x.earlier c.earlier)
+    (after_answer at.id count moment c.requests.table).attached) at.datum
+    (ending_noted c at.id at.q (λ t. response_received count (round_trip moment t)) is at.there
+    notes))
+
 -- ---- one poll of the requests
 
 -- what a poll of the requests names is there
@@ -173,9 +280,19 @@ IsNamed c r (Of.Ended n end) = has n c.requests.numbers.known ≡ true
 IsNamed c r (Of.TimedOut n a) = has n c.requests.numbers.known ≡ true
 IsNamed c r (Of.Wait until) = ⊤
 
+-- what is noted stays that of earlier messages, once the IDs of a request that timed out are
+-- forgotten
+abbrev pub IsNotedThen : Client → All → OfRequests AskedSeen EndSeen → Type 0
+IsNotedThen c r (Of.Transmit n) = AreNoted c.turns c.earlier r.table.attached
+IsNotedThen c r (Of.Ended n end) = AreNoted c.turns c.earlier r.table.attached
+IsNotedThen c r (Of.TimedOut n a) =
+    AreNoted c.turns (without_all a.earlier c.earlier) r.table.attached
+IsNotedThen c r (Of.Wait until) = AreNoted c.turns c.earlier r.table.attached
+
 pub record IsPolled (c : Client) (p : PollOf AskedSeen EndSeen) : Type 0 where
   pub client : IsClient (with_requests p.1 c)
   pub named : IsNamed c p.1 p.0
+  pub noted : NotesMessages c → IsNotedThen c p.1 p.0
 
 tail_ordered : (ks : List ℕ) → IsStrictlySortedBy nat_cmp ks
     → IsStrictlySortedBy nat_cmp (others_in ks)
@@ -276,32 +393,62 @@ ended_client c p is some =
         ∙ ap (λ b. cond b None (id_at k c.requests.numbers)) off)
         ∙ there
 
+-- the IDs of the earlier messages of a request whose time is over are forgotten
+timed_noted : (c : Client) (now : ℕ) (e : ℕ × Transaction) (q : Request AskedSeen) → IsClient c
+    → over_in now c.requests.table ≡ Some e → datum_at e.0 c.requests.table.attached ≡ Some q
+    → NotesMessages c
+    → AreNoted c.turns (without_all q.datum.earlier c.earlier)
+    (after_end_in now c.requests.table).attached
+timed_noted c now e q is here there notes =
+    subst (λ (es : Stored). AreNoted c.turns (without_all q.datum.earlier c.earlier) es)
+    (sym (attached_over c.requests.table now e.0
+    (ap (λ (o : Option (ℕ × Transaction)). option_map (λ x. x.0) o) here)))
+    (noted_out c.turns c.earlier c.requests.table.attached notes
+    (without_datum e.0 c.requests.table.attached) e.0 q there
+    (at_remove e.0 c.requests.table.attached is.requests.one.in_order))
+
 -- a request whose time is over
-timed_client : (c : Client) (now : ℕ) (q : Request AskedSeen) → IsClient c
-    → over now c.requests.table ≡ Some q
-    → IsPolled c (over_or now c.requests (Some q))
-timed_client c now q is some = by (over_in now c.requests.table) refl some
+timed_is : (c : Client) (now : ℕ) (e : ℕ × Transaction) (q : Request AskedSeen) → IsClient c
+    → over_in now c.requests.table ≡ Some e → datum_at e.0 c.requests.table.attached ≡ Some q
+    → IsClient (with_requests (record c.requests {
+      table = after_end_in now c.requests.table;
+      numbers = after_removal q.number c.requests.numbers;
+    }) c)
+timed_is c now e q is here there =
+    subst (λ (o : Option (ℕ × Transaction)). IsClient (with_requests (record c.requests {
+      table = option_map_or
+          (λ x. counted (tally_of_end x.1) (without_request x.0 c.requests.table)) o
+          c.requests.table;
+      numbers = after_removal q.number c.requests.numbers;
+    }) c)) (sym here)
+    (out_client c e.0 q.number q (tally_of_end e.1) None
+    (remove_entry (is_at (nat_cmp q.number)) c.requests.numbers.known) is there refl refl
+    (at_remove q.number c.requests.numbers.known is.requests.ascending)
+    (IsAscending-remove (is_at (nat_cmp q.number)) c.requests.numbers.known
+    is.requests.ascending))
+
+timed_there : (c : Client) (now : ℕ) (q : Request AskedSeen) → over now c.requests.table ≡ Some q
+    → (e : ℕ × Transaction) × (over_in now c.requests.table ≡ Some e)
+    × (datum_at e.0 c.requests.table.attached ≡ Some q)
+timed_there c now q some = by (over_in now c.requests.table) refl some
   where
     by : (o : Option (ℕ × Transaction)) → over_in now c.requests.table ≡ o
         → option_and_then (λ e. datum_at e.0 c.requests.table.attached) o ≡ Some q
-        → IsPolled c (over_or now c.requests (Some q))
+        → (e : ℕ × Transaction) × (over_in now c.requests.table ≡ Some e)
+        × (datum_at e.0 c.requests.table.attached ≡ Some q)
     by None here some = cc
-    by (Some e) here some = record {
-      client =
-          subst (λ (o : Option (ℕ × Transaction)). IsClient (with_requests (record c.requests {
-            table = option_map_or
-                (λ x. counted (tally_of_end x.1) (without_request x.0 c.requests.table)) o
-                c.requests.table;
-            numbers = after_removal q.number c.requests.numbers;
-          }) c)) (sym here)
-          (out_client c e.0 q.number q (tally_of_end e.1) None
-          (remove_entry (is_at (nat_cmp q.number)) c.requests.numbers.known) is some refl refl
-          (at_remove q.number c.requests.numbers.known is.requests.ascending)
-          (IsAscending-remove (is_at (nat_cmp q.number)) c.requests.numbers.known
-          is.requests.ascending));
-      named = id_has q.number e.0 c.requests.numbers
-          (id_is c.requests e.0 q.number q is.requests some refl);
-    }
+    by (Some e) here some = (e, here, some)
+
+timed_client : (c : Client) (now : ℕ) (q : Request AskedSeen) → IsClient c
+    → (e : ℕ × Transaction) → over_in now c.requests.table ≡ Some e
+    → datum_at e.0 c.requests.table.attached ≡ Some q
+    → IsPolled c (over_or now c.requests (Some q))
+timed_client c now q is e here there = record {
+  client = timed_is c now e q is here there;
+  named = id_has q.number e.0 c.requests.numbers
+      (id_is c.requests e.0 q.number q is.requests there refl);
+  noted = timed_noted c now e q is here there;
+}
 
 -- a request that is named by a search
 repeated_there : (c : Client) (now k : ℕ) → IsClient c → repeated now c.requests.table ≡ Some k
@@ -324,17 +471,40 @@ polled_client now c is = unsent (first_unsent c.requests.numbers) refl
     still : IsClient sent
     still = sent_client c now is
 
+    notes_still : NotesMessages c → AreNoted c.turns c.earlier sent.requests.table.attached
+    notes_still notes =
+        subst (λ (es : Stored). AreNoted c.turns c.earlier es)
+        (sym (attached_sent c.requests.table now)) notes
+
     over_is : (p : PollOf AskedSeen EndSeen) → IsPolled sent p → IsPolled c p
-    over_is (Of.Transmit n, r) is = record { client = is.client; named = is.named }
-    over_is (Of.Ended n end, r) is = record { client = is.client; named = is.named }
-    over_is (Of.TimedOut n a, r) is = record { client = is.client; named = is.named }
-    over_is (Of.Wait until, r) is = record { client = is.client; named = is.named }
+    over_is (Of.Transmit n, r) is = record {
+      client = is.client;
+      named = is.named;
+      noted = λ notes. is.noted (notes_still notes);
+    }
+    over_is (Of.Ended n end, r) is = record {
+      client = is.client;
+      named = is.named;
+      noted = λ notes. is.noted (notes_still notes);
+    }
+    over_is (Of.TimedOut n a, r) is = record {
+      client = is.client;
+      named = is.named;
+      noted = λ notes. is.noted (notes_still notes);
+    }
+    over_is (Of.Wait until, r) is = record {
+      client = is.client;
+      named = is.named;
+      noted = λ notes. is.noted (notes_still notes);
+    }
 
     times : (o : Option (Request AskedSeen)) → over now sent.requests.table ≡ o
         → IsPolled c (over_or now sent.requests o)
-    times None none = record { client = still; named = tt }
+    times None none = record { client = still; named = tt; noted = notes_still }
     times (Some q) some =
-        over_is (over_or now sent.requests (Some q)) (timed_client sent now q still some)
+        let found = timed_there sent now q some in
+        over_is (over_or now sent.requests (Some q))
+        (timed_client sent now q still found.0 found.1 found.2)
 
     ended : (o : Option (ℕ × EndSeen)) → end_of_first sent.requests.numbers ≡ o
         → IsPolled c (ends_or now sent.requests o)
@@ -342,11 +512,16 @@ polled_client now c is = unsent (first_unsent c.requests.numbers) refl
     ended (Some p) some = record {
       client = ended_client sent p still some;
       named = ap is_some (first_end c.requests.numbers p some).there;
+      noted = notes_still;
     }
 
     again : (o : Option ℕ) → repeated now c.requests.table ≡ o
         → IsPolled c (repeats_or now sent.requests o)
-    again (Some k) some = record { client = still; named = repeated_there c now k is some }
+    again (Some k) some = record {
+      client = still;
+      named = repeated_there c now k is some;
+      noted = notes_still;
+    }
     again None none = ended (end_of_first sent.requests.numbers) refl
 
     unsent : (o : Option ℕ) → first_unsent c.requests.numbers ≡ o
@@ -363,22 +538,23 @@ polled_client now c is = unsent (first_unsent c.requests.numbers) refl
           is.requests.ascending (tail_ordered c.requests.numbers.unsent is.in_order)
           (λ q hit. is.unsent q (tail_among q c.requests.numbers.unsent hit));
       named = is.unsent k (first_among k c.requests.numbers.unsent some);
+      noted = λ notes. notes;
     }
     unsent None none = again (repeated now c.requests.table) refl
 
 -- ---- one poll of a client
 
 handed_after : (now n : ℕ) (c : Client) → IsClient c → (o : Option AskedSeen)
-    → IsAfter c (handed_out_of now n c o).1
-handed_after now n c is None = after_none c is
-handed_after now n c is (Some a) = by (is_late now a)
+    → datum_of n c.requests ≡ o → IsAfter c (handed_out_of now n c o).1
+handed_after now n c is None some = after_none c is
+handed_after now n c is (Some a) some = by (is_late now a)
   where
     by : (b : Bool) → IsAfter c (cond b (given_up n a c) (sent_by n c)).1
     by true =
         after_around c (after_removing n c.requests) (stepped_back a c.standing) c.next_id
-        (without_all a.earlier c.earlier)
-        (after_with c (after_removing n c.requests) (removing_client n c is)
-        (remove_each (Was c) c.requests (was_same c) is.requests.one.in_order n))
+        (without_all a.earlier c.earlier) (removing_client n c is)
+        (remove_each (Was c) c.requests (was_same c) is.requests.one.in_order n)
+        (λ notes. removing_noted n c a is (there_by_datum c.requests n a is.requests some) notes)
     by false = changed_after SentOut n c is
 
 pub told_after : (now : ℕ) (c : Client) → IsClient c → IsAfter c (told now c).1
@@ -389,10 +565,10 @@ told_after now c is =
     by : (p : PollOf AskedSeen EndSeen) → IsPolled c p → Each (Was c) p.1.table.attached
         → IsAfter c (by_polled now (with_requests p.1 c) p.0).1
     by (Of.Transmit n, r) well each =
-        after_then c (with_requests r c) _ (after_with c r well.client each)
-        (handed_after now n (with_requests r c) well.client (datum_of n r))
-    by (Of.Ended n end, r) well each = after_with c r well.client each
+        after_then c (with_requests r c) _ (after_with c r well.client each well.noted)
+        (handed_after now n (with_requests r c) well.client (datum_of n r) refl)
+    by (Of.Ended n end, r) well each = after_with c r well.client each well.noted
     by (Of.TimedOut n a, r) well each =
         after_around c r (stepped_back a c.standing) c.next_id (without_all a.earlier c.earlier)
-        (after_with c r well.client each)
-    by (Of.Wait until, r) well each = after_with c r well.client each
+        well.client each well.noted
+    by (Of.Wait until, r) well each = after_with c r well.client each well.noted

@@ -1,11 +1,11 @@
 -- A client stays in order over each datagram.
-use Rattle.std.proofs.Common.{◌≡◌, ◌∙◌, ◌⊎◌, ℕ, Bool, true, false, List, [], ◌∷◌, Option, Some}
+use Rattle.std.proofs.Common.{◌<◌, ◌≡◌, ◌∙◌, ◌⊎◌, ℕ, Bool, true, false, List, [], ◌∷◌, Option, Some}
 use Rattle.std.proofs.Common.{None, Ok, Err}
 use Rattle.std.proofs.Common.{◌+◌, cond, inl, inr, length, refl, subst, sym}
 use Rattle.std.specs.BTreeMap.{is_at}
 use Rattle.std.specs.Option.{is_none, is_some, option_and_then, option_map}
 use Rattle.std.specs.Ordering.{nat_cmp}
-use Rattle.std.specs.Prelude.{◌||◌, ⊤, find}
+use Rattle.std.specs.Prelude.{◌&&◌, ◌||◌, ⊤, find}
 use Rattle.std.specs.declared.net.socket_addr.SocketAddr.{SocketAddr}
 use Rattle.stun_base.specs.Header.{transaction_id_field}
 use Rattle.stun_base.specs.MessageType.{class_in}
@@ -52,7 +52,8 @@ use Rattle.stun_client_calls.specs.Receiving.{Answer, Memory, Met, Spot, UnlessM
 use Rattle.stun_client_calls.specs.Receiving.{answered_in, as_current, as_earlier, as_expected}
 use Rattle.stun_client_calls.specs.Receiving.{by_class, by_decision, by_met, current_of}
 use Rattle.stun_client_calls.specs.Receiving.{decision_for}
-use Rattle.stun_client_calls.specs.Receiving.{dropping, earlier_of, ended_by, forgone, if_method}
+use Rattle.stun_client_calls.specs.Receiving.{dropping, earlier_of, ended_by, exchanged_ids}
+use Rattle.stun_client_calls.specs.Receiving.{forgone, if_method, notes as notes_of}
 use Rattle.stun_client_calls.specs.Receiving.{judge_of, met, met_by, moment_of, received, spot_of}
 use Rattle.stun_client_calls.specs.Receiving.{turn_to, turned_at, turned_by, turned_to}
 use Rattle.stun_client_calls.specs.Receiving.{unwritten, without_memory}
@@ -61,29 +62,32 @@ use Rattle.stun_client_calls.specs.declared.asked.Change.TheVariants.{Noted, Ref
 use Rattle.stun_client_calls.specs.declared.deciding.Limits.{Limits}
 use Rattle.stun_client_calls.specs.declared.turning.Why.{Why}
 use Rattle.stun_client_calls.specs.declared.turning.Why.TheVariants.{Challenged, Doubted, Refused}
-use Rattle.stun_client_calls.proofs.DecidingLemmas.{earlier_answers_or_drops}
-use Rattle.stun_client_runs.specs.Kept.{AreDerived, IsClient, IsCurrent, IsDerived}
-use Rattle.stun_client_runs.proofs.ChangeLemmas.{All, IsThere, chosen_is, number_is}
+use Rattle.stun_client_calls.proofs.DecidingLemmas.{earlier_answers_or_drops, within}
+use Rattle.stun_client_runs.specs.Kept.{AreDerived, IsClient, IsCurrent, IsDerived, sent_at}
+use Rattle.stun_client_runs.specs.Noted.{AreNoted, AreRanked, NotesMessages}
+use Rattle.stun_client_runs.proofs.ChangeLemmas.{All, IsThere, chosen_is, none_at, number_is}
 use Rattle.stun_client_runs.proofs.ChangeLemmas.{there_by_datum}
-use Rattle.stun_client_runs.proofs.EachLemmas.{IsAfter, Was, after_around, after_none, after_with}
+use Rattle.stun_client_runs.proofs.EachLemmas.{IsAfter, Was, after_around, after_none}
 use Rattle.stun_client_runs.proofs.EachLemmas.{answer_each, was_same, was_there}
-use Rattle.stun_client_runs.proofs.EntryLemmas.{some_is}
-use Rattle.stun_client_runs.proofs.PollLemmas.{answering_client, changed_after}
+use Rattle.stun_client_runs.proofs.EntryLemmas.{find_there, some_is}
+use Rattle.stun_client_runs.proofs.NotedLemmas.{IsRankFor, former_earlier, noted_moved}
+use Rattle.stun_client_runs.proofs.NotedLemmas.{ranked_turned, stays_earlier}
+use Rattle.stun_client_runs.proofs.PollLemmas.{answering_client, answering_noted, changed_after}
 use Rattle.stun_client_runs.proofs.TurnLemmas.{IsMoved, derived_former, moved, moved_is, moved_so}
 
 -- ---- where a message stands that becomes the current one again
 
--- the ID of an earlier message is derived from the seed
-abbrev IsPlace : List ℕ → Option Place → Type 0
-IsPlace seed None = ⊤
-IsPlace seed (Some p) = IsDerived seed p.1
+-- something holds of its rank and its ID, if it is an earlier message
+abbrev IsPlace : (Place → Type 0) → Option Place → Type 0
+IsPlace P None = ⊤
+IsPlace P (Some p) = P p
 
-abbrev IsPlaced : List ℕ → DecisionSeen → Type 0
-IsPlaced seed (answered by) = ⊤
-IsPlaced seed unauthorized = ⊤
-IsPlaced seed (turns why place d) = IsPlace seed place
-IsPlaced seed refuses = ⊤
-IsPlaced seed (drops why) = ⊤
+abbrev IsPlaced : (Place → Type 0) → DecisionSeen → Type 0
+IsPlaced P (answered by) = ⊤
+IsPlaced P unauthorized = ⊤
+IsPlaced P (turns why place d) = IsPlace P place
+IsPlaced P refuses = ⊤
+IsPlaced P (drops why) = ⊤
 
 found_derived : (seed : List ℕ) (p : ℕ × SentSeen → Bool) (es : AllSent) → AreDerived seed es
     → (e : ℕ × SentSeen) → find p es ≡ Some e → IsDerived seed e.1.id
@@ -96,59 +100,58 @@ found_derived seed p (x ∷ xs) are e is = by (p x) is (found_derived seed p xs 
         subst (λ (y : ℕ × SentSeen). IsDerived seed y.1.id) (some_is x e is) are.0
     by false is rest = rest is
 
-module _ (seed : List ℕ) (a : AskedSeen) (are : AreDerived seed a.earlier) where
-  placed_for : (c : Answered) → IsPlace seed (option_map place_of (message_for c a.earlier))
-  placed_for c =
-      by (message_for c a.earlier) (found_derived seed _ a.earlier are)
+-- it holds of each earlier message that a search finds
+module _ (P : Place → Type 0) (a : AskedSeen)
+    (found : (p : ℕ × SentSeen → Bool) (e : ℕ × SentSeen) → find p a.earlier ≡ Some e
+    → P (place_of e)) where
+  placed_for : (c : Answered) → IsPlace P (option_map place_of (message_for c a.earlier))
+  placed_for c = by (message_for c a.earlier) (found _)
     where
-      by : (o : Option (ℕ × SentSeen)) → ((e : ℕ × SentSeen) → o ≡ Some e → IsDerived seed e.1.id)
-          → IsPlace seed (option_map place_of o)
+      by : (o : Option (ℕ × SentSeen)) → ((e : ℕ × SentSeen) → o ≡ Some e → P (place_of e))
+          → IsPlace P (option_map place_of o)
       by None each = tt
       by (Some e) each = each e refl
 
   placed_anew : (why : Why) (c : Answered) (late spent : Bool)
-      → IsPlaced seed
+      → IsPlaced P
       (cond late (drops LateChallenge) (cond spent unauthorized (turns_for why c a)))
   placed_anew why c true spent = tt
   placed_anew why c false true = tt
   placed_anew why c false false = placed_for c
 
   placed_undoubted : (o : Option (ℕ × SentSeen))
-      → ((e : ℕ × SentSeen) → o ≡ Some e → IsDerived seed e.1.id) → IsPlaced seed (undoubted o)
+      → ((e : ℕ × SentSeen) → o ≡ Some e → P (place_of e)) → IsPlaced P (undoubted o)
   placed_undoubted None each = tt
   placed_undoubted (Some e) each = each e refl
 
-  placed_again : (b : Bool)
-      → IsPlaced seed (cond b (drops NotVerified) (turns Doubted None None))
+  placed_again : (b : Bool) → IsPlaced P (cond b (drops NotVerified) (turns Doubted None None))
   placed_again true = tt
   placed_again false = tt
 
   placed_without : (standing : StandingSeen) (b : Bool)
-      → IsPlaced seed
-      (cond b (undoubted (signed_eligible standing a.earlier)) (begun_again a))
+      → IsPlaced P (cond b (undoubted (signed_eligible standing a.earlier)) (begun_again a))
   placed_without standing true =
-      placed_undoubted (signed_eligible standing a.earlier) (found_derived seed _ a.earlier are)
+      placed_undoubted (signed_eligible standing a.earlier) (found _)
   placed_without standing false = placed_again (has_unsigned a.earlier)
 
   placed_way : (standing : StandingSeen) (o : Option (ℕ × SentSeen))
-      → ((e : ℕ × SentSeen) → o ≡ Some e → IsDerived seed e.1.id)
-      → IsPlaced seed (giving_way standing a o)
+      → ((e : ℕ × SentSeen) → o ≡ Some e → P (place_of e))
+      → IsPlaced P (giving_way standing a o)
   placed_way standing None each = placed_without standing (is_none a.signed_for)
   placed_way standing (Some e) each = each e refl
 
   placed_doubt : (standing : StandingSeen) (b : Bool)
-      → IsPlaced seed
+      → IsPlaced P
       (cond b (drops NotVerified) (giving_way standing a (eligible standing a.earlier)))
   placed_doubt standing true = tt
-  placed_doubt standing false =
-      placed_way standing (eligible standing a.earlier) (found_derived seed _ a.earlier are)
+  placed_doubt standing false = placed_way standing (eligible standing a.earlier) (found _)
 
-  placed_refusal : (b : Bool) → IsPlaced seed (cond b unauthorized refuses)
+  placed_refusal : (b : Bool) → IsPlaced P (cond b unauthorized refuses)
   placed_refusal true = tt
   placed_refusal false = tt
 
   placed : (limits : Limits) (standing : StandingSeen) (now : ℕ) (v : Verdict)
-      → IsPlaced seed (decided limits standing now a v)
+      → IsPlaced P (decided limits standing now a v)
   placed limits standing now (believed by) = tt
   placed limits standing now (anew c) =
       placed_anew Challenged c (is_late now a) (is_spent limits a)
@@ -157,6 +160,14 @@ module _ (seed : List ℕ) (a : AskedSeen) (are : AreDerived seed a.earlier) whe
   placed limits standing now (refused (Some c)) = placed_anew Refused c (is_late now a) _
   placed limits standing now doubted = placed_doubt standing (is_idle limits now a)
   placed limits standing now (dropped why) = tt
+
+-- its ID is derived from the seed
+abbrev FromSeed : List ℕ → Place → Type 0
+FromSeed seed p = IsDerived seed p.1
+
+-- it is an earlier message
+abbrev IsOf : AskedSeen → Place → Type 0
+IsOf a p = (s : SentSeen) × (sent_at p.0 a.earlier ≡ Some s) × (s.id ≡ p.1)
 
 -- ---- the message that a response answers
 
@@ -226,8 +237,8 @@ pub record IsSpot (c : Client) (s : Spot) : Type 0 where
   pub free : number_at s.id c.requests.table.attached ≡ None
   pub from_seed : IsDerived c.seed s.id
 
-spot_is : (c : Client) (a : AskedSeen) (place : Option Place) (s : Spot) → IsPlace c.seed place
-    → spot_of c a place ≡ Some s → IsSpot c s
+spot_is : (c : Client) (a : AskedSeen) (place : Option Place) (s : Spot)
+    → IsPlace (FromSeed c.seed) place → spot_of c a place ≡ Some s → IsSpot c s
 spot_is c a None s at is = by (chosen c) refl is
   where
     by : (o : Option ℕ) → chosen c ≡ o → option_map
@@ -252,15 +263,45 @@ spot_is c a (Some p) s at is = by (number_at p.1 c.requests.table.attached) refl
         subst (λ (x : Spot). IsSpot c x) (some_is _ s is) (record { free = none; from_seed = at })
     by (Some n) some is = cc
 
+-- its rank is that of a new message, or that of the earlier message with its ID
+spot_rank : (c : Client) (a : AskedSeen) (place : Option Place) (s : Spot) → IsPlace (IsOf a) place
+    → spot_of c a place ≡ Some s → IsRankFor a s.rank s.id
+spot_rank c a None s at is = by (chosen c) is
+  where
+    by : (o : Option ℕ) → option_map
+        (λ number. record {
+          id = id_of c.seed number;
+          rank = rank_after (counted_on a.turns);
+          next_id = number + 1;
+        }) o ≡ Some s → IsRankFor a s.rank s.id
+    by None is = cc
+    by (Some number) is =
+        subst (λ (x : Spot). IsRankFor a x.rank x.id) (some_is _ s is) (inl refl)
+spot_rank c a (Some p) s at is = by (is_some (number_at p.1 c.requests.table.attached)) is
+  where
+    by : (b : Bool)
+        → cond b None (Some (record { id = p.1; rank = p.0; next_id = c.next_id })) ≡ Some s
+        → IsRankFor a s.rank s.id
+    by true is = cc
+    by false is = subst (λ (x : Spot). IsRankFor a x.rank x.id) (some_is _ s is) (inr at)
+
+-- another message of a request may become the current one
+abbrev IsRanked : Client → AskedSeen → Spot → Type 0
+IsRanked c a s = IsRankFor a s.rank s.id × (a.turns < c.turns)
+
+first_of : (a b : Bool) → (a && b) ≡ true → a ≡ true
+first_of true b is = refl
+first_of false b is = cc
+
 turned_to_after : (memory : Memory) (c : Client) (now : ℕ) (response : List ℕ) (m : Met) (why : Why)
     (d : Option Answered) (s : Spot) (bytes : List ℕ) → IsClient c
     → IsMet c (transaction_id_field response) m → m.is_current ≡ true → IsSpot c s
+    → (NotesMessages c → IsRanked c m.asked s)
     → message_bytes c.form c.identity d s.id m.asked ≡ Ok bytes
     → IsAfter c (turned_to memory c now response m why d s bytes).1
-turned_to_after memory c now response m why d s bytes is at now_current spot written =
-    after_around c requests last.standing last.next_id last.earlier
-    (after_with c requests moving.client
-    (λ k p here. by k p (moving.which k p here)))
+turned_to_after memory c now response m why d s bytes is at now_current spot ranks written =
+    after_around c requests last.standing last.next_id last.earlier moving.client
+    (λ k p here. by k p (moving.which k p here)) noted
   where
     last : Client
     last = (turned_to memory c now response m why d s bytes).1
@@ -306,15 +347,45 @@ turned_to_after memory c now response m why d s bytes is at now_current spot wri
         (record { count = length response; moment = Some now }) bytes c.plan empty b
         current.transaction at.stored.named current.sent off
 
-    moving : IsMoved c m.number b requests
+    moving : IsMoved c m.number at.stored.id s.id b requests
     moving =
-        subst (λ (r : All). IsMoved c m.number b r) (sym moves.2)
+        subst (λ (r : All). IsMoved c m.number at.stored.id s.id b r) (sym moves.2)
         (moved_so c m.number at.stored.id s.id at.stored.q empty b
         (request_in c.requests.table bytes c.plan now) moves.0 moves.1 is at.stored.named
         at.stored.there at.stored.number spot.free spot.from_seed is.server written
         (derived_former c.seed memory.is_kept m.asked.rank s.rank _ m.asked.earlier own
         (subst (λ (x : AskedSeen). AreDerived c.seed x.earlier) at.stored.datum
         (is.earlier at.stored.id at.stored.q at.stored.there))))
+
+    noted : NotesMessages c → AreNoted c.turns last.earlier requests.table.attached
+    noted notes =
+        subst (λ k. AreNoted c.turns
+        (exchanged_ids (notes_of memory) (transaction_id_field response) s.id k c.earlier)
+        requests.table.attached) at.stored.number
+        (noted_moved c.turns c.earlier c.requests.table.attached notes requests.table.attached
+        (transaction_id_field response) s.id at.stored.q (record { number = m.number; datum = b })
+        (notes_of memory)
+        (subst (λ k. datum_at k c.requests.table.attached ≡ Some at.stored.q)
+        (at.current now_current) at.stored.there)
+        (none_at s.id c.requests.table.attached spot.free) moving.own
+        (λ k other away. moving.others k other
+        (subst (λ j. is_at (nat_cmp j) k ≡ false) (sym (at.current now_current)) away))
+        moving.which (sym at.stored.number)
+        (ranked_turned c.turns m.asked memory.is_kept (transaction_id_field response)
+        (turn_to s why d) notes.limit ranked (ranks notes).1 (ranks notes).0)
+        (λ rank t there other.
+        stays_earlier c.turns m.asked memory.is_kept (transaction_id_field response)
+        (turn_to s why d) notes.limit ranked (ranks notes).1 (ranks notes).0 rank t
+        (subst (λ (x : AskedSeen). sent_at rank x.earlier ≡ Some t) at.stored.datum there) other)
+        (λ on.
+        former_earlier c.turns m.asked memory.is_kept (transaction_id_field response)
+        (turn_to s why d) notes.limit ranked (ranks notes).1 (ranks notes).0
+        (first_of memory.is_kept memory.is_noted on)))
+      where
+        ranked : AreRanked c.turns m.asked
+        ranked =
+            subst (λ (x : AskedSeen). AreRanked c.turns x) at.stored.datum
+            (notes.ranked at.stored.id at.stored.q at.stored.there)
 
     by : (k : ℕ) (p : Request AskedSeen)
         → (record { number = m.number; datum = b } ≡ p)
@@ -329,19 +400,21 @@ dropping_after n why bytes c is = changed_after (Noted why (code_in bytes)) n c 
 
 turned_by_after : (memory : Memory) (c : Client) (now : ℕ) (response : List ℕ) (m : Met) (why : Why)
     (d : Option Answered) (s : Spot) → IsClient c → IsMet c (transaction_id_field response) m
-    → m.is_current ≡ true → IsSpot c s → (page : Page?)
+    → m.is_current ≡ true → IsSpot c s → (NotesMessages c → IsRanked c m.asked s) → (page : Page?)
     → message_bytes c.form c.identity d s.id m.asked ≡ page
     → IsAfter c (turned_by memory c now response m why d s page).1
-turned_by_after memory c now response m why d s is at now_current spot (Err error) written =
+turned_by_after memory c now response m why d s is at now_current spot ranks (Err error) written =
     dropping_after m.number (unwritten why) response c is
-turned_by_after memory c now response m why d s is at now_current spot (Ok bytes) written =
-    turned_to_after memory c now response m why d s bytes is at now_current spot written
+turned_by_after memory c now response m why d s is at now_current spot ranks (Ok bytes) written =
+    turned_to_after memory c now response m why d s bytes is at now_current spot ranks written
 
 turned_at_after : (memory : Memory) (c : Client) (now : ℕ) (response : List ℕ) (m : Met) (why : Why)
     (d : Option Answered) (place : Option Place) → IsClient c
-    → IsMet c (transaction_id_field response) m → m.is_current ≡ true → IsPlace c.seed place
+    → IsMet c (transaction_id_field response) m → m.is_current ≡ true
+    → IsPlace (FromSeed c.seed) place
+    → (NotesMessages c → IsPlace (IsOf m.asked) place × (m.asked.turns < c.turns))
     → IsAfter c (turned_at memory c now response m why d (spot_of c m.asked place)).1
-turned_at_after memory c now response m why d place is at now_current where_it_is =
+turned_at_after memory c now response m why d place is at now_current where_it_is ranks =
     by (spot_of c m.asked place) refl
   where
     by : (o : Option Spot) → spot_of c m.asked place ≡ o
@@ -350,6 +423,8 @@ turned_at_after memory c now response m why d place is at now_current where_it_i
     by (Some s) some =
         turned_by_after memory c now response m why d s is at now_current
         (spot_is c m.asked place s where_it_is some)
+        (λ notes.
+        let two = ranks notes in (spot_rank c m.asked place s two.0 some, two.1))
         (message_bytes c.form c.identity d s.id m.asked) refl
 
 -- ---- all of it
@@ -370,31 +445,59 @@ turn_of_current false (turns why place d) quiet = absurd (quiet refl)
 turn_of_current b refuses quiet = tt
 turn_of_current b (drops why) quiet = tt
 
+-- it does so less often than it may
+abbrev IfRanked : Client → AskedSeen → DecisionSeen → Type 0
+IfRanked c a (answered by) = ⊤
+IfRanked c a unauthorized = ⊤
+IfRanked c a (turns why place d) =
+    NotesMessages c → IsPlace (IsOf a) place × (a.turns < c.turns)
+IfRanked c a refuses = ⊤
+IfRanked c a (drops why) = ⊤
+
+ranked_if : (c : Client) (now : ℕ) (a : AskedSeen) (w : Verdict) (v : DecisionSeen)
+    → (NotesMessages c → AreRanked c.turns a)
+    → decided (judge_of c).limits c.standing now a w ≡ v → IfRanked c a v
+ranked_if c now a w (answered by) ranked is = tt
+ranked_if c now a w unauthorized ranked is = tt
+ranked_if c now a w (turns why place d) ranked is = λ notes.
+    let its = ranked notes in (
+      subst (IsPlaced (IsOf a)) is
+          (placed (IsOf a) a
+          (λ p e found. (e.1, find_there p a.earlier e its.ascending found, refl))
+          (judge_of c).limits c.standing now w),
+      (within (judge_of c).limits c.standing now a w why place d is).in_limit,
+    )
+ranked_if c now a w refuses ranked is = tt
+ranked_if c now a w (drops why) ranked is = tt
+
 ended_after : (c : Client) (standing : StandingSeen) (end : EndSeen) (bytes : List ℕ) (now : ℕ)
-    (m : Met) → IsClient c
+    (m : Met) → IsClient c → IsThere c.requests m.number m.asked
     → IsAfter c (ended_by end bytes now m (record c { standing = standing }))
-ended_after c standing end bytes now m is =
+ended_after c standing end bytes now m is at =
     after_around c (after_answering m.number (length bytes) (moment_of now m) end c.requests)
     standing c.next_id (without_all m.asked.earlier c.earlier)
-    (after_with c (after_answering m.number (length bytes) (moment_of now m) end c.requests)
     (answering_client m.number (length bytes) (moment_of now m) end c is)
     (answer_each (Was c) c.requests (was_same c) is.requests.one.in_order m.number (length bytes)
-    (moment_of now m) end))
+    (moment_of now m) end)
+    (λ notes.
+    answering_noted m.number (length bytes) (moment_of now m) end c m.asked is at notes)
 
 decided_after : (memory : Memory) (c : Client) (now : ℕ) (bytes : List ℕ) (m : Met)
-    (v : DecisionSeen) → IsClient c → IsMet c (transaction_id_field bytes) m → IsPlaced c.seed v
-    → IfTurn m.is_current v → IsAfter c (by_decision memory c now bytes m v).1
-decided_after memory c now bytes m (answered by) is at where_it_is turn =
+    (v : DecisionSeen) → IsClient c → IsMet c (transaction_id_field bytes) m
+    → IsPlaced (FromSeed c.seed) v → IfTurn m.is_current v → IfRanked c m.asked v
+    → IsAfter c (by_decision memory c now bytes m v).1
+decided_after memory c now bytes m (answered by) is at where_it_is turn ranks =
     ended_after c (confirming (is_success_class (class_in bytes)) c.standing m.signed_for)
     (record { end = how.Answered (outcome_of c.understood bytes) by; response = bytes }) bytes now m
-    is
-decided_after memory c now bytes m unauthorized is at where_it_is turn =
+    is at.stored
+decided_after memory c now bytes m unauthorized is at where_it_is turn ranks =
     ended_after c c.standing (record { end = how.Unauthorized; response = [] }) bytes now m is
-decided_after memory c now bytes m (turns why place d) is at where_it_is turn =
-    turned_at_after memory c now bytes m why d place is at turn where_it_is
-decided_after memory c now bytes m refuses is at where_it_is turn =
+    at.stored
+decided_after memory c now bytes m (turns why place d) is at where_it_is turn ranks =
+    turned_at_after memory c now bytes m why d place is at turn where_it_is ranks
+decided_after memory c now bytes m refuses is at where_it_is turn ranks =
     changed_after (RefusedOf (code_in bytes)) m.number c is
-decided_after memory c now bytes m (drops why) is at where_it_is turn =
+decided_after memory c now bytes m (drops why) is at where_it_is turn ranks =
     dropping_after m.number why bytes c is
 
 met_after : (memory : Memory) (c : Client) (now : ℕ) (bytes : List ℕ) → IsClient c
@@ -411,11 +514,17 @@ met_after memory c now bytes is = by (answered_in bytes c) refl
         subst (λ (x : AskedSeen). AreDerived c.seed x.earlier) at.stored.datum
         (is.earlier at.stored.id at.stored.q at.stored.there) in
         decided_after memory c now bytes m (decision_for c now bytes m) is at
-        (placed c.seed m.asked are (judge_of c).limits c.standing now _)
+        (placed (FromSeed c.seed) m.asked
+        (λ p e found. found_derived c.seed p m.asked.earlier are e found) (judge_of c).limits
+        c.standing now _)
         (turn_of_current m.is_current (decision_for c now bytes m) (λ off.
         subst
         (λ b. IsAnswerOrDrop (decision_on (judge_of c) b now m.asked m.signed_for bytes))
         (sym off) (earlier_answers_or_drops (judge_of c) now m.asked m.signed_for bytes)))
+        (ranked_if c now m.asked _ (decision_for c now bytes m)
+        (λ notes.
+        subst (λ (x : AskedSeen). AreRanked c.turns x) at.stored.datum
+        (notes.ranked at.stored.id at.stored.q at.stored.there)) refl)
 
 class_after : (memory : Memory) (c : Client) (now : ℕ) (bytes : List ℕ) (class : MessageClass)
     → IsClient c → IsAfter c (by_class memory c now bytes class).1

@@ -1,5 +1,5 @@
 -- The bytes of a request are those that it was started for, over any calls.
-use Rattle.std.proofs.Common.{◌≡◌, ◌∙◌, ◌<◌, ℕ, Bool, true, false, List, [], Option, Some, None, Ok}
+use Rattle.std.proofs.Common.{◌≡◌, ◌∙◌, ◌<◌, ℕ, Bool, true, false, List, Option, Some, None, Ok}
 use Rattle.std.proofs.Common.{ap, arith, cond, refl, subst, sym}
 use Rattle.std.specs.Option.{IsSome, is_some, option_and_then, option_map, option_map_or}
 use Rattle.stun_agent.specs.Tables.{datum_at, with_other_datum}
@@ -7,14 +7,13 @@ use Rattle.stun_agent.specs.Transactions.{Transaction, at as transaction_at}
 use Rattle.stun_client.specs.Ids.{id_of}
 use Rattle.stun_client_endpoint.specs.Bodies.{Body}
 use Rattle.stun_client_endpoint.specs.Written.{request_bytes}
-use Rattle.stun_client_endpoint.specs.declared.ended.RequestEnd.TheVariants as how
 use Rattle.stun_client_endpoint.proofs.WrittenLemmas.{request_type}
 use Rattle.stun_client_requests.specs.Numbers.{id_at, id_in}
-use Rattle.stun_client_requests.specs.Requests.{Poll as PollOf, after_canceling, after_replacing}
+use Rattle.stun_client_requests.specs.Requests.{Poll as PollOf, after_replacing}
 use Rattle.stun_client_requests.specs.Requests.{bytes_at, datum_of, polled as polled_in}
 use Rattle.stun_client_requests.specs.declared.requests.Polled.TheVariants as Of
 use Rattle.stun_client_requests.specs.declared.requests.Request.{Request}
-use Rattle.stun_client_calls.specs.Clients.{Client, Poll, by_polled, cancelled, changed, changed_at}
+use Rattle.stun_client_calls.specs.Clients.{Client, Poll, by_polled, changed, changed_at}
 use Rattle.stun_client_calls.specs.Clients.{first_asked, given_up, handed_out_of, refusal_to_start}
 use Rattle.stun_client_calls.specs.Clients.{sent_by, started, started_by, told, transmit}
 use Rattle.stun_client_calls.specs.Clients.{with_requests}
@@ -29,11 +28,11 @@ use Rattle.stun_client_runs.specs.Kept.{IsClient, IsCurrent}
 use Rattle.stun_client_runs.specs.Sent.{Asking, HasItsBytes, IsSentAs, asking}
 use Rattle.stun_client_runs.proofs.ChangeLemmas.{All, IsSame, IsThere}
 use Rattle.stun_client_runs.proofs.ChangeLemmas.{there_by_datum, there_by_id, written_alike}
-use Rattle.stun_client_runs.proofs.EachLemmas.{Each, IsAfter, Was, after_around, after_with}
-use Rattle.stun_client_runs.proofs.EachLemmas.{cancel_each, put_each, was_same}
+use Rattle.stun_client_runs.proofs.EachLemmas.{Each, IsAfter, Was}
+use Rattle.stun_client_runs.proofs.EachLemmas.{put_each}
 use Rattle.stun_client_runs.proofs.EffectLemmas.{call_step, start_is}
-use Rattle.stun_client_runs.proofs.KeptLemmas.{started_is}
-use Rattle.stun_client_runs.proofs.PollLemmas.{IsPolled, canceling_client, polled_client}
+use Rattle.stun_client_runs.proofs.KeptLemmas.{cancelled_after, started_is}
+use Rattle.stun_client_runs.proofs.PollLemmas.{IsPolled, polled_client}
 use Rattle.stun_client_runs.proofs.PollLemmas.{told_after}
 use Rattle.stun_client_runs.proofs.ReceivingLemmas.{heard_after}
 
@@ -182,16 +181,6 @@ like_started s c method body now low none like =
     other : c.requests.next ≡ s.number → ⊥
     other equal = let before = like.low in omega (arith, equal, before)
 
-cancelled_after : (number : ℕ) (c : Client) → IsClient c → IsAfter c (cancelled number c)
-cancelled_after number c is =
-    after_around c (after_canceling number last c.requests) c.standing c.next_id
-    (cancelled number c).earlier
-    (after_with c (after_canceling number last c.requests) (canceling_client number last c is)
-    (cancel_each (Was c) c.requests (was_same c) is.requests.one.in_order number last))
-  where
-    last : EndSeen
-    last = record { end = how.Cancelled; response = [] }
-
 like_call : (s : Asking) (c after : Client) (event : Event) → Call c event after → IsLike s c
     → IsLike s after
 like_call s c after event made like = by after event made low
@@ -217,7 +206,8 @@ like_call s c after event made like = by after event made low
         (subst (λ (p : Poll). IsAfter c p.1) said (told_after now c like.is)) low like
     by after event (ends_one _ _ number a some is) low =
         like_after s c after
-        (subst (λ (x : Client). IsAfter c x) (sym is) (cancelled_after number c like.is)) low like
+        (subst (λ (x : Client). IsAfter c x) (sym is) (cancelled_after number a c like.is some))
+        low like
     by after event (changes_nothing _) low = like
 
 like_calls : (s : Asking) (c after : Client) (events : List Event) → Calls c events after

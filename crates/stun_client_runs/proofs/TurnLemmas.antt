@@ -147,11 +147,15 @@ moved_is r n former id now x bytes plan empty b t named timer off = (
 
 -- ---- the client then
 
--- a request has moved: each of the requests then is this one, or was there before
-pub record IsMoved (c : Client) (n : ℕ) (b : AskedSeen) (r : All) : Type 0 where
+-- a request has moved from one ID to another: each of the requests then is this one, or was there
+-- before, and all others are as before
+pub record IsMoved (c : Client) (n former id : ℕ) (b : AskedSeen) (r : All) : Type 0 where
   pub client : IsClient (with_requests r c)
   pub which : (k : ℕ) (p : Request AskedSeen) → datum_at k r.table.attached ≡ Some p
       → (record { number = n; datum = b } ≡ p) ⊎ (datum_at k c.requests.table.attached ≡ Some p)
+  pub own : datum_at id r.table.attached ≡ Some (record { number = n; datum = b })
+  pub others : (k : ℕ) → is_at (nat_cmp id) k ≡ false → is_at (nat_cmp former) k ≡ false
+      → datum_at k r.table.attached ≡ datum_at k c.requests.table.attached
 
 module _ (c : Client) (n former id : ℕ) (q : Request AskedSeen) (empty b : AskedSeen)
     (t : Transaction) (sent answered : Tally) (is : IsClient c)
@@ -336,11 +340,13 @@ module _ (c : Client) (n former id : ℕ) (q : Request AskedSeen) (empty b : Ask
     ];
   }
 
-  pub moved_so : IsMoved c n b (moved c.requests n former id t empty b sent answered)
+  pub moved_so : IsMoved c n former id b (moved c.requests n former id t empty b sent answered)
   moved_so = record {
     client = moved_client;
     which = λ k p here. elim (which k p here) [
       | inl new ↦ inl new.1
       | inr old ↦ inr old.2
     ];
+    own = at_own id (Some last) left ended ended_at;
+    others = others;
   }

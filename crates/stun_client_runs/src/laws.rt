@@ -2,6 +2,7 @@
 //! back.
 ghost use Rattle.stun_client_runs.specs.Kept.{BeginsAsClient, StaysAClient};
 ghost use Rattle.stun_client_runs.specs.Laws.{EndsOnce, StartsOne, StaysOver, TransmitsWhatIsThere};
+ghost use Rattle.stun_client_runs.specs.Noted.{BeginsNoted, StaysNoted};
 ghost use Rattle.stun_client_runs.specs.Sent.{KeepsItsBytes, SendsItsBytes};
 
 /// From the creation of a client on and over any calls, each outstanding request is stored once,
@@ -12,6 +13,16 @@ ghost use Rattle.stun_client_runs.specs.Sent.{KeepsItsBytes, SendsItsBytes};
 pub fn clients_stay_in_order()
     ensures begins { BeginsAsClient }
     ensures stays { StaysAClient }
+{}
+
+/// What is noted of a transaction ID is the number of an outstanding request that has an earlier
+/// message with this ID, from the creation of a client on and over any calls. So nothing stays
+/// noted of a request that is over.
+///
+/// Premise: how often another message becomes the current one is limited by 32 bits, as each `u32`.
+pub fn what_is_noted_is_an_earlier_message()
+    ensures begins { BeginsNoted }
+    ensures stays { StaysNoted }
 {}
 
 /// A request that `request` has started is stored. Over any calls it stays so until `poll` returns

@@ -50,8 +50,8 @@ pub record CanBegin (s : Settings) (users : UserSecrets) (n : NewClient) (a : In
   pub software : IfSome n.form.software (λ text. length text ≤ TEXT_LIMIT)
   pub another : id_of n.seed 1 ≢ id_of n.seed 0
 
--- it starts a request, which the server challenges. The challenge arrives, and the server accepts the
--- request that the client sends for it, while the nonce lasts
+-- it starts a request, which the server challenges. The challenge arrives, and the server accepts
+-- the request that the client sends for it, while the nonce lasts
 pub record AreIntroduced (s : Settings) (users : UserSecrets) (from : SocketAddr) (n : NewClient)
     (a : IntegrityAlgorithm) (method : ℕ) (body : Body) (start time now : ℕ) (memory : Memory)
     : Type 0 where
@@ -99,13 +99,13 @@ example_client server = record {
   seed = replicate 32 0;
 }
 
--- a Binding request (RFC 8489, section 18.2), and an Allocate request with REQUESTED-TRANSPORT for UDP
--- (RFC 8656, section 18.7)
+-- a Binding request (RFC 8489, section 18.2), and an Allocate request with REQUESTED-TRANSPORT for
+-- UDP (RFC 8656, section 18.7)
 abbrev pub allocate_body : Body
 allocate_body = with_value (record { kind = 0x0019; value = 17 ∷ 0 ∷ 0 ∷ 0 ∷ [] }) ∷ []
 
--- they meet, by HMAC-SHA256, whatever the secret, the addresses and the times are. The user is named by
--- a hash, or in clear
+-- they meet, by HMAC-SHA256, whatever the secret, the addresses and the times are. The user is
+-- named by a hash, or in clear
 pub record AreExamples (hashes : Bool) (secret : List ℕ) (from server : SocketAddr)
     (start time now : ℕ) (memory : Memory) : Type 0 where
   pub binding : AreIntroduced (example_server hashes secret) example_users from
@@ -113,7 +113,8 @@ pub record AreExamples (hashes : Bool) (secret : List ℕ) (from server : Socket
   pub allocate : AreIntroduced (example_server hashes secret) example_users from
       (example_client server) Sha256 3 allocate_body start time now memory
   pub named :
-      plain_name (challenge_at (example_server hashes secret) (side_of (example_client server)) Sha256
+      plain_name (challenge_at (example_server hashes secret) (side_of (example_client server))
+      Sha256
       from time).challenge.naming
       ≡ (if hashes then None else Some example_user.username)
 

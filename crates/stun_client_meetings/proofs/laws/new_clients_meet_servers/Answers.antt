@@ -29,9 +29,11 @@ use Rattle.stun_client_meetings.proofs.BeginningLemmas.{is_client_of, starts_so}
 use Rattle.stun_client_meetings.proofs.laws.new_clients_meet_servers.Goals as goal
 
 pub returns-clause-met : goal.returns-clause-met
-returns-clause-met g = λ s users from n a method body start time now memory can low built early in_time.
+returns-clause-met g = λ s users from n a method body start time now memory can low built early
+    in_time.
     let c = made_of n in
-    let page = g.requests_can_be_written.ensures.written n.form n.who n.preferences n.accepts_unsigned None
+    let page = g.requests_can_be_written.ensures.written n.form n.who n.preferences
+    n.accepts_unsigned None
     method (id_of n.seed 0) body low built can.software tt in
     let begun = started method body start c in
     let none = starts_so s users n a can method body page start in
@@ -40,7 +42,8 @@ returns-clause-met g = λ s users from n a method body start time now memory can
     let client = is_client_of n
     (g.clients_stay_in_order.ensures.begins n.transport n.server n.counts n.requires_fingerprint
     (long_term n.who n.preferences n.accepts_unsigned) n.form n.understood n.turns n.plan n.seed) in
-    let meets = g.clients_meet_servers.ensures s users from side a c begun method body start [] page.bytes
+    let meets = g.clients_meet_servers.ensures s users from side a c begun method body start []
+    page.bytes
     can.meet client low built early none (no_call begun) unsigned.sent in
     let challenge = challenge_at s side a from time in
     let again = meets.renewed time now memory unsigned
@@ -106,7 +109,8 @@ example_begins c hashes secret server = record {
   meet = example_meets c hashes secret server;
   turns = omega arith;
   software = tt;
-  another = λ same. true_false (sym (eq-eqb (id_of (replicate 32 0) 1) (id_of (replicate 32 0) 0) same)
+  another = λ same. true_false (sym (eq-eqb (id_of (replicate 32 0) 1) (id_of (replicate 32 0) 0)
+      same)
       ∙ ids_differ);
 }
 
@@ -124,7 +128,8 @@ example_named false false realm is = refl
 
 example_name : (g : goal.After-requests_can_be_written) (hashes : Bool) (secret : List ℕ)
     (from server : SocketAddr) (time : ℕ)
-    → plain_name (challenge_at (example_server hashes secret) (side_of (example_client server)) Sha256
+    → plain_name (challenge_at (example_server hashes secret) (side_of (example_client server))
+    Sha256
     from time).challenge.naming
     ≡ cond hashes None (Some example_user.username)
 example_name g true secret from server time =
@@ -145,9 +150,11 @@ returns-clause-exist g = λ hashes secret from server start time now memory earl
     let can = example_begins g hashes secret server in
     let met = returns-clause-met g in
     record {
-      binding = met s example_users from n Sha256 1 [] start time now memory can (omega arith) new early
+      binding = met s example_users from n Sha256 1 [] start time now memory can (omega arith) new
+          early
           in_time;
-      allocate = met s example_users from n Sha256 3 allocate_body start time now memory can (omega arith)
+      allocate = met s example_users from n Sha256 3 allocate_body start time now memory can (omega
+          arith)
           built_body early in_time;
       named = example_name g hashes secret from server time;
     }

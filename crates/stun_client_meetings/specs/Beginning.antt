@@ -3,7 +3,7 @@ use Rattle.std.specs.Prelude.{◌≡◌, ◌≢◌, ◌≤◌, ◌<◌, ℕ, Boo
 use Rattle.std.specs.Prelude.{Some, None, if◌then◌else◌, replicate}
 use Rattle.std.specs.Option.{IfSome}
 use Rattle.std.specs.declared.net.socket_addr.SocketAddr.{SocketAddr}
-use Rattle.stun_base.specs.Moments.{last_moment, moment_after}
+use Rattle.stun_base.specs.Moments.{moment_after}
 use Rattle.stun_base.specs.declared.keys.algorithm.IntegrityAlgorithm.{IntegrityAlgorithm}
 use Rattle.stun_base.specs.declared.keys.algorithm.IntegrityAlgorithm.TheVariants.{Sha256}
 use Rattle.stun_base.specs.declared.wire.transport.TransportType.TheVariants.{Udp}
@@ -71,7 +71,7 @@ abbrev pub NewClientsMeetServers : Type 0
 NewClientsMeetServers =
     (s : Settings) (users : UserSecrets) (from : SocketAddr) (n : NewClient)
     (a : IntegrityAlgorithm) (method : ℕ) (body : Body) (start time now : ℕ) (memory : Memory)
-    → CanBegin s users n a → method < 4096 → IsBuiltBody body → start ≤ last_moment
+    → CanBegin s users n a → method < 4096 → IsBuiltBody body
     → now ≤ moment_after start (plan_of n.plan)
     → AreIntroduced s users from n a method body start time now memory
 
@@ -121,6 +121,6 @@ pub record AreExamples (hashes : Bool) (secret : List ℕ) (from server : Socket
 abbrev pub ThereAreMeetings : Type 0
 ThereAreMeetings =
     (hashes : Bool) (secret : List ℕ) (from server : SocketAddr) (start time now : ℕ)
-    (memory : Memory) → start ≤ last_moment
+    (memory : Memory)
     → now ≤ moment_after start (plan_of (example_client server).plan)
     → AreExamples hashes secret from server start time now memory

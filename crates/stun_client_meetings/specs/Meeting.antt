@@ -187,7 +187,7 @@ ClientsMeetServers =
     (s : Settings) (users : UserSecrets) (from : SocketAddr) (side : ClientSide)
     (a : IntegrityAlgorithm) (c later : Client) (method : ℕ) (body : Body) (start : ℕ)
     (events : List Event) (bytes : List ℕ) → CanMeet s users side a → IsClientOf side c
-    → method < 4096 → IsBuiltBody body → start ≤ last_moment → refusal_to_start c method body ≡ None
+    → method < 4096 → IsBuiltBody body → refusal_to_start c method body ≡ None
     → Calls (started method body start c) events later
     → bytes_at (next_number c) later.requests ≡ Some bytes
     → Meets s users from side a (started method body start c) (next_number c) later bytes

@@ -23,9 +23,11 @@ ghost use Rattle.stun_client_meetings.specs.Meeting.{ClientsMeetServers};
 ///
 /// Premises: the two can meet (`CanMeet`), the body is one that `Body` builds, and the first plan
 /// of the request goes on, another message became the current one less often than it may, and a
-/// transaction ID is left (`CanGoOn`). That the request fits a message with what the client adds is
-/// proved (`requests_can_be_written` of `stun_requests`). Left out: that a datagram arrives, and
-/// that the allocations succeed without which a response is dropped.
+/// transaction ID is left (`CanGoOn`). If an earlier message is signed for the challenge, no
+/// current message has its ID: one has it only if the seed gives two messages the same ID, and
+/// there was no memory to note the earlier one. That the request fits a message with what the
+/// client adds is proved (`requests_can_be_written` of `stun_requests`). Left out: that a datagram
+/// arrives, and that the allocations succeed without which a response is dropped.
 pub fn clients_meet_servers()
     ensures { ClientsMeetServers }
 {

@@ -1,10 +1,9 @@
 -- Each exchange is a law of what a client and a server make of each other's messages.
-use Rattle.std.proofs.Common.{◌≡◌, ◌∙◌, ◌<◌, ◌≤◌, ◌^◌, ◌∷◌, ℕ, List, Option, Some, None, Ok, true}
+use Rattle.std.proofs.Common.{◌≡◌, ◌∙◌, ◌<◌, ◌≤◌, ◌^◌, ℕ, List, Option, Some, None, Ok, true}
 use Rattle.std.proofs.Common.{ap}
 use Rattle.std.proofs.Common.{arith, length, map, refl, subst, sym}
 use Rattle.std.specs.declared.net.socket_addr.SocketAddr.{SocketAddr}
 use Rattle.stun_base.specs.Header.{transaction_id_field}
-use Rattle.stun_base.specs.Moments.{last_moment}
 use Rattle.stun_base.specs.declared.keys.algorithm.IntegrityAlgorithm.{IntegrityAlgorithm}
 use Rattle.stun_base.specs.declared.wire.message_type.MessageClass.TheVariants.{Request}
 use Rattle.stun_types.specs.Limits.{TEXT_LIMIT}
@@ -20,10 +19,11 @@ use Rattle.stun_client_endpoint.specs.Written.{Form, request_bytes}
 use Rattle.stun_client_requests.specs.Numbers.{id_at}
 use Rattle.stun_client_requests.specs.OneTable.{IsOneTable}
 use Rattle.stun_client_requests.specs.Requests.{datum_of}
-use Rattle.stun_client_calls.specs.Clients.{Client, refusal_to_start, started}
+use Rattle.stun_client_calls.specs.Clients.{Client, started}
 use Rattle.stun_client_calls.specs.Messages.{AskedSeen}
-use Rattle.stun_client_calls.specs.Runs.{Calls, Event, call, next_number, requests, starts}
+use Rattle.stun_client_calls.specs.Runs.{Calls, Event, next_number}
 use Rattle.stun_client_runs.specs.Sent.{IsSentAs, asking}
+use Rattle.stun_client_runs.proofs.KeptLemmas.{started_is}
 use Rattle.stun_endpoint.specs.Lookups.{users_with}
 use Rattle.stun_endpoint.specs.Nonces.{current_nonce, epoch_of, words_of}
 use Rattle.stun_endpoint.specs.Received.{challenge_answer}
@@ -100,16 +100,12 @@ record IsLater (side : ClientSide) (later : Client) : Type 0 where
 
 later_of : (g : goal.After-requests_can_be_written) (side : ClientSide) (c later : Client)
     (method : ℕ) (body : Body) (start : ℕ) (events : List Event) → IsClientOf side c
-    → start ≤ last_moment → refusal_to_start c method body ≡ None
     → Calls (started method body start c) events later → IsLater side later
-later_of g side c later method body start events of low none calls =
+later_of g side c later method body start events of calls =
     let same = since_start c later method body start events calls in
     record {
-      one = (g.clients_stay_in_order.ensures.stays c later (starts (next_number c) ∷ events)
-          of.client
-          (call c (started method body start c) later (starts (next_number c)) events
-          (requests c (started method body start c) method body start low none refl)
-          calls)).requests.one;
+      one = (g.clients_stay_in_order.ensures.stays (started method body start c) later events
+          (started_is method body start c of.client) calls).requests.one;
       hears = ap (λ (x : Parts). is_same_address side.server x.0) same ∙ of.hears;
       identity = ap (λ (x : Parts). x.1) same ∙ of.identity;
       form_is = ap (λ (x : Parts). x.3) same ∙ of.form_is;
@@ -158,7 +154,7 @@ signed_read g s users side a method body from time id bytes meet low built writt
     written
 
 pub returns : goal.returns
-returns g = λ s users from side a c later method body start events bytes meet of low built early
+returns g = λ s users from side a c later method body start events bytes meet of low built
     none
     calls out.
     let ordinary = (g.requests_can_be_written.ensures.bodies body built).0 in
@@ -167,7 +163,7 @@ returns g = λ s users from side a c later method body start events bytes meet o
     let accepts = side.accepts_unsigned in
     let number = next_number c in
     let begun = started method body start c in
-    let since = later_of g side c later method body start events of early none calls in
+    let since = later_of g side c later method body start events of calls in
     let sent_as = λ (x : AskedSeen) (there : datum_of number later.requests ≡ Some x).
     g.requests_are_sent_as_they_were_started.ensures.kept c later events method body start x
     of.client

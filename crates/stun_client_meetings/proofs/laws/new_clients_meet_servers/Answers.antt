@@ -29,7 +29,7 @@ use Rattle.stun_client_meetings.proofs.BeginningLemmas.{is_client_of, starts_so}
 use Rattle.stun_client_meetings.proofs.laws.new_clients_meet_servers.Goals as goal
 
 pub returns-clause-met : goal.returns-clause-met
-returns-clause-met g = λ s users from n a method body start time now memory can low built early
+returns-clause-met g = λ s users from n a method body start time now memory can low built
     in_time.
     let c = made_of n in
     let page = g.requests_can_be_written.ensures.written n.form n.who n.preferences
@@ -44,7 +44,7 @@ returns-clause-met g = λ s users from n a method body start time now memory can
     (long_term n.who n.preferences n.accepts_unsigned) n.form n.understood n.turns n.plan n.seed) in
     let meets = g.clients_meet_servers.ensures s users from side a c begun method body start []
     page.bytes
-    can.meet client low built early none (no_call begun) unsigned.sent in
+    can.meet client low built none (no_call begun) unsigned.sent in
     let challenge = challenge_at s side a from time in
     let again = meets.renewed time now memory unsigned
     (goes_on s users n a can method body page start challenge now in_time)
@@ -58,7 +58,7 @@ returns-clause-met g = λ s users from n a method body start time now memory can
       renewed = again;
       accepted = λ later within.
           (g.clients_meet_servers.ensures s users from side a c again.next method body start
-          again.events again.bytes can.meet client low built early none again.calls
+          again.events again.bytes can.meet client low built none again.calls
           again.signed.sent).accepted time later again.signed within;
     }
 
@@ -144,17 +144,16 @@ example_name g false secret from server time =
     example_named false (asks_for_userhash (current_nonce s from time)) s.realm up_to_date.hashes
 
 pub returns-clause-exist : goal.returns-clause-exist
-returns-clause-exist g = λ hashes secret from server start time now memory early in_time.
+returns-clause-exist g = λ hashes secret from server start time now memory in_time.
     let s = example_server hashes secret in
     let n = example_client server in
     let can = example_begins g hashes secret server in
     let met = returns-clause-met g in
     record {
       binding = met s example_users from n Sha256 1 [] start time now memory can (omega arith) new
-          early
           in_time;
       allocate = met s example_users from n Sha256 3 allocate_body start time now memory can (omega
           arith)
-          built_body early in_time;
+          built_body in_time;
       named = example_name g hashes secret from server time;
     }

@@ -29,15 +29,18 @@ use Rattle.stun_client_requests.specs.Requests.{bytes_at, datum_of, number_at}
 use Rattle.stun_client_requests.specs.declared.numbers.Known.TheVariants.{Ended}
 use Rattle.stun_client_requests.proofs.NumberLemmas.{apart}
 use Rattle.stun_client_calls.specs.Clients.{Client, chosen}
-use Rattle.stun_client_calls.specs.Deciding.{DecisionSeen, Place, answered, decided, drops, is_spent}
+use Rattle.stun_client_calls.specs.Deciding.{DecisionSeen, Place, answered, decided, drops}
+use Rattle.stun_client_calls.specs.Deciding.{is_spent}
 use Rattle.stun_client_calls.specs.Deciding.{place_of, turns, turns_for, unauthorized}
 use Rattle.stun_client_calls.specs.Endpoints.{EndSeen}
 use Rattle.stun_client_calls.specs.Ids.{first_free, is_taken, number_in}
 use Rattle.stun_client_calls.specs.Messages.{AskedSeen, SentSeen, counted_on, message_for}
 use Rattle.stun_client_calls.specs.Messages.{new_asked, rank_after, turned}
 use Rattle.stun_client_calls.specs.Receiving.{Answer, Memory, Met, Spot, answered_by, answered_in}
-use Rattle.stun_client_calls.specs.Receiving.{as_current, by_class, by_decision, by_met, decision_for}
-use Rattle.stun_client_calls.specs.Receiving.{if_method, judge_of, met_by, moment_of, received, spot_of}
+use Rattle.stun_client_calls.specs.Receiving.{as_current, by_class, by_decision, by_met}
+use Rattle.stun_client_calls.specs.Receiving.{decision_for}
+use Rattle.stun_client_calls.specs.Receiving.{if_method, judge_of, met_by, moment_of, received}
+use Rattle.stun_client_calls.specs.Receiving.{spot_of}
 use Rattle.stun_client_calls.specs.Receiving.{turn_to, turned_at, turned_by, turned_to}
 use Rattle.stun_client_calls.specs.Writing.{message_bytes}
 use Rattle.stun_client_calls.specs.declared.turning.Why.TheVariants.{Challenged}
@@ -108,7 +111,8 @@ module _ (c : Client) (number id : ℕ) (a : AskedSeen) (server : SocketAddr) (r
 
   module _ (memory : Memory) (now : ℕ) where
     of_class : (class : MessageClass) → is_answer_of a.method class response ≡ true
-        → by_class memory c now response class ≡ by_met memory c now response (answered_in response c)
+        → by_class memory c now response class ≡ by_met memory c now response (answered_in response
+        c)
     of_class Classes.Request is = cc
     of_class Classes.Indication is = cc
     of_class Classes.Success is = refl
@@ -150,7 +154,8 @@ module _ (c : Client) (number id : ℕ) (a : AskedSeen) (server : SocketAddr) (r
 
     pub answer_ends : (by : Option IntegrityAlgorithm)
         → known_at number (after_answer by).requests.numbers.known ≡ Some (Ended (end_by by))
-    answer_ends by = ended_then c.requests number id (length response) (moment_of now its) (end_by by) named
+    answer_ends by = ended_then c.requests number id (length response) (moment_of now its) (end_by
+        by) named
 
     -- ---- a challenge
 
@@ -176,7 +181,8 @@ module _ (c : Client) (number id : ℕ) (a : AskedSeen) (server : SocketAddr) (r
       pub challenge_is : received memory server response now c ≡ (Consumed, after_challenge)
       challenge_is =
           acts_on (turns Challenged place (Some d)) (anew d) says comes_to
-          ∙ ap (λ (o : Option Spot). turned_at memory c now response its Challenged (Some d) o) stands
+          ∙ ap (λ (o : Option Spot). turned_at memory c now response its Challenged (Some d) o)
+          stands
           ∙ ap (λ (p : Page?). turned_by memory c now response its Challenged (Some d) s p) written
 
       abbrev pub asked_then : AskedSeen
@@ -185,12 +191,14 @@ module _ (c : Client) (number id : ℕ) (a : AskedSeen) (server : SocketAddr) (r
 
       pub challenge_stores : datum_of number after_challenge.requests ≡ Some asked_then
       challenge_stores =
-          stored_then c.requests number id s.id bytes c.plan (new_asked a.method [] 0 None) asked_then
+          stored_then c.requests number id s.id bytes c.plan (new_asked a.method [] 0 None)
+          asked_then
           (record { count = length response; moment = Some now }) now named off
 
       pub challenge_sends : bytes_at number after_challenge.requests ≡ Some bytes
       challenge_sends =
-          bytes_then c.requests number id s.id bytes c.plan (new_asked a.method [] 0 None) asked_then
+          bytes_then c.requests number id s.id bytes c.plan (new_asked a.method [] 0 None)
+          asked_then
           (record { count = length response; moment = Some now }) now named off
 
 -- ---- where the message for a challenge stands

@@ -1,6 +1,6 @@
 -- The first request of a new client is started, and can be sent again.
-use Rattle.std.proofs.Common.{◌≡◌, ◌∙◌, ◌≤◌, [], ℕ, Bool, true, false, List, Some, None, ap, arith, cond}
-use Rattle.std.proofs.Common.{refl, subst, sym}
+use Rattle.std.proofs.Common.{◌≡◌, ◌∙◌, ◌≤◌, [], ℕ, Bool, true, false, Some, None, ap, arith}
+use Rattle.std.proofs.Common.{cond, refl, subst, sym}
 use Rattle.std.specs.BTreeMap.{is_at}
 use Rattle.std.specs.Net.Socket.{socket_ip, socket_port}
 use Rattle.std.specs.Option.{is_some, option_map}
@@ -63,7 +63,8 @@ is_client_of n is = record {
 
 module _ (s : Settings) (users : UserSecrets) (n : NewClient) (a : IntegrityAlgorithm)
     (can : CanBegin s users n a) (method : ℕ) (body : Body)
-    (page : IsWritten n.form n.who n.preferences n.accepts_unsigned None method (id_of n.seed 0) body)
+    (page : IsWritten n.form n.who n.preferences n.accepts_unsigned None method (id_of n.seed 0)
+    body)
     (start : ℕ) where
   abbrev new : Client
   new = made_of n

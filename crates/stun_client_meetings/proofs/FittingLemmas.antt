@@ -1,5 +1,6 @@
 -- The messages that a client writes for a challenge of a server fit, and have an ID of 96 bits.
-use Rattle.std.proofs.Common.{◌≡◌, ◌∙◌, ◌≤◌, ◌<◌, ◌^◌, ◌++◌, ◌∷◌, [], ℕ, zero, suc, Bool, true, false}
+use Rattle.std.proofs.Common.{◌≡◌, ◌∙◌, ◌≤◌, ◌<◌, ◌^◌, ◌++◌, ◌∷◌, [], ℕ, zero, suc, Bool, true}
+use Rattle.std.proofs.Common.{false}
 use Rattle.std.proofs.Common.{List, length, Option, Some, None, Ok, Err, ap, arith, cond, refl}
 use Rattle.std.specs.Int.{byte_at, bytes_high_first}
 use Rattle.std.specs.List.{slice_index}
@@ -80,7 +81,8 @@ unfolding request_bytes
 software_fits form identity challenge method id body bytes is =
     software_short form.software (by (is_text_too_long form.software) is)
   where
-    by : (b : Bool) → cond b (Err TooLarge) (whole_request form identity challenge method id body) ≡ Ok bytes
+    by : (b : Bool) → cond b (Err TooLarge) (whole_request form identity challenge method id body)
+        ≡ Ok bytes
         → b ≡ false
     by true is = cc
     by false is = refl
@@ -129,4 +131,5 @@ unfolding hmac sha1
 small_hmac key text = small_digest _ 5
 
 pub id_low : (seed : List ℕ) (number : ℕ) → id_of seed number < 2 ^ 96
-id_low seed number = big_from-lt 0 12 (hmac sha1 seed (bytes_high_first 8 number)) (small_hmac seed _)
+id_low seed number = big_from-lt 0 12 (hmac sha1 seed (bytes_high_first 8 number)) (small_hmac seed
+    _)

@@ -1,9 +1,7 @@
 -- What a response is judged to be, from what a client of one message makes of it.
 use Rattle.std.proofs.Common.{◌≡◌, ◌∙◌, ◌∷◌, [], ℕ, Bool, true, false, List, Option, Some, None, ap}
-use Rattle.std.proofs.Common.{cond, refl, subst, sym}
-use Rattle.std.specs.BTreeMap.{is_at}
+use Rattle.std.proofs.Common.{cond, subst}
 use Rattle.std.specs.Option.{is_some}
-use Rattle.std.specs.Ordering.{nat_cmp}
 use Rattle.std.specs.declared.net.socket_addr.SocketAddr.{SocketAddr}
 use Rattle.stun_base.specs.Header.{transaction_id_field}
 use Rattle.stun_base.specs.MessageType.{class_in}
@@ -11,7 +9,8 @@ use Rattle.stun_base.specs.declared.wire.message_type.MessageClass.{MessageClass
 use Rattle.stun_base.specs.declared.wire.message_type.MessageClass.TheVariants as Classes
 use Rattle.stun_types.specs.Message.{refusal}
 use Rattle.stun_extra.specs.CanonicalAddress.{is_same_address}
-use Rattle.stun_client.specs.Clients.{EndpointClient, by_asked, by_class, heard, not_ours, responded}
+use Rattle.stun_client.specs.Clients.{EndpointClient, by_asked, by_class, heard, not_ours}
+use Rattle.stun_client.specs.Clients.{responded}
 use Rattle.stun_client.specs.Judging.{Verdict, judged}
 use Rattle.stun_client.specs.Requests.{AskedSeen as OneAsked, at, if_answered, is_answer}
 use Rattle.stun_client_requests.proofs.NumberLemmas.{own_key}
@@ -49,7 +48,8 @@ module _ (c : EndpointClient) (from : SocketAddr) (bytes : List ℕ) (number : �
           → judged c.requires_fingerprint true c.identity c.standing a.signed_for bytes ≡ v
       by true said =
           let same : b ≡ a = cc in
-          let v_is : judged c.requires_fingerprint true c.identity c.standing b.signed_for bytes ≡ v = cc in
+          let v_is : judged c.requires_fingerprint true c.identity c.standing b.signed_for bytes ≡ v
+          = cc in
           subst (λ (x : OneAsked).
           judged c.requires_fingerprint true c.identity c.standing x.signed_for bytes ≡ v) same v_is
       by false said = cc

@@ -21,9 +21,11 @@ use Rattle.stun_client_calls.specs.Runs.{Calls, Event, receives, silent}
 use Rattle.stun_client_calls.specs.Writing.{message_bytes}
 use Rattle.stun_requests.specs.Fitting.{IsWritten}
 use Rattle.stun_client_meetings.specs.Meeting.{CanGoOn, ClientSide, IsEndedBy, IsSentAgain}
-use Rattle.stun_client_meetings.proofs.ActingLemmas.{IsSpot, after_answer, after_challenge, answer_ends}
+use Rattle.stun_client_meetings.proofs.ActingLemmas.{IsSpot, after_answer, after_challenge}
+use Rattle.stun_client_meetings.proofs.ActingLemmas.{answer_ends}
 use Rattle.stun_client_meetings.proofs.ActingLemmas.{answer_is, asked_then, challenge_is}
-use Rattle.stun_client_meetings.proofs.ActingLemmas.{challenge_sends, challenge_stores, earlier_spot}
+use Rattle.stun_client_meetings.proofs.ActingLemmas.{challenge_sends, challenge_stores}
+use Rattle.stun_client_meetings.proofs.ActingLemmas.{earlier_spot}
 use Rattle.stun_client_meetings.proofs.ActingLemmas.{end_by, new_spot, some_there}
 use Rattle.stun_client_meetings.proofs.SideLemmas.{one_more, with_event}
 
@@ -40,7 +42,8 @@ module _ (side : ClientSide) (c : Client) (number id : ℕ) (a : AskedSeen) (res
       ≡ believed (Some by)
       → IsEndedBy side number by c response now memory
   ends_so by says = record {
-    next = after_answer c number id a side.server response one named stored message hears same_id answers
+    next = after_answer c number id a side.server response one named stored message hears same_id
+        answers
         memory now (Some by);
     consumed = answer_is c number id a side.server response one named stored message hears same_id
         answers memory now (Some by) says;
@@ -56,71 +59,80 @@ module _ (side : ClientSide) (c : Client) (number id : ℕ) (a : AskedSeen) (res
   module _ (method : ℕ) (body : Body) (d : Answered) (method_is : a.method ≡ method)
       (body_is : a.body ≡ body) (form_is : c.form ≡ side.form)
       (identity : c.identity ≡ long_term side.who side.preferences side.accepts_unsigned)
-      (says : judged c.requires_fingerprint true c.identity c.standing a.signed_for response ≡ anew d)
+      (says : judged c.requires_fingerprint true c.identity c.standing a.signed_for response ≡ anew
+      d)
       (can : CanGoOn c a d now)
       (page : (k : ℕ)
-      → IsWritten side.form side.who side.preferences side.accepts_unsigned (Some d) method k body) where
-    here : number_at id c.requests.table.attached ≡ Some number
-    here = one.timed number id named
+      → IsWritten side.form side.who side.preferences side.accepts_unsigned (Some d) method k body)
+    where
+      here : number_at id c.requests.table.attached ≡ Some number
+      here = one.timed number id named
 
-    spot_is : IsSpot c a id d
-    spot_is = by (message_for d a.earlier) refl
-      where
-        by : (o : Option (ℕ × SentSeen)) → message_for d a.earlier ≡ o → IsSpot c a id d
-        by None none =
-            let left = some_there (chosen c) can.left in
-            new_spot c a id number left.0 d here left.1 none
-        by (Some e) is =
-            earlier_spot c a id number d e here
-            (subst (λ (o : Option (ℕ × SentSeen)).
-            IfSome o (λ x. number_at x.1.id c.requests.table.attached ≡ None)) is can.apart) is
+      spot_is : IsSpot c a id d
+      spot_is = by (message_for d a.earlier) refl
+        where
+          by : (o : Option (ℕ × SentSeen)) → message_for d a.earlier ≡ o → IsSpot c a id d
+          by None none =
+              let left = some_there (chosen c) can.left in
+              new_spot c a id number left.0 d here left.1 none
+          by (Some e) is =
+              earlier_spot c a id number d e here
+              (subst (λ (o : Option (ℕ × SentSeen)).
+              IfSome o (λ x. number_at x.1.id c.requests.table.attached ≡ None)) is can.apart) is
 
-    abbrev its_id : ℕ
-    its_id = spot_is.spot.id
+      abbrev its_id : ℕ
+      its_id = spot_is.spot.id
 
-    abbrev its_bytes : List ℕ
-    its_bytes = (page its_id).bytes
+      abbrev its_bytes : List ℕ
+      its_bytes = (page its_id).bytes
 
-    fits : message_bytes c.form c.identity (Some d) its_id a ≡ Ok its_bytes
-    fits =
-        ap (λ (f : Form). request_bytes f c.identity (Some d) a.method its_id a.body) form_is
-        ∙ ap (λ (i : Identity). request_bytes side.form i (Some d) a.method its_id a.body) identity
-        ∙ ap (λ (m : ℕ). request_bytes side.form
-        (long_term side.who side.preferences side.accepts_unsigned) (Some d) m its_id a.body) method_is
-        ∙ ap (λ (b : Body). request_bytes side.form
-        (long_term side.who side.preferences side.accepts_unsigned) (Some d) method its_id b) body_is
-        ∙ (page its_id).is
+      fits : message_bytes c.form c.identity (Some d) its_id a ≡ Ok its_bytes
+      fits =
+          ap (λ (f : Form). request_bytes f c.identity (Some d) a.method its_id a.body) form_is
+          ∙ ap (λ (i : Identity). request_bytes side.form i (Some d) a.method its_id a.body) identity
+          ∙ ap (λ (m : ℕ). request_bytes side.form
+          (long_term side.who side.preferences side.accepts_unsigned) (Some d) m its_id a.body)
+          method_is
+          ∙ ap (λ (b : Body). request_bytes side.form
+          (long_term side.who side.preferences side.accepts_unsigned) (Some d) method its_id b)
+          body_is
+          ∙ (page its_id).is
 
-    abbrev after : Client
-    after =
-        after_challenge c number id a side.server response one named stored message hears same_id answers
-        memory now d says can.in_time can.often spot_is.spot spot_is.stands spot_is.off its_bytes fits
+      abbrev after : Client
+      after =
+          after_challenge c number id a side.server response one named stored message hears same_id
+          answers
+          memory now d says can.in_time can.often spot_is.spot spot_is.stands spot_is.off its_bytes
+          fits
 
-    consumed : received memory side.server response now c ≡ (Consumed, after)
-    consumed =
-        challenge_is c number id a side.server response one named stored message hears same_id answers
-        memory now d says can.in_time can.often spot_is.spot spot_is.stands spot_is.off its_bytes fits
+      consumed : received memory side.server response now c ≡ (Consumed, after)
+      consumed =
+          challenge_is c number id a side.server response one named stored message hears same_id
+          answers
+          memory now d says can.in_time can.often spot_is.spot spot_is.stands spot_is.off its_bytes
+          fits
 
-    pub sends_again : (begun : Client) (events : List Event) → Calls begun events c
-        → IsSentAgain side begun number d c response now memory
-    sends_again begun events calls = record {
-      next = after;
-      consumed = consumed;
-      events = with_event events silent;
-      calls = one_more begun c after events silent calls
-          (receives c after side.server response now (received memory side.server response now c)
-          can.instant (as_expected memory refl) (sym (ap (λ (x : Answer). x.1) consumed)));
-      bytes = its_bytes;
-      signed = record {
-        asked = asked_then c number id a side.server response one named stored message hears same_id
-            answers memory now d says can.in_time can.often spot_is.spot spot_is.stands spot_is.off
-            its_bytes fits;
-        stored = challenge_stores c number id a side.server response one named stored message hears
-            same_id answers memory now d says can.in_time can.often spot_is.spot spot_is.stands
-            spot_is.off its_bytes fits;
-        signed = refl;
-        sent = challenge_sends c number id a side.server response one named stored message hears same_id
-            answers memory now d says can.in_time can.often spot_is.spot spot_is.stands spot_is.off
-            its_bytes fits;
-      };
-    }
+      pub sends_again : (begun : Client) (events : List Event) → Calls begun events c
+          → IsSentAgain side begun number d c response now memory
+      sends_again begun events calls = record {
+        next = after;
+        consumed = consumed;
+        events = with_event events silent;
+        calls = one_more begun c after events silent calls
+            (receives c after side.server response now (received memory side.server response now c)
+            can.instant (as_expected memory refl) (sym (ap (λ (x : Answer). x.1) consumed)));
+        bytes = its_bytes;
+        signed = record {
+          asked = asked_then c number id a side.server response one named stored message hears same_id
+              answers memory now d says can.in_time can.often spot_is.spot spot_is.stands spot_is.off
+              its_bytes fits;
+          stored = challenge_stores c number id a side.server response one named stored message hears
+              same_id answers memory now d says can.in_time can.often spot_is.spot spot_is.stands
+              spot_is.off its_bytes fits;
+          signed = refl;
+          sent = challenge_sends c number id a side.server response one named stored message hears
+              same_id
+              answers memory now d says can.in_time can.often spot_is.spot spot_is.stands spot_is.off
+              its_bytes fits;
+        };
+      }

@@ -1,5 +1,6 @@
 -- Over any calls a client has the same server, user, form and FINGERPRINT.
-use Rattle.std.proofs.Common.{◌≡◌, ◌∙◌, ℕ, Bool, true, false, List, [], ◌∷◌, Option, Some, None, Ok, Err}
+use Rattle.std.proofs.Common.{◌≡◌, ◌∙◌, ℕ, Bool, true, false, List, [], ◌∷◌, Option, Some, None, Ok}
+use Rattle.std.proofs.Common.{Err}
 use Rattle.std.proofs.Common.{ap, cond, refl, sym}
 use Rattle.std.specs.Option.{is_some}
 use Rattle.std.specs.declared.net.socket_addr.SocketAddr.{SocketAddr}
@@ -16,18 +17,21 @@ use Rattle.stun_client_endpoint.specs.declared.told.Received.TheVariants.{NotOur
 use Rattle.stun_client_requests.specs.Requests.{datum_of, polled}
 use Rattle.stun_client_requests.specs.declared.requests.Polled.{Polled as OfRequests}
 use Rattle.stun_client_requests.specs.declared.requests.Polled.TheVariants as Of
-use Rattle.stun_client_calls.specs.Clients.{Client, Poll, by_polled, chosen, first_message, given_up}
-use Rattle.stun_client_calls.specs.Clients.{handed_out_of, sent_by, started, started_at, started_with}
+use Rattle.stun_client_calls.specs.Clients.{Client, Poll, by_polled, chosen, first_message}
+use Rattle.stun_client_calls.specs.Clients.{given_up}
+use Rattle.stun_client_calls.specs.Clients.{handed_out_of, sent_by, started, started_at}
+use Rattle.stun_client_calls.specs.Clients.{started_with}
 use Rattle.stun_client_calls.specs.Clients.{told, with_requests}
 use Rattle.stun_client_calls.specs.Deciding.{DecisionSeen, answered, drops, refuses, turns}
 use Rattle.stun_client_calls.specs.Deciding.{unauthorized}
 use Rattle.stun_client_calls.specs.Endpoints.{EndSeen}
 use Rattle.stun_client_calls.specs.Messages.{AskedSeen, is_late}
 use Rattle.stun_client_calls.specs.Receiving.{Answer, Memory, Met, Spot, UnlessMemory, answered_in}
-use Rattle.stun_client_calls.specs.Receiving.{as_expected, by_class, by_decision, by_met, decision_for}
+use Rattle.stun_client_calls.specs.Receiving.{as_expected, by_class, by_decision, by_met}
+use Rattle.stun_client_calls.specs.Receiving.{decision_for}
 use Rattle.stun_client_calls.specs.Receiving.{forgone, received, spot_of, turned_at, turned_by}
 use Rattle.stun_client_calls.specs.Receiving.{without_memory}
-use Rattle.stun_client_calls.specs.Runs.{Call, Calls, Event, call, cancels, changes_nothing, ends_one}
+use Rattle.stun_client_calls.specs.Runs.{Call, Calls, Event, call, changes_nothing, ends_one}
 use Rattle.stun_client_calls.specs.Runs.{no_call, polls, receives, requests}
 use Rattle.stun_client_calls.specs.Writing.{message_bytes}
 use Rattle.stun_client_calls.specs.declared.turning.Why.{Why}
@@ -165,6 +169,8 @@ with_event (event ∷ events) last = event ∷ with_event events last
 pub one_more : (c later next : Client) (events : List Event) (last : Event) → Calls c events later
     → Call later last next → Calls c (with_event events last) next
 unfolding with_event
-one_more c later next events last (no_call _) made = call later next next last [] made (no_call next)
+one_more c later next events last (no_call _) made = call later next next last [] made (no_call
+    next)
 one_more c later next events last (call _ mid _ event others first rest) made =
-    call c mid next event (with_event others last) first (one_more mid later next others last rest made)
+    call c mid next event (with_event others last) first (one_more mid later next others last rest
+    made)

@@ -12,7 +12,8 @@ use Rattle.stun_agent.proofs.Ascending.{lookup-insert_same, lookup-remove_other}
 use Rattle.stun_client_requests.specs.Numbers.{after_end as after_end_of, after_mark, after_rename}
 use Rattle.stun_client_requests.specs.Numbers.{id_at, id_in, known_at}
 use Rattle.stun_client_requests.specs.Requests.{Answering, RequestsSeen, after_again}
-use Rattle.stun_client_requests.specs.Requests.{after_answering, after_replacing, bytes_at, datum_of}
+use Rattle.stun_client_requests.specs.Requests.{after_answering, after_replacing, bytes_at}
+use Rattle.stun_client_requests.specs.Requests.{datum_of}
 use Rattle.stun_client_requests.specs.declared.numbers.Known.TheVariants.{Ended, Outstanding}
 use Rattle.stun_client_requests.specs.declared.requests.Request.{Request}
 use Rattle.stun_client_requests.proofs.RequestLemmas.{set_same}
@@ -46,7 +47,8 @@ module _ {D E : Type 0} (r : RequestsSeen D E) (number former id : ℕ) (bytes :
       ap (λ o. option_and_then id_in o)
       (lookup-insert_same number (Outstanding id) r.numbers.known)
 
-  next_is : after_replacing number last (after_again number response id bytes plan first now r) ≡ next
+  next_is : after_replacing number last (after_again number response id bytes plan first now r)
+      ≡ next
   next_is =
       ap (λ (x : RequestsSeen D E). after_replacing number last x) again_is
       ∙ ap (λ (o : Option ℕ). option_map_or (λ k. record mid {
@@ -55,7 +57,8 @@ module _ {D E : Type 0} (r : RequestsSeen D E) (number former id : ℕ) (bytes :
 
   timer : (t : Option Transaction)
       → transaction_at id (option_map_or (λ x. counted
-      (response_received response.count (round_trip response.moment x)) (without_request former sent)) t
+      (response_received response.count (round_trip response.moment x)) (without_request former
+      sent)) t
       sent).requests ≡ Some (request_in r.table bytes plan now)
   timer None = lookup-insert_same id (request_in r.table bytes plan now) r.table.requests
   timer (Some x) =
@@ -64,7 +67,8 @@ module _ {D E : Type 0} (r : RequestsSeen D E) (number former id : ℕ) (bytes :
 
   datum : (t : Option Transaction)
       → datum_at id (option_map_or (λ x. counted
-      (response_received response.count (round_trip response.moment x)) (without_request former sent)) t
+      (response_received response.count (round_trip response.moment x)) (without_request former
+      sent)) t
       sent).attached ≡ Some (record { number = number; datum = first })
   datum None =
       lookup-insert_same id (record { number = number; datum = first }) r.table.attached

@@ -3,7 +3,7 @@ use Rattle.std.specs.Prelude.{◌≡◌, ◌≢◌, ◌≤◌, ◌<◌, ℕ, Boo
 use Rattle.std.specs.Prelude.{Some, None, if◌then◌else◌, replicate}
 use Rattle.std.specs.Option.{IfSome}
 use Rattle.std.specs.declared.net.socket_addr.SocketAddr.{SocketAddr}
-use Rattle.stun_base.specs.Moments.{last_moment, moment_after}
+use Rattle.stun_base.specs.Moments.{moment_after}
 use Rattle.stun_base.specs.declared.keys.algorithm.IntegrityAlgorithm.{IntegrityAlgorithm}
 use Rattle.stun_base.specs.declared.keys.algorithm.IntegrityAlgorithm.TheVariants.{Sha256}
 use Rattle.stun_base.specs.declared.wire.transport.TransportType.TheVariants.{Udp}
@@ -50,8 +50,8 @@ pub record CanBegin (s : Settings) (users : UserSecrets) (n : NewClient) (a : In
   pub software : IfSome n.form.software (λ text. length text ≤ TEXT_LIMIT)
   pub another : id_of n.seed 1 ≢ id_of n.seed 0
 
--- it starts a request, which the server challenges. The challenge arrives, and the server accepts the
--- request that the client sends for it, while the nonce lasts
+-- it starts a request, which the server challenges. The challenge arrives, and the server accepts
+-- the request that the client sends for it, while the nonce lasts
 pub record AreIntroduced (s : Settings) (users : UserSecrets) (from : SocketAddr) (n : NewClient)
     (a : IntegrityAlgorithm) (method : ℕ) (body : Body) (start time now : ℕ) (memory : Memory)
     : Type 0 where
@@ -71,7 +71,7 @@ abbrev pub NewClientsMeetServers : Type 0
 NewClientsMeetServers =
     (s : Settings) (users : UserSecrets) (from : SocketAddr) (n : NewClient)
     (a : IntegrityAlgorithm) (method : ℕ) (body : Body) (start time now : ℕ) (memory : Memory)
-    → CanBegin s users n a → method < 4096 → IsBuiltBody body → start ≤ last_moment
+    → CanBegin s users n a → method < 4096 → IsBuiltBody body
     → now ≤ moment_after start (plan_of n.plan)
     → AreIntroduced s users from n a method body start time now memory
 
@@ -99,13 +99,13 @@ example_client server = record {
   seed = replicate 32 0;
 }
 
--- a Binding request (RFC 8489, section 18.2), and an Allocate request with REQUESTED-TRANSPORT for UDP
--- (RFC 8656, section 18.7)
+-- a Binding request (RFC 8489, section 18.2), and an Allocate request with REQUESTED-TRANSPORT for
+-- UDP (RFC 8656, section 18.7)
 abbrev pub allocate_body : Body
 allocate_body = with_value (record { kind = 0x0019; value = 17 ∷ 0 ∷ 0 ∷ 0 ∷ [] }) ∷ []
 
--- they meet, by HMAC-SHA256, whatever the secret, the addresses and the times are. The user is named by
--- a hash, or in clear
+-- they meet, by HMAC-SHA256, whatever the secret, the addresses and the times are. The user is
+-- named by a hash, or in clear
 pub record AreExamples (hashes : Bool) (secret : List ℕ) (from server : SocketAddr)
     (start time now : ℕ) (memory : Memory) : Type 0 where
   pub binding : AreIntroduced (example_server hashes secret) example_users from
@@ -113,13 +113,14 @@ pub record AreExamples (hashes : Bool) (secret : List ℕ) (from server : Socket
   pub allocate : AreIntroduced (example_server hashes secret) example_users from
       (example_client server) Sha256 3 allocate_body start time now memory
   pub named :
-      plain_name (challenge_at (example_server hashes secret) (side_of (example_client server)) Sha256
+      plain_name (challenge_at (example_server hashes secret) (side_of (example_client server))
+      Sha256
       from time).challenge.naming
       ≡ (if hashes then None else Some example_user.username)
 
 abbrev pub ThereAreMeetings : Type 0
 ThereAreMeetings =
     (hashes : Bool) (secret : List ℕ) (from server : SocketAddr) (start time now : ℕ)
-    (memory : Memory) → start ≤ last_moment
+    (memory : Memory)
     → now ≤ moment_after start (plan_of (example_client server).plan)
     → AreExamples hashes secret from server start time now memory

@@ -61,8 +61,8 @@ pub record IsClientOf (side : ClientSide) (c : Client) : Type 0 where
   pub required_is : c.requires_fingerprint ≡ side.requires_fingerprint
 
 -- a client and a server can meet: the server was built, the user is registered at it, the name is a
--- text of at most 513 bytes, both agree on an algorithm, and the client sends the FINGERPRINT that one
--- of them requires
+-- text of at most 513 bytes, both agree on an algorithm, and the client sends the FINGERPRINT that
+-- one of them requires
 pub record CanMeet (s : Settings) (users : UserSecrets) (side : ClientSide)
     (a : IntegrityAlgorithm) : Type 0 where
   pub built : IsServer s
@@ -89,10 +89,10 @@ pub record IsSignedFor (number : ℕ) (signed_for : Option Answered) (c : Client
   pub signed : asked.signed_for ≡ signed_for
   pub sent : bytes_at number c.requests ≡ Some bytes
 
--- it can be sent again for a challenge at a time: its first plan goes on, another message became the
--- current one less often than it may, and of the 2 ^ 64 - 1 numbers for transaction IDs one is left. If
--- an earlier message is signed for the challenge, no current message has its ID. That the message fits
--- is no premise (`requests_can_be_written` of `stun_requests`)
+-- it can be sent again for a challenge at a time: its first plan goes on, another message became
+-- the current one less often than it may, and of the 2 ^ 64 - 1 numbers for transaction IDs one is
+-- left. If an earlier message is signed for the challenge, no current message has its ID. That the
+-- message fits is no premise (`requests_can_be_written` of `stun_requests`)
 pub record CanGoOn (c : Client) (a : AskedSeen) (d : Answered) (now : ℕ) : Type 0 where
   pub instant : now ≤ last_moment
   pub in_time : now ≤ a.until
@@ -101,9 +101,9 @@ pub record CanGoOn (c : Client) (a : AskedSeen) (d : Answered) (now : ℕ) : Typ
   pub apart : IfSome (message_for d a.earlier)
       (λ e. number_at e.1.id c.requests.table.attached ≡ None)
 
--- a response has a client send a request again, signed for a challenge, whether there was memory for
--- the message that was the current one or not. The client then is one after calls that began with the
--- start of the request
+-- a response has a client send a request again, signed for a challenge, whether there was memory
+-- for the message that was the current one or not. The client then is one after calls that began
+-- with the start of the request
 pub record IsSentAgain (side : ClientSide) (begun : Client) (number : ℕ) (d : Answered)
     (later : Client) (response : List ℕ) (now : ℕ) (memory : Memory) : Type 0 where
   pub next : Client
@@ -113,8 +113,8 @@ pub record IsSentAgain (side : ClientSide) (begun : Client) (number : ℕ) (d : 
   pub bytes : List ℕ
   pub signed : IsSignedFor number (Some d) next bytes
 
--- a response ends a request: it is stored as answered, with the response and what it says, signed by
--- this algorithm. `poll` hands this end out
+-- a response ends a request: it is stored as answered, with the response and what it says, signed
+-- by this algorithm. `poll` hands this end out
 pub record IsEndedBy (side : ClientSide) (number : ℕ) (a : IntegrityAlgorithm) (later : Client)
     (response : List ℕ) (now : ℕ) (memory : Memory) : Type 0 where
   pub next : Client
@@ -134,7 +134,8 @@ IsAcceptedAs s users from now bytes name a =
 
 -- ---- the meeting
 
--- what a client and a server make of a request that is outstanding, whose bytes come from an address
+-- what a client and a server make of a request that is outstanding, whose bytes come from an
+-- address
 pub record Meets (s : Settings) (users : UserSecrets) (from : SocketAddr) (side : ClientSide)
     (a : IntegrityAlgorithm) (begun : Client) (number : ℕ) (later : Client) (bytes : List ℕ)
     : Type 0 where
@@ -155,8 +156,8 @@ pub record Meets (s : Settings) (users : UserSecrets) (from : SocketAddr) (side 
   pub accepted : (time now : ℕ)
       → IsSignedFor number (Some (challenge_at s side a from time)) later bytes
       → IsWithinPeriod s time now → IsAcceptedAs s users from now bytes side.who.username a
-  -- once that nonce has expired, it is answered with a 438, which has it sent again in the same way,
-  -- signed for the nonce that is current then
+  -- once that nonce has expired, it is answered with a 438, which has it sent again in the same
+  -- way, signed for the nonce that is current then
   pub stale : (time now : ℕ)
       → IsSignedFor number (Some (challenge_at s side a from time)) later bytes
       → IsForgotten s from time now
@@ -186,7 +187,7 @@ ClientsMeetServers =
     (s : Settings) (users : UserSecrets) (from : SocketAddr) (side : ClientSide)
     (a : IntegrityAlgorithm) (c later : Client) (method : ℕ) (body : Body) (start : ℕ)
     (events : List Event) (bytes : List ℕ) → CanMeet s users side a → IsClientOf side c
-    → method < 4096 → IsBuiltBody body → start ≤ last_moment → refusal_to_start c method body ≡ None
+    → method < 4096 → IsBuiltBody body → refusal_to_start c method body ≡ None
     → Calls (started method body start c) events later
     → bytes_at (next_number c) later.requests ≡ Some bytes
     → Meets s users from side a (started method body start c) (next_number c) later bytes

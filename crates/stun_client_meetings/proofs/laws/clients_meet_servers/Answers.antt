@@ -1,9 +1,9 @@
 -- Each exchange is a law of what a client and a server make of each other's messages.
-use Rattle.std.proofs.Common.{◌≡◌, ◌∙◌, ◌<◌, ◌≤◌, ◌^◌, ◌∷◌, ℕ, List, Option, Some, None, Ok, true, ap}
+use Rattle.std.proofs.Common.{◌≡◌, ◌∙◌, ◌<◌, ◌≤◌, ◌^◌, ℕ, List, Option, Some, None, Ok, true}
+use Rattle.std.proofs.Common.{ap}
 use Rattle.std.proofs.Common.{arith, length, map, refl, subst, sym}
 use Rattle.std.specs.declared.net.socket_addr.SocketAddr.{SocketAddr}
 use Rattle.stun_base.specs.Header.{transaction_id_field}
-use Rattle.stun_base.specs.Moments.{last_moment}
 use Rattle.stun_base.specs.declared.keys.algorithm.IntegrityAlgorithm.{IntegrityAlgorithm}
 use Rattle.stun_base.specs.declared.wire.message_type.MessageClass.TheVariants.{Request}
 use Rattle.stun_types.specs.Limits.{TEXT_LIMIT}
@@ -15,21 +15,22 @@ use Rattle.stun_client.specs.Ids.{id_of}
 use Rattle.stun_client.specs.Judging.{Identity, anew, believed, judged, long_term, sent_for}
 use Rattle.stun_client.specs.Requests.{is_answer}
 use Rattle.stun_client_endpoint.specs.Bodies.{Body}
-use Rattle.stun_client_endpoint.specs.Written.{Form, Page?, request_bytes}
+use Rattle.stun_client_endpoint.specs.Written.{Form, request_bytes}
 use Rattle.stun_client_requests.specs.Numbers.{id_at}
 use Rattle.stun_client_requests.specs.OneTable.{IsOneTable}
 use Rattle.stun_client_requests.specs.Requests.{datum_of}
-use Rattle.stun_client_calls.specs.Clients.{Client, refusal_to_start, started}
+use Rattle.stun_client_calls.specs.Clients.{Client, started}
 use Rattle.stun_client_calls.specs.Messages.{AskedSeen}
-use Rattle.stun_client_calls.specs.Runs.{Calls, Event, call, next_number, requests, starts}
+use Rattle.stun_client_calls.specs.Runs.{Calls, Event, next_number}
 use Rattle.stun_client_runs.specs.Sent.{IsSentAs, asking}
+use Rattle.stun_client_runs.proofs.KeptLemmas.{started_is}
 use Rattle.stun_endpoint.specs.Lookups.{users_with}
 use Rattle.stun_endpoint.specs.Nonces.{current_nonce, epoch_of, words_of}
 use Rattle.stun_endpoint.specs.Received.{challenge_answer}
 use Rattle.stun_endpoint.specs.Settings.{Settings}
 use Rattle.stun_endpoint.specs.declared.received.Refusal.TheVariants.{StaleNonce, Unauthenticated}
 use Rattle.stun_exchanges.specs.Agreement.{IsSignedAnswer}
-use Rattle.stun_exchanges.specs.Exchange.{IsResponseTo, UserSecrets, realm_knowing}
+use Rattle.stun_exchanges.specs.Exchange.{UserSecrets, realm_knowing}
 use Rattle.stun_exchanges.proofs.AgreedLemmas.{accepted_again}
 use Rattle.stun_sessions.specs.Sessions.{client_named}
 use Rattle.stun_sessions.proofs.SessionLemmas.{is_another}
@@ -42,10 +43,11 @@ use Rattle.stun_client_meetings.proofs.FittingLemmas.{id_low, is_printed, short_
 use Rattle.stun_client_meetings.proofs.FittingLemmas.{software_fits}
 use Rattle.stun_client_meetings.proofs.HeardLemmas.{client_with, is_there, judged_so, one_asked}
 use Rattle.stun_client_meetings.proofs.MeetingLemmas.{ends_so, sends_again}
-use Rattle.stun_client_meetings.proofs.SideLemmas.{Parts, parts, since_start}
+use Rattle.stun_client_meetings.proofs.SideLemmas.{Parts, since_start}
 use Rattle.stun_client_meetings.proofs.laws.clients_meet_servers.Goals as goal
 
--- what is known of a request whose current message has these bytes, signed for a challenge, or for none
+-- what is known of a request whose current message has these bytes, signed for a challenge, or for
+-- none
 record IsKnown (side : ClientSide) (c later : Client) (method : ℕ) (body : Body) (bytes : List ℕ)
     (signed_for : Option Answered) (a : AskedSeen) : Type 0 where
   id : ℕ
@@ -56,7 +58,8 @@ record IsKnown (side : ClientSide) (c later : Client) (method : ℕ) (body : Bod
   method_is : a.method ≡ method
   body_is : a.body ≡ body
   written : request_bytes side.form
-      (long_term side.who side.preferences side.accepts_unsigned) signed_for method id body ≡ Ok bytes
+      (long_term side.who side.preferences side.accepts_unsigned) signed_for method id body ≡ Ok
+      bytes
 
 some_bytes : (x y : List ℕ) → Some x ≡ Some y → x ≡ y
 some_bytes x y is = cc
@@ -79,7 +82,8 @@ known_of side c later method body bytes signed_for of signed is = record {
       ∙ ap (λ (i : Identity). request_bytes c.form i signed_for method is.id body) (sym of.identity)
       ∙ ap (λ (o : Option Answered). request_bytes c.form c.identity o method is.id body)
       (sym signed.signed)
-      ∙ subst (λ (x : List ℕ). request_bytes c.form c.identity signed.asked.signed_for method is.id body
+      ∙ subst (λ (x : List ℕ). request_bytes c.form c.identity signed.asked.signed_for method is.id
+      body
       ≡ Ok x) same is.written;
 }
   where
@@ -96,14 +100,12 @@ record IsLater (side : ClientSide) (later : Client) : Type 0 where
 
 later_of : (g : goal.After-requests_can_be_written) (side : ClientSide) (c later : Client)
     (method : ℕ) (body : Body) (start : ℕ) (events : List Event) → IsClientOf side c
-    → start ≤ last_moment → refusal_to_start c method body ≡ None
     → Calls (started method body start c) events later → IsLater side later
-later_of g side c later method body start events of low none calls =
+later_of g side c later method body start events of calls =
     let same = since_start c later method body start events calls in
     record {
-      one = (g.clients_stay_in_order.ensures.stays c later (starts (next_number c) ∷ events) of.client
-          (call c (started method body start c) later (starts (next_number c)) events
-          (requests c (started method body start c) method body start low none refl) calls)).requests.one;
+      one = (g.clients_stay_in_order.ensures.stays (started method body start c) later events
+          (started_is method body start c of.client) calls).requests.one;
       hears = ap (λ (x : Parts). is_same_address side.server x.0) same ∙ of.hears;
       identity = ap (λ (x : Parts). x.1) same ∙ of.identity;
       form_is = ap (λ (x : Parts). x.3) same ∙ of.form_is;
@@ -130,7 +132,8 @@ page_for g s users side a method body from time id signed_for bytes meet low bui
     omega (arith, g.nonces_have_the_bits_of_their_server.ensures.short s words, few) in
     g.requests_can_be_written.ensures.written side.form who prefers accepts
     (Some (challenge_at s side a from time)) method k body low built
-    (software_fits side.form (long_term who prefers accepts) signed_for method id body bytes written)
+    (software_fits side.form (long_term who prefers accepts) signed_for method id body bytes
+    written)
     (short_challenge s prefers who nonce a meet.built meet.short fits)
 
 -- what is read of a message that is signed for a challenge of the server
@@ -143,14 +146,16 @@ signed_read : (g : goal.After-requests_can_be_written) (s : Settings) (users : U
 signed_read g s users side a method body from time id bytes meet low built written =
     let text = g.nonces_have_the_bits_of_their_server.ensures.text s
     (words_of s.algorithms s.secret from (epoch_of s time)) in
-    g.requests_are_read_back.ensures.as_made side.form side.who side.preferences side.accepts_unsigned
+    g.requests_are_read_back.ensures.as_made side.form side.who side.preferences
+    side.accepts_unsigned
     (Some (challenge_at s side a from time)) method id body bytes low
     (g.requests_can_be_written.ensures.bodies body built).0
     (texts_of s side.preferences side.who (current_nonce s from time) a meet.built meet.text text)
     written
 
 pub returns : goal.returns
-returns g = λ s users from side a c later method body start events bytes meet of low built early none
+returns g = λ s users from side a c later method body start events bytes meet of low built
+    none
     calls out.
     let ordinary = (g.requests_can_be_written.ensures.bodies body built).0 in
     let who = side.who in
@@ -158,15 +163,17 @@ returns g = λ s users from side a c later method body start events bytes meet o
     let accepts = side.accepts_unsigned in
     let number = next_number c in
     let begun = started method body start c in
-    let since = later_of g side c later method body start events of early none calls in
+    let since = later_of g side c later method body start events of calls in
     let sent_as = λ (x : AskedSeen) (there : datum_of number later.requests ≡ Some x).
-    g.requests_are_sent_as_they_were_started.ensures.kept c later events method body start x of.client
+    g.requests_are_sent_as_they_were_started.ensures.kept c later events method body start x
+    of.client
     low none calls there in
     record {
       challenged = λ time unsigned.
           let known = known_of side c later method body bytes None of unsigned
           (sent_as unsigned.asked unsigned.stored) in
-          g.requests_are_challenged.ensures s (realm_knowing s users) from time side.form who prefers
+          g.requests_are_challenged.ensures s (realm_knowing s users) from time side.form who
+          prefers
           accepts method known.id body bytes low ordinary meet.printed known.written;
       renewed = λ time now memory unsigned can strong.
           let response =
@@ -175,19 +182,23 @@ returns g = λ s users from side a c later method body start events bytes meet o
           let asked = unsigned.asked in
           let known = known_of side c later method body bytes None of unsigned
           (sent_as asked unsigned.stored) in
-          let read = g.requests_are_read_back.ensures.as_made side.form who prefers accepts None method
+          let read = g.requests_are_read_back.ensures.as_made side.form who prefers accepts None
+          method
           known.id body bytes low ordinary
           (record { nonce = tt; realm = tt; username = tt; userhash = tt }) known.written in
           let short : transaction_id_field bytes < 2 ^ 96 =
-          subst (λ k. k < 2 ^ 96) (sym (known.id_is ∙ known.derived)) (id_low c.seed known.id_number) in
+          subst (λ k. k < 2 ^ 96) (sym (known.id_is ∙ known.derived)) (id_low c.seed
+          known.id_number) in
           let sends = λ (is : later.requires_fingerprint ≡ true).
           is_printed side.form.has_fingerprint bytes read.print
           (meet.required (sym since.required_is ∙ is)) in
           let read_as = g.challenges_are_read_as_meant.ensures s Unauthenticated s.secret from from
           (epoch_of s time) later.requires_fingerprint bytes meet.built refl short sends in
-          let said = g.challenges_of_a_server_are_answered.ensures s Unauthenticated s.secret from from
+          let said = g.challenges_of_a_server_are_answered.ensures s Unauthenticated s.secret from
+          from
           side.server (epoch_of s time) bytes (client_with later (transaction_id_field bytes) asked)
-          (one_asked asked) who prefers accepts a meet.built refl short sends meet.agree since.identity
+          (one_asked asked) who prefers accepts a meet.built refl short sends meet.agree
+          since.identity
           since.hears
           (is_there later (transaction_id_field bytes) asked)
           (known.method_is ∙ sym read.method_is)
@@ -195,31 +206,40 @@ returns g = λ s users from side a c later method body start events bytes meet o
           let says = judged_so later (transaction_id_field bytes) asked side.server response
           (sent_for asked.signed_for response challenge) read_as.0.id said
           ∙ ap (λ (o : Option Answered). sent_for o response challenge) unsigned.signed in
-          sends_again side later number known.id asked response since.one known.named unsigned.stored
+          sends_again side later number known.id asked response since.one known.named
+          unsigned.stored
           read_as.0.message since.hears (read_as.0.id ∙ known.id_is)
           (subst (λ m. is_answer m response ≡ true) (sym (known.method_is ∙ sym read.method_is))
           read_as.0.answers)
-          memory now method body challenge known.method_is known.body_is since.form_is since.identity
+          memory now method body challenge known.method_is known.body_is since.form_is
+          since.identity
           says can
           (page_for g s users side a method body from time known.id None bytes meet low built
           known.written)
           begun events calls;
       accepted = λ time now signed within.
-          let known = known_of side c later method body bytes (Some (challenge_at s side a from time)) of
+          let known = known_of side c later method body bytes (Some (challenge_at s side a from
+          time)) of
           signed (sent_as signed.asked signed.stored) in
-          g.requests_are_accepted.ensures s users from time now side.form who prefers accepts a method
-          known.id body bytes meet.built meet.known meet.text meet.agree within low ordinary meet.printed
+          g.requests_are_accepted.ensures s users from time now side.form who prefers accepts a
+          method
+          known.id body bytes meet.built meet.known meet.text meet.agree within low ordinary
+          meet.printed
           known.written;
       stale = λ time now signed other.
-          let known = known_of side c later method body bytes (Some (challenge_at s side a from time)) of
+          let known = known_of side c later method body bytes (Some (challenge_at s side a from
+          time)) of
           signed (sent_as signed.asked signed.stored) in
-          let read = signed_read g s users side a method body from time known.id bytes meet low built
+          let read = signed_read g s users side a method body from time known.id bytes meet low
+          built
           known.written in
           let up_to_date = g.nonces_of_a_server_are_up_to_date.ensures.marked (users_with s users)
           s.feature in
-          let accepted_so = accepted_again s users who meet.known prefers (current_nonce s from time) a
+          let accepted_so = accepted_again s users who meet.known prefers (current_nonce s from
+          time) a
           Request None (reading_of bytes)
-          (up_to_date (map letter (words_of s.algorithms s.secret from (epoch_of s time)))) meet.agree
+          (up_to_date (map letter (words_of s.algorithms s.secret from (epoch_of s time))))
+          meet.agree
           read.reads in
           g.forgotten_nonces_are_stale.ensures s (realm_knowing s users) from time now bytes
           (client_named who a)
@@ -231,24 +251,30 @@ returns g = λ s users from side a c later method body start events bytes meet o
           (challenge_answer s StaleNonce (current_nonce s from then_at) from bytes).bytes in
           let challenge = challenge_at s side a from then_at in
           let asked = signed.asked in
-          let known = known_of side c later method body bytes (Some (challenge_at s side a from time)) of
+          let known = known_of side c later method body bytes (Some (challenge_at s side a from
+          time)) of
           signed (sent_as asked signed.stored) in
-          let read = signed_read g s users side a method body from time known.id bytes meet low built
+          let read = signed_read g s users side a method body from time known.id bytes meet low
+          built
           known.written in
           let short : transaction_id_field bytes < 2 ^ 96 =
-          subst (λ k. k < 2 ^ 96) (sym (known.id_is ∙ known.derived)) (id_low c.seed known.id_number) in
+          subst (λ k. k < 2 ^ 96) (sym (known.id_is ∙ known.derived)) (id_low c.seed
+          known.id_number) in
           let sends = λ (is : later.requires_fingerprint ≡ true).
           is_printed side.form.has_fingerprint bytes read.print
           (meet.required (sym since.required_is ∙ is)) in
           let read_as = g.challenges_are_read_as_meant.ensures s StaleNonce s.secret from from
           (epoch_of s then_at) later.requires_fingerprint bytes meet.built refl short sends in
           let said = g.challenges_of_a_server_are_answered.ensures s StaleNonce s.secret from from
-          side.server (epoch_of s then_at) bytes (client_with later (transaction_id_field bytes) asked)
-          (one_asked asked) who prefers accepts a meet.built refl short sends meet.agree since.identity
+          side.server (epoch_of s then_at) bytes (client_with later (transaction_id_field bytes)
+          asked)
+          (one_asked asked) who prefers accepts a meet.built refl short sends meet.agree
+          since.identity
           since.hears
           (is_there later (transaction_id_field bytes) asked)
           (known.method_is ∙ sym read.method_is)
-          (is_another s prefers who a from time then_at asked.signed_for signed.signed other.current)
+          (is_another s prefers who a from time then_at asked.signed_for signed.signed
+          other.current)
           strong in
           let says = judged_so later (transaction_id_field bytes) asked side.server response
           (anew challenge) read_as.0.id said in
@@ -256,7 +282,8 @@ returns g = λ s users from side a c later method body start events bytes meet o
           read_as.0.message since.hears (read_as.0.id ∙ known.id_is)
           (subst (λ m. is_answer m response ≡ true) (sym (known.method_is ∙ sym read.method_is))
           read_as.0.answers)
-          memory now method body challenge known.method_is known.body_is since.form_is since.identity
+          memory now method body challenge known.method_is known.body_is since.form_is
+          since.identity
           says can
           (page_for g s users side a method body from then_at known.id
           (Some (challenge_at s side a from time)) bytes meet low built known.written)
@@ -266,7 +293,8 @@ returns g = λ s users from side a c later method body start events bytes meet o
           let asked = signed.asked in
           let known = known_of side c later method body bytes (Some challenge) of signed
           (sent_as asked signed.stored) in
-          let read = signed_read g s users side a method body from time known.id bytes meet low built
+          let read = signed_read g s users side a method body from time known.id bytes meet low
+          built
           known.written in
           let says : judged later.requires_fingerprint true later.identity later.standing
           asked.signed_for response ≡ believed (Some a) =

@@ -29,9 +29,11 @@ use Rattle.stun_client_meetings.proofs.BeginningLemmas.{is_client_of, starts_so}
 use Rattle.stun_client_meetings.proofs.laws.new_clients_meet_servers.Goals as goal
 
 pub returns-clause-met : goal.returns-clause-met
-returns-clause-met g = λ s users from n a method body start time now memory can low built early in_time.
+returns-clause-met g = λ s users from n a method body start time now memory can low built
+    in_time.
     let c = made_of n in
-    let page = g.requests_can_be_written.ensures.written n.form n.who n.preferences n.accepts_unsigned None
+    let page = g.requests_can_be_written.ensures.written n.form n.who n.preferences
+    n.accepts_unsigned None
     method (id_of n.seed 0) body low built can.software tt in
     let begun = started method body start c in
     let none = starts_so s users n a can method body page start in
@@ -40,8 +42,9 @@ returns-clause-met g = λ s users from n a method body start time now memory can
     let client = is_client_of n
     (g.clients_stay_in_order.ensures.begins n.transport n.server n.counts n.requires_fingerprint
     (long_term n.who n.preferences n.accepts_unsigned) n.form n.understood n.turns n.plan n.seed) in
-    let meets = g.clients_meet_servers.ensures s users from side a c begun method body start [] page.bytes
-    can.meet client low built early none (no_call begun) unsigned.sent in
+    let meets = g.clients_meet_servers.ensures s users from side a c begun method body start []
+    page.bytes
+    can.meet client low built none (no_call begun) unsigned.sent in
     let challenge = challenge_at s side a from time in
     let again = meets.renewed time now memory unsigned
     (goes_on s users n a can method body page start challenge now in_time)
@@ -55,7 +58,7 @@ returns-clause-met g = λ s users from n a method body start time now memory can
       renewed = again;
       accepted = λ later within.
           (g.clients_meet_servers.ensures s users from side a c again.next method body start
-          again.events again.bytes can.meet client low built early none again.calls
+          again.events again.bytes can.meet client low built none again.calls
           again.signed.sent).accepted time later again.signed within;
     }
 
@@ -106,7 +109,8 @@ example_begins c hashes secret server = record {
   meet = example_meets c hashes secret server;
   turns = omega arith;
   software = tt;
-  another = λ same. true_false (sym (eq-eqb (id_of (replicate 32 0) 1) (id_of (replicate 32 0) 0) same)
+  another = λ same. true_false (sym (eq-eqb (id_of (replicate 32 0) 1) (id_of (replicate 32 0) 0)
+      same)
       ∙ ids_differ);
 }
 
@@ -124,7 +128,8 @@ example_named false false realm is = refl
 
 example_name : (g : goal.After-requests_can_be_written) (hashes : Bool) (secret : List ℕ)
     (from server : SocketAddr) (time : ℕ)
-    → plain_name (challenge_at (example_server hashes secret) (side_of (example_client server)) Sha256
+    → plain_name (challenge_at (example_server hashes secret) (side_of (example_client server))
+    Sha256
     from time).challenge.naming
     ≡ cond hashes None (Some example_user.username)
 example_name g true secret from server time =
@@ -139,15 +144,16 @@ example_name g false secret from server time =
     example_named false (asks_for_userhash (current_nonce s from time)) s.realm up_to_date.hashes
 
 pub returns-clause-exist : goal.returns-clause-exist
-returns-clause-exist g = λ hashes secret from server start time now memory early in_time.
+returns-clause-exist g = λ hashes secret from server start time now memory in_time.
     let s = example_server hashes secret in
     let n = example_client server in
     let can = example_begins g hashes secret server in
     let met = returns-clause-met g in
     record {
-      binding = met s example_users from n Sha256 1 [] start time now memory can (omega arith) new early
+      binding = met s example_users from n Sha256 1 [] start time now memory can (omega arith) new
           in_time;
-      allocate = met s example_users from n Sha256 3 allocate_body start time now memory can (omega arith)
-          built_body early in_time;
+      allocate = met s example_users from n Sha256 3 allocate_body start time now memory can (omega
+          arith)
+          built_body in_time;
       named = example_name g hashes secret from server time;
     }

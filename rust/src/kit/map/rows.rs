@@ -10,7 +10,7 @@ const MOST: usize = 32;
 /// The last block is freed if there are this many free entries beside its own.
 const SPARE: usize = MOST / 2;
 
-/// A block of memory with the capacity for `MOST` entries, or none.
+/// A block of memory with the capacity for `MOST` entries. The first one may have less, or none.
 struct Block<K, V> {
     entries: Vec<(K, V)>,
     // A bit for each entry that was dismissed.
@@ -84,16 +84,18 @@ impl<K, V> Rows<K, V> {
 
     /// Returns `true` if the memory of all blocks is used.
     pub(super) fn is_full(&self) -> bool {
-        let has_first = self.first.entries.capacity() > 0;
-        self.len == (usize::from(has_first) + self.more.len()) * MOST
+        self.len == self.first.entries.capacity() + self.more.len() * MOST
     }
 
-    /// Allocates another block.
+    /// Allocates another block. The first one grows before, so that a map of few entries is small.
     #[inline(never)]
     pub(super) fn grow(&mut self, alloc: &impl Allocator) -> Result<(), AllocError> {
-        if self.len == 0 {
-            self.first = Block::new(alloc)?;
-            return Ok(());
+        let before = self.first.entries.capacity();
+        if before < MOST {
+            let after = grown(before, before + 1).min(MOST);
+            let entries = &mut self.first.entries;
+            let reserve = || entries.try_reserve_exact(after - entries.len());
+            return change::<(K, V), _>(alloc, before, after, reserve);
         }
         let (blocks, before) = (self.more.len(), self.more.capacity());
         if blocks == before {

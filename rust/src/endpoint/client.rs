@@ -308,9 +308,7 @@ impl Client {
     /// assert_eq!(client.transaction_id(request), Some(id));
     /// ```
     pub fn request_of(&self, id: TransactionId) -> Option<RequestId> {
-        let current = self.core.requests.number_of(id.0);
-        let number = current.or_else(|| self.core.earlier.get(&id.0).copied());
-        number.map(RequestId)
+        self.core.request_of(id.0).map(RequestId)
     }
 
     /// Returns what was dropped for a request, while it is outstanding.

@@ -4,6 +4,7 @@ pub mod BodyLemmas
 mod CausedLemmas
 pub mod ExtendedLemmas
 pub mod FoundLemmas
+mod HearingLemmas
 mod KeyLemmas
 mod ReplyLemmas
 mod RoleLemmas

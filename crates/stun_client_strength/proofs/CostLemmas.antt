@@ -32,7 +32,8 @@ use Rattle.stun_client_calls.specs.Clients.{chosen, first_asked, first_message, 
 use Rattle.stun_client_calls.specs.Clients.{refusal_to_start, sent_by, started, started_at}
 use Rattle.stun_client_calls.specs.Clients.{started_by, started_with, told, transmit}
 use Rattle.stun_client_calls.specs.Clients.{with_requests}
-use Rattle.stun_client_calls.specs.Deciding.{drops, is_late, is_spent, place_of, refuses}
+use Rattle.stun_client_calls.specs.Deciding.{drops, is_spent, place_of, refuses}
+use Rattle.stun_client_calls.specs.Messages.{is_late}
 use Rattle.stun_client_calls.specs.Deciding.{turns_for, unauthorized}
 use Rattle.stun_client_calls.specs.Endpoints.{EndSeen}
 use Rattle.stun_client_calls.specs.Messages.{AskedSeen, is_late as is_late_in, message_for}

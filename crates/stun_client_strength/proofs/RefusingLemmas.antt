@@ -35,7 +35,8 @@ use Rattle.stun_client_requests.proofs.TimelyLemmas.{named_is_one}
 use Rattle.stun_client_calls.specs.Clients.{Client, Poll, Told, by_polled, changed, changed_at}
 use Rattle.stun_client_calls.specs.Clients.{ends, given_up as given_up_at, handed_out_of, sent_by}
 use Rattle.stun_client_calls.specs.Clients.{told, transmit, waits, with_requests}
-use Rattle.stun_client_calls.specs.Deciding.{DecisionSeen, decided, drops, is_late, is_spent}
+use Rattle.stun_client_calls.specs.Deciding.{DecisionSeen, decided, drops, is_spent}
+use Rattle.stun_client_calls.specs.Messages.{is_late}
 use Rattle.stun_client_calls.specs.Deciding.{refuses, turns_for, unauthorized}
 use Rattle.stun_client_calls.specs.Endpoints.{EndSeen}
 use Rattle.stun_client_calls.specs.Messages.{AskedSeen, refusing, sent_out}

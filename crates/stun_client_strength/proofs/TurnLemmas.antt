@@ -12,7 +12,8 @@ use Rattle.stun_client_endpoint.specs.Refusals.{OTHERS}
 use Rattle.stun_client_endpoint.specs.declared.ended.DropReason.TheVariants.{LateChallenge}
 use Rattle.stun_client_endpoint.specs.declared.ended.DropReason.TheVariants.{NotVerified}
 use Rattle.stun_client_calls.specs.Deciding.{Place, back_to, decided, drops}
-use Rattle.stun_client_calls.specs.Deciding.{giving_way, is_idle, is_late, is_spent, place_of}
+use Rattle.stun_client_calls.specs.Deciding.{giving_way, is_idle, is_spent, place_of}
+use Rattle.stun_client_calls.specs.Messages.{is_late}
 use Rattle.stun_client_calls.specs.Deciding.{refuses, turns, unauthorized, undoubted}
 use Rattle.stun_client_calls.specs.Messages.{AskedSeen, SentSeen, eligible, has_unsigned, is_doubt}
 use Rattle.stun_client_calls.specs.Messages.{is_eligible, is_signed_eligible, message_for}

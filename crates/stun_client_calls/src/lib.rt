@@ -9,7 +9,8 @@
 //! transaction ID of the next message, and `writing` its bytes. `endpoint` is a client of one
 //! server over these.
 //!
-//! Nothing stands over this crate yet.
+//! `seatcrane_stun::endpoint::Client` is a front of its `ClientEndpoint`, and so are the calls of a
+//! client in C.
 #![tactic(auto)]
 
 pub mod asked;

@@ -6,8 +6,7 @@
 //! has which numbers are outstanding, under which IDs, and which have ended. Whoever stores what a
 //! request is signed for, its method and what was dropped for it, stores this in the datum.
 //!
-//! Only `stun_client_calls` stands over this crate yet: `stun_client_endpoint` still stores its
-//! requests in three tables.
+//! The client of `stun_client_calls` stands over this crate.
 #![tactic(auto)]
 
 pub mod laws;

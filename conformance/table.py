@@ -27,12 +27,12 @@ answered as written, those that differ from a MUST of an RFC, those that differ 
 this library, and those that were left out because the subject does not have the call or does not
 claim what is in the message. [README.md](README.md) says what a result means.
 
-`endpoint` and `endpoint-rust` are this library's endpoints through C and in Rust. Where they differ
-from a MUST, [docs/DIFFERENCES.md](../docs/DIFFERENCES.md) prints it with its reason, and other
-departures that no line asks for.
+`endpoint` and `endpoint-rust` are this library's endpoints through C and in Rust. If they differ
+from a MUST, [docs/DIFFERENCES.md](../docs/DIFFERENCES.md) describes the departure and its reason.
+That page also describes departures that no line of the suite tests.
 
 In the tables below, each row says how many calls differ, and shows the first of them. A name such
-as `NotStun` is this library's error and stands for `refused`.""".split("\n")
+as `NotStun` is an error of this library, and stands for `refused`.""".split("\n")
 
 
 def version_of(name):

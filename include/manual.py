@@ -4,11 +4,11 @@
     manual.py FOLDER     FOLDER/man3/NAME.3 for each call, macro with a parameter, struct, enum and
                          handle, and FOLDER/man7/HEADER.7 for each header as a whole
 
-The headers are the only text. A comment begins with what a call does; from `Returns` on it is the
-result, and from `Errors` on the errors in the order of testing. A comment that no declaration
-follows is about the calls after it, up to the next title (`---- Title`): their pages repeat it,
-except those of calls that free something or name it. Lines that are indented by four are code. What
-stands in backquotes is bold.
+All text comes from the headers. A comment begins with what a call does. From `Returns` on it
+describes the result, and from `Errors` on it lists the errors in the order of testing. A comment
+that no declaration follows is about the calls after it, up to the next title (`---- Title`). The
+pages of these calls repeat it, except those of calls that free or wipe something or return a text
+or a version. Lines that are indented by four are code. Text in backquotes is bold.
 """
 import re
 import sys
@@ -18,13 +18,13 @@ HERE = Path(__file__).resolve().parent
 HEADERS = ("stunp.h", "stunp_state.h", "stunp_endpoint.h", "stunp_sockaddr.h", "stunp_log.h")
 PIECE = re.compile(r"^/\*(.*?)\*/\n|^((?:extern )?\w[^;{}]*?\b(\w+)\([^)]*\))(?:;| \{)"
                    r"|^typedef (?:struct|enum)\b[^\n]*?(?:\n(?!\})[^\n]*)*?\n?\} (\w+);", re.M | re.S)
-# The macros that a comment is about: those that the lines after it define for C++ and for C.
+# The macros that a comment is about: the lines after the comment define them for C++ and for C.
 MACROS = re.compile(r"#ifdef __cplusplus\n(?:(?!#else|#endif).*\n)*#else\n"
                     r"((?:#define \w+\(type\) .*\n)+)#endif\n")
-# How a call is declared that is compiled into the program.
+# How the declaration of a call begins if the call is compiled into the program.
 INLINE = "STUNP_INLINED |static inline |extern "
 NAME = re.compile(r"\b(?:stunp|rattle)_\w+|\bSTUNP_(?:INIT|ANEW)\b")
-# The calls whose pages have no notes of their group.
+# The calls whose pages do not repeat the comment on their group.
 PLAIN = re.compile(r"_(?:free|clear|text|wipe|version)$")
 ORDER = "If several apply, the call returns the first of this list."
 
@@ -35,12 +35,12 @@ def escaped(line):
 
 
 def coded(line):
-    """A line of code, in whose comments backquotes are left out."""
+    """A line of code, without the backquotes in its comments."""
     return escaped(line).replace("`", "")
 
 
 def quoted(lines):
-    """Lines of text, in which what stands in backquotes is bold."""
+    """Lines of text, in which the text in backquotes is bold."""
     return re.sub(r"`([^`]*)`", r"\\fB\1\\fR", "\n".join(lines)).split("\n")
 
 
@@ -51,7 +51,7 @@ def paragraphs(text):
 
 
 def kind_of(line, before):
-    """What a line is, after one of the kind `before`."""
+    """The kind of a line that follows a line of the kind `before`."""
     if line.startswith("- ") or before == "item" and line.startswith("  "):
         return "item"
     if line.startswith("    ") and before != "names":
@@ -60,7 +60,7 @@ def kind_of(line, before):
 
 
 def named(lines):
-    """Lines that are indented by two: names with what they mean, which may go over lines."""
+    """Lines that are indented by two: names, each with its meaning in one or more lines."""
     deep = min(len(line) - len(line.lstrip()) for line in lines)
     for line in lines:
         name, _, about = line.strip().partition("  ")
@@ -89,7 +89,7 @@ def paragraph(text):
 
 
 def blocks(lines):
-    """The lines that follow each other and are of one kind."""
+    """Each kind of line, with the lines of this kind that follow each other."""
     found, kind = [], ""
     for line in lines:
         before, kind = kind, kind_of(line, kind)
@@ -106,8 +106,8 @@ def brief(text):
 
 
 def written(folder, name, header, version, what, synopsis, sections):
-    """Writes a page of NAME, SYNOPSIS and sections, each with its lines: in section 7 that of a
-    header, and in section 3 all others."""
+    """Writes a page of NAME, SYNOPSIS and sections, each with its lines. The page of a header is in
+    section 7, and all others are in section 3."""
     includes, section = f"#include <{header}>", 7 if name == header[:-2] else 3
     roff = [f".TH {name} {section} \"\" \"stunp {version}\" \"STUN (RFC 8489)\"", ".SH NAME",
             f"{name} \\- {what}", ".SH SYNOPSIS", ".nf", escaped(includes)]

@@ -1,14 +1,14 @@
 // stunp.hpp: stunp.h, stunp_state.h and stunp_endpoint.h for C++17, with handles that free
-// themselves, messages that keep their length, views as arguments and results that own what they
-// return. The endpoints are in the namespaces stunp::endpoint and stunp::ice.
+// themselves, messages that store their own length, views as arguments, and results that own what
+// they return. The endpoints are in the namespaces stunp::endpoint and stunp::ice.
 //
-// What is here is compiled into your program, and decides nothing about messages: the library does.
-// Nothing throws, except std::bad_alloc where a vector or a string of this header finds no memory.
-// A call that is not here is made with `ask`, as in
+// The code of this header is compiled into your program. It only passes messages on: the library
+// judges them. Nothing throws, except std::bad_alloc if a vector or a string of this header cannot
+// allocate. To make a call that this header does not wrap, use `ask`:
 //
 //     stunp::ask(stunp_agent_handle, agent.get(), bytes, &from, now)
 //
-// where texts, vectors and arrays of bytes are passed as one argument in place of two.
+// Pass a text, a vector or an array of bytes as one argument in place of two.
 #ifndef STUNP_HPP
 #define STUNP_HPP
 
@@ -24,7 +24,8 @@
 #include <utility>
 #include <vector>
 
-// The result points to this argument, so clang warns if the argument is a temporary (-Wdangling).
+// The result of the call points to this argument, so clang warns if the argument is a temporary
+// (-Wdangling).
 #if defined __has_cpp_attribute
 #if __has_cpp_attribute(clang::lifetimebound)
 #define STUNP_POINTED_TO [[clang::lifetimebound]]
@@ -38,9 +39,9 @@ namespace stunp {
 
 using bytes = std::vector<uint8_t>;
 
-// Bytes that a call reads: those of a text, a vector or an array. It does not own them. So make one
-// of a temporary only as an argument of a call: `stunp::view v = std::string(..)` points to a text
-// that is gone. Clang warns of that, GCC does not.
+// The bytes of a text, a vector or an array that a call reads. A view does not own them. So make a
+// view of a temporary only as an argument of a call: `stunp::view v = std::string(..)` points to a
+// text that no longer exists. Clang warns about this, but GCC does not.
 class view {
     const uint8_t *first_;
     size_t size_;
@@ -61,7 +62,8 @@ class view {
     bytes copy() const { return bytes(first_, first_ + size_); }
 };
 
-// Where the bytes of a view begin, for a call of C that takes a text, a key or a value there.
+// A pointer to the bytes of a view. It converts to the type that a call of C takes for a text, a
+// key or a value.
 struct pointer {
     const uint8_t *first;
     operator const uint8_t *() const { return first; }
@@ -69,24 +71,24 @@ struct pointer {
     operator const void *() const { return first; }
 };
 
-// Makes a call of C, to which a view is a pointer and a length. An array of bytes of C is passed as
-// its pointer alone, because it may be an output.
-template <class T> auto spread(const T &one) {
+// Makes a call of C, and passes each view as a pointer and a length. A C array of bytes is passed
+// as a pointer alone, because it may be an output.
+template <class T> auto spread(T &one) {
     if constexpr (std::is_convertible_v<const T &, view>
-                  && !std::is_same_v<std::remove_extent_t<T>, uint8_t>) {
+                  && !std::is_same_v<std::remove_cv_t<std::remove_extent_t<T>>, uint8_t>) {
         view all(one);
         return std::make_tuple(pointer{all.data()}, all.size());
     } else {
         return std::make_tuple(one);
     }
 }
-template <class Call, class... Arguments> auto call(Call of, const Arguments &...arguments) {
+template <class Call, class... Arguments> auto call(Call of, Arguments &&...arguments) {
     return std::apply(of, std::tuple_cat(spread(arguments)...));
 }
 
-// A value, or the error of a call, a number below zero with its text. Test it before you take the
-// value: without one, `*` and `->` stop the program (assert), or with NDEBUG are a value as it
-// begins.
+// A value, or the error of a call, which is a number below zero and has a text. Test it before you
+// use the value: if there is no value, `*` and `->` stop the program (assert), or with NDEBUG give
+// a value in its initial state.
 template <class T = int64_t> class [[nodiscard]] result {
     int64_t answer_;
     T value_;
@@ -104,22 +106,23 @@ template <class T = int64_t> class [[nodiscard]] result {
     const char *text() const { return stunp_strerror(answer_); }
 };
 
-// What an authenticator or a signature says: true if the message is authentic.
+// The verdict of an authenticator, or of the check of a signature: true if the message is
+// authentic.
 class [[nodiscard]] verdict {
     int64_t answer_;
 
   public:
     explicit verdict(int64_t answer) : answer_(answer) {}
     explicit operator bool() const { return stunp_is_authentic(answer_); }
-    stunp_algorithm algorithm() const { return stunp_algorithm(answer_); } // if it is true
+    stunp_algorithm algorithm() const { return stunp_algorithm(answer_); } // if the verdict is true
     bool is_resend() const { return stunp_is_resend(answer_); } // sign a new request and send it
     int64_t number() const { return answer_; }
     const char *text() const { return stunp_strerror(answer_); }
 };
 
-// Makes a call whose value is its answer.
+// Makes a call of C. The value of the result is the number that the call returns.
 template <class T = int64_t, class Call, class... Rest>
-result<T> ask(Call of, const Rest &...arguments) {
+result<T> ask(Call of, Rest &&...arguments) {
     int64_t answer = call(of, arguments...);
     return result<T>(answer, answer < 0 ? T{} : T(answer));
 }
@@ -130,31 +133,33 @@ constexpr uint32_t both = uint32_t(STUNP_SHA1) | uint32_t(STUNP_SHA256);
 
 // ---- Keys
 
-// The long-term key of a user, to store in place of the password (stunp_long_term_key).
+// Makes the long-term key of a user, which you may store in place of the password
+// (stunp_long_term_key).
 inline result<bytes> long_term_key(algorithm by, view name, view realm, view password) {
     bytes key(by == STUNP_SHA256 ? STUNP_SHA256_KEY_LENGTH : STUNP_SHA1_KEY_LENGTH);
     int64_t length = call(stunp_long_term_key, by, name, realm, password, key.data(), key.size());
     return result<bytes>(length, std::move(key));
 }
 
-// The hash by which a message may name a user (stunp_userhash).
+// Makes the hash with which a message may name a user (stunp_userhash).
 inline result<bytes> userhash(view name, view realm) {
     bytes hash(STUNP_USERHASH_LENGTH);
     int64_t length = call(stunp_userhash, name, realm, hash.data(), hash.size());
     return result<bytes>(length, std::move(hash));
 }
 
-// A user of a database, for one call: with a password, or with the stored keys, of which one may be
+// A user from a database, for one call: with a password, or with stored keys, one of which may be
 // empty.
 struct user { view name, password; };
 struct stored_user { view name, sha1, sha256; };
 
-// How a message names its user: `text` is the name, or the hash of it.
+// How a message names its user: `text` is the name, or the hash of the name.
 struct naming { stunp_naming by; std::string text; };
 
-// ---- Handles. They move and are not copied. Every call fails on a handle that was not made. Do
-// not declare a handle of stunp_state.h const, nor the `result` that has it: even the calls that
-// leave it as it was write to it meanwhile. A server and users of stunp::endpoint may be const.
+// ---- Handles. They can be moved, but not copied. Every call on an empty handle fails. Declare
+// neither a handle of stunp_state.h const nor the `result` that has it: even a call that leaves the
+// handle as it was writes to it during the call. A server and users of stunp::endpoint may be
+// const.
 
 template <class H, void (*Clear)(H *)> class handle {
     H handle_{};
@@ -168,8 +173,8 @@ template <class H, void (*Clear)(H *)> class handle {
     const H *get() const { return &handle_; }
 };
 
-// A user of a database, prepared once for the realm and the algorithms of a server, and used by one
-// thread at a time. It has the keys that it was made with: make it again when the password changes.
+// A user from a database, prepared once for the realm and the algorithms of a server, and used by
+// one thread at a time. `make` makes the keys, so make the user again when the password changes.
 struct prepared_user : handle<stunp_user, stunp_user_clear> {
     static result<prepared_user> make(const stunp_server *of, const user &by) {
         prepared_user made;
@@ -217,7 +222,8 @@ struct server : handle<stunp_server, stunp_server_clear> {
         return verdict(call(stunp_server_validate_user, get(), message, &from, now, random.data(),
                             by.get()));
     }
-    // The user whom a message names, to look up (stunp_server_named_user).
+    // Returns the user whom a message names, so that you can look the user up
+    // (stunp_server_named_user).
     result<naming> named_user(view message, const address &from, size_t room = 513) const {
         bytes name(room);
         size_t length = 0;
@@ -227,7 +233,7 @@ struct server : handle<stunp_server, stunp_server_clear> {
         std::string text(view(name.data(), by > 0 ? length : 0).text());
         return result<naming>(by, {stunp_naming(by < 0 ? 0 : by), std::move(text)});
     }
-    // The user who was validated last at an address, or an empty name.
+    // Returns the user who was validated last at an address, or an empty name.
     result<std::string> client(const address &at, size_t room = 513) const {
         bytes name(room);
         size_t length = 0;
@@ -262,13 +268,13 @@ struct agent : handle<stunp_agent, stunp_agent_clear> {
     }
 };
 
-// ---- A message to write. After an error the other calls do nothing, so one look at the end is
-// enough, at `finish`: that of a variable returns a view of it, and that of a temporary the bytes
-// themselves,
+// ---- A message to write. After an error the other calls do nothing, so it is enough to test the
+// result of `finish` at the end. On a variable, `finish` returns a view of the message; on a
+// temporary, it returns the bytes themselves:
 //
 //     auto request = stunp::writer(STUNP_REQUEST, STUNP_BINDING, id).fingerprint().finish();
 //
-// It moves, and is not copied.
+// A writer can be moved, but not copied. A writer that was moved from has no room.
 class writer {
     bytes bytes_;
     stunp_writer out_;
@@ -282,7 +288,9 @@ class writer {
         int64_t begun = call(stunp_begin, of, method, id, bytes_.data(), room);
         out_ = stunp_write_on(begun, bytes_.data(), room);
     }
-    writer(writer &&) = default;
+    writer(writer &&other) noexcept
+        : bytes_(std::move(other.bytes_)),
+          out_(std::exchange(other.out_, stunp_write_on(STUNP_BUFFER_TOO_SMALL, nullptr, 0))) {}
 
     writer &add(uint32_t type, view value) & { return then(stunp_write_bytes, type, value); }
     writer &add_number(uint32_t type, uint64_t number, size_t size) & {
@@ -309,7 +317,7 @@ class writer {
     writer &sign(server &by, const address &to, const prepared_user &of) & {
         return then(stunp_write_server_sign_user, by.get(), &to, of.get());
     }
-    // Ends the answer to an accepted request (stunp_reply_finish), which may get FINGERPRINT too.
+    // Ends the answer to an accepted request (stunp_reply_finish), which may also add FINGERPRINT.
     writer &sign(const stunp_reply &by) & {
         if (stunp_reply_finish(&by, &out_) < 0) return *this; // `finish` has the error
         return *this;
@@ -318,9 +326,9 @@ class writer {
     result<view> finish() const & {
         return result<view>(stunp_written(&out_), view(bytes_.data(), out_.length));
     }
-    result<view> finish() const && = delete; // it would be gone
+    result<view> finish() const && = delete; // the view would outlive the bytes
 
-    // The same of a temporary, which stays one.
+    // The same calls for a temporary, which they return as a temporary.
     writer &&add(uint32_t type, view value) && { return std::move(add(type, value)); }
     writer &&add_number(uint32_t type, uint64_t number, size_t size) && {
         return std::move(add_number(type, number, size));
@@ -341,8 +349,8 @@ class writer {
     }
 };
 
-// ---- A message to read. `for (auto attribute : message)` goes over the visible attributes. It
-// does not own its bytes, so none is made of a temporary vector or string.
+// ---- A message to read. `for (auto attribute : message)` goes over the visible attributes. A
+// message does not own its bytes, so it cannot be made from a temporary vector or string.
 
 struct attribute { uint16_t type; view value; };
 class message {
@@ -354,7 +362,7 @@ class message {
     message(bytes &&) = delete;
     message(std::string &&) = delete;
 
-    result<stunp_header> header() const { // that of a whole message
+    result<stunp_header> header() const { // of a whole message
         stunp_header header{};
         int64_t answer = call(stunp_parse, bytes_);
         if (answer == 0) answer = call(stunp_read_header, bytes_, &header);
@@ -365,7 +373,7 @@ class message {
         int64_t at = call(stunp_find, bytes_, type, &length);
         return result<view>(at, view(bytes_.data() + (at < 0 ? 0 : at), length));
     }
-    result<uint64_t> find_number(uint32_t type, int64_t size) const { // of just so many bytes
+    result<uint64_t> find_number(uint32_t type, int64_t size) const { // of exactly `size` bytes
         uint64_t number = 0;
         int64_t read = call(stunp_find_number, bytes_, type, &number);
         if (read >= 0 && read != size) read = STUNP_MALFORMED_ATTRIBUTE;
@@ -402,10 +410,10 @@ class message {
 
 // ---- Data on a channel of TURN (RFC 8656, section 12.4)
 
-// ChannelData that was read. It does not own its data.
+// ChannelData that was read. The struct does not own the data.
 struct channel_data { uint16_t channel; view data; };
 
-// Writes data on a channel, over TCP with its padding (stunp_build_channel_data).
+// Writes a ChannelData message (stunp_build_channel_data). Over TCP pass true for `is_padded`.
 inline result<bytes> build_channel_data(uint32_t channel, view data, bool is_padded = false) {
     bytes item(4 + (data.size() + 3) / 4 * 4);
     int64_t length = call(stunp_build_channel_data, channel, data, is_padded, item.data(),
@@ -414,7 +422,8 @@ inline result<bytes> build_channel_data(uint32_t channel, view data, bool is_pad
     return result<bytes>(length, std::move(item));
 }
 
-// Reads data on a channel from a datagram, or from what stunp_next_turn_frame has found.
+// Reads a ChannelData message from a datagram, or from a frame that stunp_next_turn_frame has
+// found in a stream.
 inline result<channel_data> read_channel_data(view item) {
     uint16_t channel = 0;
     size_t length = 0;
@@ -422,26 +431,26 @@ inline result<channel_data> read_channel_data(view item) {
     return result<channel_data>(at, {channel, {item.data() + (at < 0 ? 0 : at), length}});
 }
 
-// ---- Servers that keep nothing about their clients, and clients (stunp_endpoint.h)
+// ---- Servers that store nothing about their clients, and clients (stunp_endpoint.h)
 
 namespace endpoint {
 
 using settings = stunp_endpoint_server_settings; // from STUNP_INIT(stunp::endpoint::settings)
-using client_settings = stunp_endpoint_client_settings; // from STUNP_INIT of it, too
+using client_settings = stunp_endpoint_client_settings; // also from STUNP_INIT
 struct users;
 class server;
 
-// What a datagram comes to: one of `answer`, `request`, `indication`, `response`, `lookup` and
-// `dropped` is not null; none is of one that no call has judged yet. It has a key of the user, and
-// wipes it at its end. To allocate no buffer for each datagram, pass the same one to the calls
-// again.
+// The outcome of a datagram. Once a call has judged a datagram, exactly one of `answer`, `request`,
+// `indication`, `response`, `lookup` and `dropped` is not null. Before that, all of them are null.
+// A `received` contains a key of the user, which its destructor wipes. To avoid an allocation for
+// each datagram, pass the same `received` to the calls again.
 class received {
     stunp_received told_ = STUNP_INIT(stunp_received);
     bytes buffer_;
     view answer_;
     friend class server;
 
-    // Makes a call again with more room, where an answer wants that.
+    // Makes a call, and makes it again with more room if the answer needs more.
     template <class Judge> result<stunp_kind> judged(Judge judge) {
         if (buffer_.size() < 2048) buffer_.resize(2048);
         int64_t kind = judge(buffer_.data(), buffer_.size(), &told_);
@@ -463,22 +472,28 @@ class received {
 
   public:
     received() { told_.kind = STUNP_FAILED; }
-    received(received &&) = default;
-    received &operator=(received &&) = default;
+    received(received &&other) noexcept : received() { *this = std::move(other); }
+    received &operator=(received &&other) noexcept {
+        std::swap(told_, other.told_), std::swap(answer_, other.answer_);
+        buffer_.swap(other.buffer_);
+        return *this;
+    }
     ~received() { stunp_reply_wipe(&told_.reply); }
 
-    // Send it to where the datagram came from. `told().code` is the code of an error.
+    // The answer: send it to the address that the datagram came from. `told().code` is the code of
+    // an error.
     const view *answer() const { return if_is(STUNP_ANSWER) ? &answer_ : nullptr; }
-    // Answer it, now or later (`success` and `error` below).
+    // The accepted request: answer it, now or later (`success` and `error` below).
     const stunp_reply *request() const { return if_is(STUNP_IS_REQUEST) ? &told_.reply : nullptr; }
     const stunp_received *indication() const { return if_is(STUNP_IS_INDICATION); }
     const stunp_received *response() const { return if_is(STUNP_IS_RESPONSE); }
-    // Look the user up, and call `resume`.
+    // The request that waits for its user: look the user up, and call `resume`.
     const stunp_received *lookup() const { return if_is(STUNP_LOOKUP); }
     const char *dropped() const {
         return if_is(STUNP_DROPPED) ? stunp_drop_text(told_.why) : nullptr;
     }
-    // Who has signed the message, or whom a request names that waits for its user.
+    // The user who has signed the message, or, for a request that waits for its user, the user whom
+    // it names.
     std::string_view user() const { return view(told_.name, told_.name_length).text(); }
     const stunp_received &told() const { return told_; }
 };
@@ -511,20 +526,21 @@ class server : public handle<stunp_endpoint_server, stunp_endpoint_server_clear>
         int64_t answer = stunp_endpoint_server_new(made.get(), &of);
         return result<server>(answer, std::move(made));
     }
-    // Judges a datagram. Each of these calls also takes a `received` that is kept, and then returns
-    // what the datagram comes to.
+    // Judges a datagram. Each of these calls has a second form, which writes the outcome to a
+    // `received` of yours, and returns the kind of the outcome.
     result<received> receive(const users &by, view datagram, const address &from,
                              uint64_t unix_seconds) const;
     result<stunp_kind> receive(received &kept, const users &by, view datagram, const address &from,
                                uint64_t unix_seconds) const;
-    // The same of a server without credentials.
+    // Judges a datagram at a server without credentials.
     result<received> receive(view datagram, const address &from) const {
         return received::of(judge(nullptr, datagram, from, 0));
     }
     result<stunp_kind> receive(received &kept, view datagram, const address &from) const {
         return kept.judged(judge(nullptr, datagram, from, 0));
     }
-    // As far as that is possible without the user (stunp_endpoint_server_identify).
+    // Judges a datagram as far as that is possible without the user
+    // (stunp_endpoint_server_identify).
     result<received> identify(view datagram, const address &from, uint64_t unix_seconds) const {
         return received::of(asker(datagram, from, unix_seconds));
     }
@@ -532,7 +548,7 @@ class server : public handle<stunp_endpoint_server, stunp_endpoint_server_clear>
                                 uint64_t unix_seconds) const {
         return kept.judged(asker(datagram, from, unix_seconds));
     }
-    // By the user who was found, or by nobody.
+    // Judges a request with the user who was found, or with no user.
     result<received> resume(const stunp_found_user *found, view datagram, const address &from,
                             uint64_t unix_seconds) const {
         return received::of(resumer(found, datagram, from, unix_seconds));
@@ -541,22 +557,24 @@ class server : public handle<stunp_endpoint_server, stunp_endpoint_server_clear>
                               const address &from, uint64_t unix_seconds) const {
         return kept.judged(resumer(found, datagram, from, unix_seconds));
     }
-    // The same, and why a request is refused, by one judgement: a stunp_cause, or 0 if it is not.
+    // Judges a datagram, and also returns why a request is refused: a stunp_cause, or 0 if it is
+    // not refused.
     result<stunp_kind> receive_with_cause(received &kept, stunp_cause &cause, const users &by,
                                           view datagram, const address &from,
                                           uint64_t unix_seconds) const;
-    // Why `receive` refuses a request: a stunp_cause, or 0 if it does not. stunp_cause_text has the
-    // text of `number()`.
+    // Returns why `receive` refuses a request: a stunp_cause, or 0 if it does not refuse it. For a
+    // text, pass `number()` of the result to stunp_cause_text.
     result<> cause(const users &by, view datagram, const address &from,
                    uint64_t unix_seconds) const;
-    // Why `resume` refuses it, or `identify`, for which nobody is found.
+    // Returns why `resume` refuses a request, or why `identify` does, if you pass no user.
     result<> cause_for(const stunp_found_user *found, view datagram, const address &from,
                        uint64_t unix_seconds) const {
         return ask(stunp_endpoint_server_cause_for, get(), found, datagram, &from, unix_seconds);
     }
 };
 
-// The users of a server. Many threads may read a table, or one may change it.
+// The users of a server. Many threads may read a table at the same time, or one thread may change
+// it.
 struct users : handle<stunp_endpoint_users, stunp_endpoint_users_clear> {
     static result<users> make(const server &of) {
         users made;
@@ -607,14 +625,17 @@ inline writer error(const stunp_reply &to, uint32_t code, const char *why, size_
 }
 
 // The attributes of a request of a client. After an error the other calls do nothing, and
-// `client::request` returns the error. It moves, and is not copied.
+// `client::request` returns the error. A body can be moved, but not copied. A body that was moved
+// from has no room.
 class body {
     bytes room_;
     stunp_body added_;
 
   public:
     explicit body(size_t room = 512) : room_(room), added_(stunp_body_on(room_.data(), room)) {}
-    body(body &&) = default;
+    body(body &&other) noexcept
+        : room_(std::move(other.room_)),
+          added_(std::exchange(other.added_, stunp_body_on(nullptr, 0))) {}
 
     body &add(uint32_t type, view value) & {
         return stunp_body_add(&added_, type, value.data(), value.size()), *this;
@@ -629,7 +650,7 @@ class body {
     body &add_channel_number(uint32_t channel) & {
         return stunp_body_add_channel_number(&added_, channel), *this;
     }
-    // The same of a temporary, which stays one.
+    // The same calls for a temporary, which they return as a temporary.
     body &&add(uint32_t type, view value) && { return std::move(add(type, value)); }
     body &&add_number(uint32_t type, uint64_t number, size_t size) && {
         return std::move(add_number(type, number, size));
@@ -644,9 +665,9 @@ class body {
     const stunp_body *get() const { return &added_; }
 };
 
-// What to do next: one of `transmit`, `ended` and `wait` is not null. `datagram` is the request to
-// send or the response that ended a request. It is valid until the next `poll` of the client, which
-// must outlive it.
+// What to do next: exactly one of `transmit`, `ended` and `wait` is not null. `datagram` is the
+// request to send, or the response that ended a request. It is valid until the next `poll` of the
+// client, which must outlive it.
 struct event {
     stunp_event told = STUNP_INIT(stunp_event);
     view datagram;
@@ -676,12 +697,25 @@ class client : public handle<stunp_endpoint_client, stunp_endpoint_client_clear>
         int64_t answer = stunp_endpoint_client_request(get(), method, with, now, &number);
         return result<uint64_t>(answer, number);
     }
-    // Reads a datagram. `why` gets the reason of STUNP_DROPPED.
+    // Starts a request that is sent, and whose response is accepted, as the options say:
+    // `STUNP_INIT(stunp_request_options)`.
+    result<uint64_t> request(uint32_t method, const body &with,
+                             const stunp_request_options &options, uint64_t now) {
+        return request(method, with.get(), options, now);
+    }
+    result<uint64_t> request(uint32_t method, const stunp_body *with,
+                             const stunp_request_options &options, uint64_t now) {
+        uint64_t number = 0;
+        int64_t answer =
+            stunp_endpoint_client_request_as(get(), method, with, &options, now, &number);
+        return result<uint64_t>(answer, number);
+    }
+    // Reads a datagram. If it is dropped, the reason is written to `*why`.
     result<stunp_kind> receive(view datagram, const address &from, uint64_t now,
                                stunp_drop *why = nullptr) {
         return ask<stunp_kind>(stunp_endpoint_client_receive, get(), datagram, &from, now, why);
     }
-    // Finds the next thing to do. Call it until it says `wait`.
+    // Finds the next thing to do. Repeat the call until `wait` of the event is not null.
     result<event> poll(uint64_t now) {
         event next;
         room_.resize(STUNP_LONGEST_MESSAGE);
@@ -690,11 +724,12 @@ class client : public handle<stunp_endpoint_client, stunp_endpoint_client_clear>
         next.datagram = view(room_.data(), next.told.length);
         return result<event>(kind, next);
     }
-    // Ends a request, and returns whether it had not ended already.
+    // Ends a request. Returns true, or false if the request had ended already.
     result<bool> cancel(uint64_t request) {
         return ask<bool>(stunp_endpoint_client_cancel, get(), request);
     }
-    // Returns what was dropped for a request, or nothing if the request has ended.
+    // Returns how many responses were dropped for a request, and why the last one was, or nothing
+    // if the request has ended.
     result<std::optional<stunp_dropped>> dropped(uint64_t request) {
         stunp_dropped of{};
         int64_t answer = stunp_endpoint_client_dropped(get(), request, &of);
@@ -711,13 +746,13 @@ namespace ice {
 
 using settings = stunp_ice_settings; // from STUNP_INIT(stunp::ice::settings)
 
-// A check to send, and what its answer is judged by: store that with the pair.
+// A check to send, and the data with which its answer is judged, which you store with the pair.
 struct check {
     bytes datagram;
     stunp_ice_check stored{};
 };
 
-// What a datagram comes to: `told.kind` and `told.outcome` say it, and an answer is to be sent.
+// The outcome of a datagram: see `told.kind` and `told.outcome`. If `answer` is not empty, send it.
 struct received {
     stunp_ice_received told = STUNP_INIT(stunp_ice_received);
     bytes answer;
@@ -729,7 +764,7 @@ struct checker : handle<stunp_ice_checker, stunp_ice_checker_clear> {
         int64_t answer = stunp_ice_checker_new(made.get(), &of);
         return result<checker>(answer, std::move(made));
     }
-    // The credentials of the peer, if the settings did not have them.
+    // Sets the credentials of the peer, if the settings did not have them.
     result<> set_peer(view name, view password) {
         return ask(stunp_ice_checker_set_peer_with, get(), name, password);
     }
@@ -750,7 +785,7 @@ struct checker : handle<stunp_ice_checker, stunp_ice_checker_clear> {
         made.datagram.resize(length < 0 ? 0 : size_t(length));
         return result<check>(length, std::move(made));
     }
-    // The same with further attributes.
+    // Writes a check with further attributes.
     result<check> write(const std::array<uint8_t, STUNP_ID_LENGTH> &random_id, const address &to,
                         uint32_t priority, bool nominate, const endpoint::body &with) {
         check made;
@@ -761,13 +796,15 @@ struct checker : handle<stunp_ice_checker, stunp_ice_checker_clear> {
         made.datagram.resize(length < 0 ? 0 : size_t(length));
         return result<check>(length, std::move(made));
     }
-    // `stored` is the check with the ID of the datagram, or null.
+    // Judges a datagram. `stored` is the check with the transaction ID of the datagram, or null if
+    // there is none.
     result<received> receive(view datagram, const address &from, const stunp_ice_check *stored) {
         received got;
         int64_t kind = receive(got, datagram, from, stored).number();
         return result<received>(kind, std::move(got));
     }
-    // The same into a `received` that is kept, whose memory is used again.
+    // Judges a datagram, and writes the outcome to a `received` of yours, whose memory is used
+    // again.
     result<stunp_kind> receive(received &kept, view datagram, const address &from,
                                const stunp_ice_check *stored) {
         kept.answer.resize(2048);

@@ -1,28 +1,29 @@
 /* stunp_endpoint.h: STUN endpoints (RFC 8489), for C, C++ and Rust
  *
- * stunp.h reads and writes single messages. This header has a server and the connectivity checks of
- * ICE (RFC 8445), for which one call judges a datagram and writes the answer, and a client, which
- * says what to send and when, and how each request ended. None of them needs stunp_state.h. Most
- * programs need only this header.
+ * stunp.h reads and writes single messages. This header has whole endpoints. For a server, and for
+ * the connectivity checks of ICE (RFC 8445), one call judges a datagram and writes the answer. A
+ * client reports what to send and when, and how each request ended. The endpoints do not need
+ * stunp_state.h, and most programs need only this header.
  *
  *   stunp_endpoint_server  the settings of a server: with long-term, short-term or no credentials
  *   stunp_endpoint_users   its users, by password or by stored keys
- *   stunp_reply            answers an accepted request, now or later, on any thread
- *   stunp_ice_checker      an agent of ICE: its credentials, those of its peer, and its role
- *   stunp_ice_check        a check that the agent sent, as it is stored with its pair
+ *   stunp_reply            the data with which you answer a request, now or later, on any thread
+ *   stunp_ice_checker      an ICE agent, with its role and the credentials of both sides
+ *   stunp_ice_check        the data of a check that was sent, which you store with its pair
  *   stunp_ice_checks       the outstanding checks of the agent, with their timers
- *   stunp_ice_candidate    a candidate, as a line of SDP has it
+ *   stunp_ice_candidate    a candidate, which you read from a line of SDP, or write as such a line
  *   stunp_endpoint_client  a client of one server, with any number of requests
  *   stunp_body             the attributes of a request of a client
+ *   stunp_request_options  how a single request of a client is sent, and which address answers it
  *
- * stunp_endpoint_server_receive judges a datagram at a server: it writes the answer, or hands you an
- * accepted request. stunp_ice_checker_receive judges one at an agent of ICE: it writes the answer to
- * a check of the peer, or returns how a check of yours ended.
+ * stunp_endpoint_server_receive judges a datagram at a server: it writes the answer, or returns an
+ * accepted request to you. stunp_ice_checker_receive judges a datagram at an ICE agent: it writes
+ * the answer to a check of the peer, or returns how one of your checks ended.
  *
  * No call performs I/O. You own the sockets, the clock, the threads and the random numbers.
  * stunp_sockaddr.h converts the addresses of sockets from and to stunp_address, and stunp_log.h
- * describes a datagram in one line of text.
- * Sections without an RFC are those of RFC 8489, and in what is about ICE those of RFC 8445.
+ * describes a datagram in one line of text. A section number without an RFC means RFC 8489, or RFC
+ * 8445 in the parts about ICE.
  *
  *
  * A server
@@ -30,18 +31,18 @@
  * `serve` answers a datagram, and returns the length of the answer in `out`, or 0 if there is
  * nothing to send. It is a whole server: it challenges clients (401), sends them a new nonce (438),
  * and answers malformed requests (400) and unknown attributes (420) with errors. Each answer to an
- * accepted request, a 420 too, is signed. An answer ends with FINGERPRINT if its request does.
+ * accepted request is signed, and so is a 420. An answer ends with FINGERPRINT if its request does.
  *
  *     #include "stunp_endpoint.h"
  *
- *     // Sets up a server of one user. `secret` are 32 random bytes. Both handles begin as {0}; free
+ *     // Sets up a server of one user. `secret` is 32 random bytes. Both handles begin as {0}; free
  *     // both after an error too.
  *     int64_t set_up(stunp_endpoint_server *server, stunp_endpoint_users *users,
  *                    const uint8_t *secret) {
  *         stunp_endpoint_server_settings settings = STUNP_INIT(stunp_endpoint_server_settings);
  *         settings.realm = "example.org";
  *         settings.secret = secret;
- *         settings.answers_binding = true; // Binding requests are answered inside
+ *         settings.answers_binding = true; // the server answers Binding requests itself
  *         int64_t answer = stunp_endpoint_server_new(server, &settings);
  *         if (answer >= 0) answer = stunp_endpoint_users_new(users, server);
  *         if (answer >= 0) answer = stunp_endpoint_users_add(users, "alice", 5, "wonderland", 10);
@@ -57,8 +58,8 @@
  *         if (kind == STUNP_ANSWER) return received.length;
  *         // Dropped: see received.why. If kind is negative, an error: see stunp_strerror(kind).
  *         if (kind != STUNP_IS_REQUEST) return 0;
- *         // A request of a user, whose name is in received.name, and none that this server has an
- *         // answer for. A TURN server would look at received.method.
+ *         // A request of the user in received.name, for which this server has no answer. A TURN
+ *         // server would look at received.method.
  *         stunp_writer answer = stunp_reply_error(&received.reply, 400, "Bad Request", out, room);
  *         int64_t written = stunp_reply_finish(&received.reply, &answer);
  *         stunp_reply_wipe(&received.reply);
@@ -71,14 +72,15 @@
  *
  * Servers with short-term credentials, or with none
  *
- * Both are the same handle, and the same calls, with other `credentials` in the settings. They have
- * no realm and no nonces, so leave the fields of those as they are.
+ * These servers use the same handle and the same calls, with another value of `credentials` in the
+ * settings. They have no realm and no nonces, so leave the fields that are marked with (realm) at 0
+ * or null.
  *
- * A server with STUNP_NO_CREDENTIALS answers everybody, and signs nothing. It has no users: pass null
- * in their place.
+ * A server with STUNP_NO_CREDENTIALS answers everybody, and signs nothing. It has no users, so pass
+ * null in place of the users.
  *
- *     // Sets up a public server. The handle begins as {0}. Then `serve` is called as above, with null
- *     // in place of the users.
+ *     // Sets up a public server. The handle begins as {0}. After that, `serve` is called as above,
+ *     // with null in place of the users.
  *     int64_t set_up_openly(stunp_endpoint_server *server) {
  *         stunp_endpoint_server_settings settings = STUNP_INIT(stunp_endpoint_server_settings);
  *         settings.credentials = STUNP_NO_CREDENTIALS;
@@ -87,34 +89,37 @@
  *     }
  *
  * A server with STUNP_SHORT_TERM accepts each message that is signed with the password of the user
- * whom it names. Such credentials are made for one session, which removes them at its end
- * (stunp_endpoint_users_add and _remove). Indications must be signed too.
+ * whom the message names. Short-term credentials are made for one session: add the user when the
+ * session begins, and remove the user when it ends (stunp_endpoint_users_add and _remove).
+ * Indications must be signed too.
  *
  *
- * What a server keeps
+ * What a server stores
  *
- * Nothing about its clients. The nonce of a client is a function of the secret, the client's address
- * and the time, so a flood of datagrams uses no memory, and shuts nobody out. Whether a datagram is
- * accepted depends on it, its source, the time, the settings and the users, and on no earlier
- * datagram. A server that starts again with its secret serves its old clients at once, and several
- * machines with the same settings and users can answer each other's clients. If their clocks differ,
- * by less than a nonce lifetime, a client that comes from a machine whose clock is ahead may be
- * answered one more 438.
+ * A server stores nothing about its clients. The nonce of a client is a function of the secret, the
+ * client's address and the time, so a flood of datagrams uses no memory, and does not shut out
+ * other clients. Whether a datagram is accepted depends on the datagram, its source, the time, the
+ * settings and the users, and on no earlier datagram. A server that starts again with the same
+ * secret serves its old clients at once, and several machines with the same settings and users can
+ * answer each other's clients. If their clocks differ by less than a nonce lifetime, a client that
+ * moves from a machine whose clock is ahead may get one more 438.
  *
- * If a nonce was not made for the client's current address, the server answers 438 with a new nonce,
- * and the client continues with that.
+ * If a nonce was not made for the client's current address, the server answers 438 with a new
+ * nonce, and the client continues with the new one.
  *
  *
  * Users in a database
  *
- * If users are looked up one by one, a datagram is judged in two steps. The first,
- * stunp_endpoint_server_identify, judges it as far as that is possible without its user, and returns
- * STUNP_LOOKUP for a request that waits for one. The second, stunp_endpoint_server_resume, judges it
- * by the user that you found, or by nobody. It judges all of it again, so pass it the same bytes,
- * address and time. Only requests with a nonce that this server sent to their address wait for a
- * user: an invented nonce never causes a look-up, and a forged source address only if its sender has
- * seen a nonce of that address. A slow look-up does not
- * make a nonce stale, because the request is judged as of the time at which it arrived.
+ * If users are looked up one by one, a datagram is judged in two steps. The first call,
+ * stunp_endpoint_server_identify, judges the datagram as far as that is possible without its user,
+ * and returns STUNP_LOOKUP for a request whose user you have to look up. The second call,
+ * stunp_endpoint_server_resume, judges the request with the user that you found, or with no user.
+ * It judges the whole request again, so pass it the same bytes, address and time. Only a request
+ * with a nonce that this server made for the source address of the request causes a look-up. So a
+ * request with an invented nonce causes no look-up, and a request with a forged source address
+ * causes a look-up only if the attacker has seen a nonce that was sent to that address. A slow
+ * look-up does not make a nonce stale, because the request is judged by the time at which it
+ * arrived.
  *
  *     // `find` looks a user up by name, or by the hash of the name (stunp_userhash), and sets the
  *     // name and the password or the keys. It returns false if there is no such user.
@@ -137,19 +142,20 @@
  *
  * A connectivity check of ICE, both ways
  *
- * An agent sends a check on a pair of candidates, and answers those of its peer (RFC 8445, sections
- * 7.2 and 7.3). Candidates, pairs, their order and pacing are yours. So are retransmissions, unless
- * you leave them to stunp_ice_checks, as most agents do; what follows does without.
+ * An agent sends a check on a pair of candidates, and answers the checks of its peer (RFC 8445,
+ * sections 7.2 and 7.3). You manage the candidates, the pairs, and the order and pacing of checks.
+ * You also manage the retransmissions, unless you leave them to stunp_ice_checks, as most agents
+ * do. The functions below show a check without stunp_ice_checks.
  *
- *     // The remote candidate of a pair, and the check of it that is in progress.
+ *     // The remote candidate of a pair, and the check that is in progress for the pair.
  *     struct ice_pair {
  *         stunp_address remote;
  *         stunp_ice_check check;
  *         bool is_checking, is_valid, is_nominated, is_to_be_checked;
  *     };
  *
- *     // Writes a check, and returns its length. Send it, and again until the answer arrives. `id` are
- *     // 12 random bytes that no other check has.
+ *     // Writes a check, and returns its length. Send the check, and send it again until its answer
+ *     // arrives. `id` is 12 random bytes that no other check has.
  *     int64_t check_pair(stunp_ice_checker *agent, struct ice_pair *pair, const uint8_t *id,
  *                        bool nominate, uint8_t *out, size_t room) {
  *         const uint32_t priority = stunp_ice_priority(STUNP_ICE_PEER_REFLEXIVE, 65535, 1);
@@ -178,22 +184,22 @@
  *         return kind == STUNP_ANSWER ? got.length : 0;
  *     }
  *
- * examples/c/ice_check.c has candidates, pairs and pacing around it, and examples/c/ice_pair.c has two
- * agents of one pair over stunp_ice_checks. docs/ICE.md of the repository has the steps of an agent,
- * from the offer to consent.
+ * examples/c/ice_check.c adds candidates, pairs and pacing, and examples/c/ice_pair.c has two
+ * agents that check one pair with stunp_ice_checks. docs/ICE.md in the repository describes the
+ * steps of an agent, from the offer to consent.
  *
- * The side that makes an offer often gets checks before the answer to the offer, and has to answer
- * them at once (section 7.3). Leave `peer_name` and `peer_password` of its settings null, and call
- * stunp_ice_checker_set_peer when the answer has arrived: only then the agent writes checks, but it
- * answers those of the peer from the start.
+ * The side that makes an offer often receives checks before it receives the answer to the offer,
+ * and has to answer these checks at once (section 7.3). Leave `peer_name` and `peer_password` in
+ * its settings null, and call stunp_ice_checker_set_peer when the answer has arrived. The agent
+ * writes checks only from then on, but it answers checks of the peer from the start.
  *
  *
  * A client
  *
- * A client of one server sends requests, sends them again until they are answered, answers the
- * server's challenges and verifies its responses. Each request ends exactly once. `my_address` asks
- * a server at which address it sees a socket. `seed` are 32 random bytes, from which the transaction
- * IDs are made. It is called by one thread at a time, because `bytes` is static.
+ * A client of one server sends requests and retransmits them, answers the challenges of the server,
+ * and verifies its responses. Each request ends exactly once. `my_address` asks a server for the
+ * address from which it sees a socket. `seed` is 32 random bytes, from which the client derives the
+ * transaction IDs. Call `my_address` from one thread at a time, because `bytes` is static.
  *
  *     #include <poll.h>
  *     #include <sys/socket.h>
@@ -205,8 +211,8 @@
  *         return (uint64_t)now.tv_sec * 1000000000 + (uint64_t)now.tv_nsec;
  *     }
  *
- *     // The socket is connected to the server. Returns 4 or 16, the length of the address; 0 if the
- *     // server did not answer or refused; or an error.
+ *     // The socket is connected to the server. Returns 4 or 16, the length of the address; 0 if
+ *     // the server did not answer or refused; or an error.
  *     int64_t my_address(int fd, const stunp_address *server, const uint8_t *seed,
  *                        stunp_address *seen) {
  *         static uint8_t bytes[STUNP_LONGEST_MESSAGE];
@@ -238,16 +244,19 @@
  *         return kind;
  *     }
  *
- * examples/c/my_address.c is this client with its socket, and examples/c/turn_client.c one with a
- * user. With long-term credentials a client learns the realm and the nonce from the server's first
- * challenge, and signs its later requests for the last challenge at once. Use one client and one
- * socket for all requests of a TURN allocation. Read the response in `bytes` with the calls of
- * stunp.h before you poll again: stunp_find_xor_address with STUNP_XOR_RELAYED_ADDRESS, and
- * stunp_find_number with STUNP_LIFETIME, which is in seconds. The client does not refresh the
- * allocation: start a STUNP_REFRESH request before its lifetime ends (stunp_keepalive_before).
+ * examples/c/my_address.c is this client with its socket, and examples/c/turn_client.c is a client
+ * with a user. With long-term credentials, a client learns the realm and the nonce from the
+ * server's first challenge. It signs each later request from the first transmission on, with the
+ * realm and the nonce of the last challenge. Use one client and one socket for all requests of a
+ * TURN allocation. Many TURN servers, such as coturn, do not sign Binding responses, so ask for
+ * your address with a request that is not signed (stunp_endpoint_client_request_as). Read the
+ * response in `bytes` with the calls of stunp.h before you poll again: stunp_find_xor_address with
+ * STUNP_XOR_RELAYED_ADDRESS, and stunp_find_number with STUNP_LIFETIME, which is in seconds. The
+ * client does not refresh an allocation: start a STUNP_REFRESH request before the lifetime of the
+ * allocation ends (stunp_keepalive_before).
  *
- * STUNP_LONGEST_MESSAGE bytes are room for any message. Fewer are enough if neither your requests
- * nor the datagrams that you pass to the client are longer.
+ * A buffer of STUNP_LONGEST_MESSAGE bytes has room for any message. A smaller buffer is enough if
+ * your requests and the datagrams that you pass to the client all fit into it.
  *
  *
  * The calls, in the order of this file
@@ -267,19 +276,20 @@
  *    stunp_endpoint_server_cause_for
  *   replies: stunp_reply_success, stunp_reply_error, stunp_reply_finish, stunp_reply_wipe
  *   ICE: stunp_ice_checker_new_with, stunp_ice_checker_offer_with, stunp_ice_checker_new,
- *    stunp_ice_checker_set_peer_with, stunp_ice_checker_set_peer, stunp_ice_checker_is_controlling,
- *    stunp_ice_checker_controls, stunp_ice_checker_set_role, stunp_ice_checker_set_tie_breaker,
- *    stunp_ice_checker_check_with, stunp_ice_checker_check, stunp_ice_checker_receive_with,
- *    stunp_ice_checker_receive, stunp_ice_checker_clear, stunp_ice_checker_free
+ *    stunp_ice_checker_set_peer_with, stunp_ice_checker_set_peer, stunp_ice_checker_clear,
+ *    stunp_ice_checker_free, stunp_ice_checker_is_controlling, stunp_ice_checker_controls,
+ *    stunp_ice_checker_set_role, stunp_ice_checker_set_tie_breaker, stunp_ice_checker_check_with,
+ *    stunp_ice_checker_check, stunp_ice_checker_receive_with, stunp_ice_checker_receive
  *   ICE, around checks: stunp_ice_find_sender, stunp_ice_priority, stunp_ice_pair_priority,
  *    stunp_ice_consent_from, stunp_ice_consent_poll, stunp_ice_consent_answered,
  *    stunp_ice_consent_until
- *   clients: stunp_endpoint_client_new_with, stunp_endpoint_client_new, stunp_endpoint_client_clear,
- *    stunp_endpoint_client_free
+ *   clients: stunp_endpoint_client_new_with, stunp_endpoint_client_new,
+ *    stunp_endpoint_client_clear, stunp_endpoint_client_free
  *   clients, requests: stunp_body_on, stunp_body_put, stunp_body_add, stunp_body_add_number,
  *    stunp_body_add_peer, stunp_body_add_requested_transport, stunp_body_add_channel_number,
  *    stunp_body_add_requested_family, stunp_endpoint_client_request_with,
- *    stunp_endpoint_client_request,
+ *    stunp_endpoint_client_request, stunp_endpoint_client_request_as_with,
+ *    stunp_endpoint_client_request_as,
  *    stunp_endpoint_client_receive_with, stunp_endpoint_client_receive,
  *    stunp_endpoint_client_poll_with, stunp_endpoint_client_poll, stunp_poll_timeout,
  *    stunp_endpoint_client_cancel, stunp_endpoint_client_try_cancel, stunp_endpoint_client_dropped,
@@ -287,56 +297,60 @@
  *   ICE, checks with further attributes: stunp_ice_checker_check_body_with,
  *    stunp_ice_checker_check_body
  *   ICE, checks with their timers: stunp_ice_checks_on, stunp_ice_checks_start,
- *    stunp_ice_checks_receive, stunp_ice_checks_poll, stunp_ice_checks_until, stunp_ice_checks_find,
- *    stunp_ice_checks_outstanding, stunp_ice_checks_stop_sending, stunp_ice_checks_cancel
+ *    stunp_ice_checks_receive, stunp_ice_checks_poll, stunp_ice_checks_until,
+ *    stunp_ice_checks_find, stunp_ice_checks_outstanding, stunp_ice_checks_stop_sending,
+ *    stunp_ice_checks_cancel
  *   ICE, lines of candidates: stunp_ice_candidate_read, stunp_ice_candidate_extension,
  *    stunp_ice_candidate_write
  *   keepalives: stunp_keepalive_every, stunp_keepalive_before, stunp_keepalive_is_due,
  *    stunp_keepalive_until
- *   versions: stunp_endpoint_version, stunp_endpoint_release_0_2
+ *   versions: stunp_endpoint_version, stunp_endpoint_release_0_3
  *
  *
  * Linking
  *
  * - Proved (needs `rt`): libstunp_endpoint.a, libstunp.a for the messages themselves (stunp.h), and
  *   libstunp_heap.a (heap.c) or an allocator of your own (rattle_alloc, stunp_state.h). `rt lib` in
- *   crates/stun_c_endpoint proves and builds out/libstun_c_endpoint.a, which `make install` installs
- *   as libstunp_endpoint.a. It does not need libstunp_state.a.
- * - Exported (`make lib`): libstunp.so or libstunp.a, which have the calls of the three headers.
+ *   crates/stun_c_endpoint proves and builds out/libstun_c_endpoint.a, which `make install`
+ *   installs as libstunp_endpoint.a. It does not need libstunp_state.a.
+ * - Exported (`make lib`): libstunp.so or libstunp.a, each of which has the calls of all three
+ *   headers (stunp.h, stunp_state.h and this one).
  *
  * The pkg-config file stunp_endpoint and the CMake target stunp::stunp_endpoint name the libraries
- * that are installed. If you also use stunp_state.h, name stunp_state too.
+ * that are installed. If your program also uses stunp_state.h, add stunp_state.
  *
  *
- * Memory and errors are those of stunp_state.h: calls read their arguments only during the call. A
- * pointer may be null only if its length is 0. A pointer to a result may be null, unless the
- * comment of the call or STUNP_NOT_NULL says otherwise. A call that fails returns a negative
- * stunp_refusal, for which stunp_strerror has a text, and changes nothing, unless its comment says
- * otherwise. If several errors apply, it returns the first of its list.
+ * The rules about memory and errors are the same as in stunp_state.h. Calls read their arguments
+ * only during the call. A pointer may be null only if its length is 0. A pointer to a result may be
+ * null, unless the comment of the call or STUNP_NOT_NULL says otherwise. A call that fails returns
+ * a negative stunp_refusal, for which stunp_strerror has a text, and changes nothing, unless its
+ * comment says otherwise. If several errors apply, it returns the first of its list.
  *
- * Handles differ from those of stunp_state.h. Begin each with {0}, which is an empty handle: a _new
- * call fills it, and a _free call empties it. A call with a handle that was never initialized, or
- * with a handle of stunp_state.h by a cast, has undefined behavior. If a handle of this header has
- * a value of another kind, a _new call fails with STUNP_FULL_HANDLE, a _free call frees the value,
- * and any other call fails with STUNP_WRONG_HANDLE. Where a call takes a server or a table of users
- * as const, a null pointer counts as an empty handle. No other pointer to a handle may be null,
- * except for _free. The _own calls take a copy of a handle (Threads). No call notices a copy of a
- * handle whose value was freed.
+ * Handles work differently from the handles of stunp_state.h. Initialize each handle with {0},
+ * which makes it empty: a _new call fills it, and a _free call empties it. A call with a handle
+ * that was never initialized, or with a handle of stunp_state.h that was cast, has undefined
+ * behavior. If a handle of this header has a value of another kind, a _new call fails with
+ * STUNP_FULL_HANDLE, a _free call frees the value, and any other call fails with
+ * STUNP_WRONG_HANDLE. If a call takes a server or a table of users as const, a null pointer counts
+ * as an empty handle. No other pointer to a handle may be null, except for _free. The _own calls
+ * take a copy of a handle (see Threads). No call detects that a handle is a copy of a handle whose
+ * value was freed.
  *
  *
  * Threads
  *
- * The settings of a server never change. So any number of threads may pass one handle as const at
+ * The settings of a server never change, so any number of threads may pass one handle as const at
  * the same time. Call stunp_endpoint_server_free only after every thread has stopped using the
- * handle. A table of users may be passed as const by many threads at the same time, or be changed by
- * one, and then no other may use it. To load users anew, fill another table, let the threads use
- * that from their next datagram on, and free the old table once every thread has begun a datagram
- * with the new one. An agent of ICE is used by one thread at a time, and so is a client.
+ * handle. Many threads may pass a table of users as const at the same time; while one thread
+ * changes the table, no other thread may use it. To reload the users, fill another table, let the
+ * threads use it from their next datagram on, and free the old table once every thread has begun a
+ * datagram with the new one. Use an ICE agent or a client in one thread at a time.
  *
- * Sharing between threads is trusted, and tested with a race detector. What is proved: a call whose
- * handles nothing else uses meanwhile leaves them as they were. The calls whose names end in _own
- * need such handles; a copy of the two fields is enough. The calls without _own make that copy
- * themselves, write to nothing const, and are the ones to call.
+ * It is not proved that threads may share a handle, but it is tested with a race detector. It is
+ * proved that a call does not change its handles if nothing else uses them during the call. The
+ * calls whose names end in _own need handles that nothing else uses; a copy of the two fields is
+ * enough. The calls without _own make this copy themselves and write nothing through a const
+ * pointer, so call these.
  */
 #ifndef STUNP_ENDPOINT_H
 #define STUNP_ENDPOINT_H
@@ -349,35 +363,37 @@ extern "C" {
 
 /* ---- Types */
 
-/* A handle of a server: its settings, which never change. Begin it with {0};
+/* A handle to a server, whose settings never change. Initialize it with {0};
  * stunp_endpoint_server_new fills it, and stunp_endpoint_server_free empties it. Any number of
- * threads may pass it as const at the same time. The fields are not yours to write. A copy of a
- * handle is the same handle: once one of them was freed, do not use or free the others, because no
- * call notices that. */
+ * threads may pass it as const at the same time. Do not write to the fields. A copy of a handle
+ * refers to the same object: once you have freed the object through one copy, do not use or free
+ * the other copies, because no call detects this mistake. */
 typedef struct stunp_endpoint_server { bool is_full; void *state; } stunp_endpoint_server;
 
-/* A handle of a table of users, which was made for a server. Begin it with {0};
+/* A handle to a table of users, which was made for a server. Initialize it with {0};
  * stunp_endpoint_users_new fills it, and stunp_endpoint_users_free empties it. Many threads may
- * pass it as const at the same time, or one thread may change it. The fields are not yours to
- * write. A copy of a handle is the same handle: once one of them was freed, do not use or free the
- * others, because no call notices that. */
+ * pass it as const at the same time, or one thread may change it. Do not write to the fields. A
+ * copy of a handle refers to the same object: once you have freed the object through one copy, do
+ * not use or free the other copies, because no call detects this mistake. */
 typedef struct stunp_endpoint_users { bool is_full; void *state; } stunp_endpoint_users;
 
-/* A handle of an agent of ICE, which writes connectivity checks and judges those of one peer. Begin
- * it with {0}; stunp_ice_checker_new fills it, and stunp_ice_checker_free empties it. One thread at
- * a time uses it. The fields are not yours to write. A copy of a handle is the same handle: once
- * one of them was freed, do not use or free the others, because no call notices that. */
+/* A handle to an ICE agent, which writes connectivity checks and judges the checks of one peer.
+ * Initialize it with {0}; stunp_ice_checker_new fills it, and stunp_ice_checker_free empties it.
+ * Use it in only one thread at a time. Do not write to the fields. A copy of a handle refers to the
+ * same object: once you have freed the object through one copy, do not use or free the other
+ * copies, because no call detects this mistake. */
 typedef struct stunp_ice_checker { bool is_full; void *state; } stunp_ice_checker;
 
-/* A handle of a client of one server, with its outstanding requests. Begin it with {0};
- * stunp_endpoint_client_new fills it, and stunp_endpoint_client_free empties it. One thread at a
- * time uses it. The fields are not yours to write. A copy of a handle is the same handle: once one
- * of them was freed, do not use or free the others, because no call notices that. */
+/* A handle to a client of one server, with the outstanding requests of the client. Initialize it
+ * with {0}; stunp_endpoint_client_new fills it, and stunp_endpoint_client_free empties it. Use it
+ * in only one thread at a time. Do not write to the fields. A copy of a handle refers to the same
+ * object: once you have freed the object through one copy, do not use or free the other copies,
+ * because no call detects this mistake. */
 typedef struct stunp_endpoint_client { bool is_full; void *state; } stunp_endpoint_client;
 
-/* Sets the size with which a struct of this header begins, and all else to 0. Use it in
- * `stunp_received received = STUNP_INIT(stunp_received);`, and STUNP_ANEW, which is the same as a
- * value, to give such a struct its first state again: `received = STUNP_ANEW(stunp_received);` */
+/* Sets the size with which a struct of this header begins, and all other fields to 0. Use it as an
+ * initializer: `stunp_received received = STUNP_INIT(stunp_received);`. To reset a struct later,
+ * assign STUNP_ANEW, which has the same values: `received = STUNP_ANEW(stunp_received);` */
 #ifdef __cplusplus
 extern "C++" {
 template <typename Sized> Sized stunp_of_size() {
@@ -395,47 +411,55 @@ template <typename Sized> Sized stunp_of_size() {
 
 /* The credentials that a server asks its clients for. */
 typedef enum stunp_credentials {
-    STUNP_LONG_TERM = 0,     /* those of users of a realm, with nonces (section 9.2) */
-    STUNP_SHORT_TERM = 1,    /* a name and a password, without nonces (section 9.1) */
-    STUNP_NO_CREDENTIALS = 2 /* none: everybody is answered */
+    STUNP_LONG_TERM = 0,     /* the name and the password of a user of a realm, with nonces (section
+                              * 9.2) */
+    STUNP_SHORT_TERM = 1,    /* the name and the password of one session, without nonces (section
+                              * 9.1) */
+    STUNP_NO_CREDENTIALS = 2 /* no credentials: the server answers everybody */
 } stunp_credentials;
 
-/* The settings of a server. A field that is 0 or null takes its default. Those that a line marks
+/* The settings of a server. A field that is 0 or null takes its default. The fields that are marked
  * with (realm) must be 0 or null unless `credentials` is STUNP_LONG_TERM.
  *
  *   size                sizeof (stunp_endpoint_server_settings), set by STUNP_INIT
- *   credentials         by default STUNP_LONG_TERM
+ *   credentials         the credentials that clients need. By default STUNP_LONG_TERM
  *   realm               (realm) the realm, of at most 763 bytes. It has no default
- *   secret              (realm) 32 random bytes. Whoever has them can make nonces that are accepted.
- *                       It has no default, and one byte that is repeated is refused, because then
- *                       nobody has filled it
- *   previous_secret     (realm) 32 bytes whose nonces are accepted too, and never sent. Set it to the
- *                       secret before when you change the secret, for two nonce lifetimes. It must
- *                       be another one than `secret`, and none of one repeated byte
+ *   secret              (realm) 32 random bytes. Anybody who has them can make nonces that the
+ *                       server accepts. It has no default. A secret that is one repeated byte is
+ *                       refused, because it was probably never filled
+ *   previous_secret     (realm) another secret: the server also accepts nonces that were made from
+ *                       it, but never sends such a nonce. When you change the secret, set this to
+ *                       the former secret for two nonce lifetimes. It must differ from `secret`,
+ *                       and must not be one repeated byte
  *   software            the text of SOFTWARE in each answer that the server writes, of at most 763
- *                       bytes. By default answers have none. Errors have it too, also those to a
- *                       sender who signed nothing (see below)
- *   understood          the types of attributes that you understand beside those of STUN, as
- *                       `understood_count` numbers: STUNP_LIFETIME .. of a TURN server. A request
- *                       with another type that must be understood is answered 420
- *   nonce_seconds       (realm) how long a nonce is sent, from 30 seconds to 30 days (2592000). It is
- *                       accepted for one to two times as long. By default an hour
- *   algorithms          (realm) STUNP_SHA1, STUNP_SHA256, or by default both
+ *                       bytes. By default answers have no SOFTWARE. Error responses have it too,
+ *                       even if the sender of the request signed nothing (see below)
+ *   understood          the types of attributes that you understand in addition to those of STUN,
+ *                       as `understood_count` numbers: for a TURN server STUNP_LIFETIME and so on.
+ *                       The server answers a request with a 420 if it has an attribute of any other
+ *                       type that must be understood
+ *   nonce_seconds       (realm) for how many seconds the server sends the same nonce to a client,
+ *                       from 30 to 2592000 (30 days). It accepts a nonce for one to two times as
+ *                       long. By default 3600 (an hour)
+ *   algorithms          (realm) the algorithms that the server offers: STUNP_SHA1, STUNP_SHA256, or
+ *                       by default both
  *   anonymous_username  (realm) STUNP_DISABLED if clients may not send a hash in place of the user
  *                       name. By default, and with STUNP_REQUIRED, they may
- *   answers_binding     whether an accepted Binding request is answered inside, by the client's
- *                       address. By default it is handed to you
- *   requires_fingerprint  whether a message without FINGERPRINT is dropped (section 7.3). By default it
- *                       is accepted
+ *   answers_binding     whether the server itself answers an accepted Binding request, with the
+ *                       address of the client. By default it returns the request to you
+ *   requires_fingerprint  whether the server drops messages without FINGERPRINT (section 7.3). By
+ *                       default it accepts them
  *
  * The texts end with a zero byte.
  *
- * An attacker can send requests under the address of somebody else, who then gets the answers. A
- * request of 20 bytes causes a challenge of 96 bytes, or of 108 with both algorithms, if the realm
- * has 11 bytes: with the headers of IPv4 and UDP up to 2.8 times as much. Each byte of the realm and
- * of `software` makes it a byte longer, rounded up to four, and at their limits it has 1628 bytes
- * (34 times). So keep the realm short. To tell your software to users alone, leave `software` null
- * and add STUNP_SOFTWARE to the body of the replies that you write. */
+ * An attacker can send requests with the source address of somebody else, who then gets the
+ * answers. If the realm has 11 bytes, a request of 20 bytes causes a challenge of 96 bytes, or of
+ * 108 with both algorithms. With the headers of IPv4 and UDP, this is up to 2.8 times as many bytes
+ * as the request. The challenge grows with the realm and with `software`, each padded to a multiple
+ * of four bytes. If the realm and `software` are as long as they may be, the challenge has 1628
+ * bytes (34 times as many as the request, with the headers). So keep the realm short. To send the
+ * name of your software only to users, leave `software` null and add STUNP_SOFTWARE to the replies
+ * that you write. */
 typedef struct {
     size_t size;
     stunp_credentials credentials;
@@ -452,141 +476,163 @@ typedef struct {
     bool requires_fingerprint;
 } stunp_endpoint_server_settings;
 
-/* What a datagram comes to: what stunp_endpoint_server_receive, stunp_ice_checker_receive and
- * stunp_endpoint_client_receive return. */
+/* The outcome of a datagram, which is the result of stunp_endpoint_server_receive,
+ * stunp_ice_checker_receive and stunp_endpoint_client_receive. */
 typedef enum stunp_kind {
-    STUNP_DROPPED = 0,       /* nothing is to be done, for the reason `why` */
-    STUNP_ANSWER = 1,        /* send the first `length` bytes of the buffer to where it came from */
-    STUNP_IS_REQUEST = 2,    /* an accepted request: answer it by `reply`. Without credentials anybody
-                              * may have sent it */
+    STUNP_DROPPED = 0,       /* do nothing, for the reason `why` */
+    STUNP_ANSWER = 1,        /* send the first `length` bytes of the buffer to the address that the
+                              * datagram came from */
+    STUNP_IS_REQUEST = 2,    /* an accepted request: answer it with `reply`. At a server without
+                              * credentials, anybody may have sent it */
     STUNP_IS_INDICATION = 3, /* an indication whose attributes are understood. With short-term
                               * credentials the user in `name` has signed it. Otherwise it is not
-                              * signed (section 9.2), so decide by the source address whether to act
-                              * on it. In ICE it keeps a path open, and asks for nothing */
-    STUNP_IS_RESPONSE = 4,   /* at a server, a response for a client on the same socket; in ICE, the
-                              * answer that ends your check, as `outcome` says; at a client, a response
-                              * that ends its request, or after which another message is sent */
+                              * signed (section 9.2), so use its source address to decide whether to
+                              * act on it. In ICE it only keeps a path open */
+    STUNP_IS_RESPONSE = 4,   /* a response. At a server, it is for a client on the same socket. In
+                              * ICE, it is the answer that ends your check: see `outcome`. At a
+                              * client, it ends its request, or the client sends another message of
+                              * the request because of it */
     STUNP_LOOKUP = 5,        /* a request that waits for its user: look up `name`, and call
                               * stunp_endpoint_server_resume. Its signature is not checked yet */
-    STUNP_NOT_OURS = 6,      /* at a client: it is for somebody else, or for nobody */
-    STUNP_FAILED = 7         /* `kind` of a stunp_received or a stunp_ice_received after a call that
-                              * failed. The call itself returns the error */
+    STUNP_NOT_OURS = 6,      /* at a client: the datagram is not for this client, but may be for
+                              * another client on the same socket */
+    STUNP_FAILED = 7         /* only in `kind` of a stunp_received or a stunp_ice_received: the call
+                              * has failed. The call itself returns the error */
 } stunp_kind;
 
 /* Why a datagram is dropped. */
 typedef enum stunp_drop {
-    STUNP_DROP_NOT_STUN = 1,          /* it does not begin with the header of a STUN message */
-    STUNP_DROP_MALFORMED = 2,         /* its length or its attributes are not what its header says */
-    STUNP_DROP_WRONG_FINGERPRINT = 3, /* its FINGERPRINT is wrong, is not the last attribute, or does
-                                       * not have 4 bytes: it is damaged, or belongs to another
-                                       * protocol. In ICE also if it has none */
-    STUNP_DROP_MISSING_FINGERPRINT = 13, /* it has no FINGERPRINT, although the settings of the server
-                                          * or the client require one (section 7.3) */
-    STUNP_DROP_UNKNOWN_ATTRIBUTE = 4, /* it is an indication with an attribute that must be understood
-                                       * and is not */
-    /* This is of short-term credentials alone. */
-    STUNP_DROP_NOT_SIGNED = 8,        /* it is an indication that no user has signed. A request like it
-                                       * would be refused by `code` */
-    /* These are of ICE alone. */
-    STUNP_DROP_OTHER_METHOD = 5,      /* it has another method than Binding */
-    STUNP_DROP_NOT_ASKED = 6,         /* it is a response, and not to the check that was passed */
-    STUNP_DROP_WRONG_SIGNATURE = 7,   /* it is a response that is not signed by the peer. A refusal by
-                                       * 400 or 401 is not signed, so such a check ends by its
-                                       * timeout */
-    /* These are of clients alone, and of responses to their requests. */
-    STUNP_DROP_NOT_VERIFIED = 9,      /* it is not signed with the key of the message that it
-                                       * answers, or is a challenge to another message than the one
-                                       * that was sent last */
-    STUNP_DROP_UNANSWERABLE_CHALLENGE = 10, /* it is a 401 or 438 that the client cannot answer, and is
-                                             * not signed; or its list of algorithms is so long that
-                                             * the request would not fit into a message */
-    STUNP_DROP_WEAKER_CHALLENGE = 11, /* it is a challenge for less protection than a challenge to which
-                                       * the server has answered with a success */
+    STUNP_DROP_NOT_STUN = 1,          /* the datagram does not begin with the header of a STUN
+                                       * message */
+    STUNP_DROP_MALFORMED = 2,         /* the datagram does not have the length that its header
+                                       * states, or its attributes do not fill this length
+                                       * exactly */
+    STUNP_DROP_WRONG_FINGERPRINT = 3, /* FINGERPRINT is wrong, is not the last attribute, or does
+                                       * not have 4 bytes: the datagram is damaged, or belongs to
+                                       * another protocol. In ICE, this is also the reason if there
+                                       * is no FINGERPRINT */
+    STUNP_DROP_MISSING_FINGERPRINT = 13, /* the datagram has no FINGERPRINT, although the settings
+                                          * of the server or the client require it (section 7.3) */
+    STUNP_DROP_UNKNOWN_ATTRIBUTE = 4, /* the datagram is an indication with an attribute that must
+                                       * be understood but is not */
+    /* Only with short-term credentials. */
+    STUNP_DROP_NOT_SIGNED = 8,        /* the datagram is an indication that no user has signed.
+                                       * `code` is the error with which a request with the same
+                                       * attributes would be refused */
+    /* Only in ICE. */
+    STUNP_DROP_OTHER_METHOD = 5,      /* the method of the message is not Binding */
+    STUNP_DROP_NOT_ASKED = 6,         /* the datagram is a response that does not answer the check
+                                       * that you passed */
+    STUNP_DROP_WRONG_SIGNATURE = 7,   /* the datagram is a response that is not signed by the peer.
+                                       * A 400 or 401 is not signed, so it is dropped too, and the
+                                       * check then times out */
+    /* Only at clients, for responses to their requests. */
+    STUNP_DROP_NOT_VERIFIED = 9,      /* the response is not signed with the key of the message that
+                                       * it answers, or it is a challenge to a message that is not
+                                       * the last message that was sent */
+    STUNP_DROP_UNANSWERABLE_CHALLENGE = 10, /* the response is an unsigned 401 or 438 that the
+                                             * client cannot answer, or a challenge whose list of
+                                             * algorithms is so long that the request would not fit
+                                             * into a message */
+    STUNP_DROP_WEAKER_CHALLENGE = 11, /* the response is a challenge that offers less protection
+                                       * than an earlier challenge for which a signed request has
+                                       * succeeded */
     STUNP_DROP_OUT_OF_MEMORY = 12,    /* an allocation failed, or no transaction ID is left for
-                                       * another message. The request goes on, and the server
-                                       * answers its next transmission. Over a stream there is none,
-                                       * so it times out */
-    STUNP_DROP_LATE_CHALLENGE = 14,   /* it is a challenge that arrived more than one plan after the
-                                       * request was started (39.5 s by default; see
-                                       * stunp_endpoint_client_settings). The client answers it no
-                                       * more */
-    STUNP_DROP_REFUSED = 15           /* it is the challenge that the request is signed for, once more.
-                                       * The request is sent again by its timer, and ends as
-                                       * STUNP_RESULT_UNAUTHORIZED if one arrives after that */
+                                       * another message. The request continues, and the server
+                                       * answers its next transmission. Over a stream there is no
+                                       * further transmission, so the request times out */
+    STUNP_DROP_LATE_CHALLENGE = 14,   /* the response is a challenge that arrived after the end of
+                                       * the first plan of its request, which is by default 39.5 s
+                                       * after the start of the request (`transmissions` of
+                                       * stunp_endpoint_client_settings). The client no longer
+                                       * answers challenges to this request */
+    STUNP_DROP_REFUSED = 15           /* the response repeats the challenge for which the request is
+                                       * signed. The request is sent again when its timer is due,
+                                       * and ends with STUNP_RESULT_UNAUTHORIZED if the challenge
+                                       * arrives again after that */
 } stunp_drop;
 
-/* Why a server with long-term credentials refuses a request: the first check that the request fails
- * (section 9.2.4, but the nonce is checked before the user). More causes may be added later. */
+/* Why a server with long-term credentials refuses a request: the first check that fails. The checks
+ * are in the order of section 9.2.4, except that the nonce is checked before the user. Later
+ * releases may add causes. */
 typedef enum stunp_cause {
-    STUNP_CAUSE_NO_SIGNATURE = 1,      /* 401: it has no well-formed MESSAGE-INTEGRITY or
+    STUNP_CAUSE_NO_SIGNATURE = 1,      /* 401: the request has no well-formed MESSAGE-INTEGRITY or
                                         * MESSAGE-INTEGRITY-SHA256, like the first request of each
                                         * client */
-    STUNP_CAUSE_INCOMPLETE = 2,        /* 400: it is signed, but has no well-formed REALM, NONCE, or
-                                        * name of a user */
-    STUNP_CAUSE_OTHER_ALGORITHMS = 3,  /* 400: it has the current nonce, but not the password
-                                        * algorithms that were offered with it. An attacker in
-                                        * between may have changed the list */
-    STUNP_CAUSE_OTHER_FEATURES = 4,    /* 401: its nonce has other security bits than the server's
-                                        * nonces, and its algorithms agree with these bits. An
-                                        * attacker may have changed them, or the nonce was sent
-                                        * before a change of settings. A nonce that does not begin
-                                        * with the nonce cookie has no such bits: it is stale */
-    STUNP_CAUSE_STALE_NONCE = 5,       /* 438: its nonce is not valid any more, was sent to another
-                                        * address, is of another secret or other settings, or was
-                                        * never made by this server. If the nonce is of the period
-                                        * before, or of the previous secret, this is also the cause
-                                        * if the algorithms or the credentials are wrong */
-    STUNP_CAUSE_WRONG_CREDENTIALS = 6, /* 401: its nonce is the current one, but it names no user of
-                                        * the table, the user has no key for the algorithm, or the
-                                        * signature is not valid under the user's key */
-    STUNP_CAUSE_UNKNOWN_ATTRIBUTE = 7  /* 420: a user has signed it, but it has an attribute that
-                                        * must be understood and is not */
+    STUNP_CAUSE_INCOMPLETE = 2,        /* 400: the request is signed, but has no well-formed REALM,
+                                        * NONCE or user name */
+    STUNP_CAUSE_OTHER_ALGORITHMS = 3,  /* 400: the request has the current nonce, but not the
+                                        * password algorithms that were offered with this nonce. An
+                                        * attacker on the path may have changed the list */
+    STUNP_CAUSE_OTHER_FEATURES = 4,    /* 401: the security bits of the request's nonce are not
+                                        * those of the server's nonces, but the algorithms of the
+                                        * request agree with the bits in its nonce. An attacker may
+                                        * have changed the bits, or the nonce was sent before a
+                                        * change of settings. A nonce that does not begin with the
+                                        * nonce cookie has no such bits, and counts as stale */
+    STUNP_CAUSE_STALE_NONCE = 5,       /* 438: the nonce has expired, was sent to another address,
+                                        * was made from another secret or with other settings, or
+                                        * was never made by this server. If the nonce is from the
+                                        * previous period or was made from the previous secret,
+                                        * wrong algorithms and wrong credentials have this cause
+                                        * too */
+    STUNP_CAUSE_WRONG_CREDENTIALS = 6, /* 401: the request has the current nonce, but it names no
+                                        * user of the table, the user has no key for the algorithm,
+                                        * or the signature is not valid under the user's key */
+    STUNP_CAUSE_UNKNOWN_ATTRIBUTE = 7  /* 420: a user has signed the request, but it has an
+                                        * attribute of a type that must be understood and that the
+                                        * server does not understand */
 } stunp_cause;
 
-/* What a check of the peer, or the answer to a check of yours, comes to. */
+/* The outcome of a check of the peer, or of the answer to one of your checks. */
 typedef enum stunp_ice_outcome {
-    /* Of a check of the peer, whose kind is STUNP_ANSWER: */
-    STUNP_ICE_ACCEPTED = 1,      /* it is accepted. Send a check on the same pair, if none of yours
-                                  * has succeeded there (RFC 8445, section 7.3.1.4) */
-    STUNP_ICE_PEER_SWITCHES = 2, /* both have one role, and the 487 tells the peer to switch. Once it
-                                  * has, its next check is accepted */
-    STUNP_ICE_REFUSED = 3,       /* it is refused by `code` */
-    /* Of the answer to a check of yours, whose kind is STUNP_IS_RESPONSE: */
-    STUNP_ICE_VALID = 4,          /* it succeeded, and the pair is valid. The peer saw it come from
-                                   * `mapped` */
-    STUNP_ICE_CONFLICT = 5,       /* the peer has the role that the check says, and keeps it. This
-                                   * agent has the other one now, or had it before (`switched` is
-                                   * then false). Set a new random tie-breaker, and send a new check
-                                   * (section 7.2.5.1) */
-    STUNP_ICE_ERROR = 6,          /* it failed by the error `code` */
-    STUNP_ICE_OTHER_PATH = 7,     /* it failed, because the answer came from another address than the
-                                   * check went to */
-    STUNP_ICE_NOT_UNDERSTOOD = 8, /* it failed, because the answer has an attribute of the type
-                                   * `not_understood` that must be understood and is not */
-    STUNP_ICE_MALFORMED = 9       /* it failed, because the answer has no well-formed address, or no
-                                   * well-formed error code */
+    /* If `kind` is STUNP_ANSWER (a check of the peer arrived, and you send the answer): */
+    STUNP_ICE_ACCEPTED = 1,      /* the check is accepted. Send a check on the same pair, if none of
+                                  * your checks has succeeded on this pair (RFC 8445, section
+                                  * 7.3.1.4) */
+    STUNP_ICE_PEER_SWITCHES = 2, /* both agents have the same role, and the answer, a 487, asks the
+                                  * peer to switch its role. Once the peer has switched, its next
+                                  * check is accepted */
+    STUNP_ICE_REFUSED = 3,       /* the check is refused with the error `code` */
+    /* If `kind` is STUNP_IS_RESPONSE (the peer has answered one of your checks): */
+    STUNP_ICE_VALID = 4,          /* the check succeeded, and the pair is valid. The peer saw the
+                                   * check arrive from `mapped` */
+    STUNP_ICE_CONFLICT = 5,       /* the peer has the role that the check states, and keeps it. This
+                                   * agent has switched to the other role, or already had the other
+                                   * role (`switched` is then false). Set a new random tie-breaker,
+                                   * and send a new check (section 7.2.5.1) */
+    STUNP_ICE_ERROR = 6,          /* the check failed with the error `code` */
+    STUNP_ICE_OTHER_PATH = 7,     /* the check failed, because its answer did not come from the
+                                   * address to which the check was sent, or, with stunp_ice_checks,
+                                   * did not arrive at the address from which the check was sent */
+    STUNP_ICE_NOT_UNDERSTOOD = 8, /* the check failed, because its answer has an attribute that
+                                   * the agent must understand, but does not. The type of the
+                                   * attribute is in `not_understood` of stunp_ice_received */
+    STUNP_ICE_MALFORMED = 9       /* the check failed, because its answer has no well-formed
+                                   * address, or no well-formed error code */
 } stunp_ice_outcome;
 
 /* Lengths, in bytes. */
 enum {
-    /* No answer that a server writes by itself is longer: room for a 420 that lists a type for every
-     * four bytes of the longest message, with SOFTWARE, a signature and FINGERPRINT. For datagrams of
-     * up to 1500 bytes 2048 bytes are enough. */
+    /* The longest answer that a server writes by itself: a 420 that lists a type for every four
+     * bytes of the longest message, with SOFTWARE, a signature and FINGERPRINT. For datagrams of up
+     * to 1500 bytes, 2048 bytes are enough. */
     STUNP_ANSWER_MAX = 33632,
-    /* The longest user name that a table accepts and a USERNAME of this library can have. (Section
-     * 14.3 allows names of fewer than 509 bytes.) */
+    /* The longest user name that a table of users, and USERNAME in this library, can have. (Section
+     * 14.3 allows only names of fewer than 509 bytes.) */
     STUNP_NAME_MAX = 513,
-    /* The longest check of ICE. An answer to one has at most STUNP_ANSWER_MAX. */
+    /* The longest check of ICE. An answer to a check has at most STUNP_ANSWER_MAX bytes. */
     STUNP_ICE_CHECK_MAX = 596,
-    /* The longest username fragment of ICE, and the longest password. The shortest have 4 bytes and
-     * 22 (RFC 8445, section 5.3). */
+    /* The longest username fragment of ICE, and the longest password. The shortest have 4 and 22
+     * bytes (RFC 8445, section 5.3). */
     STUNP_ICE_NAME_MAX = 256,
     STUNP_ICE_PASSWORD_MAX = 256
 };
 
-/* What answers one accepted request. It is plain data: it may be copied and kept, and used on any
- * thread, without the server. It contains a key of the user, so wipe each copy (stunp_reply_wipe).
- * Pass it to the calls below, and leave the fields to them. */
+/* The data with which you answer one accepted request. It is plain data: you may copy and store it,
+ * and use it on any thread, without the server. It contains a key of the user, so wipe each copy
+ * (stunp_reply_wipe). Pass it to the calls whose names begin with stunp_reply, and do not use its
+ * fields yourself. */
 typedef struct {
     uint8_t id[12];
     uint8_t key[64];
@@ -596,29 +642,31 @@ typedef struct {
     bool has_fingerprint;
 } stunp_reply;
 
-/* What a datagram comes to. A field is 0 unless its line names the kind; only `reply` and `name` then
- * keep their old contents. After an error `kind` is STUNP_FAILED and `length` is 0. If `size` is wrong,
- * nothing else is written.
+/* The outcome of a datagram at a server. The line of a field names the kinds for which the field is
+ * set. For other kinds the field is 0, except that `reply` and `name` keep their old contents.
+ * After an error `kind` is STUNP_FAILED and `length` is 0. If `size` is wrong, nothing else is
+ * written.
  *
  *   size         sizeof (stunp_received), set by STUNP_INIT once, before the loop
- *   kind         what it comes to
- *   why          STUNP_DROPPED: why
- *   code         STUNP_ANSWER: the code of an error, 400, 401, 420 or 438; 0 of a success.
- *                STUNP_DROP_NOT_SIGNED: 400 or 401
+ *   kind         the outcome
+ *   why          STUNP_DROPPED: why the datagram was dropped
+ *   code         STUNP_ANSWER: the code of an error response (400, 401, 420 or 438), or 0 for a
+ *                success response. STUNP_DROP_NOT_SIGNED: 400 or 401
  *   method       STUNP_IS_REQUEST, _IS_INDICATION, _IS_RESPONSE, STUNP_LOOKUP: the method of the
  *                message
- *   algorithm    STUNP_IS_REQUEST: the password algorithm that both sides agreed on. With short-term
- *                credentials the algorithm of the signature, also STUNP_IS_INDICATION. Without
- *                credentials 0
- *   length       STUNP_ANSWER: how many bytes are to be sent
- *   needed       STUNP_FAILED: after STUNP_BUFFER_TOO_SMALL, how many bytes the answer has
- *   name_length  STUNP_IS_REQUEST, _IS_INDICATION, STUNP_LOOKUP: how long `name` is
- *   name         STUNP_IS_REQUEST, _IS_INDICATION: the name of the user who signed the message, also if
- *                that has a hash of it; zeros if nobody did. STUNP_LOOKUP: whom the request names. A
- *                zero byte follows it
+ *   algorithm    STUNP_IS_REQUEST: the password algorithm on which both sides agreed. With
+ *                short-term credentials it is the algorithm of the signature, also for
+ *                STUNP_IS_INDICATION. Without credentials it is 0
+ *   length       STUNP_ANSWER: the number of bytes to send
+ *   needed       STUNP_FAILED: after STUNP_BUFFER_TOO_SMALL, the length of the answer
+ *   name_length  STUNP_IS_REQUEST, _IS_INDICATION, STUNP_LOOKUP: the length of `name`, in bytes
+ *   name         STUNP_IS_REQUEST, _IS_INDICATION: the name of the user who signed the message,
+ *                even if the message has only a hash of the name; zeros if nobody signed the
+ *                message. STUNP_LOOKUP: the user whom the request names. A zero byte follows the
+ *                name
  *   is_hash      STUNP_LOOKUP: `name` is the hash of a name (stunp_userhash, section 14.4), of
  *                STUNP_USERHASH_LENGTH bytes
- *   reply        STUNP_IS_REQUEST: what answers it
+ *   reply        STUNP_IS_REQUEST: the data with which you answer the request
  *
  * Serve the user in `name`. Never use USERNAME of the message, which may name another user. */
 typedef struct {
@@ -636,12 +684,13 @@ typedef struct {
     bool is_hash;
 } stunp_received;
 
-/* One of the datagrams that are judged by stunp_endpoint_server_receive_many.
+/* A datagram for stunp_endpoint_server_receive_many.
  *
- *   bytes, length  its bytes
- *   from           the address that it came from
- *   received       where what it comes to is written, as stunp_endpoint_server_receive does, with
- *                  its `size` set by STUNP_INIT. May be null, but then no request can be answered
+ *   bytes, length  the bytes of the datagram, and their number
+ *   from           the address that the datagram came from
+ *   received       the struct to which stunp_endpoint_server_receive would write the outcome. Set
+ *                  its `size` with STUNP_INIT. The pointer may be null, but then you cannot answer
+ *                  a request
  */
 typedef struct {
     const uint8_t *bytes;
@@ -650,14 +699,16 @@ typedef struct {
     stunp_received *received;
 } stunp_datagram;
 
-/* What such a datagram comes to. A field is 0 unless its line names the kind.
+/* The outcome of a datagram that stunp_endpoint_server_receive_many has judged. The lines of
+ * `cause`, `offset` and `length` name the kinds for which these fields are set. For other kinds
+ * they are 0.
  *
- *   kind    what stunp_endpoint_server_receive returns for it: a stunp_kind, or an error
- *   cause   STUNP_ANSWER, STUNP_BUFFER_TOO_SMALL: why the answer refuses it, as
- *           stunp_endpoint_server_receive_with_cause writes it
- *   offset  STUNP_ANSWER: where the answer begins in the bytes of all answers
- *   length  STUNP_ANSWER: how many bytes are to be sent. STUNP_BUFFER_TOO_SMALL: how many bytes the
- *           answer has */
+ *   kind    the result of stunp_endpoint_server_receive for the datagram: a stunp_kind, or an error
+ *   cause   STUNP_ANSWER, STUNP_BUFFER_TOO_SMALL: why the answer refuses the request, or 0 if the
+ *           answer does not refuse it (stunp_endpoint_server_receive_with_cause)
+ *   offset  STUNP_ANSWER: the offset of the answer in the bytes of all answers
+ *   length  STUNP_ANSWER: the number of bytes to send. STUNP_BUFFER_TOO_SMALL: the length of the
+ *           answer */
 typedef struct {
     int64_t kind;
     stunp_cause cause;
@@ -665,13 +716,13 @@ typedef struct {
     size_t length;
 } stunp_judged;
 
-/* A user that you found, for stunp_endpoint_server_resume. What is null is not stored: set the
- * password, or one of the keys, or both.
+/* A user that you found, for stunp_endpoint_server_resume. Set the password, one of the keys, or
+ * both keys, and leave the fields that you do not have null.
  *
  *   size         sizeof (stunp_found_user), set by STUNP_INIT
- *   name         the name. A user of another name than the one in the request is not accepted
- *   name_length  how long the name is
- *   password     the password, which ends with a zero byte. If it is set, the keys do not count
+ *   name         the name. If it is not the name in the request, the request is refused
+ *   name_length  the length of the name, in bytes
+ *   password     the password, which ends with a zero byte. If it is set, the keys are ignored
  *   sha1_key     16 bytes: the key for HMAC-SHA1 (stunp_long_term_key)
  *   sha256_key   32 bytes: the key for HMAC-SHA256 */
 typedef struct {
@@ -683,18 +734,19 @@ typedef struct {
     const uint8_t *sha256_key;
 } stunp_found_user;
 
-/* The settings of an agent of ICE. None has a default but the last two, which may be 0, and the
- * credentials of the peer, which may both be null.
+/* The settings of an ICE agent. They have no defaults, but `tie_breaker` may be 0, and `peer_name`
+ * and `peer_password` may both be null.
  *
  *   size            sizeof (stunp_ice_settings), set by STUNP_INIT
- *   name            your username fragment, of 4 to 256 bytes without a colon (RFC 8445, section 5.3)
+ *   name            your username fragment, of 4 to 256 bytes without a colon (RFC 8445, section
+ *                   5.3)
  *   password        your password, of 22 to 256 bytes
- *   peer_name       the username fragment and the password of the peer, as it sent them over
- *   peer_password   signalling. Null if they have not arrived: then call stunp_ice_checker_set_peer
- *                   when they have
- *   tie_breaker     a random number (section 7.1.3). If both sides begin in one role, the one with
- *                   the larger number controls
- *   is_controlling  whether the agent begins as the one that nominates pairs
+ *   peer_name       the username fragment of the peer, which arrives over signalling. Null if it
+ *                   has not arrived yet: call stunp_ice_checker_set_peer when it arrives
+ *   peer_password   the password of the peer, or null if `peer_name` is null
+ *   tie_breaker     a random number (section 7.1.3). If both sides begin in the same role, the side
+ *                   with the larger number controls
+ *   is_controlling  whether the agent begins in the controlling role, in which it nominates pairs
  *
  * The texts end with a zero byte. */
 typedef struct {
@@ -707,15 +759,15 @@ typedef struct {
     bool is_controlling;
 } stunp_ice_settings;
 
-/* A check that was written, without its bytes: what its answer is judged by. It is plain data, to be
- * stored with its pair until the answer arrives or the check times out. Leave the fields as they
- * are; you may read them.
+/* The data of a check that was written, with which its answer is judged. It is plain data, without
+ * the bytes of the check. Store it with its pair until the answer arrives or the check times out.
+ * You may read the fields, but do not change them.
  *
  *   id              the transaction ID, which the answer has too
- *   to              the address that the check goes to
- *   is_controlling  whether the check says that its sender controls
- *   nominates       whether the check nominates its pair: if its answer is STUNP_ICE_VALID, the pair
- *                   is nominated (RFC 8445, section 7.2.5.3.4) */
+ *   to              the address to which the check is sent
+ *   is_controlling  whether the check states that its sender controls
+ *   nominates       whether the check nominates its pair: if its answer is STUNP_ICE_VALID, the
+ *                   pair is nominated (RFC 8445, section 7.2.5.3.4) */
 typedef struct {
     uint8_t id[12];
     stunp_address to;
@@ -723,26 +775,30 @@ typedef struct {
     bool nominates;
 } stunp_ice_check;
 
-/* What a datagram comes to at an agent of ICE. A field is 0 unless its line names the kind. After an
- * error `kind` is STUNP_FAILED and `length` is 0. If `size` is wrong, nothing else is written.
+/* The outcome of a datagram at an ICE agent. The line of a field names the kinds or the outcomes
+ * for which the field is set. For others the field is 0. After an error `kind` is STUNP_FAILED and
+ * `length` is 0. If `size` is wrong, nothing else is written.
  *
  *   size            sizeof (stunp_ice_received), set by STUNP_INIT once, before the loop
- *   kind            what it comes to
- *   why             STUNP_DROPPED: why
- *   outcome         STUNP_ANSWER, STUNP_IS_RESPONSE: what the check or its answer comes to
- *   code            the code of an error response: 487 of STUNP_ICE_PEER_SWITCHES and _CONFLICT; 400,
- *                   401 or 420 of STUNP_ICE_REFUSED; any other of STUNP_ICE_ERROR
- *   priority        STUNP_ICE_ACCEPTED: the priority in the check, which a peer-reflexive candidate
- *                   gets if the address that the check came from is new (RFC 8445, section 7.3.1.3)
+ *   kind            the outcome
+ *   why             STUNP_DROPPED: why the datagram was dropped
+ *   outcome         STUNP_ANSWER, STUNP_IS_RESPONSE: the outcome of the check or of its answer
+ *   code            the code of an error response: 487 for STUNP_ICE_PEER_SWITCHES and _CONFLICT;
+ *                   400, 401 or 420 for STUNP_ICE_REFUSED; any other code for STUNP_ICE_ERROR
+ *   priority        STUNP_ICE_ACCEPTED: the priority in the check. If the check came from a new
+ *                   address, this is the priority of the new peer-reflexive candidate (RFC 8445,
+ *                   section 7.3.1.3)
  *   not_understood  STUNP_ICE_NOT_UNDERSTOOD: the type of the attribute
- *   nominated       STUNP_ICE_ACCEPTED: whether the peer, which controls, nominates the pair. It is
- *                   selected once a check of yours has succeeded there too (section 7.3.1.5)
- *   switched        STUNP_ICE_ACCEPTED, STUNP_ICE_CONFLICT: whether this agent has switched its role
- *                   because of the datagram. The priorities of pairs depend on the role
- *   length          STUNP_ANSWER: how many bytes are to be sent
- *   needed          STUNP_FAILED: after STUNP_BUFFER_TOO_SMALL, how many bytes the answer has
- *   mapped          STUNP_ICE_VALID: where the peer saw the check come from. If it is none of your
- *                   candidates, it is a new peer-reflexive one (section 7.2.5.3.1) */
+ *   nominated       STUNP_ICE_ACCEPTED: whether the peer, which controls, nominates the pair. The
+ *                   pair is selected once one of your checks has succeeded on it too (section
+ *                   7.3.1.5)
+ *   switched        STUNP_ICE_ACCEPTED, STUNP_ICE_CONFLICT: whether this agent has switched its
+ *                   role because of the datagram. The priorities of pairs depend on the role
+ *   length          STUNP_ANSWER: the number of bytes to send
+ *   needed          STUNP_FAILED: after STUNP_BUFFER_TOO_SMALL, the length of the answer
+ *   mapped          STUNP_ICE_VALID: the address from which the peer saw the check arrive. If it is
+ *                   not one of your candidates, it is a new peer-reflexive candidate (section
+ *                   7.2.5.3.1) */
 typedef struct {
     size_t size;
     stunp_kind kind;
@@ -761,16 +817,16 @@ typedef struct {
 /* ---- Servers */
 
 /* Creates a server, like stunp_endpoint_server_new, from settings that are passed one by one.
- * `previous_secret` counts if `has_previous_secret` is true, and must not be null even if it does not
- * count: pass `secret` again. `understood_length` counts numbers, not bytes. A `software_length` of 0
- * means no SOFTWARE.
+ * `previous_secret` is used only if `has_previous_secret` is true, but must never be null: if you
+ * have no previous secret, pass `secret` again. `understood_length` counts numbers, not bytes. A
+ * `software_length` of 0 means no SOFTWARE.
  *
  * Returns 0. Errors:
  *   STUNP_FULL_HANDLE    the handle is not empty
- *   STUNP_BAD_ARGUMENT   `algorithms` is above 3, `anonymous_username` is above 2, or `nonce_seconds`
- *                        is below 30 and not 0, or above 2592000 (30 days); all bytes of the secret
- *                        are equal; or the previous secret counts, and all its bytes are equal or it
- *                        is the secret
+ *   STUNP_BAD_ARGUMENT   `algorithms` is above 3, `anonymous_username` is above 2, or
+ *                        `nonce_seconds` is below 30 and not 0, or above 2592000 (30 days); all
+ *                        bytes of the secret are equal; or there is a previous secret, and all its
+ *                        bytes are equal or it equals the secret
  *   STUNP_NOT_TEXT       the realm or SOFTWARE is not UTF-8
  *   STUNP_TEXT_TOO_LONG  the realm or SOFTWARE has more than 763 bytes
  *   STUNP_OUT_OF_MEMORY  an allocation failed */
@@ -799,69 +855,72 @@ int64_t stunp_endpoint_server_new_short_term(stunp_endpoint_server *server, cons
                                              size_t understood_length, bool answers_binding,
                                              bool requires_fingerprint);
 
-/* Creates a server without credentials, like stunp_endpoint_server_new_short_term.
+/* Creates a server without credentials, from settings that are passed one by one, like
+ * stunp_endpoint_server_new_short_term.
  *
- * Returns 0. Errors: those of stunp_endpoint_server_new_short_term. */
+ * Returns and fails as stunp_endpoint_server_new_short_term does. */
 STUNP_READS(2, 3) STUNP_READS(4, 5) STUNP_NOT_NULL(1)
 int64_t stunp_endpoint_server_new_open(stunp_endpoint_server *server, const char *software,
                                        size_t software_length, const uint16_t *understood,
                                        size_t understood_length, bool answers_binding,
                                        bool requires_fingerprint);
 
-/* Creates a server with these settings. They are copied.
+/* Creates a server with these settings. The settings are copied.
  *
  * Returns 0. Errors:
- *   STUNP_BAD_ARGUMENT  `size` is wrong; or `credentials` is STUNP_LONG_TERM, and `secret` or `realm`
- *                       is null; or it is another, and a field for a realm is neither 0 nor null; or
- *                       it is above 2
- * and then those of stunp_endpoint_server_new_with, or of stunp_endpoint_server_new_short_term. */
+ *   STUNP_BAD_ARGUMENT  `size` is wrong; `credentials` is STUNP_LONG_TERM, and `secret` or `realm`
+ *                       is null; `credentials` is not STUNP_LONG_TERM, and a field that is marked
+ *                       with (realm) is neither 0 nor null; or `credentials` is above 2
+ * and then the errors of stunp_endpoint_server_new_with, or of
+ * stunp_endpoint_server_new_short_term. */
 STUNP_INLINED int64_t
 stunp_endpoint_server_new(stunp_endpoint_server *server,
                           const stunp_endpoint_server_settings *settings);
 
-/* Frees a server and makes its handle empty. The pointer must not be null. This call is for callers
- * that have the symbols of the archive and not this header; in C and C++ use
+/* Frees a server and makes its handle empty. The pointer must not be null. This call is for
+ * programs that use the archive without this header; in C and C++, call
  * stunp_endpoint_server_free. */
 STUNP_NOT_NULL(1)
 void stunp_endpoint_server_clear(stunp_endpoint_server *server);
 
 /* Frees a server and makes its handle empty. Does nothing if the handle is empty or the pointer is
- * null. Tables of users that it made go on. */
+ * null. You can still use the tables of users that were made for this server. */
 STUNP_INLINED void stunp_endpoint_server_free(stunp_endpoint_server *server);
 
 /* ---- Users
  *
- * Keys depend on the realm and the algorithms, so a table is made for a server, and serves every
- * server of the same realm and algorithms. No call notices a table that was made for another realm
- * or for other algorithms: requests of its users may then be refused although they are signed with
- * the right password. With short-term credentials the key is the password, and a table serves every
- * server with short-term credentials. */
+ * The keys of users depend on the realm and the algorithms, so a table of users is made for a
+ * server, and you can use the table with every server that has the same realm and algorithms. No
+ * call detects a table that was made for another realm or for other algorithms: the server may then
+ * refuse requests of its users although they are signed with the right password. With short-term
+ * credentials the key is the password, and you can use the table with every server that has
+ * short-term credentials. */
 
-/* Creates an empty table, like stunp_endpoint_users_new, with a handle of the server that nothing
- * else uses during the call. It stays as it is.
+/* Creates an empty table of users like stunp_endpoint_users_new, but nothing else may use the
+ * handle of the server during the call. The call does not change this handle.
  *
- * Returns 0. Errors: those of stunp_endpoint_users_new. */
+ * Returns and fails as stunp_endpoint_users_new does. */
 STUNP_NOT_NULL(1, 2)
 int64_t stunp_endpoint_users_new_own(stunp_endpoint_users *users, stunp_endpoint_server *server);
 
-/* Creates an empty table of users for a server: for its realm and its algorithms, or of users with
- * short-term credentials.
+/* Creates an empty table of users for a server: with long-term credentials for the realm and the
+ * algorithms of the server, or with short-term credentials.
  *
  * Returns 0. Errors:
  *   STUNP_FULL_HANDLE    the table's handle is not empty
  *   STUNP_EMPTY_HANDLE   the server's handle is empty, or null
- *   STUNP_WRONG_HANDLE   it has no server, or one without credentials
+ *   STUNP_WRONG_HANDLE   the server's handle has no server, or a server without credentials
  *   STUNP_OUT_OF_MEMORY  an allocation failed */
 STUNP_INLINED int64_t stunp_endpoint_users_new(stunp_endpoint_users *users,
                                                const stunp_endpoint_server *server);
 
-/* Adds a user with a password, or replaces what the table has of a user of this name, and derives
- * the keys (sections 9.1.1 and 9.2.2). The name comes first: if you exchange the two, the call adds
- * a user whose name is the password.
+/* Adds a user with a password, or replaces the user with this name, and derives the keys of the
+ * user (sections 9.1.1 and 9.2.2). The name comes first: if you exchange the name and the password,
+ * the call adds a user whose name is the password.
  *
  * Returns 0. Errors:
  *   STUNP_EMPTY_HANDLE   the handle is empty
- *   STUNP_WRONG_HANDLE   it has no table
+ *   STUNP_WRONG_HANDLE   the handle has no table
  *   STUNP_NOT_TEXT       the name or the password is not UTF-8
  *   STUNP_TEXT_TOO_LONG  the name has more than STUNP_NAME_MAX bytes
  *   STUNP_BAD_ARGUMENT   the password has no bytes
@@ -870,13 +929,13 @@ STUNP_READS(2, 3) STUNP_READS(4, 5) STUNP_NOT_NULL(1)
 int64_t stunp_endpoint_users_add(stunp_endpoint_users *users, const char *name, size_t name_length,
                                  const char *password, size_t password_length);
 
-/* Adds a user with keys that were stored in place of a password (stunp_long_term_key), or replaces
- * what the table has of a user of this name. The keys must have been made for the realm of the
- * table. A key that is not stored has length 0.
+/* Adds a user with keys that you stored in place of a password (stunp_long_term_key), or replaces
+ * the user with this name. The keys must have been made for the realm of the table. Pass the length
+ * 0 for a key that you do not have.
  *
  * Returns 0. Errors:
  *   STUNP_EMPTY_HANDLE   the handle is empty
- *   STUNP_WRONG_HANDLE   it has no table, or one of users with short-term credentials
+ *   STUNP_WRONG_HANDLE   the handle has no table, or a table of users with short-term credentials
  *   STUNP_NOT_TEXT       the name is not UTF-8
  *   STUNP_TEXT_TOO_LONG  the name has more than STUNP_NAME_MAX bytes
  *   STUNP_BAD_ARGUMENT   `sha1_length` is neither 0 nor 16, or `sha256_length` neither 0 nor 32
@@ -886,19 +945,18 @@ int64_t stunp_endpoint_users_add_keys(stunp_endpoint_users *users, const char *n
                                       size_t name_length, const uint8_t *sha1, size_t sha1_length,
                                       const uint8_t *sha256, size_t sha256_length);
 
-/* Removes a user, so that requests of that name are answered 401 from now on.
+/* Removes a user: from now on, requests that name this user are answered with a 401.
  *
- * Returns 0, also if the table has no user of this name. Errors:
+ * Returns 0, even if the table has no user with this name. Errors:
  *   STUNP_EMPTY_HANDLE  the handle is empty
- *   STUNP_WRONG_HANDLE  it has no table
+ *   STUNP_WRONG_HANDLE  the handle has no table
  *   STUNP_NOT_TEXT      the name is not UTF-8 */
 STUNP_READS(2, 3) STUNP_NOT_NULL(1)
 int64_t stunp_endpoint_users_remove(stunp_endpoint_users *users, const char *name,
                                     size_t name_length);
 
-/* Frees a table and makes its handle empty. The pointer must not be null. This call is for callers
- * that have the symbols of the archive and not this header; in C and C++ use
- * stunp_endpoint_users_free. */
+/* Frees a table and makes its handle empty. The pointer must not be null. This call is for programs
+ * that use the archive without this header; in C and C++, call stunp_endpoint_users_free. */
 STUNP_NOT_NULL(1)
 void stunp_endpoint_users_clear(stunp_endpoint_users *users);
 
@@ -906,17 +964,17 @@ void stunp_endpoint_users_clear(stunp_endpoint_users *users);
  * null. */
 STUNP_INLINED void stunp_endpoint_users_free(stunp_endpoint_users *users);
 
-/* Creates a table with the user that you found, or with nobody if `found` is null.
- * stunp_endpoint_server_cause_for calls it, and stunp_endpoint_server_resume for a server with
- * short-term credentials.
+/* Creates a table with the user that you found, or an empty table if `found` is null.
+ * stunp_endpoint_server_cause_for calls this function, and so does stunp_endpoint_server_resume if
+ * there is no user, or if the server has short-term credentials.
  *
  * Returns 0. Errors:
- *   STUNP_BAD_ARGUMENT   `found->size` is wrong, its name is null, its password is empty, or it has
- *                        neither a password nor a key
+ *   STUNP_BAD_ARGUMENT   `found->size` is wrong, `found->name` is null, `found->password` is empty,
+ *                        or `found` has neither a password nor a key
  *   STUNP_FULL_HANDLE    the table's handle is not empty
  *   STUNP_EMPTY_HANDLE   the server's handle is empty, or null
- *   STUNP_WRONG_HANDLE   it has no server, or one without credentials, or one with short-term
- *                        credentials for which the user has only keys
+ *   STUNP_WRONG_HANDLE   the server's handle has no server, or a server without credentials; or it
+ *                        has a server with short-term credentials, and the user has only keys
  *   STUNP_NOT_TEXT       the name or the password is not UTF-8
  *   STUNP_TEXT_TOO_LONG  the name has more than STUNP_NAME_MAX bytes
  *   STUNP_OUT_OF_MEMORY  an allocation failed */
@@ -926,8 +984,8 @@ STUNP_INLINED int64_t stunp_endpoint_users_new_found(stunp_endpoint_users *users
 
 /* ---- Datagrams */
 
-/* Judges a datagram, like stunp_endpoint_server_receive, with handles that nothing else uses during
- * the call. They stay as they are. `received` must not be null.
+/* Judges a datagram like stunp_endpoint_server_receive, but nothing else may use the handles during
+ * the call. The call does not change the handles. `received` must not be null.
  *
  * Returns and fails as stunp_endpoint_server_receive does. */
 STUNP_USE_RESULT STUNP_READS(3, 4) STUNP_WRITES(7, 8) STUNP_NOT_NULL(1, 2, 5, 9)
@@ -939,41 +997,50 @@ int64_t stunp_endpoint_server_receive_own(stunp_endpoint_server *server,
                                           size_t room, stunp_received *received);
 
 /* Judges the datagram of `length` bytes that arrived from the address `from`, and writes the result
- * to `*received`. If it gets an answer at once, that is written to the front of `out`.
+ * to `*received`. If the server answers the datagram at once, the answer is written to the front of
+ * `out`.
  *
- *   - A datagram is dropped if it is not a STUN message, or if its FINGERPRINT is wrong.
- *   - With long-term credentials a request is answered 401 if it is not signed, or not by one of
- *     these users, or if its nonce has other security bits than the server's; 438 if its nonce is
- *     not accepted; and 400 if it is signed and incomplete, or its algorithms are not those that
- *     were offered with the current nonce (stunp_cause has the order).
- *   - With short-term credentials a request is answered 400 if it is not signed or has no USERNAME,
- *     and 401 if USERNAME is not the name of one of these users, or the signature is not made with
- *     the user's password. An indication like that is dropped.
- *   - A request is answered 420 if it has an attribute that must be understood and is not. A
- *     Binding request is answered if the settings say so. All others are yours.
- *   - An indication with an attribute that must be understood and is not is dropped. Others are
- *     yours, and so are responses.
+ *   - A datagram is dropped if it is not a STUN message, if its FINGERPRINT is wrong, or if it has
+ *     no FINGERPRINT although the settings require it.
+ *   - With long-term credentials, a request is answered with a 401 if none of these users has
+ *     signed it, or if the security bits of its nonce are not those of the server's nonces although
+ *     its algorithms agree with these bits; with a 438 if its nonce is not accepted, or if it has
+ *     an earlier nonce that is still accepted, but wrong algorithms or a wrong signature; and with
+ *     a 400 if it is signed but incomplete, or if its algorithms are not those that were offered
+ *     with the current nonce. stunp_cause has the order of these tests.
+ *   - With short-term credentials, a request is answered with a 400 if it is not signed or has no
+ *     USERNAME, and with a 401 if USERNAME is not the name of one of these users, or if the
+ *     signature was not made with the user's password. An indication with one of these faults is
+ *     dropped.
+ *   - A request is answered with a 420 if it has an attribute that must be understood but is not. A
+ *     Binding request is answered if `answers_binding` is set. All other requests are returned to
+ *     you.
+ *   - An indication is dropped if it has an attribute that must be understood but is not. Other
+ *     indications are returned to you, and so are responses.
  *
- * `users` may be null or empty if the server has no credentials, and is not looked at then. The time
- * counts with long-term credentials alone: for others pass 0.
+ * `users` may be null or an empty handle if the server has no credentials, because the call then
+ * ignores it.
  *
- * `unix_seconds` is the time of the wall clock, in seconds since 1970: (uint64_t)time(NULL). With a
- * clock that starts at zero, the nonces of an earlier run of the program would be current again,
- * and with them requests that an attacker has recorded. An IPv4 address and the same address mapped
- * into IPv6 (::ffff:a.b.c.d) count as one address.
+ * `unix_seconds` is the time of the wall clock, in seconds since 1970: (uint64_t)time(NULL). It is
+ * used only with long-term credentials; otherwise pass 0. Do not use a clock that starts at zero:
+ * the nonces of an earlier run of the program would become current again, and the server would
+ * accept requests that an attacker recorded during that run. An IPv4 address and the same address
+ * mapped into IPv6 (::ffff:a.b.c.d) count as one address.
  *
- * `received` may be null if the returned kind is all that you want.
+ * `received` may be null if you need only the returned kind.
  *
  * Returns a stunp_kind. Errors, after which `received->kind` is STUNP_FAILED:
  *   STUNP_EMPTY_HANDLE, STUNP_WRONG_HANDLE
- *                           the server's handle is empty or null, or has no server; and then the
- *                           users' is empty or null, or has no table, or one that was made for
- *                           another kind of credentials
- *   STUNP_BAD_ARGUMENT      `received->size` is wrong, `unix_seconds` is above 2 to the power of 40, so
- *                           you probably passed nanoseconds, or `from` is not an IPv4 or IPv6 address
- *   STUNP_OUT_OF_MEMORY     an allocation failed. Nothing is lost: the client sends again
- *   STUNP_BUFFER_TOO_SMALL  the answer does not fit into `room` bytes. `received->needed` is then its
- *                           length */
+ *                           the server's handle is empty or null, or has no server; or the users'
+ *                           handle is empty or null, has no table, or has a table that was made for
+ *                           another kind of credentials. The server's handle is tested first
+ *   STUNP_BAD_ARGUMENT      `received->size` is wrong, `unix_seconds` is above 2 to the power of 40
+ *                           (it is probably in nanoseconds), or `from` is not an IPv4 or IPv6
+ *                           address
+ *   STUNP_OUT_OF_MEMORY     an allocation failed. Over UDP nothing is lost, because the client
+ *                           sends its request again
+ *   STUNP_BUFFER_TOO_SMALL  the answer does not fit into `room` bytes. `received->needed` is then
+ *                           the length of the answer */
 STUNP_USE_RESULT
 STUNP_INLINED int64_t
 stunp_endpoint_server_receive(const stunp_endpoint_server *server,
@@ -982,11 +1049,12 @@ stunp_endpoint_server_receive(const stunp_endpoint_server *server,
                               const stunp_address *from, uint64_t unix_seconds,
                               uint8_t *STUNP_RESTRICT out, size_t room, stunp_received *received);
 
-/* Returns a text for the reason of STUNP_DROPPED, as stunp_strerror does for an error. */
+/* Returns an English text for the reason why a datagram was dropped. */
 STUNP_INLINED const char *stunp_drop_text(stunp_drop why);
 
-/* Judges a datagram, like stunp_endpoint_server_receive_with_cause, with handles that nothing else
- * uses during the call. They stay as they are. `received` and `cause` must not be null.
+/* Judges a datagram like stunp_endpoint_server_receive_with_cause, but nothing else may use the
+ * handles during the call. The call does not change the handles. `received` and `cause` must not be
+ * null.
  *
  * Returns and fails as stunp_endpoint_server_receive does. */
 STUNP_USE_RESULT STUNP_READS(3, 4) STUNP_WRITES(7, 8) STUNP_NOT_NULL(1, 2, 5, 9, 10)
@@ -999,10 +1067,10 @@ int64_t stunp_endpoint_server_receive_with_cause_own(stunp_endpoint_server *serv
                                                      uint8_t *STUNP_RESTRICT out, size_t room,
                                                      stunp_received *received, uint32_t *cause);
 
-/* Judges a datagram like stunp_endpoint_server_receive, and also writes to `*cause` why the answer
- * refuses it, as stunp_endpoint_server_cause returns it. The datagram is judged once for both, so a
- * server that counts or logs each refusal needs no second call. The client never learns the cause,
- * but only the code.
+/* Judges a datagram like stunp_endpoint_server_receive, and also writes to `*cause` the reason why
+ * the answer refuses the datagram, which is the result of stunp_endpoint_server_cause. The datagram
+ * is judged only once, so a server that counts or logs each refusal needs no second call. The
+ * client learns only the error code, and not the cause.
  *
  *     static uint64_t refused[STUNP_CAUSE_UNKNOWN_ATTRIBUTE + 1];
  *     stunp_cause cause;
@@ -1013,9 +1081,10 @@ int64_t stunp_endpoint_server_receive_with_cause_own(stunp_endpoint_server *serv
  *         printf("%u: %s\n", received.code, stunp_cause_text(cause));
  *     }
  *
- * `*cause` is 0 if the datagram is not refused: it is dropped, is not a request, or is accepted. It
- * is also 0 with other than long-term credentials, whose codes tell as much. After an error it is
- * 0, unless that is STUNP_BUFFER_TOO_SMALL: then it is the cause of the answer that has no room.
+ * `*cause` is 0 if the datagram is not refused: it is dropped, is not a request, or is accepted.
+ * `*cause` is also 0 at a server without long-term credentials, because there the error code of the
+ * answer already says why the request is refused. If the call fails, `*cause` is 0, unless the
+ * error is STUNP_BUFFER_TOO_SMALL: then it is the cause for the answer that does not fit.
  * `received` and `cause` may be null.
  *
  * Returns and fails as stunp_endpoint_server_receive does. */
@@ -1028,10 +1097,10 @@ stunp_endpoint_server_receive_with_cause(const stunp_endpoint_server *server,
                                          uint8_t *STUNP_RESTRICT out, size_t room,
                                          stunp_received *received, stunp_cause *cause);
 
-/* Judges `count` datagrams in their order, as stunp_endpoint_server_receive_with_cause does one
- * after the other with the same time, and writes what each comes to to `judged`, which has room for
- * `count` results. The answers are written to `out` one after the other, without gaps, so that one
- * system call can send all (sendmmsg).
+/* Judges `count` datagrams in their order, like calls of stunp_endpoint_server_receive_with_cause
+ * with the same time, and writes the outcome of each datagram to `judged`, which has room for
+ * `count` outcomes. Writes the answers to `out` one after the other, without gaps, so that you can
+ * send all of them with one system call (sendmmsg).
  *
  *     enum { BATCH = 32 };
  *     static uint8_t out[BATCH * 2048]; // STUNP_ANSWER_MAX or more
@@ -1045,15 +1114,17 @@ stunp_endpoint_server_receive_with_cause(const stunp_endpoint_server *server,
  *                         &datagrams[done + i].from);
  *     }
  *
- * If an answer does not fit into what is left of `room`, the call ends: it returns the number of
- * datagrams before, the next result has the kind STUNP_BUFFER_TOO_SMALL and tells the length of the
- * answer, and no later one is written. Nothing is lost: pass the rest again, with new room. With
- * STUNP_ANSWER_MAX bytes each call judges one datagram at least. After any other error of one
- * datagram, which is the kind of its result, the call goes on to the next.
+ * If the answer to a datagram does not fit into the rest of the buffer, the call ends, and returns
+ * the number of datagrams before this datagram. The outcome of this datagram then has the kind
+ * STUNP_BUFFER_TOO_SMALL and the length of the answer, and no outcome after it is written. Nothing
+ * is lost: pass the remaining datagrams again, with new room. If `room` is at least
+ * STUNP_ANSWER_MAX, each call judges at least one datagram. If judging a datagram fails with any
+ * other error, this error is the kind of its outcome, and the call continues with the next
+ * datagram.
  *
  * `datagrams`, `judged` and `out` must not overlap.
  *
- * Returns how many datagrams were judged, from the first one on. */
+ * Returns the number of datagrams that were judged, from the first datagram on. */
 STUNP_USE_RESULT
 STUNP_INLINED size_t
 stunp_endpoint_server_receive_many(const stunp_endpoint_server *server,
@@ -1062,8 +1133,8 @@ stunp_endpoint_server_receive_many(const stunp_endpoint_server *server,
                                    uint64_t unix_seconds, uint8_t *STUNP_RESTRICT out, size_t room,
                                    stunp_judged *judged);
 
-/* Returns why a datagram is refused, like stunp_endpoint_server_cause, with handles that nothing
- * else uses during the call. They stay as they are.
+/* Returns why a datagram is refused, like stunp_endpoint_server_cause, but nothing else may use the
+ * handles during the call. The call does not change the handles.
  *
  * Returns and fails as stunp_endpoint_server_cause does. */
 STUNP_USE_RESULT STUNP_READS(3, 4) STUNP_NOT_NULL(1, 2, 5)
@@ -1071,21 +1142,24 @@ int64_t stunp_endpoint_server_cause_own(stunp_endpoint_server *server, stunp_end
                                         const uint8_t *message, size_t message_length,
                                         const stunp_address *from, uint64_t unix_seconds);
 
-/* Returns why stunp_endpoint_server_receive refuses a datagram. Pass what you passed to that call,
- * with the same time and the same users. It judges the request again, so call it only for an answer
- * whose `code` is not 0, or call stunp_endpoint_server_receive_with_cause in place of both. The
- * client never learns the cause, but only the code.
+/* Returns why stunp_endpoint_server_receive refuses a datagram. Pass the arguments that you passed
+ * to stunp_endpoint_server_receive, with the same time and the same users. This call judges the
+ * request again, so call it only for an answer whose `code` is not 0, or call
+ * stunp_endpoint_server_receive_with_cause in place of both. The client learns only the error code,
+ * and not the cause.
  *
- * With users in a database, call stunp_endpoint_server_cause_for.
+ * If your users are in a database, call stunp_endpoint_server_cause_for instead.
  *
- * Only a server with long-term credentials has causes: the codes of others tell as much.
+ * Only a server with long-term credentials has causes, because at other servers the error code of
+ * the answer already says why the request is refused.
  *
- * Returns a stunp_cause, or 0 if the datagram is not refused: it is dropped, is not a request, or is
- * accepted. Errors:
+ * Returns a stunp_cause, or 0 if the datagram is not refused: it is dropped, is not a request, or
+ * is accepted. Errors:
  *   STUNP_EMPTY_HANDLE, STUNP_WRONG_HANDLE
  *                        the server's handle is empty or null, or has no server with long-term
- *                        credentials; and then the users' is empty or null, or has no table, or one
- *                        of users with short-term credentials
+ *                        credentials; or the users' handle is empty or null, has no table, or has a
+ *                        table of users with short-term credentials. The server's handle is tested
+ *                        first
  *   STUNP_BAD_ARGUMENT   `unix_seconds` is above 2 to the power of 40, or `from` is not an IPv4 or
  *                        IPv6 address
  *   STUNP_OUT_OF_MEMORY  an allocation failed */
@@ -1095,14 +1169,14 @@ stunp_endpoint_server_cause(const stunp_endpoint_server *server, const stunp_end
                             const uint8_t *bytes, size_t length, const stunp_address *from,
                             uint64_t unix_seconds);
 
-/* Returns a text for a stunp_cause, for 0, or for an error of stunp_endpoint_server_cause, whose
- * text is that of stunp_strerror. */
+/* Returns an English text for a result of stunp_endpoint_server_cause, which is a stunp_cause, 0 or
+ * an error. For an error, returns the text of stunp_strerror. */
 STUNP_INLINED const char *stunp_cause_text(int64_t cause);
 
 /* ---- Look-ups: users in a database */
 
-/* Judges a datagram, like stunp_endpoint_server_identify, with a handle that nothing else uses during
- * the call. It stays as it is. `received` must not be null.
+/* Judges a datagram like stunp_endpoint_server_identify, but nothing else may use the handle during
+ * the call. The call does not change the handle. `received` must not be null.
  *
  * Returns and fails as stunp_endpoint_server_identify does. */
 STUNP_USE_RESULT STUNP_READS(2, 3) STUNP_WRITES(6, 7) STUNP_NOT_NULL(1, 4, 8)
@@ -1113,20 +1187,20 @@ int64_t stunp_endpoint_server_identify_own(stunp_endpoint_server *server,
                                            size_t room, stunp_received *received);
 
 /* Judges the datagram of `length` bytes that arrived from the address `from`, as far as that is
- * possible without its user. It comes to STUNP_LOOKUP if it is a signed request that names a user,
- * and whose nonce this server accepts for its address now: look `received->name` up, and call
- * stunp_endpoint_server_resume. Every other datagram gets the result that
- * stunp_endpoint_server_receive would return, whatever the users are. A client that sends its
- * request again causes another look-up: merge look-ups with the same source address and transaction
- * ID, which is in the 12 bytes from `bytes + 8` on.
+ * possible without its user. Returns STUNP_LOOKUP for a signed request that names a user and has a
+ * nonce that this server now accepts from the address `from`: look up `received->name`, and call
+ * stunp_endpoint_server_resume. For every other datagram, the result does not depend on the users,
+ * and is that of stunp_endpoint_server_receive. A client that sends its request again causes
+ * another look-up, so merge look-ups that have the same source address and transaction ID, which is
+ * in the 12 bytes from `bytes + 8` on.
  *
- * This is for servers with long-term credentials. With short-term credentials look the user of
- * USERNAME up (stunp_find_text), and call stunp_endpoint_server_resume.
+ * This call is for servers with long-term credentials. With short-term credentials, look up the
+ * user whom USERNAME names (stunp_find_text), and call stunp_endpoint_server_resume.
  *
  * Returns a stunp_kind. Errors:
  *   STUNP_EMPTY_HANDLE  the handle is empty, or null
- *   STUNP_WRONG_HANDLE  it has no server with long-term credentials
- * and then those of stunp_endpoint_server_receive. */
+ *   STUNP_WRONG_HANDLE  the handle has no server with long-term credentials
+ * and then the errors of stunp_endpoint_server_receive. */
 STUNP_USE_RESULT
 STUNP_INLINED int64_t
 stunp_endpoint_server_identify(const stunp_endpoint_server *server,
@@ -1134,18 +1208,23 @@ stunp_endpoint_server_identify(const stunp_endpoint_server *server,
                                const stunp_address *from, uint64_t unix_seconds,
                                uint8_t *STUNP_RESTRICT out, size_t room, stunp_received *received);
 
-/* Judges the request of a STUNP_LOOKUP, like stunp_endpoint_server_resume, with a handle that nothing
- * else uses during the call. It stays as it is. `received` must not be null. The user has a password,
- * if `has_password` is true, or else stored keys: 16 bytes for HMAC-SHA1 and 32 for HMAC-SHA256, or
- * none, but one of both. It is for servers with long-term credentials.
+/* Judges the request of a STUNP_LOOKUP like stunp_endpoint_server_resume, but nothing else may use
+ * the handle during the call. The call does not change the handle. `received` must not be null. The
+ * server must have long-term credentials.
+ *
+ * If `has_password` is true, the signature is checked with the password. Otherwise it is checked
+ * with the stored keys: `sha1` (16 bytes) for HMAC-SHA1, and `sha256` (32 bytes) for HMAC-SHA256.
+ * If the user has only one of the keys, pass 0 as the length of the other key.
  *
  * Returns a stunp_kind. Errors:
  *   STUNP_EMPTY_HANDLE   the handle is empty
- *   STUNP_WRONG_HANDLE   it has no server with long-term credentials
+ *   STUNP_WRONG_HANDLE   the handle has no server with long-term credentials
  *   STUNP_NOT_TEXT       the name or the password is not UTF-8
  *   STUNP_TEXT_TOO_LONG  the name has more than STUNP_NAME_MAX bytes
- *   STUNP_BAD_ARGUMENT   the password is empty, or a key has another length
- * and then those of stunp_endpoint_server_receive. */
+ *   STUNP_BAD_ARGUMENT   `has_password` is true and the password is empty; or `has_password` is
+ *                        false, and `sha1_length` is neither 0 nor 16, or `sha256_length` neither 0
+ *                        nor 32
+ * and then the errors of stunp_endpoint_server_receive. */
 STUNP_USE_RESULT STUNP_READS(2, 3) STUNP_READS(4, 5) STUNP_READS(7, 8) STUNP_READS(9, 10)
 STUNP_READS(11, 12) STUNP_WRITES(15, 16) STUNP_NOT_NULL(1, 13, 17)
 int64_t stunp_endpoint_server_resume_own(stunp_endpoint_server *server, const char *name,
@@ -1158,24 +1237,25 @@ int64_t stunp_endpoint_server_resume_own(stunp_endpoint_server *server, const ch
                                          uint64_t unix_seconds, uint8_t *STUNP_RESTRICT out,
                                          size_t room, stunp_received *received);
 
-/* Judges the request of a STUNP_LOOKUP by the user that you found, or by nobody if `found` is null.
- * The other arguments are those of stunp_endpoint_server_identify, with the time at which the
- * datagram arrived. It is stunp_endpoint_server_receive with a table of this one user.
+/* Judges the request of a STUNP_LOOKUP with the user that you found, or with no user if `found` is
+ * null. For the other arguments, pass those that you passed to stunp_endpoint_server_identify, with
+ * the time at which the datagram arrived. The result is the same as that of
+ * stunp_endpoint_server_receive with a table of only this user.
  *
- * It makes a key of the user each time: the one that the request needs. If a user sends many requests,
- * as a TURN client does, keep the table that stunp_endpoint_users_new_found makes, and pass it to
- * stunp_endpoint_server_receive in place of this call, until the password changes or the account
- * ends.
+ * If you pass a password, each call derives from it the key that the request needs. If a user sends
+ * many requests, as a TURN client does, make a table of this user with
+ * stunp_endpoint_users_new_found, and pass the table to stunp_endpoint_server_receive instead of
+ * making this call, until the password changes or the account ends.
  *
  * Returns a stunp_kind. Errors:
- *   STUNP_BAD_ARGUMENT   `found->size` is wrong, its name is null, its password is empty, or it has
- *                        neither a password nor a key
+ *   STUNP_BAD_ARGUMENT   `found->size` is wrong, `found->name` is null, `found->password` is empty,
+ *                        or `found` has neither a password nor a key
  *   STUNP_EMPTY_HANDLE   the handle is empty, or null
- *   STUNP_WRONG_HANDLE   it has no server, or one without credentials, or one with short-term
- *                        credentials for which the user has only keys
+ *   STUNP_WRONG_HANDLE   the server's handle has no server, or a server without credentials; or it
+ *                        has a server with short-term credentials, and the user has only keys
  *   STUNP_NOT_TEXT       the name or the password is not UTF-8
  *   STUNP_TEXT_TOO_LONG  the name has more than STUNP_NAME_MAX bytes
- * and then those of stunp_endpoint_server_receive. */
+ * and then the errors of stunp_endpoint_server_receive. */
 STUNP_USE_RESULT
 STUNP_INLINED int64_t
 stunp_endpoint_server_resume(const stunp_endpoint_server *server, const stunp_found_user *found,
@@ -1184,17 +1264,17 @@ stunp_endpoint_server_resume(const stunp_endpoint_server *server, const stunp_fo
                              uint8_t *STUNP_RESTRICT out, size_t room, stunp_received *received);
 
 /* Returns why stunp_endpoint_server_resume refuses a request, like stunp_endpoint_server_cause with
- * a table of this one user. Pass what you passed to stunp_endpoint_server_resume. For an answer of
- * stunp_endpoint_server_identify pass null in place of the user.
+ * a table of only this user. Pass the arguments that you passed to stunp_endpoint_server_resume. To
+ * learn why stunp_endpoint_server_identify refuses a request, pass null as `found`.
  *
  * Returns a stunp_cause, or 0 if the request is not refused. Errors:
- *   STUNP_BAD_ARGUMENT   `found->size` is wrong, its name is null, its password is empty, or it has
- *                        neither a password nor a key
+ *   STUNP_BAD_ARGUMENT   `found->size` is wrong, `found->name` is null, `found->password` is empty,
+ *                        or `found` has neither a password nor a key
  *   STUNP_EMPTY_HANDLE   the handle is empty, or null
- *   STUNP_WRONG_HANDLE   it has no server, or one without credentials
+ *   STUNP_WRONG_HANDLE   the server's handle has no server, or a server without credentials
  *   STUNP_NOT_TEXT       the name or the password is not UTF-8
  *   STUNP_TEXT_TOO_LONG  the name has more than STUNP_NAME_MAX bytes
- * and then those of stunp_endpoint_server_cause. */
+ * and then the errors of stunp_endpoint_server_cause. */
 STUNP_USE_RESULT
 STUNP_INLINED int64_t
 stunp_endpoint_server_cause_for(const stunp_endpoint_server *server, const stunp_found_user *found,
@@ -1203,29 +1283,31 @@ stunp_endpoint_server_cause_for(const stunp_endpoint_server *server, const stunp
 
 /* ---- Replies
  *
- * A response has the method and the ID of the request. It is signed with the key of the user who
- * sent that, also if it is an error, and ends with FINGERPRINT if the request does. Answer each
- * request at least once: the client sends it again until then.
+ * A response has the method and the transaction ID of its request. It is signed with the key of the
+ * user who sent the request, even if it is an error response, and ends with FINGERPRINT if the
+ * request does. Answer each request at least once, because the client sends the request again until
+ * it is answered.
  *
  *     stunp_writer answer = stunp_reply_success(&received.reply, out, sizeof out);
  *     stunp_write_number(&answer, STUNP_LIFETIME, 600, 4);
  *     int64_t length = stunp_reply_finish(&received.reply, &answer);
  *     if (length > 0) send_to(socket, out, (size_t)length, &peer); */
 
-/* Starts the success response to a request in a buffer of `room` bytes, and returns a writer for
- * it. */
+/* Starts the success response to a request, in the buffer `out` of `room` bytes, and returns a
+ * writer for the response. */
 STUNP_INLINED stunp_writer stunp_reply_success(const stunp_reply *reply, uint8_t *out,
                                                size_t room);
 
-/* Starts an error response to a request, with ERROR-CODE, and returns a writer for it. `code` is 300
- * to 699. */
+/* Starts an error response to a request, in the buffer `out` of `room` bytes, and returns a writer
+ * for the response. Writes ERROR-CODE with `code`, which must be from 300 to 699, and `reason`. */
 STUNP_INLINED stunp_writer stunp_reply_error(const stunp_reply *reply, uint32_t code,
                                              const char *reason, uint8_t *out, size_t room);
 
-/* Ends the response of a writer: signs it, and adds FINGERPRINT if the request had one.
+/* Ends the response of a writer: signs the response if the request was signed, and adds FINGERPRINT
+ * if the request had it.
  *
- * Returns the length of the response, or the first error of any call with this writer, including those
- * of stunp_sign and stunp_add_fingerprint. */
+ * Returns the length of the response, or the first error of any call with this writer, including
+ * the errors of stunp_sign and stunp_add_fingerprint. */
 STUNP_USE_RESULT
 STUNP_INLINED int64_t stunp_reply_finish(const stunp_reply *reply, stunp_writer *answer);
 
@@ -1234,7 +1316,8 @@ STUNP_INLINED void stunp_reply_wipe(stunp_reply *reply);
 
 /* ---- Connectivity checks of ICE
  *
- * An agent checks pairs with one peer. Sections of this part are those of RFC 8445. */
+ * An agent checks pairs of candidates with one peer. Section numbers in this part are from RFC
+ * 8445. */
 
 /* Creates an agent, like stunp_ice_checker_new, from settings that are passed one by one.
  *
@@ -1267,11 +1350,12 @@ int64_t stunp_ice_checker_offer_with(stunp_ice_checker *checker, const char *nam
                                      size_t password_length, uint64_t tie_breaker,
                                      bool is_controlling);
 
-/* Creates an agent with these settings. They are copied.
+/* Creates an agent with these settings. The settings are copied.
  *
  * Returns 0. Errors:
- *   STUNP_BAD_ARGUMENT  `size` is wrong, or a text is null, other than both of the peer
- * and then those of stunp_ice_checker_new_with. */
+ *   STUNP_BAD_ARGUMENT  `size` is wrong, or a text is null, except that `peer_name` and
+ *                       `peer_password` may both be null
+ * and then the errors of stunp_ice_checker_new_with. */
 STUNP_INLINED int64_t stunp_ice_checker_new(stunp_ice_checker *checker,
                                             const stunp_ice_settings *settings);
 
@@ -1283,13 +1367,13 @@ int64_t stunp_ice_checker_set_peer_with(stunp_ice_checker *checker, const char *
                                         size_t peer_name_length, const char *peer_password,
                                         size_t peer_password_length);
 
-/* Sets the credentials of the peer, in place of those that were set before. The texts are copied, and
- * end with a zero byte. Answers to checks that were written with the credentials of before are then
- * dropped. After an error the agent is as it was.
+/* Sets the credentials of the peer, or replaces them. The texts end with a zero byte, and are
+ * copied. If the credentials are replaced, answers to checks that were written with the earlier
+ * credentials are dropped. After an error the agent is unchanged.
  *
  * Returns 0. Errors:
  *   STUNP_EMPTY_HANDLE   the handle is empty
- *   STUNP_WRONG_HANDLE   it has no agent
+ *   STUNP_WRONG_HANDLE   the handle has no agent
  *   STUNP_NOT_TEXT       the username fragment or the password is not UTF-8
  *   STUNP_BAD_ARGUMENT   the username fragment has fewer than 4 bytes, more than 256 or a colon, or
  *                        the password has fewer than 22 bytes or more than 256
@@ -1298,9 +1382,8 @@ STUNP_NOT_NULL(1, 2, 3)
 STUNP_INLINED int64_t stunp_ice_checker_set_peer(stunp_ice_checker *checker, const char *peer_name,
                                                  const char *peer_password);
 
-/* Frees an agent and makes its handle empty. The pointer must not be null. This call is for callers
- * that have the symbols of the archive and not this header; in C and C++ use
- * stunp_ice_checker_free. */
+/* Frees an agent and makes its handle empty. The pointer must not be null. This call is for
+ * programs that use the archive without this header; in C and C++, call stunp_ice_checker_free. */
 STUNP_NOT_NULL(1)
 void stunp_ice_checker_clear(stunp_ice_checker *checker);
 
@@ -1308,39 +1391,41 @@ void stunp_ice_checker_clear(stunp_ice_checker *checker);
  * null. */
 STUNP_INLINED void stunp_ice_checker_free(stunp_ice_checker *checker);
 
-/* Returns 1 if the agent controls now, and so nominates pairs, or 0 if the peer does. In a
- * condition an error would count as true: call stunp_ice_checker_controls there. Errors:
+/* Returns 1 if the agent now has the controlling role, in which it nominates pairs, and 0 if the
+ * peer has this role. In a condition an error would count as true: call stunp_ice_checker_controls
+ * there. Errors:
  *   STUNP_EMPTY_HANDLE  the handle is empty
- *   STUNP_WRONG_HANDLE  it has no agent */
+ *   STUNP_WRONG_HANDLE  the handle has no agent */
 STUNP_USE_RESULT STUNP_NOT_NULL(1)
 int64_t stunp_ice_checker_is_controlling(stunp_ice_checker *checker);
 
-/* Returns whether the agent controls now: whether stunp_ice_checker_is_controlling returns 1. */
+/* Returns whether the agent now has the controlling role: true if stunp_ice_checker_is_controlling
+ * returns 1, and false if it returns 0 or fails. */
 STUNP_USE_RESULT STUNP_NOT_NULL(1)
 STUNP_INLINED bool stunp_ice_checker_controls(stunp_ice_checker *checker);
 
-/* Sets the role: whether the agent controls from now on. For an agent that learns from the answer to
- * its offer that its peer is lite, and so has to control (section 6.1.1), and for one that cannot send
- * the answer with which it has switched its role, and so takes the switch back. A conflict needs no
- * call: the agent switches by itself. A check that is outstanding still says the role in which it was
- * written. Nothing but the role changes.
+/* Sets the role of the agent from now on: controlling or controlled. Call it if the answer to an
+ * offer says that the peer is lite, because this agent then must have the controlling role (section
+ * 6.1.1). Also call it to undo a switch of roles, if you cannot send the answer that goes with the
+ * switch. Do not call it because of a role conflict: the agent then switches its role itself. An
+ * outstanding check still states the role in which it was written. The call changes only the role.
  *
  * Returns 0. Errors:
  *   STUNP_EMPTY_HANDLE  the handle is empty
- *   STUNP_WRONG_HANDLE  it has no agent */
+ *   STUNP_WRONG_HANDLE  the handle has no agent */
 STUNP_NOT_NULL(1)
 int64_t stunp_ice_checker_set_role(stunp_ice_checker *checker, bool is_controlling);
 
-/* Sets another tie-breaker. After STUNP_ICE_CONFLICT an agent must have a new random one before its
- * next check (section 16.1).
+/* Sets a new tie-breaker. After STUNP_ICE_CONFLICT, an agent must have a new random tie-breaker
+ * before it writes its next check (section 16.1).
  *
  * Returns 0. Errors:
  *   STUNP_EMPTY_HANDLE  the handle is empty
- *   STUNP_WRONG_HANDLE  it has no agent */
+ *   STUNP_WRONG_HANDLE  the handle has no agent */
 STUNP_NOT_NULL(1)
 int64_t stunp_ice_checker_set_tie_breaker(stunp_ice_checker *checker, uint64_t tie_breaker);
 
-/* Writes a check, like stunp_ice_checker_check. `check` must not be null.
+/* Writes a check like stunp_ice_checker_check, but `check` must not be null.
  *
  * Returns and fails as stunp_ice_checker_check does. */
 STUNP_USE_RESULT STUNP_WRITES(6, 7) STUNP_NOT_NULL(1, 2, 3, 8)
@@ -1348,17 +1433,20 @@ int64_t stunp_ice_checker_check_with(stunp_ice_checker *checker, const uint8_t i
                                      const stunp_address *to, uint32_t priority, bool nominate,
                                      uint8_t *out, size_t room, stunp_ice_check *check);
 
-/* Writes a check to the front of `out`, and to `*check` what you need to judge its answer. Send it to
- * the address `to`, and again until its answer arrives (section 7.2.4; stunp_agent of stunp_state.h, or a
- * timer of yours). STUNP_ICE_CHECK_MAX bytes are room enough.
+/* Writes a check to the front of `out`, and the data with which you judge its answer to `*check`.
+ * Send the check to the address `to`, and send it again until its answer arrives (section 7.2.4).
+ * To know when to send it again, use stunp_agent of stunp_state.h or a timer of your own; or call
+ * stunp_ice_checks_start instead, which includes the timer. A buffer of STUNP_ICE_CHECK_MAX bytes
+ * is enough.
  *
- * `id` must be random, and new: a check with the ID of another may end that one. `priority` is what a
- * peer-reflexive candidate would have that the peer learns from this check (section 7.1.1). The check
- * nominates its pair if `nominate` is true and this agent controls.
+ * `id` must be random and new, because the answer to a check could end another check with the same
+ * ID. If the peer learns a new peer-reflexive candidate from this check, `priority` is the priority
+ * of this candidate (section 7.1.1). The check nominates its pair if `nominate` is true and this
+ * agent has the controlling role.
  *
  * Returns the length of the check. Errors:
  *   STUNP_EMPTY_HANDLE      the handle is empty
- *   STUNP_WRONG_HANDLE      it has no agent
+ *   STUNP_WRONG_HANDLE      the handle has no agent
  *   STUNP_BAD_ARGUMENT      `to` is not an IPv4 or IPv6 address
  *   STUNP_CANNOT_SIGN       the credentials of the peer are not known yet
  *   STUNP_OUT_OF_MEMORY     an allocation failed
@@ -1369,8 +1457,8 @@ STUNP_INLINED int64_t stunp_ice_checker_check(stunp_ice_checker *checker, const 
                                               bool nominate, uint8_t *out, size_t room,
                                               stunp_ice_check *check);
 
-/* Judges a datagram, like stunp_ice_checker_receive. `check` counts if `has_check` is true, and must
- * not be null even if it does not count; nor may `received`.
+/* Judges a datagram like stunp_ice_checker_receive. `check` is used only if `has_check` is true,
+ * but must never be null, and `received` must not be null either.
  *
  * Returns and fails as stunp_ice_checker_receive does. */
 STUNP_USE_RESULT STUNP_READS(2, 3) STUNP_WRITES(7, 8) STUNP_NOT_NULL(1, 4, 6, 9)
@@ -1380,37 +1468,40 @@ int64_t stunp_ice_checker_receive_with(stunp_ice_checker *checker,
                                        const stunp_ice_check *check, uint8_t *STUNP_RESTRICT out,
                                        size_t room, stunp_ice_received *received);
 
-/* Judges the datagram of `length` bytes that arrived from the address `from`, and writes the result to
- * `*received`. The answer to a check of the peer is written to the front of `out`. `check` is your
- * stored check whose `id` equals the transaction ID of the datagram (the 12 bytes from `bytes + 8` on,
- * if it has 20), or null if none does.
+/* Judges the datagram of `length` bytes that arrived from the address `from`, and writes the result
+ * to `*received`. If the datagram is a check of the peer, writes the answer to the front of `out`.
+ * `check` is your stored check with the transaction ID of the datagram, or null if you have no such
+ * check. The transaction ID is in the 12 bytes from `bytes + 8` on, if the datagram has at least 20
+ * bytes.
  *
- *   - A datagram is dropped if it is not a STUN message, has no right FINGERPRINT, or has another
- *     method than Binding.
+ *   - A datagram is dropped if it is not a STUN message, if its FINGERPRINT is missing or wrong, or
+ *     if its method is not Binding.
  *   - A check is accepted if its USERNAME begins with your name and a colon, and it is signed with
- *     your password: the credentials of the peer do not count. It is answered 400 if it is not
- *     signed, or has no USERNAME or no PRIORITY; 401 if the name or the signature is wrong; and 420
- *     if it has an attribute that must be understood and is not. If it says that the peer has the
- *     role of this agent, the one with the larger tie-breaker is to control, and this agent's counts
- *     as the larger if they are equal (section 7.3.1.1): either this agent switches its role, or the
- *     check is answered 487.
- *   - A response is dropped if it does not answer `check`, or is not signed by the peer. Otherwise it
- *     ends the check. After a 487 this agent has the other role than the one that the check was sent
- *     in (section 7.2.5.1).
- *   - An indication with an attribute that must be understood and is not is dropped.
+ *     your password. The credentials of the peer are not needed for this. It is answered with a 400
+ *     if it is not signed, or has no USERNAME or no PRIORITY; with a 401 if the name or the
+ *     signature is wrong; and with a 420 if it has an attribute that must be understood but is not.
+ *     If the check states that the peer has the same role as this agent, the agent with the larger
+ *     tie-breaker gets the controlling role (section 7.3.1.1). If the tie-breakers are equal, this
+ *     agent's tie-breaker counts as the larger. Then either this agent switches its role, or it
+ *     answers the check with a 487.
+ *   - A response is dropped if it does not answer `check`, or is not signed by the peer. Otherwise
+ *     it ends the check. After a 487 this agent has the opposite of the role in which the check was
+ *     sent (section 7.2.5.1).
+ *   - An indication is dropped if it has an attribute that must be understood but is not.
  *
  * An IPv4 address and the same address mapped into IPv6 (::ffff:a.b.c.d) count as one address.
- * `received` may be null if the returned kind is all that you want.
+ * `received` may be null if you need only the returned kind.
  *
  * Returns a stunp_kind: STUNP_DROPPED, _ANSWER, _IS_INDICATION or _IS_RESPONSE. Errors, which leave
  * the agent and its role as they were, and after which `received->kind` is STUNP_FAILED:
  *   STUNP_EMPTY_HANDLE      the handle is empty
- *   STUNP_WRONG_HANDLE      it has no agent
- *   STUNP_BAD_ARGUMENT      `received->size` is wrong, or `from` or the address in `check` is not an
- *                           IPv4 or IPv6 address
- *   STUNP_OUT_OF_MEMORY     an allocation failed. Nothing is lost: the peer sends again
- *   STUNP_BUFFER_TOO_SMALL  the answer does not fit into `room` bytes. `received->needed` is then its
- *                           length */
+ *   STUNP_WRONG_HANDLE      the handle has no agent
+ *   STUNP_BAD_ARGUMENT      `received->size` is wrong, or `from` or the address in `check` is not
+ *                           an IPv4 or IPv6 address
+ *   STUNP_OUT_OF_MEMORY     an allocation failed. Nothing is lost, because the peer sends its check
+ *                           again
+ *   STUNP_BUFFER_TOO_SMALL  the answer does not fit into `room` bytes. `received->needed` is then
+ *                           the length of the answer */
 STUNP_USE_RESULT
 STUNP_INLINED int64_t stunp_ice_checker_receive(stunp_ice_checker *checker,
                                                 const uint8_t *STUNP_RESTRICT bytes, size_t length,
@@ -1421,18 +1512,20 @@ STUNP_INLINED int64_t stunp_ice_checker_receive(stunp_ice_checker *checker,
 
 /* ---- Around the checks of ICE
  *
- * What an agent needs beside checks. These calls are done in C: they are tested, and not proved. */
+ * These calls are for the other tasks of an agent. They are written in C, so they are tested, but
+ * not proved. */
 
-/* Finds the username fragment of the peer in a check that was accepted: what follows your own and a
- * colon in USERNAME. If one offer has several answers, it says which of them the check belongs to.
+/* Finds the username fragment of the peer in a check that was accepted: the text that follows your
+ * own fragment and a colon in USERNAME. If an offer has several answers, the fragment identifies
+ * the answer to which the check belongs.
  *
  *     size_t sender_length;
  *     int64_t place = stunp_ice_find_sender(bytes, length, &sender_length);
  *     if (place > 0) printf("%.*s\n", (int)sender_length, (const char *)bytes + place);
  *
- * Returns the place of the fragment in the message, and writes its length in bytes to
- * `*sender_length`. Errors are those of stunp_find_text, and STUNP_MALFORMED_ATTRIBUTE if USERNAME
- * has no colon. */
+ * Returns the offset of the fragment in the message, and writes its length in bytes to
+ * `*sender_length`. Fails with the errors of stunp_find_text, and with STUNP_MALFORMED_ATTRIBUTE if
+ * USERNAME has no colon. After an error `*sender_length` is 0. */
 STUNP_USE_RESULT STUNP_NOT_NULL(3)
 STUNP_INLINED int64_t stunp_ice_find_sender(const uint8_t *message, size_t length,
                                             size_t *sender_length);
@@ -1446,22 +1539,24 @@ typedef enum stunp_ice_candidate_kind {
     STUNP_ICE_HOST = 126              /* the address of a socket */
 } stunp_ice_candidate_kind;
 
-/* Returns the priority of a candidate (section 5.1.2.1), or what PRIORITY of a check has that is sent
- * from it, if `kind` is STUNP_ICE_PEER_REFLEXIVE (section 7.1.1). `preference` ranks the addresses of
- * this side: 65535 for the best, and for the only one. `component` is the number of the component,
- * from 1 on. */
+/* Returns the priority of a candidate (section 5.1.2.1), or, if `kind` is STUNP_ICE_PEER_REFLEXIVE,
+ * the value of PRIORITY in a check that is sent from the candidate (section 7.1.1). `preference`
+ * ranks the addresses of this side: use 65535 for the best address, or for the only address.
+ * `component` is the number of the component, from 1 on. */
 STUNP_USE_RESULT
 STUNP_INLINED uint32_t stunp_ice_priority(stunp_ice_candidate_kind kind, uint16_t preference,
                                           uint8_t component);
 
-/* Returns the priority of a pair, which both agents compute alike (section 6.1.2.3), from those of the
- * candidates of the agent that controls and of the other one. A priority above 2147483647, which no
- * candidate may have, counts as that number. */
+/* Returns the priority of a pair (section 6.1.2.3). `controlling` is the priority of the
+ * controlling agent's candidate, and `controlled` is the priority of the controlled agent's
+ * candidate. Both agents compute the same number. A priority above 2147483647, which no candidate
+ * may have, counts as 2147483647. */
 STUNP_USE_RESULT
 STUNP_INLINED uint64_t stunp_ice_pair_priority(uint32_t controlling, uint32_t controlled);
 
-/* The timers of consent on a selected pair (RFC 7675, section 5.1): a check every 4 to 6 seconds, and
- * the end if none was answered for 30 seconds. The checks keep the path open too.
+/* The timers of consent on a selected pair (RFC 7675, section 5.1): you send a check every 4 to 6
+ * seconds, and consent ends if no check is answered for 30 seconds. These checks also keep the path
+ * open.
  *
  *     stunp_ice_consent consent = stunp_ice_consent_from(now, random); // the pair is selected
  *     // In the loop:
@@ -1482,26 +1577,28 @@ typedef struct {
     uint64_t next;
 } stunp_ice_consent;
 
-/* What is to be done for consent. */
+/* What to do for consent. */
 typedef enum stunp_ice_consent_step {
     STUNP_ICE_CONSENT_WAIT = 0, /* nothing yet */
     STUNP_ICE_CONSENT_ASK = 1,  /* send a check on the pair, once */
-    STUNP_ICE_CONSENT_OVER = 2  /* no check was answered for 30 seconds: send nothing more */
+    STUNP_ICE_CONSENT_OVER = 2  /* no check was answered for 30 seconds: send nothing more to the
+                                 * peer */
 } stunp_ice_consent_step;
 
-/* Returns the timers of a pair that is selected now: the answer that made it valid was the first
- * consent. `random` is a random number, by which the first check is sent in 4 to 6 seconds. */
+/* Returns the timers of consent for a pair that is selected at the time `now`. Consent lasts for 30
+ * seconds from `now`, because the answer that made the pair valid counts as consent. `random` is a
+ * random number, which decides when to send the first check: 4 to 6 seconds after `now`. */
 STUNP_USE_RESULT
 STUNP_INLINED stunp_ice_consent stunp_ice_consent_from(uint64_t now, uint32_t random);
 
-/* Returns what is to be done now. `random` is a random number, by which the next check is sent 4 to 6
- * seconds after this one. */
+/* Returns what to do for consent at the time `now`. `random` is a random number, which decides when
+ * to send the next check if one is due now: 4 to 6 seconds after `now`. */
 STUNP_USE_RESULT STUNP_NOT_NULL(1)
 STUNP_INLINED stunp_ice_consent_step stunp_ice_consent_poll(stunp_ice_consent *consent,
                                                             uint64_t now, uint32_t random);
 
-/* Renews consent for 30 seconds, because the answer to a check has arrived. Does nothing if consent is
- * over. */
+/* Renews consent for 30 seconds from `now` on. Call it when a check on the pair has succeeded
+ * (STUNP_ICE_VALID). Does nothing if consent is over. */
 STUNP_NOT_NULL(1)
 STUNP_INLINED void stunp_ice_consent_answered(stunp_ice_consent *consent, uint64_t now);
 
@@ -1511,29 +1608,33 @@ STUNP_INLINED uint64_t stunp_ice_consent_until(const stunp_ice_consent *consent,
 
 /* ---- Clients
  *
- * A client has one server, and any number of requests at the same time. Use it in one thread at a
- * time.
+ * A client has one server, and any number of requests at the same time. Use a client in one thread
+ * at a time.
  *
- * With long-term credentials the client sends a request by one message for each challenge that it
- * answers, and by at most one message that is not signed. Each message has its own transaction ID.
- * Only the one that was sent last is sent again, but a response that is signed with the key of any
- * of them ends the request, unless it is a challenge. Another response counts only if it answers
- * the message that was sent last:
+ * With long-term credentials the client sends a request as at most one message that is not signed,
+ * and as one signed message for each challenge that it answers. Each message has its own
+ * transaction ID. Only the last message is sent again, but a response that is signed with the key
+ * of any of these messages ends the request, unless the response is a challenge. Any other response
+ * counts only if it answers the last message:
  *
- *   - Another challenge than the one that the message is signed for is answered by the message for
- *     it, unless it is weaker than what a success has confirmed (STUNP_DROP_WEAKER_CHALLENGE).
- *   - The challenge that the message is signed for is dropped (STUNP_DROP_REFUSED), and the message
- *     is sent again by its timer. If the challenge arrives once more after that, the request ends.
- *     Over a stream, where nothing is sent again, it ends at once.
- *   - An error 400, 437 or 441 to a signed message, which is not signed itself, may be forged, and
- *     ends nothing: the client sends another message of the request, or an unsigned one if there is
- *     no other. In the same way an unsigned 437 to the unsigned message makes it go back to a signed
- *     one. This happens at most three times for one request. After that, or if there is no other
- *     message to send, such an error is dropped (STUNP_DROP_NOT_VERIFIED). */
+ *   - A challenge for which the last message is not signed: the client answers it with a message
+ *     that is signed for this challenge. But the client drops a challenge that is weaker than an
+ *     earlier challenge that a success response has confirmed (STUNP_DROP_WEAKER_CHALLENGE).
+ *   - A challenge for which the last message is already signed: the client drops it
+ *     (STUNP_DROP_REFUSED), and sends the message again when its timer is due. If the challenge
+ *     arrives once more after that, the request ends. Over a stream, where nothing is sent again,
+ *     the request ends when the challenge first arrives.
+ *   - An unsigned error 400, 437 or 441 to a signed message: it may be forged, so it does not end
+ *     the request. Instead, the client sends another message of the request, or an unsigned message
+ *     if there is no other message. Likewise, after an unsigned 437 to the unsigned message, the
+ *     client sends a signed message in its place. The client does this at most three times for one
+ *     request. After that, or if there is no other message to send, the error is dropped
+ *     (STUNP_DROP_NOT_VERIFIED). */
 
-/* The longest body of a request, in bytes. What a client adds to it fits into a message, unless the
- * server's list of algorithms is very long. stunp_endpoint_client_request then fails with
- * STUNP_MESSAGE_TOO_LONG, or the challenge is dropped with STUNP_DROP_UNANSWERABLE_CHALLENGE. */
+/* The longest body of a request, in bytes. The attributes that the client adds to such a body still
+ * fit into a message, unless the server's list of algorithms is very long. In that case
+ * stunp_endpoint_client_request fails with STUNP_MESSAGE_TOO_LONG, or the challenge is dropped with
+ * STUNP_DROP_UNANSWERABLE_CHALLENGE. */
 enum { STUNP_BODY_MAX = 60000 };
 
 /* The settings of a client. A field that is 0 or null takes its default. The texts end with a zero
@@ -1541,62 +1642,71 @@ enum { STUNP_BODY_MAX = 60000 };
  *
  *   size                sizeof (stunp_endpoint_client_settings), set by STUNP_INIT
  *   server              the address of the server. It has no default
- *   seed                32 random bytes that no other client has, from which the transaction IDs are
- *                       made. Whoever can guess them can forge responses that nobody signs. It has no
- *                       default, and one byte that is repeated is refused, because then nobody has
- *                       filled it
- *   name                the user name, of at most STUNP_NAME_MAX bytes. If it is null, there is no
- *                       user: requests are not signed, and a response is accepted without a
- *                       signature. It must not be empty
+ *   seed                32 random bytes that no other client has, from which the transaction IDs
+ *                       are derived. An attacker who can guess the IDs can forge unsigned
+ *                       responses. It has no default. A seed that is one repeated byte is refused,
+ *                       because it was probably never filled
+ *   name                the user name, of at most STUNP_NAME_MAX bytes. If it is null, the client
+ *                       has no user: it does not sign requests, and accepts unsigned responses. The
+ *                       name must not be empty
  *   password            the user's password. It must be null if `name` is null, and must be neither
  *                       null nor empty otherwise
  *   software            the text of SOFTWARE in each request, of at most 763 bytes. By default
- *                       requests have none
- *   understood          the types of attributes that you understand in responses beside those in
- *                       stunp_attribute_type, as `understood_count` numbers. A response with another
- *                       type that must be understood ends its request
- *   credentials         of the user: STUNP_LONG_TERM, which is the default, or STUNP_SHORT_TERM. It
- *                       does not count without a user
- *   algorithms          STUNP_SHA1, STUNP_SHA256, or by default both. With STUNP_SHORT_TERM it is the
- *                       one that requests and responses are signed with, and by default STUNP_SHA1
+ *                       requests have no SOFTWARE
+ *   understood          the types of attributes that you understand in responses, in addition to
+ *                       those in stunp_attribute_type, as `understood_count` numbers. If a response
+ *                       has an attribute of any other type that must be understood, the request
+ *                       ends with STUNP_RESULT_NOT_UNDERSTOOD
+ *   credentials         the kind of the user's credentials: STUNP_LONG_TERM, which is the default,
+ *                       or STUNP_SHORT_TERM. Ignored if there is no user
+ *   algorithms          the algorithms that the client supports: STUNP_SHA1, STUNP_SHA256, or by
+ *                       default both. With STUNP_SHORT_TERM, the one algorithm with which requests
+ *                       and responses are signed, by default STUNP_SHA1
  *   anonymous_username  with long-term credentials: STUNP_AUTO, the default, sends a hash in place
- *                       of the user name if the server accepts it; STUNP_REQUIRED ignores
- *                       challenges of a server that does not; STUNP_DISABLED always sends the name
- *   challenges          how often another message of a request is sent in place of the last one,
- *                       because of a challenge or of an error that is not signed. By default 6
- *                       times; the next challenge ends it with STUNP_RESULT_UNAUTHORIZED, and the
- *                       next such error is dropped. A restart of the server, a new address of the
- *                       client, an expired nonce and a forged challenge each count as one. A wrong
- *                       password ends a request earlier: at the second refusal with the nonce that
- *                       the request is signed for, or at the first one over a stream, and at the
- *                       third 401 that has another nonce. So the first request of a client with a
- *                       wrong password takes three datagrams if the server repeats its nonce, of
- *                       which the last two are equal, and four if it does not
+ *                       of the user name if the server accepts hashes; STUNP_REQUIRED ignores
+ *                       challenges of a server that does not accept hashes; STUNP_DISABLED always
+ *                       sends the name
+ *   challenges          how often the client may replace the message of a request by another
+ *                       message, because of a challenge or an unsigned error. By default 6 times.
+ *                       After that, the next challenge ends the request with
+ *                       STUNP_RESULT_UNAUTHORIZED, and the next unsigned error is dropped. A
+ *                       restart of the server, a new address of the client, an expired nonce and a
+ *                       forged challenge each count as one replacement. A wrong password ends a
+ *                       request earlier. If the server repeats the nonce for which the request is
+ *                       signed, the request ends at the second refusal, or at the first refusal
+ *                       over a stream. If the server sends another nonce each time, the request
+ *                       ends at the third 401 with another nonce. So the first request of a client
+ *                       with a wrong password takes three datagrams if the nonce is repeated, of
+ *                       which the last two are equal, and four datagrams otherwise
  *   initial             how long to wait after the first transmission of a request, in nanoseconds.
  *                       Each further wait is twice the wait before (section 6.2.1). By default
  *                       500000000 (500 ms)
- *   longest             the longest of these waits, in nanoseconds. By default they have no bound
+ *   longest             the longest of these waits, in nanoseconds. By default the waits have no
+ *                       bound
  *   last                how long to wait after the last transmission, in nanoseconds. By default
  *                       8000000000 (8 s), even if `initial` is set
  *   transmissions       how often a message is sent. By default 7 times, so that a request without
- *                       an answer ends after 39.5 s: these transmissions and waits are its plan.
- *                       Each message of a request has a plan of its own, but after the first plan of
- *                       a request nothing is sent of it any more, and no challenge is answered. So
- *                       each request ends within two plans, 79 s by default, at the first
- *                       stunp_endpoint_client_poll from then on
+ *                       an answer ends after 39.5 s. These transmissions and waits are the plan of
+ *                       the message. Each message of a request has a plan of its own, but after the
+ *                       end of the first plan the client sends no more messages of the request, and
+ *                       answers no more challenges to it. So each request ends within two plans,
+ *                       which is 79 s by default, or at the first call of
+ *                       stunp_endpoint_client_poll after that
  *   is_stream           whether messages go over a stream, such as TCP. Each message is then sent
- *                       once, and the client waits as long as it would for datagrams. Split the
- *                       stream by stunp_next_frame, or by stunp_next_turn_frame if it also has
- *                       ChannelData, and pass one whole message to each
+ *                       once, and the client waits for the response as long as it would over UDP.
+ *                       Split the stream with stunp_next_frame, or with stunp_next_turn_frame if it
+ *                       also has ChannelData, and pass one whole message to each call of
  *                       stunp_endpoint_client_receive
- *   accepts_unsigned    whether a message that was sent unsigned accepts an unsigned response, with
- *                       long-term credentials. By default it does not, so a client with a user
- *                       times out at a server that asks for no credentials. If it does, an attacker
- *                       who sees a request can forge the response to it, also to a signed one: after
- *                       an error 400 that is not signed, the client may send it unsigned
+ *   accepts_unsigned    with long-term credentials: whether the client accepts an unsigned response
+ *                       to an unsigned message. By default it does not, so the requests of a client
+ *                       with a user time out at a server that does not ask for credentials. If you
+ *                       set this, an attacker who sees a request can forge the response, even if
+ *                       the request is signed, because after an unsigned error 400 the client may
+ *                       send the request unsigned. For a single request that needs no proof, set
+ *                       `is_unsigned` of stunp_request_options instead
  *   has_fingerprint     whether requests end with FINGERPRINT
- *   requires_fingerprint  whether a response without FINGERPRINT is dropped (section 7.3). By
- *                       default it is accepted */
+ *   requires_fingerprint  whether the client drops responses without FINGERPRINT (section 7.3). By
+ *                       default it accepts them */
 typedef struct {
     size_t size;
     stunp_address server;
@@ -1620,7 +1730,7 @@ typedef struct {
     bool requires_fingerprint;
 } stunp_endpoint_client_settings;
 
-/* The numbers among the settings of a client, as stunp_endpoint_client_new_with takes them. */
+/* The settings of a client that are numbers or flags, for stunp_endpoint_client_new_with. */
 typedef struct {
     uint64_t initial;
     uint64_t longest;
@@ -1636,69 +1746,82 @@ typedef struct {
     bool requires_fingerprint;
 } stunp_client_options;
 
-/* What to do next: what stunp_endpoint_client_poll returns. */
+/* What you have to do next, which is the result of stunp_endpoint_client_poll. */
 typedef enum stunp_event_kind {
     STUNP_WAIT = 0,     /* wait for a datagram, or until the time `until` */
-    STUNP_TRANSMIT = 1, /* send the first `length` bytes of the buffer to the server. If they are lost,
-                         * they are sent again */
-    STUNP_ENDED = 2,    /* the request `request` has ended, as `result` says */
-    STUNP_NO_EVENT = 7  /* `kind` of a stunp_event after a call that failed. The call itself returns the
-                         * error */
+    STUNP_TRANSMIT = 1, /* send the first `length` bytes of the buffer to the server. If the
+                         * datagram is lost, a later call of stunp_endpoint_client_poll writes the
+                         * bytes again */
+    STUNP_ENDED = 2,    /* the request `request` has ended with the result `result` */
+    STUNP_NO_EVENT = 7  /* only in `kind` of a stunp_event: the call has failed. The call itself
+                         * returns the error */
 } stunp_event_kind;
 
 /* How a request ended. */
 typedef enum stunp_result {
-    STUNP_RESULT_SUCCESS = 1,        /* the server has answered with a success */
+    STUNP_RESULT_SUCCESS = 1,        /* the server has answered with a success response */
     STUNP_RESULT_REFUSED = 2,        /* the server has answered with the error `code` */
-    STUNP_RESULT_REDIRECTED = 3,     /* the server names another server (error 300, section 10):
-                                      * look for STUNP_ALTERNATE_SERVER in the response, and make
-                                      * another client if you trust it */
-    STUNP_RESULT_TIMED_OUT = 4,      /* no response that could be accepted has arrived in time. With
-                                      * a user, an error that the server did not sign is dropped and
-                                      * leads to this result too, such as the 401 to a wrong
-                                      * short-term password: see `dropped.code`. With long-term
-                                      * credentials a 401 or 438 is a challenge instead */
-    STUNP_RESULT_UNAUTHORIZED = 5,   /* the server refuses the credentials, or challenges too
-                                      * often: the user name or the password is wrong, or
-                                      * somebody forges challenges */
-    STUNP_RESULT_NOT_UNDERSTOOD = 6, /* the response has an attribute of the type `not_understood` that
-                                      * must be understood and is not (section 6.3.3) */
-    STUNP_RESULT_MALFORMED = 7,      /* the response is an error without a code */
+    STUNP_RESULT_REDIRECTED = 3,     /* the server redirects the client to another server (error
+                                      * 300, section 10): look for STUNP_ALTERNATE_SERVER in the
+                                      * response, and make a client for that server if you trust
+                                      * it */
+    STUNP_RESULT_TIMED_OUT = 4,      /* no response that could be accepted has arrived in time. If
+                                      * the client has a user, it drops unsigned errors, so such an
+                                      * error leads to this result too, for example a 401 because of
+                                      * a wrong short-term password: see `dropped.code`. With
+                                      * long-term credentials a 401 or 438 is a challenge instead */
+    STUNP_RESULT_UNAUTHORIZED = 5,   /* the server refuses the credentials, or challenges too often:
+                                      * the user name or the password is wrong, or an attacker
+                                      * forges challenges */
+    STUNP_RESULT_NOT_UNDERSTOOD = 6, /* the response has an attribute that the client must
+                                      * understand, but does not (section 6.3.3). The field
+                                      * `not_understood` of stunp_event has the attribute's type */
+    STUNP_RESULT_MALFORMED = 7,      /* the response is an error response without a code */
     STUNP_RESULT_CANCELLED = 8       /* you have called stunp_endpoint_client_cancel */
 } stunp_result;
 
-/* What was dropped for a request. Show it to people, and never act on it, because anybody can send it.
+/* The number of dropped responses to a request, and the last of them. Show this information to
+ * people, but never act on it, because anybody can send such responses.
  *
- *   count  how many responses to it were dropped
- *   why    why the last of them was
- *   code   the error code of the last of them, or 0 if it had none */
+ *   count  the number of responses to the request that were dropped
+ *   why    why the last of these responses was dropped
+ *   code   the error code of the last of these responses, or 0 if it had no error code */
 typedef struct {
     uint32_t count;
     stunp_drop why;
     uint32_t code;
 } stunp_dropped;
 
-/* What to do next. A field is 0 unless its line names the kind or the result. After an error `kind`
- * is STUNP_NO_EVENT and `length` is 0. After STUNP_BUFFER_TOO_SMALL the other fields are those of
- * the event whose bytes are lost, so that `result` and `request` say which request has ended, if
- * one has: otherwise `result` is 0. If `size` is wrong, nothing but `kind` and `length` is written.
+/* What to do next. The line of a field names the kinds or the results for which the field is set.
+ * For others the field is 0. After an error `kind` is STUNP_NO_EVENT and `length` is 0. After
+ * STUNP_BUFFER_TOO_SMALL the other fields are those of the event whose bytes are lost: if a request
+ * has ended, `result` and `request` are set, and otherwise `result` is 0. If `size` is wrong, only
+ * `kind` and `length` are written.
  *
  *   size            sizeof (stunp_event), set by STUNP_INIT once, before the loop
  *   kind            what to do
  *   result          STUNP_ENDED: how the request has ended
  *   request         STUNP_TRANSMIT, STUNP_ENDED: the number of the request
  *   until           STUNP_WAIT: when to call stunp_endpoint_client_poll again if nothing has
- *                   arrived, in nanoseconds of your clock, like `now`; UINT64_MAX if no request is
+ *                   arrived, in nanoseconds of the clock of `now`; UINT64_MAX if no request is
  *                   outstanding
- *   length          STUNP_TRANSMIT: how many bytes to send. STUNP_ENDED: the length of the response
- *                   in the buffer, or 0 if the result is STUNP_RESULT_TIMED_OUT, _UNAUTHORIZED or
- *                   _CANCELLED
- *   needed          STUNP_NO_EVENT: after STUNP_BUFFER_TOO_SMALL, how many bytes were lost
+ *   length          STUNP_TRANSMIT: the number of bytes to send. STUNP_ENDED: the length of the
+ *                   response in the buffer, or 0 if the result is STUNP_RESULT_TIMED_OUT,
+ *                   _UNAUTHORIZED or _CANCELLED
+ *   needed          STUNP_NO_EVENT: after STUNP_BUFFER_TOO_SMALL, the number of bytes that were
+ *                   lost
  *   code            STUNP_RESULT_REFUSED: the code of the error. STUNP_RESULT_REDIRECTED: 300
  *   not_understood  STUNP_RESULT_NOT_UNDERSTOOD: the type of the attribute
- *   signed_by       STUNP_ENDED: the stunp_algorithm of the signature that was verified, or 0 if
- *                   none was. Without a user no signature is verified
- *   dropped         STUNP_RESULT_TIMED_OUT: what was dropped for the request */
+ *   signed_by       STUNP_ENDED: the stunp_algorithm of the signature that was verified, or 0 if no
+ *                   signature was verified, which is always so without a user
+ *   dropped         STUNP_RESULT_TIMED_OUT: the dropped responses to the request
+ *   round_trip      STUNP_ENDED: the nanoseconds between the call of stunp_endpoint_client_poll
+ *                   that returned the answered message, and the arrival of the response. UINT64_MAX
+ *                   if there is no response; if the answered message was returned more than once,
+ *                   because it is then unknown which transmission the server has answered (RFC
+ *                   6298, section 3); if another message of the request was sent after the answered
+ *                   message; or if the answered message was sent again in place of another
+ *                   message */
 typedef struct {
     size_t size;
     stunp_event_kind kind;
@@ -1711,13 +1834,44 @@ typedef struct {
     uint16_t not_understood;
     uint16_t signed_by;
     stunp_dropped dropped;
+    uint64_t round_trip;
 } stunp_event;
 
+/* How a single request is sent, and from which address its response comes, for
+ * stunp_endpoint_client_request_as. If a field is 0, the setting of the client is used.
+ *
+ *   size           sizeof (stunp_request_options), set by STUNP_INIT
+ *   from           the address that the response comes from, in place of the server's address, such
+ *                  as the OTHER-ADDRESS of RFC 5780 for a request with CHANGE-REQUEST. The request
+ *                  is still sent to the server. For a response from any other address, even the
+ *                  server's, stunp_endpoint_client_receive returns STUNP_NOT_OURS. A server that
+ *                  does not know CHANGE-REQUEST answers from its own address, so the request times
+ *                  out: look for OTHER-ADDRESS in an earlier response before you use this
+ *   transmissions  how often each message of the request is sent (Rc in section 6.2.1)
+ *   initial        the nanoseconds between the first and the second transmission (RTO)
+ *   longest        the largest number of nanoseconds between two transmissions
+ *   last           the nanoseconds from the last transmission to the end of the request
+ *   is_unsigned    whether the request is sent without credentials. The client then accepts the
+ *                  response without a signature, and answers no challenge: a 401 ends the request
+ *                  with STUNP_RESULT_REFUSED. An attacker who can read the request, or guess its
+ *                  transaction ID, can forge the response. So set this only for requests that need
+ *                  no proof, at servers such as coturn, which do not sign the response: a Binding
+ *                  request that asks for your address, or that keeps a NAT binding alive */
+typedef struct {
+    size_t size;
+    stunp_address from;
+    uint32_t transmissions;
+    uint64_t initial;
+    uint64_t longest;
+    uint64_t last;
+    bool is_unsigned;
+} stunp_request_options;
+
 /* The attributes of a request, in a buffer of yours. stunp_endpoint_client_request copies them, so
- * you may reuse the body and its buffer as soon as it returns. The client writes its copy again into
- * each further message of the request, such as one for a challenge. You may read the fields, but
- * change them only by the calls that take a body. It points to your buffer: do not return one from
- * the function whose variable the buffer is.
+ * you may reuse the body and its buffer as soon as that call returns. The client writes its copy of
+ * the attributes into each message of the request, also into a message that answers a challenge.
+ * You may read the fields, but change them only through the calls that take a body. A body points
+ * to your buffer: if the buffer is a local variable, do not return the body from that function.
  *
  *     uint8_t room[64];
  *     stunp_body body = stunp_body_on(room, sizeof room);
@@ -1732,8 +1886,8 @@ typedef struct {
 } stunp_body;
 
 /* Creates a client, like stunp_endpoint_client_new, from settings that are passed one by one.
- * `understood_length` counts numbers, not bytes. A `name_length` of 0 means that there is no user, and
- * a `software_length` of 0 no SOFTWARE.
+ * `understood_length` counts numbers, not bytes. A `name_length` of 0 means no user, and a
+ * `software_length` of 0 means no SOFTWARE.
  *
  * Returns 0. Errors:
  *   STUNP_FULL_HANDLE    the handle is not empty
@@ -1754,18 +1908,18 @@ int64_t stunp_endpoint_client_new_with(stunp_endpoint_client *client, const stun
                                        size_t understood_length,
                                        const stunp_client_options *options);
 
-/* Creates a client with these settings. They are copied.
+/* Creates a client with these settings. The settings are copied.
  *
  * Returns 0. Errors:
- *   STUNP_BAD_ARGUMENT  `size` is wrong, `seed` is null, only one of `name` and `password` is null, or
- *                       one of them is empty
- * and then those of stunp_endpoint_client_new_with. */
+ *   STUNP_BAD_ARGUMENT  `size` is wrong, `seed` is null, only one of `name` and `password` is null,
+ *                       or one of them is empty
+ * and then the errors of stunp_endpoint_client_new_with. */
 STUNP_INLINED int64_t
 stunp_endpoint_client_new(stunp_endpoint_client *client,
                           const stunp_endpoint_client_settings *settings);
 
-/* Frees a client and makes its handle empty. The pointer must not be null. This call is for callers
- * that have the symbols of the archive and not this header; in C and C++ use
+/* Frees a client and makes its handle empty. The pointer must not be null. This call is for
+ * programs that use the archive without this header; in C and C++, call
  * stunp_endpoint_client_free. */
 STUNP_NOT_NULL(1)
 void stunp_endpoint_client_clear(stunp_endpoint_client *client);
@@ -1779,114 +1933,141 @@ STUNP_INLINED void stunp_endpoint_client_free(stunp_endpoint_client *client);
 /* Returns a body without attributes, in a buffer of `room` bytes. */
 STUNP_INLINED stunp_body stunp_body_on(uint8_t *bytes, size_t room);
 
-/* Adds an attribute, like stunp_body_add, of any type: STUNP_XOR_PEER_ADDRESS with an address that is
- * not XORed yet. Use stunp_body_add and stunp_body_add_peer. */
+/* Adds an attribute like stunp_body_add, but also accepts STUNP_XOR_PEER_ADDRESS, whose value must
+ * then be an address that is not XORed yet. In your own code, call stunp_body_add and
+ * stunp_body_add_peer. */
 STUNP_READS(3, 4)
 STUNP_INLINED int64_t stunp_body_put(stunp_body *body, uint32_t type, const void *value,
                                      size_t length);
 
-/* Adds an attribute with this value to a body. Types may repeat, and are in the request in the order
- * in which they were added. Once a call with a body has failed, the next ones do nothing.
+/* Adds an attribute with this value to a body. You may add several attributes of the same type. The
+ * request has the attributes in the order in which they were added. Once a call with a body has
+ * failed, later calls with it add nothing.
  *
- * Returns 0, or the first error of any call with this body. It need not be tested, because
- * stunp_endpoint_client_request returns it too. Errors:
- *   STUNP_NOT_ALLOWED       the type is STUNP_XOR_PEER_ADDRESS: call stunp_body_add_peer
- *   STUNP_BAD_ARGUMENT      the type is above 65535
+ * Returns 0, or the first error of any call with this body. You need not test the result, because
+ * stunp_endpoint_client_request returns the error too. Errors:
+ *   STUNP_NOT_ALLOWED       `type` is STUNP_XOR_PEER_ADDRESS: call stunp_body_add_peer
+ *   STUNP_BAD_ARGUMENT      `type` is above 65535
  *   STUNP_MESSAGE_TOO_LONG  the attributes would have more than STUNP_BODY_MAX bytes
- *   STUNP_BUFFER_TOO_SMALL  the attribute, with its header of 4 bytes and padding, does not fit into
- *                           the buffer */
+ *   STUNP_BUFFER_TOO_SMALL  the attribute, with its header of 4 bytes and padding, does not fit
+ *                           into the buffer */
 STUNP_READS(3, 4)
 STUNP_INLINED int64_t stunp_body_add(stunp_body *body, uint32_t type, const void *value,
                                      size_t length);
 
-/* Adds an attribute with a number of `size` bytes in network order, like stunp_body_add.
+/* Adds an attribute whose value is a number of `size` bytes in network order, like stunp_body_add.
  *
  * Returns 0, or the first error of any call with this body. Errors:
  *   STUNP_BAD_ARGUMENT  `size` is not 1, 2, 4 or 8, or the number does not fit into `size` bytes
- * and then those of stunp_body_add. */
+ * and then the errors of stunp_body_add. */
 STUNP_INLINED int64_t stunp_body_add_number(stunp_body *body, uint32_t type, uint64_t number,
                                             size_t size);
 
-/* Adds STUNP_XOR_PEER_ADDRESS with this address (RFC 8656, section 18.3), like stunp_body_add. It is
- * XORed when the request is written.
+/* Adds STUNP_XOR_PEER_ADDRESS with this address (RFC 8656, section 18.3), like stunp_body_add. The
+ * address is XORed when the request is written.
  *
  * Returns 0, or the first error of any call with this body. Errors:
- *   STUNP_BAD_ARGUMENT  it is not an IPv4 or IPv6 address
- * and then those of stunp_body_add. */
+ *   STUNP_BAD_ARGUMENT  `peer` is not an IPv4 or IPv6 address
+ * and then the errors of stunp_body_add. */
 STUNP_INLINED int64_t stunp_body_add_peer(stunp_body *body, const stunp_address *peer);
 
-/* Adds STUNP_REQUESTED_TRANSPORT with the number of a protocol (RFC 8656, section 18.8), like
- * stunp_body_add: 17 for UDP, which each STUNP_ALLOCATE request asks for.
+/* Adds STUNP_REQUESTED_TRANSPORT with the number of a protocol, such as 17 for UDP (RFC 8656,
+ * section 18.8), like stunp_body_add. Each STUNP_ALLOCATE request needs this attribute.
  *
- * Returns 0, or the first error of any call with this body. Errors: those of stunp_body_add. */
+ * Returns 0, or the first error of any call with this body. Fails as stunp_body_add does. */
 STUNP_INLINED int64_t stunp_body_add_requested_transport(stunp_body *body, uint8_t protocol);
 
 /* Adds STUNP_CHANNEL_NUMBER with this channel (RFC 8656, section 18.1), like stunp_body_add. A
  * STUNP_CHANNEL_BIND request also has the address of the peer (stunp_body_add_peer).
  *
  * Returns 0, or the first error of any call with this body. Errors:
- *   STUNP_BAD_ARGUMENT  the channel is not from 0x4000 to 0x4FFF
- * and then those of stunp_body_add. */
+ *   STUNP_BAD_ARGUMENT  `channel` is not from 0x4000 to 0x4FFF
+ * and then the errors of stunp_body_add. */
 STUNP_INLINED int64_t stunp_body_add_channel_number(stunp_body *body, uint32_t channel);
 
 /* Adds STUNP_REQUESTED_ADDRESS_FAMILY (RFC 8656, section 18.6), like stunp_body_add.
- * `address_length` is that of an address of the family, as in stunp_address: 4 for IPv4, and 16 for
- * IPv6. Without this attribute a server allocates an IPv4 address.
+ * `address_length` is the length of an address of the family, as in stunp_address: 4 for IPv4, and
+ * 16 for IPv6. Without this attribute a server allocates an IPv4 address.
  *
  * Returns 0, or the first error of any call with this body. Errors:
  *   STUNP_BAD_ARGUMENT  `address_length` is neither 4 nor 16
- * and then those of stunp_body_add. */
+ * and then the errors of stunp_body_add. */
 STUNP_INLINED int64_t stunp_body_add_requested_family(stunp_body *body, size_t address_length);
 
 /* ---- Requests of a client
  *
- * Call stunp_endpoint_client_poll after each request, receive and cancel and when a wait is over,
- * and repeat it until it returns STUNP_WAIT. Otherwise requests are not sent, and you do not learn
- * how they ended. Times are nanoseconds of a clock that never goes back, such as CLOCK_MONOTONIC. */
+ * Call stunp_endpoint_client_poll after each call that starts or cancels a request or reads a
+ * datagram, and when a wait is over, and repeat the call until it returns STUNP_WAIT. Otherwise
+ * requests are not sent, and you do not learn how they ended. Times are nanoseconds of a clock that
+ * never goes back, such as CLOCK_MONOTONIC. */
 
-/* Starts a request, like stunp_endpoint_client_request. `body` has the attributes one after the other,
- * each with its header and padded to a multiple of 4 bytes, as in a message; but the addresses of
- * STUNP_XOR_PEER_ADDRESS are not XORed.
+/* Starts a request like stunp_endpoint_client_request. `body` has the attributes one after the
+ * other, each with its header and padded to a multiple of 4 bytes, as in a message; but the
+ * addresses of STUNP_XOR_PEER_ADDRESS are not XORed. `request` must not be null.
  *
- * Returns 0. Errors: those of stunp_endpoint_client_request. */
+ * Returns and fails as stunp_endpoint_client_request does. */
 STUNP_READS(3, 4) STUNP_NOT_NULL(1, 6)
 int64_t stunp_endpoint_client_request_with(stunp_endpoint_client *client, uint32_t method,
                                            const uint8_t *body, size_t body_length, uint64_t now,
                                            uint64_t *request);
 
-/* Starts a request of a method with these attributes, or with none if `body` is null.
- * stunp_endpoint_client_poll returns its bytes. Writes the number of the request to `*request`: 0
- * for the first request of this client, and one more for each further one. This pointer may be
- * null.
+/* Starts a request with this method and the attributes of `body`, or without attributes if `body`
+ * is null. stunp_endpoint_client_poll then writes the bytes of the request, for you to send. Writes
+ * the number of the request to `*request`: 0 for the first request of this client, and one more for
+ * each further request. The pointer `request` may be null.
  *
- * The attributes of the body are tested one after the other, and the first one that is refused
- * decides which of its three errors is returned.
+ * The attributes of the body are tested one after the other. The first attribute that is refused
+ * decides whether the call returns the second STUNP_BAD_ARGUMENT, STUNP_NOT_ALLOWED or the first
+ * STUNP_MESSAGE_TOO_LONG of the list below.
  *
  * Returns 0. Errors:
- *   the error of a call with the body, if one failed
+ *   the error of the body, if a call with this body has failed
  *   STUNP_EMPTY_HANDLE         the handle is empty
- *   STUNP_WRONG_HANDLE         it has no client
- *   STUNP_BAD_ARGUMENT         the method is above 4095
- *   STUNP_BAD_ARGUMENT         an attribute of the body is not a whole one, or is a
+ *   STUNP_WRONG_HANDLE         the handle has no client
+ *   STUNP_BAD_ARGUMENT         `method` is above 4095
+ *   STUNP_BAD_ARGUMENT         an attribute of the body is incomplete, or is a
  *                              STUNP_XOR_PEER_ADDRESS without an address. Only stunp_body_put can
- *                              add the latter, and no call adds the former
+ *                              add such an address, and no call adds an incomplete attribute
  *   STUNP_NOT_ALLOWED          the type of an attribute is USERNAME, USERHASH, REALM, NONCE,
  *                              PASSWORD-ALGORITHM, PASSWORD-ALGORITHMS, MESSAGE-INTEGRITY,
  *                              MESSAGE-INTEGRITY-SHA256, SOFTWARE or FINGERPRINT, which the client
  *                              writes itself; XOR-MAPPED-ADDRESS or XOR-RELAYED-ADDRESS, whose
  *                              values depend on the transaction ID; or ERROR-CODE, which no request
  *                              has
- *   STUNP_MESSAGE_TOO_LONG     the attributes have more than STUNP_BODY_MAX bytes, where each
- *                              STUNP_XOR_PEER_ADDRESS counts as 24
+ *   STUNP_MESSAGE_TOO_LONG     the attributes have more than STUNP_BODY_MAX bytes, if each
+ *                              STUNP_XOR_PEER_ADDRESS counts as 24 bytes
  *   STUNP_ALREADY_IN_PROGRESS  no transaction ID is left
  *   STUNP_MESSAGE_TOO_LONG     the request does not fit into a message
- *   STUNP_OUT_OF_MEMORY        an allocation failed. It may come in place of any error after the
- *                              test of the method */
+ *   STUNP_OUT_OF_MEMORY        an allocation failed. The call may return this in place of any error
+ *                              after the test of the method */
 STUNP_INLINED int64_t stunp_endpoint_client_request(stunp_endpoint_client *client, uint32_t method,
                                                     const stunp_body *body, uint64_t now,
                                                     uint64_t *request);
 
-/* Reads a datagram, like stunp_endpoint_client_receive. `why` must not be null.
+/* Starts a request like stunp_endpoint_client_request_as. `body` has the same form as in
+ * stunp_endpoint_client_request_with, and `request` must not be null.
+ *
+ * Returns and fails as stunp_endpoint_client_request_as does. */
+STUNP_READS(3, 4) STUNP_NOT_NULL(1, 5, 7)
+int64_t stunp_endpoint_client_request_as_with(stunp_endpoint_client *client, uint32_t method,
+                                              const uint8_t *body, size_t body_length,
+                                              const stunp_request_options *options, uint64_t now,
+                                              uint64_t *request);
+
+/* Starts a request like stunp_endpoint_client_request, but with options that say how it is sent,
+ * and from which address its response comes. The options are copied. `options` must not be null.
+ *
+ * Returns 0. Errors:
+ *   STUNP_BAD_ARGUMENT  after the test of the method: `options->size` is wrong, or the length of
+ *                       `options->from` is neither 0, 4 nor 16
+ * and the errors of stunp_endpoint_client_request. */
+STUNP_NOT_NULL(1, 4)
+STUNP_INLINED int64_t stunp_endpoint_client_request_as(stunp_endpoint_client *client,
+                                                       uint32_t method, const stunp_body *body,
+                                                       const stunp_request_options *options,
+                                                       uint64_t now, uint64_t *request);
+
+/* Reads a datagram like stunp_endpoint_client_receive, but `why` must not be null.
  *
  * Returns and fails as stunp_endpoint_client_receive does. */
 STUNP_USE_RESULT STUNP_READS(2, 3) STUNP_NOT_NULL(1, 4, 6)
@@ -1895,100 +2076,110 @@ int64_t stunp_endpoint_client_receive_with(stunp_endpoint_client *client, const 
                                            uint64_t now, uint32_t *why);
 
 /* Reads the datagram of `length` bytes that arrived from the address `from`. Call
- * stunp_endpoint_client_poll afterward to learn what it caused.
+ * stunp_endpoint_client_poll after this call, to learn what to do next. The result means the
+ * following:
  *
- *   - STUNP_NOT_OURS: it is not for this client. It is not a STUN message, such as ChannelData or
- *     media; it comes from another address; or it is a request, or a response to no outstanding
- *     request. Offer it to the next client on the socket.
- *   - STUNP_IS_INDICATION: it is an indication from the server. Nothing protects it, and neither its
- *     FINGERPRINT nor its attributes were looked at.
- *   - STUNP_IS_RESPONSE: it is a response to a request of this client. It has ended its request, or
- *     it is a challenge or an unsigned error after which another message of the request is sent.
- *     stunp_endpoint_client_poll returns which.
- *   - STUNP_DROPPED: it is a response to a request of this client, and was not accepted, for the reason
- *     that is written to `*why`; this pointer may be null. The request goes on. If an allocation
- *     fails, the response is dropped with STUNP_DROP_OUT_OF_MEMORY. Only if the message cannot be
- *     stored that another one is sent in place of, it is forgotten, and a response to it is then
- *     STUNP_NOT_OURS. stunp_endpoint_client_poll and stunp_endpoint_client_cancel do not allocate.
+ *   - STUNP_NOT_OURS: the datagram is not for this client. It is not a STUN message, but for
+ *     example ChannelData or media; it is a request, or a response to no outstanding request; or it
+ *     does not come from the right address, which is the server's, unless it is a response to a
+ *     request whose options name another address. Pass it to the next client on the socket.
+ *   - STUNP_IS_INDICATION: the datagram is an indication from the server. It is not authenticated,
+ *     and the client has checked neither its FINGERPRINT nor its attributes.
+ *   - STUNP_IS_RESPONSE: the datagram is a response to a request of this client. Either the
+ *     response ends its request, or it is a challenge or an unsigned error, after which the client
+ *     sends another message of the request. The next call of stunp_endpoint_client_poll returns
+ *     which.
+ *   - STUNP_DROPPED: the datagram is a response to a request of this client, but is not accepted.
+ *     The call writes the reason to `*why`, unless `why` is null. The request continues. If an
+ *     allocation fails, the response is dropped with STUNP_DROP_OUT_OF_MEMORY. If the client sends
+ *     another message of a request and has no memory to store the earlier message, it forgets the
+ *     earlier message, and returns STUNP_NOT_OURS for a response to it. stunp_endpoint_client_poll
+ *     and stunp_endpoint_client_cancel do not allocate.
  *
  * An IPv4 address and the same address mapped into IPv6 (::ffff:a.b.c.d) count as one address.
  *
  * Returns a stunp_kind. Errors:
  *   STUNP_EMPTY_HANDLE  the handle is empty
- *   STUNP_WRONG_HANDLE  it has no client
+ *   STUNP_WRONG_HANDLE  the handle has no client
  *   STUNP_BAD_ARGUMENT  `from` is not an IPv4 or IPv6 address */
 STUNP_INLINED int64_t stunp_endpoint_client_receive(stunp_endpoint_client *client,
                                                     const uint8_t *bytes, size_t length,
                                                     const stunp_address *from, uint64_t now,
                                                     stunp_drop *why);
 
-/* Finds the next thing to do, like stunp_endpoint_client_poll. `event` must not be null.
+/* Finds out what to do next, like stunp_endpoint_client_poll. `event` must not be null.
  *
  * Returns and fails as stunp_endpoint_client_poll does. */
 STUNP_USE_RESULT STUNP_WRITES(3, 4) STUNP_NOT_NULL(1, 5)
 int64_t stunp_endpoint_client_poll_with(stunp_endpoint_client *client, uint64_t now, uint8_t *out,
                                         size_t room, stunp_event *event);
 
-/* Finds the next thing to do, and writes it to `*event`, and its bytes to the front of `out`: a request
- * to send, or the response that ended a request. With STUNP_LONGEST_MESSAGE bytes there is room for
- * each. Call it after each request, receive and cancel and when a wait is over, and repeat it until
- * it returns STUNP_WAIT. Otherwise requests are not sent, and you do not learn how they ended.
+/* Finds out what to do next, and writes it to `*event`. Also writes the request to send, or the
+ * response that ended a request, to the front of `out`. A buffer of STUNP_LONGEST_MESSAGE bytes has
+ * room for any message. Call it after each call that starts or cancels a request or reads a
+ * datagram, and when a wait is over, and repeat the call until it returns STUNP_WAIT. Otherwise
+ * requests are not sent, and you do not learn how they ended.
  *
  * Returns a stunp_event_kind. Errors, after which `event->kind` is STUNP_NO_EVENT:
  *   STUNP_EMPTY_HANDLE      the handle is empty
- *   STUNP_WRONG_HANDLE      it has no client
+ *   STUNP_WRONG_HANDLE      the handle has no client
  *   STUNP_BAD_ARGUMENT      `event->size` is wrong
- *   STUNP_BUFFER_TOO_SMALL  the bytes do not fit into `room` bytes, and are lost. Nothing is written to
- *                           `out`. `event->needed` is how many bytes there were. A request is sent
- *                           again when its next transmission is due, but not over a stream. If a
- *                           response was lost, its request has ended: `event->request` has its
- *                           number, and `event->result`, which is then not 0, its result */
+ *   STUNP_BUFFER_TOO_SMALL  the request or the response does not fit into `room` bytes, and is
+ *                           lost. Nothing is written to `out`. `event->needed` is its length. If a
+ *                           request is lost, `event->result` is 0, and the request is sent again
+ *                           when its next transmission is due, but not over a stream. If a response
+ *                           is lost, its request has ended: `event->request` is the number of the
+ *                           request, and `event->result` its result */
 STUNP_USE_RESULT
 STUNP_INLINED int64_t stunp_endpoint_client_poll(stunp_endpoint_client *client, uint64_t now,
                                                  uint8_t *out, size_t room, stunp_event *event);
 
-/* Returns for how many milliseconds to wait after STUNP_WAIT, as poll() of POSIX takes them: -1, for
- * ever, if no request is outstanding. It is never 0. */
+/* Returns the timeout in milliseconds that you pass to poll() of POSIX after STUNP_WAIT. If no
+ * request is outstanding, returns -1, which means no timeout. Otherwise, the timeout is rounded up
+ * and never 0, so that a loop does not spin until `event->until`. */
 STUNP_INLINED int stunp_poll_timeout(const stunp_event *event, uint64_t now);
 
-/* Ends a request with STUNP_RESULT_CANCELLED, which stunp_endpoint_client_poll then returns.
+/* Cancels a request: stunp_endpoint_client_poll then returns STUNP_ENDED for it, with the result
+ * STUNP_RESULT_CANCELLED.
  *
  * Returns 1, or 0 if the request has ended already. In a condition an error would count as true:
  * call stunp_endpoint_client_try_cancel there. Errors:
  *   STUNP_EMPTY_HANDLE  the handle is empty
- *   STUNP_WRONG_HANDLE  it has no client */
+ *   STUNP_WRONG_HANDLE  the handle has no client */
 STUNP_NOT_NULL(1)
 int64_t stunp_endpoint_client_cancel(stunp_endpoint_client *client, uint64_t request);
 
-/* Ends a request like stunp_endpoint_client_cancel, and returns whether that call returns 1: false
- * if the request has ended already, or the handle has no client. */
+/* Cancels a request like stunp_endpoint_client_cancel. Returns true if the request is cancelled,
+ * and false if it has ended already or the handle has no client. */
 STUNP_NOT_NULL(1)
 STUNP_INLINED bool stunp_endpoint_client_try_cancel(stunp_endpoint_client *client,
                                                     uint64_t request);
 
-/* Writes to `*dropped` what was dropped for an outstanding request. Call it before you cancel the
- * request, because the client then forgets it. If the request times out, the event has it.
+/* Writes to `*dropped` how many responses to an outstanding request were dropped, and why the last
+ * of these responses was dropped. Call it before you cancel the request, because the client forgets
+ * this information when the request ends. If the request times out, the event has this information.
  * `dropped` must not be null.
  *
  * Returns 1, or 0 if the request has ended already. In a condition an error would count as true:
  * compare the result with 1. Errors:
  *   STUNP_EMPTY_HANDLE  the handle is empty
- *   STUNP_WRONG_HANDLE  it has no client */
+ *   STUNP_WRONG_HANDLE  the handle has no client */
 STUNP_USE_RESULT STUNP_NOT_NULL(1, 3)
 int64_t stunp_endpoint_client_dropped(stunp_endpoint_client *client, uint64_t request,
                                       stunp_dropped *dropped);
 
-/* Returns a text for a stunp_result, as stunp_strerror does for an error. */
+/* Returns an English text for a stunp_result, like stunp_strerror for an error. */
 STUNP_INLINED const char *stunp_result_text(stunp_result result);
 
 /* ---- Checks of ICE with further attributes
  *
- * A check may have attributes beside those of ICE, such as NETWORK-COST (0xC057), which libwebrtc
- * sends. They are given by a stunp_body, like those of a request. */
+ * A check may have further attributes in addition to those of ICE, such as NETWORK-COST (0xC057),
+ * which libwebrtc sends. You pass further attributes in a stunp_body, like the attributes of a
+ * request. */
 
-/* Writes a check with further attributes, like stunp_ice_checker_check_body. `body` has the attributes
- * one after the other, each with its header and padded to a multiple of 4 bytes, as in a message.
- * `check` must not be null.
+/* Writes a check with further attributes, like stunp_ice_checker_check_body. `body` has the
+ * attributes one after the other, each with its header and padded to a multiple of 4 bytes, as in a
+ * message. `check` must not be null.
  *
  * Returns and fails as stunp_ice_checker_check_body does. */
 STUNP_USE_RESULT STUNP_READS(6, 7) STUNP_WRITES(8, 9) STUNP_NOT_NULL(1, 2, 3, 10)
@@ -1997,10 +2188,10 @@ int64_t stunp_ice_checker_check_body_with(stunp_ice_checker *checker, const uint
                                           const uint8_t *body, size_t body_length, uint8_t *out,
                                           size_t room, stunp_ice_check *check);
 
-/* Writes a check like stunp_ice_checker_check, with the attributes of `body` before its signature, in
- * their order; with none if `body` is null. STUNP_ICE_CHECK_MAX bytes and those of the body are room
- * enough. The peer refuses the check with a 420 if it does not know the type of one that is below
- * 0x8000.
+/* Writes a check like stunp_ice_checker_check, with the attributes of `body` in their order before
+ * its signature, or without further attributes if `body` is null. A buffer of STUNP_ICE_CHECK_MAX
+ * bytes plus the length of the body is enough. The peer refuses the check with a 420 if it does not
+ * know a type below 0x8000.
  *
  *     uint8_t attributes[8], bytes[STUNP_ICE_CHECK_MAX + sizeof attributes];
  *     stunp_body body = stunp_body_on(attributes, sizeof attributes);
@@ -2008,25 +2199,25 @@ int64_t stunp_ice_checker_check_body_with(stunp_ice_checker *checker, const uint
  *     int64_t length = stunp_ice_checker_check_body(&agent, id, &to, priority, false, &body, bytes,
  *                                                   sizeof bytes, &check);
  *
- * The attributes of the body are tested one after the other, and the first one that is refused
- * decides which of the errors of an attribute is returned.
+ * The attributes of the body are tested one after the other. The call returns the error of the
+ * first attribute that is refused.
  *
  * Returns the length of the check. Errors, after which nothing is written:
- *   the error of a call with the body, if one failed
+ *   the error of the body, if a call with this body has failed
  *   STUNP_EMPTY_HANDLE      the handle is empty
- *   STUNP_WRONG_HANDLE      it has no agent
+ *   STUNP_WRONG_HANDLE      the handle has no agent
  *   STUNP_BAD_ARGUMENT      `to` is not an IPv4 or IPv6 address
  *   STUNP_CANNOT_SIGN       the credentials of the peer are not known yet
- *   STUNP_BAD_ARGUMENT      an attribute of the body is not a whole one. No call adds one like that
+ *   STUNP_BAD_ARGUMENT      an attribute of the body is incomplete. No call adds such an attribute
  *   STUNP_NOT_ALLOWED       the type of an attribute is USE-CANDIDATE, ICE-CONTROLLED or
- *                           ICE-CONTROLLING, which say what the agent is asked to say;
+ *                           ICE-CONTROLLING, which the arguments and the role of the agent decide;
  *                           XOR-PEER-ADDRESS, which is XORed only in a request of a client; or
  *                           MESSAGE-INTEGRITY, MESSAGE-INTEGRITY-SHA256 or FINGERPRINT
- *   STUNP_ATTRIBUTE_EXISTS  the check has an attribute of this type already, as it always has
- *                           USERNAME and PRIORITY
+ *   STUNP_ATTRIBUTE_EXISTS  the check has an attribute of this type already; it always has USERNAME
+ *                           and PRIORITY
  *   STUNP_MESSAGE_TOO_LONG  the check does not fit into a message
- *   STUNP_OUT_OF_MEMORY     an allocation failed. It may come in place of any error of an attribute,
- *                           and of any later one
+ *   STUNP_OUT_OF_MEMORY     an allocation failed. The call may return this in place of any error of
+ *                           an attribute, or of any later error
  *   STUNP_BUFFER_TOO_SMALL  the check does not fit into `room` bytes */
 STUNP_USE_RESULT
 STUNP_INLINED int64_t stunp_ice_checker_check_body(stunp_ice_checker *checker,
@@ -2037,11 +2228,12 @@ STUNP_INLINED int64_t stunp_ice_checker_check_body(stunp_ice_checker *checker,
 
 /* ---- Checks of ICE with their timers
  *
- * A stunp_ice_checks has the outstanding checks of an agent: when each is sent again, when it times
- * out, and between which addresses. Its memory is yours, and it takes no other. Each check that is
- * started ends exactly once: by stunp_ice_checks_receive, if its answer arrives; by
- * stunp_ice_checks_poll, if none comes in time; or by stunp_ice_checks_cancel. The order and the pace
- * of new checks, at most one every 50 ms (section 14.2), are yours.
+ * A stunp_ice_checks stores the outstanding checks of an agent: for each check, when it is sent
+ * again, when it times out, and between which addresses it is sent. It uses memory that you pass,
+ * and does not allocate. Each check that you start ends exactly once: in stunp_ice_checks_receive,
+ * if its answer arrives; in stunp_ice_checks_poll, if no answer arrives in time; or in
+ * stunp_ice_checks_cancel. You choose the order and the pace of new checks, which is at most one
+ * every 50 ms (section 14.2).
  *
  *     // Sends what is due. `send` sends from an address of this agent to one of the peer.
  *     void send_checks(stunp_ice_checks *checks, uint64_t now,
@@ -2055,18 +2247,19 @@ STUNP_INLINED int64_t stunp_ice_checker_check_body(stunp_ice_checker *checker,
  *         }
  *     }
  *
- * Then wait for a datagram until stunp_ice_checks_until, and pass each to stunp_ice_checks_receive.
- * These calls are done in C over those of the agent: they are tested, and not proved. */
+ * Then wait for a datagram until the time that stunp_ice_checks_until returns, and pass each
+ * datagram to stunp_ice_checks_receive. These calls are written in C and use the calls of the
+ * agent, so they are tested, but not proved. */
 
 enum {
-    /* The bytes of a check that a stunp_ice_outstanding has room for, which is more than
-     * STUNP_ICE_CHECK_MAX. */
+    /* The longest check that fits into a stunp_ice_outstanding. This is more than
+     * STUNP_ICE_CHECK_MAX, because a check may have further attributes. */
     STUNP_ICE_STORED_MAX = 1024,
-    /* The most transmissions of a check. */
+    /* The largest number of transmissions of a check. */
     STUNP_ICE_TRANSMISSIONS_MAX = 255
 };
 
-/* The memory of one outstanding check. The fields are not yours to write. */
+/* The memory of one outstanding check. Do not write to the fields. */
 typedef struct {
     stunp_ice_check check;
     stunp_address from;
@@ -2081,8 +2274,8 @@ typedef struct {
     uint8_t bytes[STUNP_ICE_STORED_MAX];
 } stunp_ice_outstanding;
 
-/* The outstanding checks of an agent. One thread at a time uses it. The fields are not yours to
- * write. */
+/* The outstanding checks of an agent. Use a stunp_ice_checks in only one thread at a time. Do not
+ * write to the fields. */
 typedef struct {
     stunp_ice_checker *checker;
     stunp_ice_outstanding *stored;
@@ -2093,23 +2286,26 @@ typedef struct {
  *
  *   size           sizeof (stunp_ice_new_check), set by STUNP_INIT
  *   id             12 random bytes that no other check has. It has no default
- *   from           the base of the local candidate: the address of its socket, or of a relayed
- *                  candidate the relayed address. It only has to be what you pass to
- *                  stunp_ice_checks_receive as `at` when a datagram arrives there, so for a socket
- *                  that is bound to all addresses any one of them will do
+ *   from           the base of the local candidate: the address of its socket, or, if the candidate
+ *                  is relayed, the relayed address. It must equal the address that you pass to
+ *                  stunp_ice_checks_receive as `at` for a datagram that arrives at this candidate.
+ *                  So for a socket that is bound to all addresses, you may use any one of these
+ *                  addresses
  *   to             the address of the remote candidate
- *   priority       what a peer-reflexive candidate would have that the peer learns from this check
- *                  (section 7.1.1): stunp_ice_priority
- *   nominates      whether the check nominates its pair, if this agent controls
- *   initial        how long to wait after the first transmission, in nanoseconds. Each further wait is
- *                  twice the wait before (RFC 8489, section 6.2.1). By default 500000000 (500 ms); it
- *                  grows with the number of pairs (section 14.3)
- *   longest        the longest of these waits, in nanoseconds. By default they have no bound
- *   last           how long to wait after the last transmission, in nanoseconds. By default 8000000000
- *                  (8 s)
- *   transmissions  how often the check is sent, up to STUNP_ICE_TRANSMISSIONS_MAX times. By default 7.
- *                  A check for consent is sent once, and answered within 30 s (RFC 7675, section 5.1)
- *   body           further attributes of the check (stunp_ice_checker_check_body). By default none */
+ *   priority       the priority of the peer-reflexive candidate that the peer may learn from this
+ *                  check (section 7.1.1), from stunp_ice_priority
+ *   nominates      whether the check nominates its pair, if this agent has the controlling role
+ *   initial        how long to wait after the first transmission, in nanoseconds. Each further wait
+ *                  is twice the wait before (RFC 8489, section 6.2.1). By default 500000000 (500
+ *                  ms); section 14.3 asks for more if there are many pairs
+ *   longest        the longest of these waits, in nanoseconds. By default the waits have no bound
+ *   last           how long to wait after the last transmission, in nanoseconds. By default
+ *                  8000000000 (8 s)
+ *   transmissions  how often the check is sent, up to STUNP_ICE_TRANSMISSIONS_MAX times. By default
+ *                  7 times. For a check of consent, set this to 1 and `last` to 30 s (RFC 7675,
+ *                  section 5.1)
+ *   body           further attributes of the check (stunp_ice_checker_check_body). By default the
+ *                  check has no further attributes */
 typedef struct {
     size_t size;
     uint8_t id[12];
@@ -2124,11 +2320,12 @@ typedef struct {
     const stunp_body *body;
 } stunp_ice_new_check;
 
-/* A check that its answer has ended. The stunp_ice_received says how.
+/* A check that has ended because its answer arrived. The outcome is in the stunp_ice_received.
  *
  *   check    the check
- *   from     the address of this agent that it was sent from
- *   elapsed  the nanoseconds since it was started: the round trip, if it was sent once */
+ *   from     the address of this agent from which the check was sent
+ *   elapsed  the nanoseconds since the check was started, which is the round-trip time if it was
+ *            sent once */
 typedef struct {
     stunp_ice_check check;
     stunp_address from;
@@ -2137,13 +2334,13 @@ typedef struct {
 
 /* What to do next for the checks.
  *
- *   kind    STUNP_TRANSMIT: send the bytes. STUNP_ENDED: the check has timed out. STUNP_WAIT: nothing
- *           yet, and all other fields are 0 or null
- *   from    the address of this agent that the check is sent from
- *   check   the check, whose `to` is the address that it is sent to
- *   to      that address
- *   bytes   STUNP_TRANSMIT: the check, until the next call with these checks
- *   length  STUNP_TRANSMIT: how many bytes that are */
+ *   kind    STUNP_TRANSMIT: send the bytes. STUNP_ENDED: the check has timed out. STUNP_WAIT: there
+ *           is nothing to do yet, and all other fields are 0 or null
+ *   from    the address of this agent from which the check is sent
+ *   check   the check
+ *   to      the address to which the check is sent
+ *   bytes   STUNP_TRANSMIT: the bytes of the check, valid until the next call with these checks
+ *   length  STUNP_TRANSMIT: the number of bytes to send */
 typedef struct {
     stunp_event_kind kind;
     stunp_address from;
@@ -2153,40 +2350,44 @@ typedef struct {
     size_t length;
 } stunp_ice_event;
 
-/* Returns the checks of an agent, of which none is outstanding yet. `stored` is room for `count` of
- * them, and it and the agent must outlive the checks. A list has 100 pairs by default (section
- * 6.1.2.5), each with one check, or more if triggered checks replace some. */
+/* Returns a stunp_ice_checks for an agent, without outstanding checks. `stored` has room for
+ * `count` outstanding checks. The array `stored` and the agent must outlive the stunp_ice_checks.
+ * The checklists of an agent together have at most 100 pairs by default (section 6.1.2.5), each
+ * with one check, or with more if triggered checks replace earlier ones. */
 STUNP_NOT_NULL(1)
 STUNP_INLINED stunp_ice_checks stunp_ice_checks_on(stunp_ice_checker *checker,
                                                    stunp_ice_outstanding *stored, size_t count);
 
-/* Starts a check, which stunp_ice_checks_poll then sends.
+/* Starts a check. stunp_ice_checks_poll then returns it for you to send.
  *
  * Returns 0. Errors, after which nothing has changed:
  *   STUNP_BAD_ARGUMENT         `size` is wrong, `from` is not an IPv4 or IPv6 address, or
  *                              `transmissions` is above STUNP_ICE_TRANSMISSIONS_MAX
- *   STUNP_ALREADY_IN_PROGRESS  a check with this ID is outstanding: use a new random one
+ *   STUNP_ALREADY_IN_PROGRESS  a check with this ID is outstanding: use a new random ID
  *   STUNP_BUFFER_TOO_SMALL     `count` checks are outstanding, or the check has more than
  *                              STUNP_ICE_STORED_MAX bytes
- * and then those of stunp_ice_checker_check_body, such as STUNP_BAD_ARGUMENT if `to` is not an IPv4 or
- * IPv6 address, and STUNP_CANNOT_SIGN if the credentials of the peer are not known yet. */
+ * and then the errors of stunp_ice_checker_check_body, such as STUNP_BAD_ARGUMENT if `to` is not an
+ * IPv4 or IPv6 address, and STUNP_CANNOT_SIGN if the credentials of the peer are not known yet. */
 STUNP_NOT_NULL(1, 2)
 STUNP_INLINED int64_t stunp_ice_checks_start(stunp_ice_checks *checks,
                                              const stunp_ice_new_check *check, uint64_t now);
 
 /* Judges the datagram that arrived at the address `at` of this agent from the address `from`, like
- * stunp_ice_checker_receive, which is told the check that it may answer. Send the answer to a check
- * from `at` to `from`.
+ * stunp_ice_checker_receive, with the outstanding check that has the datagram's transaction ID. If
+ * the call returns STUNP_ANSWER, send the answer from the address `at` to the address `from`.
  *
- * The answer to a check must come from where the check went, to where it was sent from. Otherwise the
- * check fails with STUNP_ICE_OTHER_PATH (section 7.2.5.2.1), if the answer is signed by the peer. An
- * IPv4 address and the same address mapped into IPv6 count as one.
+ * The answer to a check must come from the address to which the check was sent, and arrive at the
+ * address from which the check was sent. If the peer's answer took another path, the check fails
+ * with STUNP_ICE_OTHER_PATH (section 7.2.5.2.1). An answer that is not signed by the peer is
+ * dropped, whichever path it took. An IPv4 address and the same address mapped into IPv6 count as
+ * one address.
  *
- * If it returns STUNP_IS_RESPONSE, a check has ended, and `*ended` is that check; otherwise `*ended` is
- * not written. `received` and `ended` may be null.
+ * If the call returns STUNP_IS_RESPONSE, a check has ended, and the call writes this check to
+ * `*ended`; otherwise `*ended` is not written. `received` and `ended` may be null.
  *
- * Returns and fails as stunp_ice_checker_receive does, with STUNP_BAD_ARGUMENT also if `at` is not an
- * IPv4 or IPv6 address. After an error, and if the datagram is dropped, each check goes on. */
+ * Returns and fails as stunp_ice_checker_receive does. It also fails with STUNP_BAD_ARGUMENT if
+ * `at` is not an IPv4 or IPv6 address. After an error, or if the datagram is dropped, all checks
+ * continue. */
 STUNP_USE_RESULT STUNP_NOT_NULL(1, 4, 5)
 STUNP_INLINED int64_t stunp_ice_checks_receive(stunp_ice_checks *checks,
                                                const uint8_t *STUNP_RESTRICT bytes, size_t length,
@@ -2195,64 +2396,70 @@ STUNP_INLINED int64_t stunp_ice_checks_receive(stunp_ice_checks *checks,
                                                size_t room, stunp_ice_received *received,
                                                stunp_ice_ended *ended);
 
-/* Finds the next thing to do, and writes it to `*event`. Call it after each start and when the time of
- * stunp_ice_checks_until has come, and repeat it until it returns STUNP_WAIT. Otherwise checks are not
- * sent, and you do not learn which have timed out.
+/* Finds out what to do next for the checks, and writes it to `*event`. Call it after each call of
+ * stunp_ice_checks_start and at the time that stunp_ice_checks_until returns, and repeat the call
+ * until it returns STUNP_WAIT. Otherwise checks are not sent, and you do not learn which checks
+ * have timed out.
  *
- * Returns `event->kind`: STUNP_WAIT, STUNP_TRANSMIT, or STUNP_ENDED for a check that has timed out. */
+ * Returns `event->kind`: STUNP_WAIT, STUNP_TRANSMIT, or STUNP_ENDED for a check that has timed
+ * out. */
 STUNP_USE_RESULT STUNP_NOT_NULL(1, 3)
 STUNP_INLINED stunp_event_kind stunp_ice_checks_poll(stunp_ice_checks *checks, uint64_t now,
                                                      stunp_ice_event *event);
 
-/* Returns the earlier of `until` and the time at which there is something to do for the checks:
- * UINT64_MAX if you pass that, and no check is outstanding. For the milliseconds of poll(): write it
- * to the `until` of a stunp_event for stunp_poll_timeout. */
+/* Returns the earlier of `until` and the time at which there is something to do for the checks. If
+ * no check is outstanding, returns `until`. To get the milliseconds for poll(), write the result to
+ * the field `until` of a stunp_event and call stunp_poll_timeout. */
 STUNP_USE_RESULT STUNP_NOT_NULL(1)
 STUNP_INLINED uint64_t stunp_ice_checks_until(const stunp_ice_checks *checks, uint64_t until);
 
-/* Returns the outstanding check with this ID, until the next call with these checks, or null if it has
- * ended or was never started. */
+/* Returns the outstanding check with this ID, or null if it has ended or was never started. The
+ * pointer is valid until the next call with these checks. */
 STUNP_USE_RESULT STUNP_NOT_NULL(1, 2)
 STUNP_INLINED const stunp_ice_check *stunp_ice_checks_find(const stunp_ice_checks *checks,
                                                            const uint8_t id[12]);
 
-/* Returns how many checks are outstanding. */
+/* Returns the number of outstanding checks. */
 STUNP_USE_RESULT STUNP_NOT_NULL(1)
 STUNP_INLINED size_t stunp_ice_checks_outstanding(const stunp_ice_checks *checks);
 
-/* Stops sending a check again, although its answer still ends it: for one that has become pointless,
- * as when a triggered check takes its place (section 7.3.1.4). Without an answer it times out when it
- * would have anyway. Returns false if no outstanding check has this ID. */
+/* Stops sending a check again, but its answer still ends the check. Call it for a check that is no
+ * longer needed, for example because a triggered check replaces it (section 7.3.1.4). If no answer
+ * arrives, the check still times out when it would have timed out before. Returns true, or false if
+ * no outstanding check has this ID. */
 STUNP_NOT_NULL(1, 2)
 STUNP_INLINED bool stunp_ice_checks_stop_sending(stunp_ice_checks *checks, const uint8_t id[12]);
 
-/* Ends a check, of which nothing more is returned: an answer to it is dropped. Returns false if no
- * outstanding check has this ID. */
+/* Cancels a check: stunp_ice_checks_poll does not return STUNP_ENDED for it, and an answer to it is
+ * dropped. Returns true, or false if no outstanding check has this ID. */
 STUNP_NOT_NULL(1, 2)
 STUNP_INLINED bool stunp_ice_checks_cancel(stunp_ice_checks *checks, const uint8_t id[12]);
 
 /* ---- Lines of candidates (RFC 8839, section 5.1)
  *
- *     // `line` is what the peer has sent, as "candidate:1 1 udp 2130706431 192.0.2.1 5000 typ host".
+ *     // `line` is from the peer, such as "candidate:1 1 udp 2130706431 192.0.2.1 5000 typ host".
  *     stunp_ice_candidate candidate;
  *     if (stunp_ice_candidate_read(&candidate, line, strlen(line)) == STUNP_ICE_LINE_READ)
  *         add_remote_candidate(&candidate.address, candidate.priority);
  *     // Otherwise skip the line: it may be over TCP, or have a name in place of an address.
  *
- * These calls are done in C: they are tested, and not proved. */
+ * These calls are written in C, so they are tested, but not proved. */
 
-/* A candidate over UDP. After stunp_ice_candidate_read its texts are parts of the line, which do not
+/* A candidate over UDP. After stunp_ice_candidate_read, its texts point into the line, and do not
  * end with a zero byte.
  *
- *   kind               how it was found
+ *   kind               how the candidate was found
  *   component          the number of the component, from 1 on
  *   has_related        whether the line has the related address
- *   priority           from 1 to 2147483647 (stunp_ice_priority)
- *   foundation         1 to 32 letters, digits, `+` and `/`, equal for candidates of one kind, base and
- *   foundation_length  server (section 5.1.1.3)
- *   extensions         pairs of words that end the line, such as `ufrag h6vY`, with a space between any
- *   extensions_length  two words (stunp_ice_candidate_extension). Null and 0 if there are none
- *   address            where the peer sends checks to
+ *   priority           the priority, from 1 to 2147483647 (stunp_ice_priority)
+ *   foundation         1 to 32 letters, digits, `+` and `/`, equal for candidates with the same
+ *                      kind, base and server (section 5.1.1.3)
+ *   foundation_length  the length of the foundation, in bytes
+ *   extensions         pairs of words at the end of the line, such as `ufrag h6vY`, with a space
+ *                      between any two words (stunp_ice_candidate_extension). Null if the candidate
+ *                      has no extensions
+ *   extensions_length  the length of the extensions, in bytes
+ *   address            the address to which the peer sends checks
  *   related            the base of a reflexive candidate, or the mapped address of a relayed one */
 typedef struct {
     stunp_ice_candidate_kind kind;
@@ -2267,44 +2474,49 @@ typedef struct {
     stunp_address related;
 } stunp_ice_candidate;
 
-/* Why a line is no candidate of use: the first of these that applies. */
+/* Why a line is not a usable candidate: the first of these reasons that applies. */
 typedef enum stunp_ice_line {
-    STUNP_ICE_LINE_READ = 0,          /* it is one */
-    STUNP_ICE_LINE_NO_CANDIDATE = 1,  /* it does not begin with `candidate:` and its eight words, or its
-                                       * foundation is none */
+    STUNP_ICE_LINE_READ = 0,          /* the line is a usable candidate */
+    STUNP_ICE_LINE_NO_CANDIDATE = 1,  /* the line does not begin with `candidate:` and the eight
+                                       * words of a candidate, or its foundation is malformed */
     STUNP_ICE_LINE_NOT_UDP = 2,       /* the transport is not UDP */
     STUNP_ICE_LINE_NO_COMPONENT = 3,  /* the component is not a number from 1 to 255 */
     STUNP_ICE_LINE_NO_PRIORITY = 4,   /* the priority is not a number from 1 to 2147483647 */
-    STUNP_ICE_LINE_NO_ADDRESS = 5,    /* the address is not an IP address with a port: it may be a name
-                                       * that ends with `.local`, by which browsers hide addresses */
+    STUNP_ICE_LINE_NO_ADDRESS = 5,    /* the address is not an IP address with a port: it may be a
+                                       * name that ends with `.local`, with which browsers hide
+                                       * addresses */
     STUNP_ICE_LINE_NO_KIND = 6        /* the type is not host, prflx, srflx or relay */
 } stunp_ice_line;
 
-/* Reads the value of an `a=candidate` line of SDP, with or without `a=` in front, which is what
- * browsers have in RTCIceCandidate.candidate. Words are separated by spaces or tabs, and may end with
- * CR and LF. A related address that is not an IP address with a port counts as none, and extensions
- * are kept, whatever their names are.
+/* Reads a candidate from the value of an `a=candidate` line of SDP, with or without `a=` in front.
+ * In browsers, RTCIceCandidate.candidate has this value. Words are separated by spaces or tabs, and
+ * the line may end with CR and LF. A related address that is not an IP address with a port is
+ * ignored. `*candidate` has all extensions, whatever their names are.
  *
- * Returns STUNP_ICE_LINE_READ, or why the line is no candidate; then `*candidate` is all 0. */
+ * Returns STUNP_ICE_LINE_READ, or the reason why the line is not a usable candidate. In that case
+ * all fields of `*candidate` are 0 or null. */
 STUNP_USE_RESULT STUNP_READS(2, 3) STUNP_NOT_NULL(1)
 STUNP_INLINED stunp_ice_line stunp_ice_candidate_read(stunp_ice_candidate *candidate,
                                                       const char *line, size_t length);
 
-/* Returns the value of the extension with this name, which ends with a zero byte, and writes its length
- * to `*length`; or null, if the candidate has none or it has no value. `ufrag` has the username
- * fragment of the agent that the candidate belongs to, which tells a candidate of a restarted session
- * from one of the session before (RFC 8840). */
+/* Returns the value of the extension with this name, and writes its length to `*length`. The name
+ * ends with a zero byte. If the candidate has no such extension, or the extension has no value,
+ * returns null and writes 0 to `*length`. The extension `ufrag` has the username fragment of the
+ * agent to which the candidate belongs, which distinguishes the candidates of a restarted session
+ * from those of the session before (RFC 8840). */
 STUNP_USE_RESULT STUNP_NOT_NULL(1, 2, 3)
 STUNP_INLINED const char *stunp_ice_candidate_extension(const stunp_ice_candidate *candidate,
                                                         const char *name, size_t *length);
 
-/* Writes the line of a candidate to the front of `out`, without `a=`, and a zero byte after it. 256
- * bytes are room enough without extensions, which are written as they are, and not tested.
+/* Writes the line of a candidate, without `a=`, to the front of `out`, and a zero byte after the
+ * line. A buffer of 256 bytes is enough for a line without extensions. The words of the extensions
+ * are written with one space between any two words, and are not tested otherwise.
  *
- * Returns the length without the zero byte. Errors, after which nothing was written:
- *   STUNP_BAD_ARGUMENT      the kind is none of stunp_ice_candidate_kind, the foundation is none, the
- *                           component or the priority is out of range, or `address`, or `related` if
- *                           it counts, is not an IPv4 or IPv6 address
+ * Returns the length of the line, without the zero byte. Errors, after which nothing is written:
+ *   STUNP_BAD_ARGUMENT      `kind` is not a stunp_ice_candidate_kind, the foundation is malformed,
+ *                           the component or the priority is out of range, `address` is not an IPv4
+ *                           or IPv6 address, or `has_related` is true and `related` is not an IPv4
+ *                           or IPv6 address
  *   STUNP_BUFFER_TOO_SMALL  the line and the zero byte do not fit into `room` bytes */
 STUNP_USE_RESULT STUNP_WRITES(2, 3) STUNP_NOT_NULL(1)
 STUNP_INLINED int64_t stunp_ice_candidate_write(const stunp_ice_candidate *candidate, char *out,
@@ -2313,60 +2525,66 @@ STUNP_INLINED int64_t stunp_ice_candidate_write(const stunp_ice_candidate *candi
 /* ---- Keepalives
  *
  * An allocation, a permission, a channel and the path through a NAT end unless something is sent in
- * time. A stunp_keepalive says when. It sends nothing, and is plain data. Times are nanoseconds of
- * the clock that you pass to a client.
+ * time. A stunp_keepalive has the time at which to send something. It sends nothing itself, and is
+ * plain data. Times are nanoseconds of the clock that you pass to a client.
  *
  *     // After a STUNP_ALLOCATE or STUNP_REFRESH request has succeeded with this lifetime:
  *     stunp_keepalive refresh = stunp_keepalive_before(lifetime, now);
- *     // In the loop: a request that ends the wait at the right time, and starts the next one.
+ *     // In the loop: sends a request when it is due, and shortens the wait so that the next one is
+ *     // in time.
  *     if (stunp_keepalive_is_due(&refresh, now))
  *         stunp_endpoint_client_request(&client, STUNP_REFRESH, &body, now, &request);
  *     event.until = stunp_keepalive_until(&refresh, event.until); // before stunp_poll_timeout */
 
-/* When something is to be sent again. You may read the fields, and set `next`.
+/* A timer for something that you send again and again. You may read the fields, and set `next`.
  *
- *   every  the time from one to the next, in nanoseconds; 0 of one that never is due
- *   next   when it is due, in nanoseconds of your clock; UINT64_MAX of one that never is due */
+ *   every  the nanoseconds from one keepalive to the next; 0 if no keepalive is ever due
+ *   next   when the next keepalive is due, in nanoseconds of your clock; UINT64_MAX if no keepalive
+ *          is ever due */
 typedef struct {
     uint64_t every;
     uint64_t next;
 } stunp_keepalive;
 
-/* Returns a keepalive that is due `every` nanoseconds from now on, and then again and again after
- * that time. 0 nanoseconds mean never.
+/* Returns a keepalive that is due `every` nanoseconds after `now`, and again `every` nanoseconds
+ * after each call of stunp_keepalive_is_due that returns true. If `every` is 0, the keepalive is
+ * never due.
  *
- * Values of the RFCs: 15 seconds for a pair of ICE (RFC 8445, section 11) and for other paths
- * through a NAT; 240 of the 300 seconds of a permission of TURN, and 540 of the 600 seconds of a
- * channel (RFC 8656, sections 9 and 12). */
+ * Use 15 seconds for a pair of ICE (RFC 8445, section 11) and for other paths through a NAT. Use
+ * 240 seconds for a permission of TURN, which lasts 300 seconds, and 540 seconds for a channel,
+ * which lasts 600 seconds (RFC 8656, sections 9 and 12). */
 STUNP_INLINED stunp_keepalive stunp_keepalive_every(uint64_t every, uint64_t now);
 
-/* Returns a keepalive for what lasts `lifetime` seconds from now on, such as an allocation of TURN:
- * it is due a minute before the end (RFC 8656, section 8), or after half of the lifetime if that is
- * less than two minutes. A lifetime of 0 means never. */
+/* Returns a keepalive for something that lasts `lifetime` seconds from `now` on, such as an
+ * allocation of TURN. The keepalive is due a minute before the lifetime ends (RFC 8656, section 8),
+ * or, if the lifetime is less than two minutes, after half of it. If `lifetime` is 0, the keepalive
+ * is never due. */
 STUNP_INLINED stunp_keepalive stunp_keepalive_before(uint64_t lifetime, uint64_t now);
 
-/* Returns whether a keepalive is due. If it is, sets the time at which it is due next: `every`
- * nanoseconds from now on, so one that was not looked at for long is due once. */
+/* Returns whether a keepalive is due. If it is due, the call also sets the time at which it is due
+ * next: `every` nanoseconds after `now`. So a keepalive that was not tested for a long time is due
+ * only once. */
 STUNP_USE_RESULT STUNP_NOT_NULL(1)
 STUNP_INLINED bool stunp_keepalive_is_due(stunp_keepalive *keepalive, uint64_t now);
 
-/* Returns the earlier of `until` and the time at which a keepalive is due: for how long to wait. */
+/* Returns the earlier of `until` and the time at which a keepalive is due. You may wait until the
+ * returned time. */
 STUNP_USE_RESULT STUNP_NOT_NULL(1)
 STUNP_INLINED uint64_t stunp_keepalive_until(const stunp_keepalive *keepalive, uint64_t until);
 
 /* ---- Versions */
 
-/* Returns the version of the archive. It equals STUNP_VERSION if header and archive come from the
- * same release. Never fails. */
+/* Returns the version of the archive, which equals STUNP_VERSION if the header and the archive come
+ * from the same release. Never fails. */
 int64_t stunp_endpoint_version(void);
 
-/* Returns the version of the archive too, but under a name that changes with each release that
- * breaks compatibility, like stunp_release_0_2 of stunp.h: if you define STUNP_CHECK_RELEASE, a
- * program that was compiled for another release does not link. */
-int64_t stunp_endpoint_release_0_2(void);
+/* Returns the version of the archive like stunp_endpoint_version, but under a name that changes
+ * with each release that breaks compatibility. As with stunp_release_0_3 of stunp.h, if you define
+ * STUNP_CHECK_RELEASE, a program that was compiled for another release does not link. */
+int64_t stunp_endpoint_release_0_3(void);
 #if defined __GNUC__ && defined STUNP_CHECK_RELEASE
 static int64_t (*const stunp_endpoint_release_wanted)(void) __attribute__((used)) =
-    stunp_endpoint_release_0_2;
+    stunp_endpoint_release_0_3;
 #endif
 
 #if STUNP_INLINE_CALLS

@@ -1,19 +1,19 @@
-/* stunp_endpoint_inline.h: the bodies of the calls of stunp_endpoint.h that are done in C, over
- * those of the library. stunp_endpoint.h includes it if they are compiled into the program
- * (STUNP_INLINE_CALLS of stunp.h). Do not include it yourself. */
+/* stunp_endpoint_inline.h: the bodies of the calls of stunp_endpoint.h that are written in C and
+ * use the other calls of the library. stunp_endpoint.h includes this file if the bodies are
+ * compiled into the program (STUNP_INLINE_CALLS of stunp.h). Do not include it yourself. */
 #ifndef STUNP_ENDPOINT_INLINE_H
 #define STUNP_ENDPOINT_INLINE_H
 
-/* Whether a struct that begins with its size has one that a release of this line had: it ends with
- * the field `last` of 0.2.0, or later. Fields that a later release adds begin where the struct
- * ended, and are 0 in a struct that ends before them. */
+/* Returns whether `size` can be the size of a struct in a compatible release: it includes the field
+ * `last`, with which the struct ends in 0.3.0, and is at most the size in this release. A release
+ * adds fields only at the end. Fields that the caller's struct does not have count as 0. */
 #define STUNP_HAS_SIZE(type, last, size)                                     \
     ((size) >= offsetof(type, last) + sizeof ((type *)0)->last               \
      && (size) <= sizeof(type) && (size) % sizeof(size_t) == 0)
 
-/* Returns where a call writes its result: to the caller's struct, or to `whole`, which has the size
- * of this release, if the caller's is null or ends earlier (`is_earlier`). Only then is `whole`
- * written, because it is hundreds of bytes. */
+/* Returns the struct to which a call writes its result: the caller's struct, or `whole`, which has
+ * the size of this release, if the caller's struct is null or ends earlier (`is_earlier`). If
+ * `whole` is not needed, it is not cleared, because clearing hundreds of bytes takes time. */
 static inline void *stunp_result_place(void *theirs, bool is_earlier, void *whole, size_t size) {
     size_t given = 0;
     if (theirs != NULL && !is_earlier) return theirs;
@@ -26,7 +26,8 @@ static inline void *stunp_result_place(void *theirs, bool is_earlier, void *whol
     return whole;
 }
 
-/* Copies a result that was written to `whole` to the caller's struct, as far as that goes. */
+/* Copies the result in `written` to the caller's struct, up to the end of that struct. Does nothing
+ * if the caller's struct is null or already has the result. */
 static inline void stunp_result_back(void *theirs, const void *written) {
     size_t given;
     if (theirs == NULL || theirs == written) return;
@@ -35,7 +36,7 @@ static inline void stunp_result_back(void *theirs, const void *written) {
            given - sizeof given);
 }
 
-/* Whether the caller's struct ends earlier than that of this release. */
+/* Returns whether the caller's struct ends earlier than the struct of this release. */
 #define STUNP_IS_EARLIER(type, last, theirs)                                 \
     ((theirs) != NULL && (theirs)->size < sizeof(type)                       \
      && STUNP_HAS_SIZE(type, last, (theirs)->size))
@@ -86,8 +87,8 @@ STUNP_INLINED void stunp_endpoint_users_free(stunp_endpoint_users *users) {
     if (users != NULL) stunp_endpoint_users_clear(users);
 }
 
-/* Returns whether a user was found: a name, with a password or with a key. Copies the caller's struct
- * to one that has the size of this release. */
+/* Copies the caller's struct to `all`, which has the size of this release. Returns whether it has a
+ * user: a name, and a password that is not empty or, without a password, a key. */
 static inline bool stunp_is_found(const stunp_found_user *found, stunp_found_user *all) {
     if (!STUNP_HAS_SIZE(stunp_found_user, sha256_key, found->size)) return false;
     memcpy(all, found, found->size);
@@ -270,7 +271,7 @@ stunp_endpoint_server_resume(const stunp_endpoint_server *server, const stunp_fo
         if (into == &whole) stunp_reply_wipe(&whole.reply);
         if (found_kind != STUNP_WRONG_HANDLE) return found_kind;
     }
-    /* For nobody, and for other credentials, it takes a table. */
+    /* A table is needed if there is no user, or if the server has no long-term credentials. */
     stunp_endpoint_users users = {false, NULL};
     int64_t kind = stunp_endpoint_users_new_found(&users, server, found);
     if (kind >= 0)
@@ -494,6 +495,17 @@ STUNP_INLINED int64_t stunp_endpoint_client_request(stunp_endpoint_client *clien
                                               request == NULL ? &unread : request);
 }
 
+STUNP_INLINED int64_t stunp_endpoint_client_request_as(stunp_endpoint_client *client,
+                                                       uint32_t method, const stunp_body *body,
+                                                       const stunp_request_options *options,
+                                                       uint64_t now, uint64_t *request) {
+    uint64_t unread;
+    if (body != NULL && body->refusal < 0) return body->refusal;
+    return stunp_endpoint_client_request_as_with(
+        client, method, body == NULL ? NULL : body->bytes, body == NULL ? 0 : body->length, options,
+        now, request == NULL ? &unread : request);
+}
+
 STUNP_INLINED int64_t stunp_endpoint_client_receive(stunp_endpoint_client *client,
                                                     const uint8_t *bytes, size_t length,
                                                     const stunp_address *from, uint64_t now,
@@ -509,7 +521,7 @@ STUNP_INLINED int64_t stunp_endpoint_client_poll(stunp_endpoint_client *client, 
                                                  uint8_t *out, size_t room, stunp_event *event) {
     stunp_event whole = STUNP_INIT(stunp_event);
     stunp_event *into = (stunp_event *)stunp_result_place(
-        event, STUNP_IS_EARLIER(stunp_event, dropped, event), &whole, sizeof whole);
+        event, STUNP_IS_EARLIER(stunp_event, round_trip, event), &whole, sizeof whole);
     int64_t kind = stunp_endpoint_client_poll_with(client, now, out, room, into);
     stunp_result_back(event, into);
     return kind;

@@ -1,7 +1,7 @@
-/* stunp_ice_inline.h: the bodies of the calls of stunp_endpoint.h on the checks of ICE with further
- * attributes and with their timers, and on lines of candidates. They are done in C, over those on an
- * agent. stunp_endpoint.h includes it if they are compiled into the program (STUNP_INLINE_CALLS of
- * stunp.h). Do not include it yourself. */
+/* stunp_ice_inline.h: the bodies of the calls of stunp_endpoint.h for ICE checks with further
+ * attributes, for the timers of checks, and for lines of candidates. They are written in C and use
+ * the calls of an agent. stunp_endpoint.h includes this file if the bodies are compiled into the
+ * program (STUNP_INLINE_CALLS of stunp.h). Do not include it yourself. */
 #ifndef STUNP_ICE_INLINE_H
 #define STUNP_ICE_INLINE_H
 
@@ -26,8 +26,8 @@ static inline bool stunp_ice_is_address(const stunp_address *address) {
     return address->length == 4 || address->length == 16;
 }
 
-/* Returns the octets of an address, and sets whether they are 16: those of an IPv4 address that is
- * mapped into IPv6 are the last four. */
+/* Returns the octets of an address, and sets `*is_long` to whether there are 16 octets. For an IPv4
+ * address that is mapped into IPv6, returns the last four octets. */
 static inline const uint8_t *stunp_ice_octets(const stunp_address *address, bool *is_long) {
     const uint8_t mapped[12] = {0, 0, 0, 0, 0, 0, 0, 0, 0, 0, 0xff, 0xff};
     *is_long = address->length == 16 && memcmp(address->octets, mapped, sizeof mapped) != 0;
@@ -64,7 +64,7 @@ static inline stunp_ice_outstanding *stunp_ice_stored(const stunp_ice_checks *ch
     return NULL;
 }
 
-/* Returns the check that is sent or times out next, or null if none is outstanding. */
+/* Returns the check that is sent or times out next, or null if no check is outstanding. */
 static inline stunp_ice_outstanding *stunp_ice_next(const stunp_ice_checks *checks) {
     stunp_ice_outstanding *next = NULL;
     for (size_t i = 0; i < checks->count; i++)
@@ -85,7 +85,7 @@ STUNP_INLINED int64_t stunp_ice_checks_start(stunp_ice_checks *checks,
                                              const stunp_ice_new_check *check, uint64_t now) {
     const uint64_t millisecond = 1000000;
     stunp_ice_new_check all = STUNP_INIT(stunp_ice_new_check);
-    if (!STUNP_HAS_SIZE(stunp_ice_new_check, transmissions, check->size)) return STUNP_BAD_ARGUMENT;
+    if (!STUNP_HAS_SIZE(stunp_ice_new_check, body, check->size)) return STUNP_BAD_ARGUMENT;
     memcpy(&all, check, check->size);
     if (!stunp_ice_is_address(&all.from) || all.transmissions > STUNP_ICE_TRANSMISSIONS_MAX)
         return STUNP_BAD_ARGUMENT;
@@ -116,15 +116,16 @@ STUNP_INLINED int64_t stunp_ice_checks_receive(stunp_ice_checks *checks,
                                                uint64_t now, uint8_t *STUNP_RESTRICT out,
                                                size_t room, stunp_ice_received *received,
                                                stunp_ice_ended *ended) {
-    /* Responses have the higher bit of the class (RFC 8489, section 5). */
+    /* The higher bit of the class is 1 in responses (RFC 8489, section 5). */
     bool is_response = length >= STUNP_HEADER_LENGTH && (bytes[0] & 1) != 0;
     stunp_ice_outstanding *stored = is_response ? stunp_ice_stored(checks, bytes + 8) : NULL;
     stunp_address source = *from;
     if (!stunp_ice_is_address(at)) {
-        source.length = 0; /* which the agent refuses */
+        source.length = 0; /* an address that the agent refuses */
     } else if (stored != NULL && stunp_ice_is_address(from)
                && !stunp_ice_is_same(&stored->from, at)) {
-        /* It is judged as one from another address than the check was sent to. */
+        /* The answer did not arrive at the address from which the check was sent. It is judged like
+         * an answer that did not come from the address to which the check was sent. */
         source = stored->check.to;
         source.port ^= 0xffff;
     }
@@ -211,7 +212,7 @@ static inline bool stunp_ice_is_word(stunp_ice_word word, const char *text) {
     return word.length == strlen(text) && memcmp(word.at, text, word.length) == 0;
 }
 
-/* Takes the next word off the front of a line. It has no bytes at the end of the line. */
+/* Takes the next word off the front of a line. At the end of the line the word is empty. */
 static inline stunp_ice_word stunp_ice_take(stunp_ice_word *line) {
     stunp_ice_word word = {line->at, 0};
     size_t at = 0;
@@ -236,7 +237,8 @@ static inline bool stunp_ice_number(stunp_ice_word word, uint32_t most, uint32_t
     return word.length > 0;
 }
 
-/* Reads four numbers with points between them, none with a zero in front. */
+/* Reads an IPv4 address: four numbers with dots between them. Only the number 0 itself may begin
+ * with a zero. */
 static inline bool stunp_ice_ipv4(stunp_ice_word word, uint8_t *octets) {
     for (size_t i = 0; i < 4; i++) {
         stunp_ice_word part = {word.at, 0};
@@ -253,7 +255,7 @@ static inline bool stunp_ice_ipv4(stunp_ice_word word, uint8_t *octets) {
     return false;
 }
 
-/* Reads one to four hexadecimal digits. */
+/* Reads a group of an IPv6 address: one to four hexadecimal digits. */
 static inline bool stunp_ice_group(stunp_ice_word word, uint8_t *octets) {
     uint32_t value = 0;
     if (word.length == 0 || word.length > 4) return false;
@@ -266,8 +268,8 @@ static inline bool stunp_ice_group(stunp_ice_word word, uint8_t *octets) {
     return true;
 }
 
-/* Reads eight groups with colons between them, of which the last two may be an IPv4 address, and one
- * run of zeros may be `::` (RFC 4291, section 2.2). */
+/* Reads an IPv6 address: eight groups with colons between them. The last two groups may be an IPv4
+ * address, and one run of zeros may be `::` (RFC 4291, section 2.2). */
 static inline bool stunp_ice_ipv6(stunp_ice_word word, uint8_t *octets) {
     uint8_t read[16];
     size_t count = 0, gap = 16, at = 0;
@@ -343,7 +345,7 @@ static inline bool stunp_ice_is_foundation(const char *text, size_t length) {
     return true;
 }
 
-/* Takes `raddr IP rport PORT` off the front of a line, if it is there. */
+/* Takes `raddr IP rport PORT` off the front of a line, if the line begins with it. */
 static inline void stunp_ice_take_related(stunp_ice_word *line, stunp_ice_candidate *candidate) {
     stunp_ice_word rest = *line;
     stunp_ice_word words[4];
@@ -402,7 +404,7 @@ STUNP_INLINED const char *stunp_ice_candidate_extension(const stunp_ice_candidat
     return NULL;
 }
 
-/* A line that is written: how long it is, also past the room. */
+/* A line that is being written. `length` also counts the bytes that do not fit into `out`. */
 typedef struct {
     char *out;
     size_t room;
@@ -431,7 +433,7 @@ static inline void stunp_ice_put_ipv4(stunp_ice_text *text, const uint8_t *octet
     }
 }
 
-/* Writes an IPv6 address as RFC 5952 has it. */
+/* Writes an IPv6 address in the form of RFC 5952. */
 static inline void stunp_ice_put_ipv6(stunp_ice_text *text, const uint8_t *octets) {
     const uint8_t mapped[12] = {0, 0, 0, 0, 0, 0, 0, 0, 0, 0, 0xff, 0xff};
     size_t gap = 8, most = 1;
@@ -440,7 +442,7 @@ static inline void stunp_ice_put_ipv6(stunp_ice_text *text, const uint8_t *octet
         stunp_ice_put_ipv4(text, octets + sizeof mapped);
         return;
     }
-    /* The first of the longest runs of zeros, if it has two groups or more. */
+    /* Finds the first of the longest runs of zero groups, if this run has two groups or more. */
     for (size_t i = 0, run = 0; i < 8; i++) {
         run = octets[2 * i] == 0 && octets[2 * i + 1] == 0 ? run + 1 : 0;
         if (run > most) most = run, gap = i + 1 - run;
@@ -453,7 +455,7 @@ static inline void stunp_ice_put_ipv6(stunp_ice_text *text, const uint8_t *octet
     }
 }
 
-/* Writes ` IP` and what stands between it and the port, and the port. */
+/* Writes the IP address, then the text `between`, and then the port. */
 static inline void stunp_ice_put_address(stunp_ice_text *text, const stunp_address *address,
                                          const char *between) {
     if (address->length == 4) stunp_ice_put_ipv4(text, address->octets);
@@ -471,7 +473,8 @@ STUNP_INLINED int64_t stunp_ice_candidate_write(const stunp_ice_candidate *candi
         || !stunp_ice_is_foundation(candidate->foundation, candidate->foundation_length))
         return STUNP_BAD_ARGUMENT;
     stunp_ice_text text = {out, room, 0};
-    /* Twice: nothing is written of a line that does not fit. */
+    /* The first pass only measures the line, because nothing may be written if the line does not
+     * fit. */
     for (int pass = 0; pass < 2; pass++) {
         text.room = pass == 0 ? 0 : room, text.length = 0;
         stunp_ice_put(&text, "candidate:", 10);
@@ -488,9 +491,12 @@ STUNP_INLINED int64_t stunp_ice_candidate_write(const stunp_ice_candidate *candi
             stunp_ice_put(&text, " raddr ", 7);
             stunp_ice_put_address(&text, &candidate->related, " rport ");
         }
-        if (candidate->extensions_length > 0) {
+        /* Writes the extensions word by word, so that a line break between two words of the
+         * extensions does not get into the line. */
+        stunp_ice_word rest = {candidate->extensions, candidate->extensions_length}, word;
+        while ((word = stunp_ice_take(&rest)).length > 0) {
             stunp_ice_put(&text, " ", 1);
-            stunp_ice_put(&text, candidate->extensions, candidate->extensions_length);
+            stunp_ice_put(&text, word.at, word.length);
         }
         if (text.length >= room) return STUNP_BUFFER_TOO_SMALL;
     }

@@ -1,6 +1,6 @@
-/* stunp_inline.h: the bodies of the calls of stunp.h that are done in C, over those of the library.
- * stunp.h includes it if they are compiled into the program (STUNP_INLINE_CALLS there). Do not
- * include it yourself. */
+/* stunp_inline.h: the bodies of the calls of stunp.h that are written in C and use the other calls
+ * of the library. stunp.h includes this file if the bodies are compiled into the program
+ * (STUNP_INLINE_CALLS of stunp.h). Do not include it yourself. */
 #ifndef STUNP_INLINE_H
 #define STUNP_INLINE_H
 

@@ -1,6 +1,7 @@
 /* stunp_log.h: a datagram in one line of text, for logs
  *
- * Optional, and inline: beside the calls of stunp.h it needs vsnprintf. C99 and C++.
+ * This header is optional, and its calls are inline. In addition to the calls of stunp.h they need
+ * vsnprintf, and C99 or C++.
  *
  *     char line[STUNP_LINE_MAX];
  *     fprintf(stderr, "%s\n", stunp_describe(bytes, length, line, sizeof line));
@@ -10,8 +11,8 @@
  *     Binding success b7e7a701bc34d686fa87dfae: SOFTWARE "test vector", XOR-MAPPED-ADDRESS
  *     192.0.2.1:32853, MESSAGE-INTEGRITY (20), FINGERPRINT (4)
  *
- * in one line. The text is for people, and may change with each release. It has user names, but
- * neither nonces nor the bytes of a signature. Whoever sends a datagram chooses its texts, so bytes
+ * in one line. The text is for people, and may change with each release. It contains user names,
+ * but no nonces and no bytes of a signature. The sender of a datagram chooses its texts, so bytes
  * that are not printable ASCII are replaced by `?`, and the line has no line break. */
 #ifndef STUNP_LOG_H
 #define STUNP_LOG_H
@@ -24,7 +25,7 @@
 extern "C" {
 #endif
 
-/* The length of a buffer that has room for the line of each usual message. */
+/* The length of a buffer that has room for the line of a usual message. */
 enum { STUNP_LINE_MAX = 1024 };
 
 /* Returns the name of an attribute, such as "XOR-MAPPED-ADDRESS", or null if this release has no
@@ -93,8 +94,8 @@ static inline const char *stunp_method_name(uint32_t method) {
     }
 }
 
-/* A line that is being written: what does not fit is left out. For the calls of this file alone,
- * like those whose names begin with stunp_line. */
+/* A line that is being written. Text that does not fit is left out. Only the calls of this file use
+ * this struct and the functions whose names begin with stunp_line. */
 struct stunp_line {
     char *text;
     size_t room, length;
@@ -137,7 +138,8 @@ static inline void stunp_line_add_address(struct stunp_line *line, const uint8_t
 static inline void stunp_line_add_value(struct stunp_line *line, const uint8_t *message,
                                         size_t length, size_t place, uint16_t type,
                                         const uint8_t *value, size_t value_length) {
-    /* The value, of a type of which it tells a reader something, or else its length. */
+    /* Adds the value if people can read values of this type, and otherwise the length of the
+     * value. */
     uint8_t octets[16];
     uint64_t number = 0;
     uint16_t port = 0;
@@ -179,10 +181,11 @@ static inline void stunp_line_add_value(struct stunp_line *line, const uint8_t *
     else stunp_line_add(line, " (%u)", (unsigned)value_length);
 }
 
-/* Writes a line of text about a datagram to the front of `out`, with a zero byte at its end: the
- * method, the class, the transaction id and the visible attributes of a message, with their values
- * or the length of these in brackets; the channel and the length of ChannelData of TURN; or why it
- * is neither. A line that does not fit is cut.
+/* Writes a line of text about a datagram to the front of `out`, with a zero byte at its end. For a
+ * message, the line has the method, the class, the transaction ID and the visible attributes, each
+ * with its value or, in parentheses, the length of the value. For ChannelData of TURN, the line has
+ * the number of the channel and the length of the data. For any other datagram, the line says why
+ * the datagram is not a message. A line that does not fit is cut.
  *
  * Returns `out`, or an empty text if `room` is 0. */
 STUNP_READS(1, 2) STUNP_NOT_NULL(3)

@@ -1,14 +1,15 @@
-/* stunp_sockaddr.h: addresses of sockets as those of this library, and back
+/* stunp_sockaddr.h: converts socket addresses to stunp_address, and back
  *
- * Optional, and inline: it needs no archive. POSIX, C99 and C++.
+ * This header is optional. Its calls are inline, so they need no archive. It needs POSIX, and C99
+ * or C++.
  *
  *     struct sockaddr_storage name;
  *     socklen_t name_length = sizeof name;
  *     ssize_t length = recvfrom(fd, bytes, sizeof bytes, 0, (struct sockaddr *)&name, &name_length);
  *     stunp_address from = stunp_address_of((struct sockaddr *)&name, name_length);
  *
- * To answer, pass `name` to sendto as it came: an IPv6 address may have a scope (the interface of a
- * link-local address), which a stunp_address does not have. */
+ * To answer, pass `name` to sendto unchanged, because an IPv6 address may have a scope (the
+ * interface of a link-local address), which a stunp_address does not have. */
 #ifndef STUNP_SOCKADDR_H
 #define STUNP_SOCKADDR_H
 
@@ -21,11 +22,12 @@
 extern "C" {
 #endif
 
-/* Returns the address of a socket address of `length` bytes. An IPv4 address that is mapped into
- * IPv6 (::ffff:a.b.c.d), as a socket of both families has it, is IPv4. Flow label and scope are left
- * out. If it is neither IPv4 nor IPv6, or shorter than such an address, the result has length 0.
- * Test for it: most calls then fail with STUNP_BAD_ARGUMENT, but stunp_agent_new_with takes a `remote`
- * of length 0 as the permission to send to any address. */
+/* Converts a socket address of `length` bytes. An IPv4 address that is mapped into IPv6
+ * (::ffff:a.b.c.d), as a socket for both families returns it, becomes an IPv4 address. The flow
+ * label and the scope are left out. If the socket address is neither IPv4 nor IPv6, or is too
+ * short, the result has length 0. Test for this: most calls fail with STUNP_BAD_ARGUMENT for such
+ * an address, but stunp_agent_new_with with a `remote` of length 0 makes an agent that may send to
+ * any address. */
 static inline stunp_address stunp_address_of(const struct sockaddr *name, socklen_t length) {
     stunp_address address = {{0}, 0, 0};
     struct sockaddr_in four;
@@ -45,12 +47,12 @@ static inline stunp_address stunp_address_of(const struct sockaddr *name, sockle
     return address;
 }
 
-/* Writes an address as a socket address, for a socket of the family AF_INET or AF_INET6, or for one of
- * its own family if `family` is AF_UNSPEC. For AF_INET6 an IPv4 address is mapped into IPv6. Flow
- * label and scope are 0.
+/* Writes an address to `*name` as a socket address, for a socket of the family `family`: AF_INET,
+ * AF_INET6, or AF_UNSPEC for the family of the address itself. For AF_INET6, an IPv4 address is
+ * mapped into IPv6. The flow label and the scope are 0.
  *
- * Returns the length of the socket address; or 0, and writes nothing, if the address is neither IPv4
- * nor IPv6, or is not of this family. */
+ * Returns the length of the socket address. If the address is neither IPv4 nor IPv6, or cannot be
+ * written for this family, returns 0 and writes nothing. */
 static inline socklen_t stunp_sockaddr_of(const stunp_address *address, int family,
                                           struct sockaddr_storage *name) {
     struct sockaddr_in four;

@@ -1,6 +1,6 @@
-/* stunp_state_inline.h: the bodies of the calls of stunp_state.h that are done in C, over those of
- * the library. stunp_state.h includes it if they are compiled into the program (STUNP_INLINE_CALLS
- * of stunp.h). Do not include it yourself. */
+/* stunp_state_inline.h: the bodies of the calls of stunp_state.h that are written in C and use the
+ * other calls of the library. stunp_state.h includes this file if the bodies are compiled into the
+ * program (STUNP_INLINE_CALLS of stunp.h). Do not include it yourself. */
 #ifndef STUNP_STATE_INLINE_H
 #define STUNP_STATE_INLINE_H
 

@@ -10,6 +10,7 @@ import spelling
 import stun
 from endpoint_messages import *
 from spelling import Words
+from wording import span_text
 
 ALTERNATE_SERVER, ALTERNATE_DOMAIN = 0x8023, 0x8003
 PEER = 0x0012
@@ -43,11 +44,26 @@ class Message:
     def __init__(self, identity, signed_for, octets):
         self.identity, self.signed_for, self.octets = identity, signed_for, octets
         self.is_doubted = False
+        # When it was sent, and how often it became the current one.
+        self.sent, self.begun = [], 0
+
+    def round_trip(self, now):
+        """The time to a response now. Of a message that was sent again nobody knows which transmission
+        is answered (RFC 6298, section 3), and so it is of one that the request has gone back to."""
+        return now - self.sent[0] if len(self.sent) == self.begun == 1 else None
+
+
+class Options:
+    """How a request is sent that is not sent as its client says, and the address that answers it."""
+
+    def __init__(self):
+        self.is_signed, self.waits, self.source = True, None, None
 
 
 class Request:
-    def __init__(self, number, method, body):
+    def __init__(self, number, method, body, options):
         self.number, self.method, self.body = number, method, body
+        self.options = options
         # The messages in the order in which they were sent first, the one that is sent again, the waits
         # that are left of that one, and when the first of them ends.
         self.messages, self.current = [], None
@@ -135,10 +151,11 @@ class ClientStage:
             raise Words("no settings")
         elif name == "build":
             return self.build(words[0])
-        elif name in ("request", "hears", "polls", "cancel", "dropped", "outstanding"):
+        elif name in ("options", "request", "hears", "polls", "round-trip", "cancel", "dropped",
+                      "outstanding"):
             if self.built is None:
                 raise Words("no client")
-            return getattr(self, name)(*words)
+            return getattr(self, name.replace("-", "_"))(*words)
         else:
             self.set(name, words)
         return None
@@ -188,8 +205,11 @@ class ClientStage:
         self.built, self.seed = settings, spelling.drawn(seed)
         self.next_id, self.next_number = 0, 1
         # The outstanding requests, what is not sent yet of them, and how others have ended, by the
-        # number of the request.
+        # number of the request. The round trip of the end that was told last.
         self.requests, self.unsent, self.ended = {}, {}, {}
+        self.trip = None
+        # How the next request is sent.
+        self.next_options = Options()
         # The challenge that new requests are signed for, whether a success has confirmed it, and
         # the one before that was confirmed.
         self.current, self.is_confirmed, self.confirmed = None, False, None
@@ -202,20 +222,35 @@ class ClientStage:
         number, self.next_id = self.next_id, self.next_id + 1
         return hmac.new(self.seed, struct.pack(">Q", number), hashlib.sha1).digest()[:12]
 
+    def options(self, name, *words):
+        """Of the next request."""
+        if name == "unsigned":
+            self.next_options.is_signed = False
+        elif name == "retransmission":
+            first, longest, sends, last = words
+            self.next_options.waits = (spelling.nanos(first), spelling.nanos(longest),
+                                       spelling.number(sends), spelling.nanos(last))
+        elif name == "from":
+            self.next_options.source = spelling.address(words[0])
+        else:
+            raise Words(name)
+
     def request(self, method, *words):
+        options = self.next_options
         body, carrier = [], self.stage.message(["request", *words])
         for kind, _, value in spelling.attributes_of(carrier):
             # XOR-PEER-ADDRESS is written anew for each ID.
             if kind in RESERVED and kind != PEER:
                 return "NotAllowed"
             body.append((kind, value))
-        request = Request(self.next_number, int(method, 16), body)
+        request = Request(self.next_number, int(method, 16), body, options)
         # After the first plan nothing is sent.
-        request.until = self.stage.now + sum(self.waits())
-        message = self.new_message(request, self.current)
+        request.until = self.stage.now + sum(self.waits(request))
+        message = self.new_message(request, self.current if options.is_signed else None)
         if message is None:
             return "TooLarge"
         self.next_number += 1
+        self.next_options = Options()
         self.requests[request.number] = request
         self.begin(request, message)
         return f"request {request.number}"
@@ -234,15 +269,16 @@ class ClientStage:
     def begin(self, request, message):
         """This message is the current one now. Its plan begins."""
         request.current, message.is_doubted = message, False
-        request.waits = self.waits()
+        message.begun += 1
+        request.waits = self.waits(request)
         request.at = self.stage.now + request.waits[0]
         request.note_sending()
         self.unsent[request.number] = message.octets
 
-    def waits(self):
+    def waits(self, request):
         """How long a request waits after each of its transmissions (section 6.2.1). Over a stream it
         is sent once, and waits as long as all that together (section 6.2.2)."""
-        first, longest, sends, last = self.built.waits
+        first, longest, sends, last = request.options.waits or self.built.waits
         waits = [min(first << i, longest) for i in range(sends - 1)] + [last]
         return [sum(waits)] if self.built.is_stream else waits
 
@@ -255,7 +291,7 @@ class ClientStage:
         if self.built.software is not None:
             attributes.append((stun.SOFTWARE, self.built.software))
         key = algorithm = None
-        if self.built.kind == "short":
+        if self.kind_of(request) == "short":
             attributes.append((stun.USERNAME, self.built.name.encode()))
             key, algorithm = self.built.password.encode(), self.built.algorithm
         elif challenge is not None:
@@ -268,6 +304,10 @@ class ClientStage:
         message = stun.message(kind, attributes, identity)
         message = stun.signed(message, algorithm, key) if key is not None else message
         return stun.fingerprinted(message) if self.built.has_fingerprint else message
+
+    def kind_of(self, request):
+        """The kind of credentials that a request has."""
+        return self.built.kind if request.options.is_signed else None
 
     def peer(self, value, identity):
         """The words of a body spell the address for ID 1."""
@@ -305,14 +345,15 @@ class ClientStage:
                 return self.hand_out(request, request.current.octets)
         if self.ended:
             number = min(self.ended)
-            return f"{number} {self.ended.pop(number)}"
+            how, self.trip = self.ended.pop(number)
+            return f"{number} {how}"
         for request in self.by_identity():
             if request.at <= self.stage.now:
                 return self.time_out(request)
         if not self.requests:
             return "wait"
         until = min(request.at for request in self.requests.values())
-        return f"wait {until // 10**6}ms" if until % 10**6 == 0 else f"wait {until}ns"
+        return f"wait {span_text(until)}"
 
     def by_identity(self):
         return sorted(self.requests.values(), key=lambda request: request.current.identity)
@@ -321,20 +362,26 @@ class ClientStage:
         if self.stage.now > request.until:
             return self.time_out(request)
         request.note_sending()
+        request.current.sent.append(self.stage.now)
         return "sends " + told(octets)
 
     def time_out(self, request):
         self.step_back([message.signed_for for message in request.messages])
         self.take(request)
+        self.trip = None
         return f"{request.number} timed out, {self.drops_of(request)} dropped"
 
     def take(self, request):
         del self.requests[request.number]
         self.unsent.pop(request.number, None)
 
-    def end(self, request, how):
+    def end(self, request, how, trip=None):
         self.take(request)
-        self.ended[request.number] = how
+        self.ended[request.number] = how, trip
+
+    def round_trip(self):
+        """Of the response that ended the request whose end was told last."""
+        return "none" if self.trip is None else span_text(self.trip)
 
     def asked(self, word):
         """The outstanding request with this number, or None."""
@@ -364,16 +411,19 @@ class ClientStage:
 
     def hears(self, *words):
         message = self.stage.message(words)
-        if not is_message(message)[0] or not is_same(self.stage.source, self.built.server):
+        if not is_message(message)[0]:
             return "not ours"
         kind, identity = int.from_bytes(message[:2], "big"), message[8:20]
         if not kind & 0x110:
             return "not ours"
         if not kind & 0x100:
-            return "indication"
+            is_ours = is_same(self.stage.source, self.built.server)
+            return "indication" if is_ours else "not ours"
         method = (kind & 0xF) | (kind & 0xE0) >> 1 | (kind & 0x3E00) >> 2
         request, answered = self.answered(identity)
         if request is None or request.method != method:
+            return "not ours"
+        if not is_same(self.stage.source, request.options.source or self.built.server):
             return "not ours"
         judged = self.judged(request, answered, message)
         if isinstance(judged, Doubted):
@@ -389,7 +439,9 @@ class ClientStage:
         if isinstance(judged, Believed):
             if not kind & 0x10:
                 self.confirm(answered.signed_for)
-            self.end(request, self.result(message, judged.algorithm))
+            is_current = answered is request.current
+            trip = answered.round_trip(self.stage.now) if is_current else None
+            self.end(request, self.result(message, judged.algorithm), trip)
         return "consumed"
 
     def answered(self, identity):
@@ -405,9 +457,10 @@ class ClientStage:
         fault = fingerprint_fault(response, built.requires_fingerprint)
         if fault:
             return Dropped(fault)
-        if built.kind is None:
+        kind = self.kind_of(request)
+        if kind is None:
             return Believed(None)
-        if built.kind == "short":
+        if kind == "short":
             algorithm = verified(response, built.password.encode())
             return Believed(algorithm) if algorithm == built.algorithm else Dropped("NotVerified")
         code = code_in(response) if response[1] & 0x10 else None
@@ -502,7 +555,7 @@ class ClientStage:
         return None
 
     def doubted(self, request, why):
-        """An error without a signature throws doubt on the current message: another one takes its
+        """An error without a signature casts doubt on the current message: another one takes its
         place, if there is one."""
         is_over = self.stage.now > request.until or request.turns >= self.built.most
         if is_over or request.doubts >= DOUBTS:

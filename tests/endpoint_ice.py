@@ -1,4 +1,4 @@
-"""A model of an agent of ICE, as far as its checks are concerned (RFC 8445, sections 7.2 and 7.3).
+"""A model of an ICE agent, as far as its checks are concerned (RFC 8445, sections 7.2 and 7.3).
 It is written as endpoint_model.py says."""
 
 import struct

@@ -164,6 +164,7 @@ def taken_out(top, name):
 LOW = """//! A crate.
 pub trait Drawn {
     fn drawn(&self) -> bool;
+    fn erased(&self) -> bool;
 }
 pub struct Low;
 impl Low {
@@ -190,24 +191,44 @@ impl Drawn for Low {
     {
         true
     }
+    fn erased(&self) -> bool
+        ensures so { result ≡ True }
+    {
+        true
+    }
+}
+impl PartialEq for Low {
+    fn eq(&self, that: &Low) -> bool
+        ensures so { result ≡ True }
+    {
+        true
+    }
 }
 """
 
 
 def decides(top):
-    """What decides of an edit: its file, and of the crates below what that names, what the
-    contracts of this name, and what is a trait's, without bodies and comments."""
+    """What decides of an edit: its file, and of the crates below what that or the edit names, what
+    the contracts of this name, and what is of a trait of another library, without bodies and
+    comments, and without who can see it."""
     import shown
     shown.TOP = top
+    high = "pub(crate) fn high(low: &Low) -> bool {\n    low.used() && low.drawn()\n}\n"
     write(top / "crates/low/src/lib.rt", LOW)
-    write(top / "crates/high/src/lib.rt", "pub fn high(low: &Low) -> bool {\n    low.used()\n}\n")
+    write(top / "crates/high/src/lib.rt", high)
     write(top / "crates/high/src/other.rt", "pub fn other(low: &Low) -> bool {\n    low.unused()\n}\n")
-    text = "\n".join(shown.decides("high", ["low"], {"src/lib.rt"}))
+    text = "\n".join(shown.decides("high", ["low"], {"src/lib.rt"}, "new: high"))
     expect("a function decides if the file names it, or something that does decides",
-           all(f"fn {name}(" in text for name in ("high", "used", "named", "drawn"))
+           all(f"fn {name}(" in text for name in ("high", "used", "named", "drawn", "eq"))
            and "low.used()" in text, [text])
-    expect("nothing decides that the file does not read",
-           not any(word in text for word in ("other", "unused", "{\n        true", "comment")), [text])
+    expect("nothing decides that the file does not read", not any(
+        word in text for word in ("fn other", "unused", "erased", "{\n        true", "comment")),
+        [text])
+    expect("a function decides if the edit names it", "fn unused(" in "\n".join(
+        shown.decides("high", ["low"], {"src/lib.rt"}, "new: low.unused()")), [text])
+    write(top / "crates/high/src/lib.rt", high.replace("pub(crate)", "pub"))
+    expect("who can see an item does not decide",
+           text == "\n".join(shown.decides("high", ["low"], {"src/lib.rt"}, "new: high")), [text])
 
 
 def main():

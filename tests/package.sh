@@ -1,9 +1,9 @@
 #!/bin/sh
 # Makes a trial package for Debian from the sources of a release, as a distribution would: in a bare
 # Debian without network, with nothing but what the package says that it needs to be built. The
-# crates of others are Debian's, and the sources have no vendor/. The build runs the tests in C and
-# the transcripts. Then lintian looks at the packages, apt installs them, autopkgtest runs the test
-# of what is installed, and a program that was built against the library runs with a later one.
+# third-party crates are Debian's, and the sources have no vendor/. The build runs the tests in C
+# and the transcripts. Then lintian looks at the packages, apt installs them, autopkgtest runs the
+# test of what is installed, and a program that was built against the library runs with a later one.
 #
 #     tests/package.sh [STUNP-VERSION-source.tar.gz]     without it, that of `make dist` is made
 #

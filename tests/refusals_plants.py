@@ -15,10 +15,11 @@ TURN = ("stun_client_calls/src/endpoint/acting.rt",
         "        let Some(spot) = self.spot(number, place) else {\n"
         "            return self.drop_for(number, DropReason::OutOfMemory, message);\n")
 ANSWERED = ("stun_client_calls/src/endpoint/acting.rt",
-            "        let end = RequestEnd::Answered(Outcome::of(message, &self.understood), by);\n")
+            "        let end = End {\n"
+            "            end: RequestEnd::Answered(Outcome::of(message, &self.understood), by),\n")
 SEND = ("stun_agent/src/calls/send.rt", "        let id = self.id_to_ask(bytes, to)?;\n")
 BEGIN = ("stun_client_calls/src/endpoint/requesting.rt",
-         "        let bytes = self.first_message(method, free.id, &body)?;\n")
+         "        let bytes = self.first_message(method, free.id, &body, options)?;\n")
 FORGO = "        return self.drop_for(number, DropReason::OutOfMemory, message);\n"
 ADD = ("stun_client_endpoint/src/body.rt", "        if !self.has_room(value.len()) {\n")
 KEY = ("stun_base/src/keys/credentials.rt",

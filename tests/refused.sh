@@ -91,8 +91,8 @@ links() {
 }
 if [ -n "${STUN_C-}" ]; then
     links
-    links -Dstunp_release_0_2=stunp_release_0_1
-    wants stunp_release_0_1 links -Dstunp_release_0_2=stunp_release_0_1 -DSTUNP_CHECK_RELEASE
+    links -Dstunp_release_0_3=stunp_release_0_1
+    wants stunp_release_0_1 links -Dstunp_release_0_3=stunp_release_0_1 -DSTUNP_CHECK_RELEASE
 fi
 
 # The same of stunp_state.h: a transport is no feature.
@@ -114,9 +114,9 @@ keeps() {
 }
 if [ -n "${STUN_C-}" ] && [ -n "${STUN_STATE-}" ]; then
     keeps
-    keeps -Dstunp_state_release_0_2=stunp_state_release_0_1
+    keeps -Dstunp_state_release_0_3=stunp_state_release_0_1
     wants stunp_state_release_0_1 \
-        keeps -Dstunp_state_release_0_2=stunp_state_release_0_1 -DSTUNP_CHECK_RELEASE
+        keeps -Dstunp_state_release_0_3=stunp_state_release_0_1 -DSTUNP_CHECK_RELEASE
 fi
 
 # The same of stunp_endpoint.h.
@@ -135,8 +135,8 @@ shares() {
 }
 if [ -n "${STUN_C-}" ] && [ -n "${STUN_STATE-}" ]; then
     shares
-    shares -Dstunp_endpoint_release_0_2=stunp_endpoint_release_0_1
+    shares -Dstunp_endpoint_release_0_3=stunp_endpoint_release_0_1
     wants stunp_endpoint_release_0_1 \
-        shares -Dstunp_endpoint_release_0_2=stunp_endpoint_release_0_1 -DSTUNP_CHECK_RELEASE
+        shares -Dstunp_endpoint_release_0_3=stunp_endpoint_release_0_1 -DSTUNP_CHECK_RELEASE
 fi
 echo 'refused: passed'

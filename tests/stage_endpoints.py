@@ -1,4 +1,4 @@
-"""What a server of the endpoint, its look-ups, an agent of ICE and a client are played on: the calls
+"""What a server of the endpoint, its look-ups, an ICE agent and a client are played on: the calls
 of the archives for C that stunp_endpoint.h declares. stage.py has the rest."""
 
 import struct
@@ -25,13 +25,16 @@ ROLES = ("controlled", "controlling")
 # How a look-up says that it found nobody.
 NOBODY = (0, b"", b"", b"", b"")
 # What stunp_event and stunp_dropped are.
-EVENT = struct.Struct("@N2I2Q2NI2H3I")
+EVENT = struct.Struct("@N2I2Q2NI2H3IQ")
 DROPPED = struct.Struct("@3I")
 # The settings of a client, in the order of play.c, by their defaults.
 CLIENT = {"server": None, "seed": b"", "name": b"", "password": b"", "software": b"", "types": b"",
           "initial": 0, "longest": 0, "transmissions": 0, "last": 0, "challenges": 0,
           "credentials": 0, "algorithms": 0, "hashes": 0, "stream": 0, "unsigned": 0,
           "fingerprint": 0, "requires": 0}
+# How a request is sent, in the order of play.c: as its client says.
+REQUEST = {"from": ":0", "initial": 0, "longest": 0, "transmissions": 0, "last": 0,
+           "unsigned": 0}
 CLIENT_FEATURES = {"auto": 0, "required": 1, "disabled": 2}
 CLIENT_ALGORITHMS = {"sha1": 1, "sha256": 2}
 # How a request ended, without what follows.
@@ -93,7 +96,7 @@ class Endpoints:
             self.waiting = None
         return told
 
-    # ---- An agent of ICE.
+    # ---- An ICE agent.
 
     def endpoint_ice(self, what, *words):
         if what not in ("new", "offer") and not self.has_agent:
@@ -255,9 +258,23 @@ class Endpoints:
         if answer < 0:
             return REFUSALS[answer]
         self.requests, self.forgone = [], {}
+        self.options, self.trip = dict(REQUEST), None
         return ""
 
     # What it does.
+
+    def client_that_options(self, name, *words):
+        if name == "unsigned":
+            self.options["unsigned"] = 1
+        elif name == "from":
+            self.options["from"] = wide(address(words[0]))
+        else:
+            initial, longest, transmissions, last = words
+            self.options.update(initial=nanos(initial), longest=nanos(longest),
+                                transmissions=number(transmissions), last=nanos(last))
+
+    def client_that_round_trip(self):
+        return "none" if self.trip is None else span_text(self.trip)
 
     def client_that_request(self, method, *words):
         """The addresses of XOR-PEER-ADDRESS are passed to C as they are, and not XORed."""
@@ -267,9 +284,11 @@ class Endpoints:
                 mask = bytes(2) + COOKIE[:2] + carrier[4:20]
                 value = bytes(one ^ other for one, other in zip(value, mask))
             body += stun.attribute(kind, value)
-        answer, outputs = self.ask("endpoint-client-request", int(method, 16), body, self.now)
+        answer, outputs = self.ask("endpoint-client-request", int(method, 16), body,
+                                   *self.options.values(), self.now)
         if answer < 0:
             return REFUSALS[answer]
+        self.options = dict(REQUEST)
         self.requests.append(native(outputs[0]))
         return f"request {len(self.requests)}"
 
@@ -319,11 +338,12 @@ class Endpoints:
     def client_that_polls(self):
         kind, outputs = self.ask("endpoint-client-poll", self.now, 1 << 16)
         (_, _, result, request, until, _, _, code, not_understood, signed_by,
-         *drops) = EVENT.unpack_from(outputs[-1])
+         *drops, trip) = EVENT.unpack_from(outputs[-1])
         if kind == 0:
             return "wait" if until == FOREVER else f"wait {span_text(until)}"
         if kind == 1:
             return self.spelled_behind("sends ", outputs[0])
+        self.trip = None if trip == FOREVER else trip
         place = self.requests.index(request) + 1
         signer = VERDICTS.get(signed_by, "unsigned")
         return {

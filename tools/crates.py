@@ -85,19 +85,18 @@ def end():
     LEFT.write_text(json.dumps(left))
 
 
-def are_left(crate):
-    """Whether all libraries below the crate are those that `rt ci` left, of the files as they
-    are."""
-    if not LEFT.is_file():
+def is_left(crate):
+    """Whether the library of a crate is the one that `rt ci` left, of the files as they are."""
+    file = library(crate) / "format"
+    if not LEFT.is_file() or not file.is_file():
         return False
-    left = json.loads(LEFT.read_text())
-    for name in below(crate):
-        file = library(name) / "format"
-        if not file.is_file():
-            return False
-        if left.get(name) != [sum_of(name), hashlib.sha256(file.read_bytes()).hexdigest()]:
-            return False
-    return True
+    noted = json.loads(LEFT.read_text()).get(crate)
+    return noted == [sum_of(crate), hashlib.sha256(file.read_bytes()).hexdigest()]
+
+
+def are_left(crate):
+    """Whether all libraries below a crate are those that `rt ci` left."""
+    return LEFT.is_file() and all(map(is_left, below(crate)))
 
 
 def kit():
@@ -131,22 +130,27 @@ def root_of(crate):
     return f"src/{'main' if is_program else 'lib'}.rt"
 
 
-def over_sources(crate, *more):
+def over_sources(crate, *more, kept=()):
     """The command that checks the crate in its folder over the sources of the crates below it, which
-    needs nothing that was built. Of these it proves what the crate's functions call."""
-    at, found = kit(), below(crate)
-    of_kit = {name: None for one in (*found, crate) for name in ("std", "core", *lines()[one][1])
-              if name not in lines()}
+    needs nothing that was built. Of these it proves what the crate's functions call. Crates in
+    `kept`, with all below them, are taken as the libraries that `rt ci` left."""
+    at = kit()
+    found = [name for name in below(crate) if name not in kept]
+    named = {name: None for one in (*found, crate) for name in ("std", "core", *lines()[one][1])}
     words = [f"{at}/bin/rattle", "check", "--crate-name", crate, root_of(crate)]
-    for name in of_kit:
-        words += ["--extern", f"{name}={at}/rlibs/{name}.rlib"]
+    for name in named:
+        if name in kept or name not in lines():
+            place = library(name) if name in kept else f"{at}/rlibs/{name}.rlib"
+            words += ["--extern", f"{name}={place}"]
     words += ["-L", f"dependency={at}/rlibs"]
+    for name in kept:
+        words += ["-L", f"dependency={library(name).parent}"]
     for name in found:
-        named = ",".join(dict.fromkeys(("core", "std", *lines()[name][1])))
-        words += ["--lib", f"{name}:{named}={TOP}/crates/{name}/{root_of(name)}"]
+        uses_of = ",".join(dict.fromkeys(("core", "std", *lines()[name][1])))
+        words += ["--lib", f"{name}:{uses_of}={TOP}/crates/{name}/{root_of(name)}"]
     words += ["--antt-project", f"{at}/rattle/logic/antt-project.json",
               "--logic-built", f"{at}/logic_built"]
-    for name in (crate, *(found if root_of(crate) == "src/main.rt" else ())):
+    for name in (crate, *(below(crate) if root_of(crate) == "src/main.rt" else ())):
         words += ["--links", f"{name}="]
     return [*words, *more]
 

@@ -33,7 +33,7 @@ PASSED = {
     "Received": "stunp_received", "Reply": "stunp_reply",
     "IceReceived": "stunp_ice_received", "IceCheck": "stunp_ice_check",
     "&[u8; 12]": "const uint8_t *", "Event": "stunp_event", "Dropped": "stunp_dropped",
-    "ClientOptions": "stunp_client_options",
+    "ClientOptions": "stunp_client_options", "RequestOptions": "stunp_request_options",
 }
 # The enum of a number by its name in Rattle and Rust.
 ENUMS = {"class": "stunp_message_class", "message_class": "stunp_message_class",
@@ -206,7 +206,7 @@ MAY_IGNORE = re.compile(
     r"stunp_((agent|server|client|user)_(new(_with|_of_keys)?|set_\w+|add_user|remove_\w+|"
     r"forget\w*|cancel\w*|configure|statistics|validated_peer|send)|read_header|id|error_text|"
     r"endpoint_(server_new_(with|short_term|open)|users_(new_own|add(_keys)?|remove)|"
-    r"client_(new_with|request_with|cancel))|"
+    r"client_(new_with|request_with|request_as_with|cancel))|"
     r"ice_checker_(new_with|offer_with|set_peer_with|set_role|set_tie_breaker)|"
     r"(state_|endpoint_)?(version|release_\w+))")
 
@@ -241,8 +241,8 @@ def attributes_of_header(text):
 def structs_of_rust(text, enums):
     fields = re.compile(r"(\w+): \[?(\w+)((?:; \d+\])?)")
     structs = re.compile(r"repr\(C\)\][^;{]*?struct (Address|Cursor|Header|Timeouts|Statistics|"
-                         r"Received|Reply|IceCheck|IceReceived|Event|Dropped|ClientOptions) "
-                         r"\{(.*?)\}", re.DOTALL)
+                         r"Received|Reply|IceCheck|IceReceived|Event|Dropped|ClientOptions|"
+                         r"RequestOptions) \{(.*?)\}", re.DOTALL)
     return {PASSED[name]: [(FIELDS.get((name, field)) or in_c(kind, field, "", enums)[0],
                             field + size) for field, kind, size in fields.findall(body)]
             for name, body in structs.findall(text)}

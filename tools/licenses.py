@@ -51,7 +51,7 @@ def of_the_toolchain():
 
 
 def of_cargo(folder):
-    """The crates of others that cargo takes for the exported workspace, with their terms."""
+    """The third-party crates that cargo takes for the exported workspace, with their terms."""
     ran = subprocess.run(["cargo", "metadata", "--format-version=1", "--features", FEATURES],
                          cwd=folder, capture_output=True, text=True)
     if ran.returncode != 0:

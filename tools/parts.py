@@ -43,6 +43,7 @@ HEADERS = (*(f"include/{name}.h" for name in ("stunp", "stunp_endpoint", "stunp_
                                               "stunp_state_inline")), "examples/c")
 PARTS = {
     # What needs no proof.
+    "layout": (), "export-look": (),
     "rooms": (), "printed": (), "clauses": (), "names": (), "lines": (), "links": (), "version": (),
     "licenses": (), "trusted": (), "exports": (), "refusals": (),
     "refusals-plants": ("tools/refusals.py", "tools/refusals.txt", "tests/refusals_plants.py"),
@@ -53,8 +54,8 @@ PARTS = {
     "suite-plants": (),
     "least": (*EXPORT, "rust/src", "rust/capi/src", "tests/export/least.sh",
               "tests/export/debian_rust.sh"),
-    "exporter-plants": ("tools/export", *(f"tests/export/{name}.py" for name in
-                                          ("export_plants", "export_test", "same_tokens"))),
+    "exporter-plants": ("tools/export", *(f"tests/export/{name}.py" for name in (
+        "export_plants", "export_test", "same_derives", "same_tokens"))),
     "kit-plants": ("rust/src/kit", "tests/export/export_plants.py"),
     # The proofs, and what they built.
     "proofs": (), "libraries": (), "programs": (), "edits": (), "archives": C_CRATES,

@@ -4,7 +4,7 @@
     tools/release.py OUT [LOG]       OUT/stunp-VERSION and OUT/stunp-VERSION.tar.gz; LOG is what the
                                      gate printed at this commit (target/gate.log of .ci/run); and
     tools/release.py --source OUT    OUT/stunp-VERSION-source.tar.gz: the files of this repository,
-                                     and in vendor/ the crates of others, so that `make lib` needs
+                                     and in vendor/ the third-party crates, so that `make lib` needs
                                      cargo, Python, a C compiler and no network
     tools/release.py --verify OUT    the sums; what is made again from this repository is the same,
                                      or each file that differs; it installs and runs on a clean root

@@ -5,8 +5,10 @@ body wrong.
 What is shown of sources is types, constants, traits, functions with their contracts and without
 their bodies, and the impls of traits, of the crates below what is `pub`; of the definitions the
 modules that these name, and those that such a module names. Comments are left out, and so is a
-function that is no trait's and whose name stands neither in those files nor in anything that is
-shown to them: they cannot call it, so a new one changes nothing for those that do not use it.
+function whose name stands neither in those files or the edit nor in anything that is shown to them:
+they cannot call it, so a new one changes nothing for those that do not use it. Only a function of a
+trait that is not declared here stays, because Rust may call it by an operator or a loop. How far an
+item of the same crate can be seen is left out too.
 """
 import functools
 import re
@@ -35,7 +37,8 @@ NAMED = re.compile(r"(?:(?:pub|abbrev|unfoldable|record|data) )+(?P<name>[^\s({:
 CONSTRUCTOR = re.compile(r"(?m)^\s+(?:pub\s+)?([^\s:|]+)\s*(?::|\()")
 BARE = re.compile(r"(?m)^(?:impl\b(?![^{]*\bfor\b)[^{]*\{|\})$")
 TRAIT = re.compile(r"(?m)^pub trait\b[^{]*\{")
-OF_TRAIT = re.compile(r"^impl(?:<[^{]*?>)?\s+[^{]*?\bfor\b")
+OF_TRAIT = re.compile(r"^(?:unsafe )?impl(?:<[^{]*?>)?\s+(?P<trait>[\w:]+)[^{]*?\bfor\b")
+SEEN = re.compile(r"(?m)^( *)pub(?:\([^)]*\))? (?!use\b)")
 HIDDEN = re.compile(r"(?m)^(?:#\[.*\]\n)*(?:pub\([^)]*\) )?"
                     r"(?:struct|enum|trait|const|static|type|mod|use|unsafe impl)\b[^;{]*[;{]")
 # Attributes that no proof reads, and those that no proof above reads.
@@ -85,6 +88,18 @@ def hidden_types(crate):
     declared = [found for path in (TOP / "crates" / crate / "src").rglob("*.rt")
                 for found in DECLARED.findall(path.read_text())]
     return {name for seen, name in declared} - {name for seen, name in declared if seen == "pub "}
+
+
+@functools.lru_cache(None)
+def own_traits():
+    """The traits that the repository declares."""
+    return {name for path in (TOP / "crates").glob("*/src/**/*.rt")
+            for name in re.findall(r"(?m)^(?:pub(?:\([^)]*\))? )?trait (\w+)", path.read_text())}
+
+
+def unseen(text):
+    """A text without the words that say how far an item can be seen."""
+    return SEEN.sub(r"\1", text)
 
 
 def without(text, ranges):
@@ -156,12 +171,12 @@ def names_of(text):
 
 
 def of_functions(text, names):
-    """An item that is shown, in pieces: each function in it that is no trait's, by its name beside
-    those of the item, and the rest, by the names of the item."""
+    """An item that is shown, in pieces: each function in it, by its name beside those of the item,
+    and the rest, by the names of the item. Functions of traits of other libraries stay with it."""
     masked, pieces, at = mask(text), [], 0
-    of_traits = [(one.start(), closing(masked, one.end() - 1))
-                 for one in [*IMPL.finditer(masked), *TRAIT.finditer(masked)]
-                 if not one[0].startswith(("impl", "unsafe")) or OF_TRAIT.match(one[0])]
+    of_traits = [(one.start(), closing(masked, one.end() - 1)) for one in IMPL.finditer(masked)
+                 if (found := OF_TRAIT.match(one[0]))
+                 and found["trait"].split("::")[-1] not in own_traits()]
     for found in FUNCTION.finditer(masked):
         if any(first < found.start() < last for first, last in of_traits):
             continue
@@ -264,10 +279,10 @@ def law_at(crate, path):
     return [piece[1] for piece in found], {named for named, by in imports if by & words}
 
 
-def decides(crate, below, paths, law=None):
+def decides(crate, below, paths, edit, law=None):
     """What decides whether an edit of these files of a crate is wrong: their code, the contracts of
-    the functions that it calls, in the crate and below, and the definitions that these name. If the
-    edit names a law (its crate, its path, and the crates below), then also the contract of the law
+    the functions that it and the edit call, in the crate and below, and the definitions that these
+    name. If the edit names a law (its crate, its path, and the crates below), then also the contract of the law
     and what that names. Bodies in other files are left out, and so are proofs: none of them makes a
     wrong body right."""
     folder, known = TOP / "crates" / crate, {crate, *below}
@@ -279,7 +294,7 @@ def decides(crate, below, paths, law=None):
         texts, modules = texts + of_law[0], modules | of_law[1]
         known |= {law[0], *law[2]}
     files += [file for name in sorted(known - {crate}) for file in sources(name).values()]
-    return texts + read_with(texts, modules, files, known)
+    return [unseen(text) for text in texts + read_with([*texts, edit], modules, files, known)]
 
 
 @functools.lru_cache(None)

@@ -32,7 +32,7 @@ import tempfile
 TOP = os.path.normpath(os.path.join(os.path.dirname(os.path.abspath(__file__)), ".."))
 # Blocks that are run by name: each stands after a paragraph of a page that ends with these words.
 SHOWN = {"rt": ("CONTRIBUTING.md", "not proved yet:"), "rust": ("docs/TOOL.md", "section 2.1."),
-         "c": ("README.md", "authenticators of both sides."),
+         "c": ("README.md", "servers and clients."),
          "c++": ("examples/README.md", "and the archives:")}
 
 

@@ -26,7 +26,7 @@ HEADLINE += [("Rattle.stun_proto.specs." + file, name) for file, name in
              (("Replies", "message_read"), ("Serving", "replies"), ("Run", "IsDriven"))]
 ENDPOINTS = {
     "A server of datagrams: `endpoint::Server` and its like": ("stun_endpoint",),
-    "A client: `endpoint::Client`": ("stun_client_endpoint",),
+    "A client: `endpoint::Client`": ("stun_client_calls",),
     "A check of ICE: `endpoint::ice`": ("stun_ice",),
     "The calls for C": ("stun_c", "stun_state", "stun_c_endpoint"),
 }

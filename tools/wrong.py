@@ -24,7 +24,8 @@ An edit is a line `file: src/..`, and then pairs of lines `old: TEXT` and `new: 
 module of the edit alone is checked (`rattle check --only`), over the libraries that `rt ci` left,
 or else over those that `rt lib` builds. Of a crate with one or two edits to try it is checked over
 the sources of the crates below (tools/only.py), which is slower and needs no libraries. If that is
-still proved the whole crate is checked, over libraries. --show as the first word prints what the
+still proved the whole crate is checked, over libraries. What the prover has checked for an edit it
+does not check again for the next one of the same worker. --show as the first word prints what the
 prover said.
 
 An edit may change a body together with its definition. Its first line is `law: CRATE::PATH`, which
@@ -35,6 +36,7 @@ import collections
 import concurrent.futures
 import functools
 import hashlib
+import itertools
 import os
 import random
 import re
@@ -56,6 +58,9 @@ HEAD = "# Of each edit: the sum of what it was last tried against, and refused.\
 MORE = 5
 LAW = re.compile(r"law: (\w+)::(\S+)\n")
 BUILDING, BUILT = threading.Lock(), set()
+# What the prover has checked of a crate, it does not check again for the next edit of it. Each
+# worker has a folder of its own, for a run.
+KEPT, WORKER = crates.TOP / "target/wrong", threading.local()
 
 
 def edits_of(crate):
@@ -82,7 +87,7 @@ def line_of(edit):
     paths = {line[len("file: "):].strip() for line in text.splitlines() if line.startswith("file: ")}
     of = {crate, law[1]} if law else {crate}
     read = [crates.lines()[one] for one in sorted(of)]
-    decides = shown.decides(crate, crates.below(crate), paths,
+    decides = shown.decides(crate, crates.below(crate), paths, text,
                             (law[1], law[2], crates.below(law[1])) if law else None)
     return f"{name_of(edit)} {hashlib.sha256(repr([text, read, decides]).encode()).hexdigest()[:32]}"
 
@@ -186,9 +191,15 @@ def names_at(text, path, at):
 
 def check(crate, texts, is_over_sources, *more, of=None):
     """Checks a copy of the crate with these texts in place of its own, or over that copy the crate
-    `of` above it."""
+    `of` above it. The libraries that `rt ci` left are taken, but for those that the copy is in."""
+    kept_in = KEPT / str(os.getpid()) / getattr(WORKER, "name", "0") / (of or crate)
+    kept_in.mkdir(parents=True, exist_ok=True)
+    more = ("--jobs", "1", *more, "--incremental", str(kept_in))
     if of or is_over_sources:
-        command = crates.over_sources(of or crate, "--jobs", "1", *more)
+        top = of or crate
+        kept = [name for name in crates.below(top) if crates.is_left(name)
+                and name != crate and crate not in crates.below(name)]
+        command = crates.over_sources(top, *more, kept=kept)
     else:
         build_below(crate)
         command = crates.rattle("check", crate, *more)
@@ -279,10 +290,18 @@ def workers():
 
 
 def sweep():
-    """Removes the copies of runs that were killed."""
+    """Removes the copies of runs that were killed, and what such runs kept."""
     for path in Path(tempfile.gettempdir()).glob("wrong-*-*"):
         if not Path("/proc", path.name.split("-")[1]).exists():
             shutil.rmtree(path, ignore_errors=True)
+    for path in KEPT.glob("*"):
+        if not Path("/proc", path.name).exists():
+            shutil.rmtree(path, ignore_errors=True)
+
+
+def named_worker(names=itertools.count()):
+    """Gives a worker its name."""
+    WORKER.name = str(next(names))
 
 
 def tried(edits, is_shown=False):
@@ -292,7 +311,7 @@ def tried(edits, is_shown=False):
     counts = collections.Counter(edit.parent.name for edit in edits)
     # To prove all crates below takes longer than one or two edits over sources.
     bare = {crate for crate, count in counts.items() if count < 3 and not crates.are_left(crate)}
-    with concurrent.futures.ThreadPoolExecutor(workers()) as pool:
+    with concurrent.futures.ThreadPoolExecutor(workers(), initializer=named_worker) as pool:
         made = {pool.submit(verdict, edit.parent.name, edit, edit.parent.name in bare, is_shown):
                 edit for edit in edits}
         for done in concurrent.futures.as_completed(made):

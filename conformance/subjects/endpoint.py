@@ -40,7 +40,8 @@ class Event(ctypes.Structure):
     _fields_ = [("size", c_size_t), ("kind", c_uint32), ("result", c_uint32),
                 ("request", c_uint64), ("until", c_uint64), ("length", c_size_t),
                 ("needed", c_size_t), ("code", c_uint32), ("not_understood", c_uint16),
-                ("signed_by", c_uint16), ("dropped", c_uint32 * 3)]
+                ("signed_by", c_uint16), ("dropped", c_uint32 * 3),
+                ("round_trip", c_uint64)]
 
 
 class Check(ctypes.Structure):

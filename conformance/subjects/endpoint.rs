@@ -333,7 +333,7 @@ fn time(word: &str) -> Result<Instant, Box<dyn Error>> {
     Ok(Instant::ZERO + Duration::from_nanos(word.parse()?))
 }
 
-/// An agent of ICE, and its last check.
+/// An ICE agent, and its last check.
 struct Agent {
     checker: Checker,
     check: Option<Check>,

@@ -1,12 +1,12 @@
-/* asker.h over a client of stunp_endpoint.h. */
+/* Implements asker.h with a client of stunp_endpoint.h. */
 #define _GNU_SOURCE
 #include "asker.h"
 #include <stdio.h>
 #include <string.h>
 #include <unistd.h>
 
-/* SOURCE-ADDRESS and CHANGED-ADDRESS of RFC 3489, and BANDWIDTH of a draft of TURN: RFC 8489 reserves
- * them, older servers send them, and a client may ignore them. */
+/* SOURCE-ADDRESS and CHANGED-ADDRESS of RFC 3489, and BANDWIDTH of a draft of TURN. RFC 8489
+ * reserves these types. Older servers send them, and a client may ignore them. */
 static const uint16_t older[] = {0x0004, 0x0005, 0x0010};
 
 static bool fails(struct asker *asker, const char *what, const char *why) {
@@ -35,7 +35,8 @@ void close_asker(struct asker *asker) {
     if (asker->socket >= 0) close(asker->socket);
 }
 
-/* Nothing arrived that could be accepted: what was dropped may tell an operator why. */
+/* Describes a request for which no acceptable response arrived, and what was dropped for it, which
+ * may show an operator the cause. */
 static bool no_answer(struct asker *asker, const stunp_dropped *dropped, int error) {
     char *why = asker->why;
     size_t room = sizeof asker->why;
@@ -48,7 +49,7 @@ static bool no_answer(struct asker *asker, const stunp_dropped *dropped, int err
     return false;
 }
 
-/* Says how a request ended. */
+/* Returns whether a request succeeded, and otherwise describes how it ended. */
 static bool is_success(struct asker *asker, const stunp_event *event) {
     char code[24];
     snprintf(code, sizeof code, "%u", (unsigned)event->code);
@@ -61,8 +62,8 @@ static bool is_success(struct asker *asker, const stunp_event *event) {
     }
 }
 
-/* Waits for a datagram, and passes it to the client. Returns an error of the socket after which none
- * will come, or 0. */
+/* Waits for a datagram, and passes it to the client. Returns an error of the socket after which no
+ * datagram will arrive, or 0. */
 static int wait_for_response(struct asker *asker, uint64_t until) {
     static struct datagram got;
     enum arrival came = wait_until(asker->socket, until < asker->give_up ? until : asker->give_up);
@@ -72,7 +73,7 @@ static int wait_for_response(struct asker *asker, uint64_t until) {
     return came == ERROR_REPORT ? hard_error(asker->socket) : 0;
 }
 
-/* Ends the request, because the time is over or the socket has this error. */
+/* Ends the request, because the time is over or because the socket has the error `error`. */
 static bool give_up(struct asker *asker, uint64_t request, int error) {
     stunp_dropped dropped = {0, 0, 0};
     if (stunp_endpoint_client_dropped(&asker->client, request, &dropped) == 1)
@@ -81,9 +82,16 @@ static bool give_up(struct asker *asker, uint64_t request, int error) {
 }
 
 bool ask(struct asker *asker, uint32_t method, const stunp_body *body, struct datagram *got) {
+    stunp_request_options none = STUNP_INIT(stunp_request_options);
+    return ask_as(asker, method, body, &none, got);
+}
+
+bool ask_as(struct asker *asker, uint32_t method, const stunp_body *body,
+            const stunp_request_options *options, struct datagram *got) {
     stunp_event event = STUNP_INIT(stunp_event);
     uint64_t request;
-    int64_t kind = stunp_endpoint_client_request(&asker->client, method, body, moment(), &request);
+    int64_t kind = stunp_endpoint_client_request_as(&asker->client, method, body, options, moment(),
+                                                    &request);
     while (kind >= 0) {
         kind = stunp_endpoint_client_poll(&asker->client, moment(), got->bytes, sizeof got->bytes,
                                           &event);
@@ -91,7 +99,8 @@ bool ask(struct asker *asker, uint32_t method, const stunp_body *body, struct da
         if (kind == STUNP_TRANSMIT) send_to(asker->socket, got->bytes, got->length, &asker->peer);
         if (kind == STUNP_ENDED && event.request == request) return is_success(asker, &event);
         if (kind != STUNP_WAIT) continue;
-        /* Whatever has arrived was polled for, also if it came at the last moment. */
+        /* Everything that has arrived was read, even if it arrived just before the end of the
+         * time. */
         if (moment() >= asker->give_up) return give_up(asker, request, 0);
         int error = wait_for_response(asker, event.until);
         if (error != 0) return give_up(asker, request, error);

@@ -2,8 +2,8 @@
  *
  *     build 1|2 USERNAME PASSWORD > MESSAGE
  *
- * 1 is MESSAGE-INTEGRITY, and 2 MESSAGE-INTEGRITY-SHA256. Status 0; or 1, and why on standard
- * error; or 2 for wrong arguments. */
+ * 1 is MESSAGE-INTEGRITY, and 2 is MESSAGE-INTEGRITY-SHA256. The status is 0; 1, with the reason on
+ * standard error; or 2 for wrong arguments. */
 #include "stunp.h"
 #include <stdbool.h>
 #include <stdio.h>

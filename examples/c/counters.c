@@ -1,4 +1,4 @@
-/* counters.h over Linux. */
+/* Implements counters.h on Linux. */
 #define _GNU_SOURCE
 #include "counters.h"
 #include "processes.h"
@@ -12,7 +12,7 @@
 
 enum { METRICS_EVERY = 5 /* seconds */, LONGEST_LINE = 1000, LONGEST_FILE = 4096 };
 
-/* Counters of one kind have one name, and differ in the value of a label. */
+/* Counters of the same kind have the same name, and differ in the value of a label. */
 struct kind { const char *name, *label, *help; };
 static const struct kind answered = {"answered", "", "Requests that succeeded."},
     refused = {"refused", "code", "Requests answered by an error."},

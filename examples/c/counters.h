@@ -1,4 +1,4 @@
-/* What a server counts, in all its processes, as a line of its log and as a file for Prometheus. */
+/* The counters of all processes of a server, as a line of its log and as a file for Prometheus. */
 #ifndef STUN_COUNTERS_H
 #define STUN_COUNTERS_H
 
@@ -11,22 +11,24 @@ enum number { ANSWERED, REFUSED_400, REFUSED_401, REFUSED_420, REFUSED_438, NOT_
               OTHER_ALGORITHMS, OTHER_FEATURES, STALE_NONCE, WRONG_CREDENTIALS, NOT_UNDERSTOOD,
               NOT_BINDING, NUMBERS };
 
-/* Makes the counters of so many processes, in memory that they share. */
+/* Creates the counters for this many processes, in memory that they share. */
 bool open_counters(unsigned long processes);
 
-/* Has this process count in those with this number. It is the first one before. */
+/* Makes this process use the counters with this number. Until then it uses the counters with the
+ * number 0. */
 void count_as(unsigned long process);
 void count(enum number what);
 
-/* Prints a line `TIME NAME=VALUE ..` of what all processes counted. */
+/* Prints a line `TIME NAME=VALUE ..` with the counters of all processes. */
 void log_counters(void);
 
-/* Writes the counters to a new file FILE.new and renames that to FILE, so that whoever reads FILE
- * never sees a part. Returns false with the reason in errno. */
+/* Writes the counters to a new file FILE.new and renames it to FILE, so that a reader of FILE never
+ * sees an incomplete file. If it fails, returns false with the reason in errno. */
 bool write_metrics(const char *file);
 
-/* Starts a thread that does so every five seconds, and reports when that begins to fail: a slow
- * disk does not stop the loop that serves. Returns false with the reason in errno. */
+/* Starts a thread that writes the file every five seconds, and reports when this begins to fail. A
+ * slow disk then does not stop the loop that serves. If it fails, returns false with the reason in
+ * errno. */
 bool start_metrics(const char *file);
 
 #endif

@@ -3,7 +3,7 @@
  *
  *     endpoint_server PORT REALM NAME PASSWORD
  *
- * Port 0 is any free one. The first line of output is `port N`. udp_server.c is a server with
+ * Port 0 means any free port. The first line of output is `port N`. udp_server.c is a server with
  * options. */
 #define _GNU_SOURCE
 #include "net.h"
@@ -12,6 +12,8 @@
 #include <stdio.h>
 #include <stdlib.h>
 #include <time.h>
+
+enum { MOST_IN_TURN = 64 /* datagrams of one socket, before the other one has a turn */ };
 
 static stunp_endpoint_server server;
 static stunp_endpoint_users users;
@@ -28,7 +30,7 @@ static int64_t set_up(const char *realm, const char *name, const char *password)
     return stunp_endpoint_users_add(&users, name, strlen(name), password, strlen(password));
 }
 
-/* Judges a datagram, and sends its answer if it gets one. */
+/* Judges a datagram, and sends the answer if there is one. */
 static void answer(int socket, const struct datagram *got) {
     static uint8_t out[STUNP_ANSWER_MAX];
     static stunp_received received = STUNP_INIT(stunp_received);
@@ -68,6 +70,7 @@ int main(int count, char **words) {
         waiting[i] = (struct pollfd){listener.sockets[i], POLLIN, 0};
     while (poll(waiting, (nfds_t)listener.number, -1) >= 0)
         for (int i = 0; i < listener.number; i++)
-            while (receive(listener.sockets[i], &got)) answer(listener.sockets[i], &got);
+            for (int n = 0; n < MOST_IN_TURN && receive(listener.sockets[i], &got); n++)
+                answer(listener.sockets[i], &got);
     return 1;
 }

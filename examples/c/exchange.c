@@ -1,4 +1,4 @@
-/* exchange.h over the library. */
+/* Implements exchange.h with the library. */
 #define _GNU_SOURCE
 #include "exchange.h"
 #include <netdb.h>
@@ -44,7 +44,8 @@ int64_t ask_remote(struct exchange *exchange, const stunp_writer *request,
     return kept < 0 ? kept : tell(exchange, request, &of->peer);
 }
 
-/* The agent tells an address; the scope of a link-local one only its remote has. */
+/* Returns the peer of the remote with this address. The agent returns only the address, without the
+ * scope of a link-local address. */
 static const struct peer *peer_of(const struct exchange *exchange, const stunp_address *to) {
     int i = 0;
     while (i < exchange->remotes_number - 1 && !is_same(&exchange->remotes[i].at, to)) i++;

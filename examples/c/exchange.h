@@ -5,20 +5,20 @@
 #include "net.h"
 #include "stunp_state.h"
 
-/* A peer to which requests go. */
+/* A peer to which requests are sent. */
 struct remote {
     struct peer peer;
     stunp_address at;
 };
 
-/* Reads an address of numbers. Returns false after it printed the reason. */
+/* Reads a numeric address. If it fails, prints the reason and returns false. */
 bool find_remote(const char *host, const char *port, struct remote *remote);
 
-/* Opens a socket, on which no call waits, at a free port of an address of numbers, and writes its
- * own address. Returns -1 after it printed the reason. */
+/* Opens a non-blocking socket at a free port of a numeric address, and writes its own address. If
+ * it fails, prints the reason and returns -1. */
 int open_at(const char *host, stunp_address *own);
 
-/* An agent with its socket, and the peers to which its requests go. */
+/* An agent with its socket, and the peers to which its requests are sent. */
 struct exchange {
     int socket;
     stunp_agent agent;
@@ -33,8 +33,9 @@ int64_t tell(const struct exchange *exchange, const stunp_writer *message, const
 int64_t ask_remote(struct exchange *exchange, const stunp_writer *request,
                    const struct remote *of);
 
-/* Sends again what is due; not all of it if that is much, because answers are to be read between.
- * The bytes go to the address of a remote that has the scope of a link-local one. */
+/* Sends again the requests that are due, but only some of them if there are many, because answers
+ * have to be read in between. The bytes are sent to the address of the remote, which has the scope
+ * of a link-local address. */
 void send_again(struct exchange *exchange, uint64_t now);
 
 #endif

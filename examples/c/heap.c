@@ -1,16 +1,17 @@
-/* The memory of the proved archives over malloc. Each block has its length before it, so that the bytes
- * can be counted, and overwritten before they are given back: they may be those of a password or a
- * key.
+/* The allocator of the proved archives, on top of malloc. The length of each block is stored before
+ * it, so that the bytes can be counted, and can be overwritten before they are freed, because they
+ * may be those of a password or a key.
  *
- * The counts are changed in one step each, so handles may be used in several threads, each handle
- * in its own. */
+ * Each count is changed atomically, so several threads may use handles at the same time, each
+ * thread its own. */
 #include "heap.h"
 #include "stunp_state.h"
 #include <stdint.h>
 #include <stdlib.h>
 #include <string.h>
 
-/* What is before a block: as long as the widest alignment of malloc, so that the block keeps it. */
+/* The header before a block, as long as the widest alignment of malloc, so that the block is
+ * aligned too. */
 typedef union {
     size_t length;
     long double number;
@@ -38,8 +39,8 @@ static bool take(size_t length) {
 
 static void give_back(size_t length) { __atomic_sub_fetch(&bytes, length, __ATOMIC_SEQ_CST); }
 
-/* Whether a block of this length and alignment can be had with its head. The archive asks for none
- * of no length. */
+/* Returns whether a block of this length and alignment can be allocated with its header. The
+ * archive never asks for the length 0. */
 static bool is_plain(size_t length, size_t alignment) {
     return alignment <= sizeof(head) && length > 0 && length <= SIZE_MAX / 2;
 }
@@ -56,8 +57,8 @@ rattle_allocation rattle_alloc(size_t length, size_t alignment) {
     return (rattle_allocation){true, block + 1};
 }
 
-/* A compiler may leave out a memset of what nobody reads, but no call by a pointer that it must
- * read. */
+/* A compiler may remove a memset of memory that is not read again, but not a call through a pointer
+ * that it must read. */
 static void *(*const volatile overwrite)(void *, int, size_t) = memset;
 
 static void wipe_and_free(head *block) {
@@ -65,8 +66,8 @@ static void wipe_and_free(head *block) {
     free(block);
 }
 
-/* Not by realloc, which leaves what was there where it moves a block. A refusal leaves the block as
- * it was. */
+/* Does not use realloc, which leaves the old bytes in memory when it moves a block. A refusal
+ * leaves the block unchanged. */
 rattle_allocation rattle_realloc(void *at, size_t kept, size_t length, size_t alignment) {
     head *old = (head *)at - 1;
     size_t before = old->length, more = length > before ? length - before : 0;

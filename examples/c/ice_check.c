@@ -1,27 +1,29 @@
 /* Connectivity checks of ICE (RFC 8445) on a timer: two programs check each pair of their
- * candidates, of which they may have many, and the controlling one nominates a pair.
+ * candidates, of which they may have many, and the controlling program nominates a pair.
  *
  *     ice_check controlling|controlled [OPTION]..
  *
- * --at HOST           the address of the candidates: 127.0.0.1
- * --candidates N      the number of candidates, each a port: 1. 71 on both sides are 5041 pairs
- * --pace SECONDS      from one check to the next (section 14.2): 0.05
- * --tie-breaker N     in place of a random one
- * --within SECONDS    gives up after SECONDS: 30
+ * --at HOST           the address of the candidates (by default 127.0.0.1)
+ * --candidates N      the number of candidates, each with its own port (by default 1). With 71 on
+ *                     both sides there are 5041 pairs
+ * --pace SECONDS      the time from one check to the next (section 14.2; by default 0.05)
+ * --tie-breaker N     the tie-breaker, in place of a random one
+ * --within SECONDS    gives up after SECONDS (by default 30)
  *
- * Its first line is `HOST PORT[,PORT].. UFRAG PASSWORD`, and it reads such a line of the other
- * program from standard input: to bring them across, as SDP does, is the caller's part.
+ * Its first line of output is `HOST PORT[,PORT].. UFRAG PASSWORD`, and it reads the line of the
+ * other program from standard input. The caller has to exchange the lines, as SDP does.
  *
  *     mkfifo one other
  *     ice_check controlling <other | tee one & ice_check controlled <one | tee other
  *
- * Once a pair is nominated it prints `nominated HOST:PORT as ROLE, seen as HOST:PORT` and sends
- * data over it, and it prints `data TEXT` of what arrives; and at the end `checked N pairs in SECONDS
- * s, N valid, N failed, N requests sent again`. Status 0; or 1, and why on standard error; or 2 for
- * wrong arguments.
+ * Once a pair is nominated, the program prints `nominated HOST:PORT as ROLE, seen as HOST:PORT` and
+ * sends data over it. It prints `data TEXT` for data that arrives, and at the end `checked N pairs
+ * in SECONDS s, N valid, N failed, N requests sent again`. The status is 0; 1, with the reason on
+ * standard error; or 2 for wrong arguments.
  *
- * The checks are those of stunp_ice_checker (stunp_endpoint.h), and stunp_agent (stunp_state.h)
- * sends them again. What is here is what they leave to their caller: sockets, pairs and pacing. */
+ * stunp_ice_checker (stunp_endpoint.h) writes and judges the checks, and stunp_agent
+ * (stunp_state.h) sends them again. This file has the parts that they leave to their caller:
+ * sockets, pairs and pacing. */
 #define _GNU_SOURCE
 #include "exchange.h"
 #include "heap.h"
@@ -33,25 +35,26 @@
 #include <string.h>
 #include <unistd.h>
 
-/* The candidates of one side, and those of the peer with the ones that are learnt. */
+/* The most candidates of this side, and the most of the peer, including those that are learned from
+ * checks. */
 enum { MOST_CANDIDATES = 100, MOST_REMOTES = MOST_CANDIDATES + 16 };
 enum { MOST_PAIRS = MOST_CANDIDATES * MOST_REMOTES, STORED_CHECKS = 4 };
 enum { MOST_MEMORY = 16 << 20, AT_ONCE = 16, MOST_PORTS = 6 * MOST_CANDIDATES };
 
 /* The longest wait, the time from one datagram of data to the next, and the time for which checks
- * are answered after all is done here: the other program may not be done. */
+ * are answered after this program is done, because the other program may not be done. */
 static const uint64_t TICK = SECOND / 20, REPEAT = SECOND / 5, AFTERWARDS = SECOND;
 
-/* What the priority of our first candidate would be if the peer met it in our check (section
- * 5.1.2.1). Each later candidate has less local preference. */
+/* The priority that our first candidate would have if the peer learned it from our check (section
+ * 5.1.2.1). Each later candidate has a lower local preference. */
 static const uint32_t PEER_REFLEXIVE = (110 << 24) + (65535 << 8) + 255, LOCAL_PREFERENCE = 1 << 8;
 
-/* Two candidates, ours and theirs (section 6.1.2.6). Of the checks of it that were sent the last few
- * are stored, the current one at `sent` modulo their number: one that was replaced may be answered
- * yet (section 7.3.1.4). */
+/* A pair of two candidates, ours and theirs (section 6.1.2.6). The last few checks that were sent
+ * for it are stored, the current one at `sent` modulo their number, because a check that was
+ * replaced may still be answered (section 7.3.1.4). */
 struct pair {
     enum { UNPAIRED, WAITING, CHECKING, VALID, FAILED } state;
-    bool is_queued; /* is to be checked before others */
+    bool is_queued; /* it is checked before the others */
     unsigned sent;
     stunp_ice_check checks[STORED_CHECKS];
     stunp_address seen; /* our candidate, as the peer sees it */
@@ -62,11 +65,13 @@ static struct exchange ours[MOST_CANDIDATES]; /* a socket and an agent for each 
 static struct remote theirs[MOST_REMOTES];
 static int ours_number, theirs_number;
 
-/* The list. Pairs of which a check came are in a queue, and are checked first (section 6.1.4.1). */
+/* The list. Pairs for which a check arrived are in a queue, and are checked first (section
+ * 6.1.4.1). */
 static struct pair pairs[MOST_PAIRS], *queue[MOST_PAIRS];
-static struct pair *told, *nominated; /* by a USE-CANDIDATE of theirs, and by both sides */
+static struct pair *told, *nominated; /* the pair that the peer nominates, and the one that both
+                                       * sides use */
 static int pairs_number, next_pair, first_queued, queued, open_pairs, valid_pairs;
-static const char *why = "no time left"; /* a pair failed */
+static const char *why = "no time left"; /* why the last pair failed */
 static bool has_data;
 
 static bool fails(const char *reason) {
@@ -99,15 +104,16 @@ static void set_state(struct pair *pair, int state) {
     valid_pairs += state == VALID;
 }
 
-/* A pair fails with its current check, and not with one that was replaced. */
+/* Ends a pair as failed if `check` is its current check, but not if it is a check that was
+ * replaced. */
 static void fail_pair(struct pair *pair, const stunp_ice_check *check, const char *reason) {
     if (pair->state != CHECKING || check != current(pair)) return;
     why = reason;
     set_state(pair, FAILED);
 }
 
-/* Has a pair checked before others, unless it is valid. A check in progress is replaced: it is not
- * sent again, but may still be answered (section 7.3.1.4). */
+/* Puts a pair in front of the others, unless it is valid. A check in progress is replaced: it is
+ * not sent again, but may still be answered (section 7.3.1.4). */
 static void trigger(struct pair *pair) {
     if (pair->state == VALID || pair->is_queued) return;
     if (pair->state == CHECKING)
@@ -118,7 +124,7 @@ static void trigger(struct pair *pair) {
     queue[(first_queued + queued++) % MOST_PAIRS] = pair;
 }
 
-/* The pair of a candidate of ours of which this is the ID of a stored check, and that check. */
+/* Finds the pair of a candidate of ours that has a stored check with this ID, and that check. */
 static struct pair *checked_by(int our, const uint8_t *id, stunp_ice_check **check) {
     for (int their = 0; their < theirs_number; their++) {
         struct pair *pair = pair_at(our, their);
@@ -132,7 +138,8 @@ static struct pair *checked_by(int our, const uint8_t *id, stunp_ice_check **che
     return NULL;
 }
 
-/* The pair over which a datagram came, or NULL if it came from no candidate that we know. */
+/* Returns the pair over which a datagram arrived, or NULL if it did not come from a candidate that
+ * we know. */
 static struct pair *pair_over(int our, const stunp_address *from) {
     int their = 0;
     while (their < theirs_number && !is_same(&theirs[their].at, from)) their++;
@@ -140,8 +147,8 @@ static struct pair *pair_over(int our, const stunp_address *from) {
                                                                           : NULL;
 }
 
-/* The pair over which a check of theirs came. Where it comes from is a candidate from now on, if
- * there is room for it (section 7.3.1.3): a peer-reflexive one. */
+/* Returns the pair over which a check of the peer arrived. If its source is new and there is room,
+ * it becomes a peer-reflexive candidate (section 7.3.1.3). */
 static struct pair *learn(int our, const struct datagram *got) {
     int their = 0;
     while (their < theirs_number && !is_same(&theirs[their].at, &got->from)) their++;
@@ -153,8 +160,8 @@ static struct pair *learn(int our, const struct datagram *got) {
     return pair_at(our, their);
 }
 
-/* The pair to check next, or NULL. Once each was checked, the controlling side checks the valid one
- * of the highest priority again, to nominate it (section 8.1.1). */
+/* Returns the pair to check next, or NULL. Once each pair was checked, the controlling side checks
+ * the valid pair with the highest priority again, to nominate it (section 8.1.1). */
 static struct pair *to_check(void) {
     while (queued > 0) {
         struct pair *pair = queue[first_queued];
@@ -172,7 +179,7 @@ static struct pair *to_check(void) {
     return NULL;
 }
 
-/* ---- Checks of ours, and what comes */
+/* ---- Our checks, and what arrives */
 
 static int64_t send_check(struct pair *pair) {
     uint8_t bytes[STUNP_ICE_CHECK_MAX], id[STUNP_ID_LENGTH];
@@ -189,7 +196,7 @@ static int64_t send_check(struct pair *pair) {
     return ask_remote(&ours[our_of(pair)], &check, to);
 }
 
-/* A check of ours ended (section 7.2.5). */
+/* Handles the end of a check of ours (section 7.2.5). */
 static void end_check(struct pair *pair, const stunp_ice_check *check,
                       const stunp_ice_received *ended) {
     uint64_t tie_breaker;
@@ -212,7 +219,7 @@ static void end_check(struct pair *pair, const stunp_ice_check *check,
     }
 }
 
-/* A check of theirs was accepted (section 7.3.1). */
+/* Handles a check of the peer that was accepted (section 7.3.1). */
 static void read_check(int our, const struct datagram *got, const stunp_ice_received *check) {
     struct pair *pair = learn(our, got);
     if (pair == NULL) return;
@@ -220,7 +227,7 @@ static void read_check(int our, const struct datagram *got, const stunp_ice_rece
     trigger(pair);
 }
 
-/* Data may come before the pair is nominated here. */
+/* Handles data, which may arrive before the pair is nominated on this side. */
 static void take_data(int our, const struct datagram *got) {
     if (has_data || pair_over(our, &got->from) == NULL) return;
     has_data = true;
@@ -229,7 +236,7 @@ static void take_data(int our, const struct datagram *got) {
     putchar('\n');
 }
 
-/* Takes a datagram: data, or a message of ICE. */
+/* Handles a datagram, which is data or a message of ICE. */
 static void take(int our, const struct datagram *got) {
     static uint8_t out[STUNP_ANSWER_MAX];
     static stunp_ice_received received = STUNP_INIT(stunp_ice_received);
@@ -249,7 +256,7 @@ static void take(int our, const struct datagram *got) {
     if (kind == STUNP_IS_RESPONSE) end_check(pair, check, &received);
 }
 
-/* Sends again what is due, and ends the checks that nobody answered. Returns the time from which on
+/* Sends checks again that are due, and ends those that were not answered. Returns the time at which
  * there is more to do, or `until`. */
 static uint64_t go_on(uint64_t now, uint64_t until) {
     uint8_t id[STUNP_ID_LENGTH];
@@ -279,7 +286,7 @@ static void follow(void) {
     printf(", seen as %s\n", text_of(&nominated->seen));
 }
 
-/* Waits for datagrams, until a time, and takes some of each socket. */
+/* Waits for datagrams until a time, and handles some from each socket. */
 static void receive_some(uint64_t now, uint64_t until) {
     struct pollfd sockets[MOST_CANDIDATES];
     static struct datagram got;
@@ -313,8 +320,8 @@ static void print_checked(uint64_t nanoseconds) {
            pairs_number - valid_pairs - open_pairs, repeated);
 }
 
-/* Checks a pair, if one is to be checked and it is time. Returns false after it printed that no pair
- * can be valid. */
+/* Checks a pair, if there is one to check and it is time. Prints an error and returns false if no
+ * pair can be valid. */
 static bool check_some(uint64_t now, uint64_t pace, uint64_t *next) {
     struct pair *pair = now >= *next ? to_check() : NULL;
     if (pair != NULL) {
@@ -325,8 +332,8 @@ static bool check_some(uint64_t now, uint64_t pace, uint64_t *next) {
     return open_pairs > 0 || valid_pairs > 0 || fails(why);
 }
 
-/* Checks until each pair was checked and one is nominated, sends data until some comes, and answers
- * for a while. */
+/* Checks until each pair was checked and one is nominated, sends data until some arrives, and goes
+ * on answering for a while. */
 static bool run(uint64_t pace, uint64_t give_up, const char *ufrag) {
     uint64_t end = give_up, now, begun = moment(), checked = 0, next_check = 0, next_data = 0;
     while ((now = moment()) < end) {
@@ -344,9 +351,9 @@ static bool run(uint64_t pace, uint64_t give_up, const char *ufrag) {
     return (nominated != NULL && has_data) || fails("no time left");
 }
 
-/* ---- What is told across */
+/* ---- The lines that the programs exchange */
 
-/* A text of random characters (section 5.3). */
+/* Fills a text with random characters (section 5.3). */
 static void fill_text(char *text, size_t length) {
     static const char characters[] =
         "ABCDEFGHIJKLMNOPQRSTUVWXYZabcdefghijklmnopqrstuvwxyz0123456789+/";
@@ -355,7 +362,7 @@ static void fill_text(char *text, size_t length) {
     text[length] = 0;
 }
 
-/* Opens a socket and makes an agent for each candidate of ours, and prints our line. */
+/* Opens a socket and creates an agent for each of our candidates, and prints our line. */
 static bool open_ours(const char *host, const stunp_ice_settings *settings) {
     printf("%s ", host);
     for (int i = 0; i < ours_number; i++) {
@@ -370,7 +377,7 @@ static bool open_ours(const char *host, const stunp_ice_settings *settings) {
     return true;
 }
 
-/* Reads their line, and makes the checker and the pairs. */
+/* Reads the line of the peer, and creates the checker and the pairs. */
 static bool read_theirs(stunp_ice_settings *settings) {
     static char host[64], ports[MOST_PORTS + 1];
     static char name[STUNP_ICE_NAME_MAX + 1], password[STUNP_ICE_PASSWORD_MAX + 1];

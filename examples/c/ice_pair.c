@@ -1,14 +1,15 @@
-/* The smallest pair of ICE agents (RFC 8445): both are in this program, each with one UDP socket, and
- * check the pair of their addresses until the controlling one has nominated it.
+/* The smallest pair of ICE agents (RFC 8445). Both are in this program, each with one UDP socket.
+ * They check the pair of their addresses until the controlling agent has nominated it.
  *
  *     ice_pair [HOST]
  *
- * HOST is the address of both sockets, 127.0.0.1 by default. It prints the line of each candidate,
- * how each check ended, and at the end `nominated`. Status 0; or 1, and why on standard error.
+ * HOST is the address of both sockets, 127.0.0.1 by default. The program prints the line of each
+ * candidate, how each check ended, and at the end `nominated`. The status is 0; or 1, with the
+ * reason on standard error.
  *
- * An agent of your own has one such `struct agent`, and sends its line to the peer by your
- * signalling. stunp_ice_checks (stunp_endpoint.h) sends each check again and ends it. A real agent has
- * more candidates and pairs, for which docs/ICE.md has the steps. */
+ * Your own agent has one `struct agent`, and sends its line to the peer through your signalling.
+ * stunp_ice_checks (stunp_endpoint.h) sends each check again and ends it. A real agent has more
+ * candidates and pairs, for which docs/ICE.md has the steps. */
 #define _GNU_SOURCE
 #include "net.h"
 #include "stunp_endpoint.h"
@@ -54,7 +55,7 @@ static bool open_agent(struct agent *agent, const char *host, const char *passwo
     return true;
 }
 
-/* Writes the line of the agent's candidate, as SDP has it, with the name of its session. */
+/* Writes the line of the agent's candidate, as in SDP, with the name of its session. */
 static bool write_line(const struct agent *agent, char *line, size_t room) {
     char extensions[32];
     stunp_ice_candidate candidate;
@@ -68,7 +69,7 @@ static bool write_line(const struct agent *agent, char *line, size_t room) {
     return stunp_ice_candidate_write(&candidate, line, room) > 0;
 }
 
-/* Takes the peer's credentials and the line of its candidate. */
+/* Sets the peer's credentials and reads the line of its candidate. */
 static bool add_peer(struct agent *agent, const char *name, const char *password,
                      const char *line) {
     stunp_ice_candidate candidate;
@@ -102,7 +103,7 @@ static void send_bytes(const struct agent *agent, const stunp_address *to, const
     send_to(agent->socket, bytes, length, &peer); /* what is lost is sent again */
 }
 
-/* Sends what is due. Returns false if a check has timed out. */
+/* Sends the checks that are due. Returns false if a check has timed out. */
 static bool send_due(struct agent *agent) {
     stunp_ice_event event;
     stunp_event_kind kind;
@@ -162,7 +163,8 @@ static bool run(struct agent *agents) {
 
 int main(int count, char **words) {
     static struct agent agents[2];
-    /* Real ones are random, of 4 and 22 characters or more (RFC 8445, section 5.3). */
+    /* Real names and passwords are random, with at least 4 and 22 characters (RFC 8445, section
+     * 5.3). */
     const char *const passwords[2] = {"asd88fgpdd777uzjYhagZg", "VOkJxbRl1RmTxUk/WvJxBt"};
     const char *host = count == 2 ? words[1] : "127.0.0.1";
     char lines[2][256];
@@ -175,7 +177,7 @@ int main(int count, char **words) {
                    && write_line(&agents[i], lines[i], sizeof lines[i]);
         if (is_right) printf("%s: %s\n", agents[i].name, lines[i]);
     }
-    /* Here the two lines and the credentials cross by signalling. */
+    /* Signalling would exchange the two lines and the credentials here. */
     for (int i = 0; i < 2 && is_right; i++)
         is_right = add_peer(&agents[i], agents[1 - i].name, passwords[1 - i], lines[1 - i]);
     is_right = is_right && run(agents);

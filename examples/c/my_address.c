@@ -1,15 +1,16 @@
-/* Asks a STUN server over UDP at which address it sees this machine, and prints it.
+/* Asks a STUN server over UDP for the address from which it sees this machine, and prints it.
  *
  *     my_address HOST PORT
  *
- * Status 0; or 1, and why on standard error; or 2 for wrong arguments. */
+ * The status is 0; 1, with the reason on standard error; or 2 for wrong arguments. */
 #define _GNU_SOURCE
 #include "net.h"
 #include "stunp_endpoint.h"
 #include <stdio.h>
 #include <unistd.h>
 
-/* Returns the length of the address, 4 or 16; 0 if none came, for a reason in `event`; or an error. */
+/* Returns the length of the address, 4 or 16; 0 if no address arrived, with the reason in `event`;
+ * or an error. */
 static int64_t ask(int fd, const struct peer *server, stunp_address *seen, stunp_event *event) {
     static struct datagram got;
     uint8_t seed[32];

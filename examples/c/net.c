@@ -1,4 +1,4 @@
-/* net.h over Linux. */
+/* Implements net.h on Linux. */
 #define _GNU_SOURCE
 #include "net.h"
 #include <arpa/inet.h>
@@ -81,8 +81,8 @@ static bool is_link_local_4(const uint8_t octets[4]) {
     return octets[0] == 169 && octets[1] == 254;
 }
 
-/* An answer leaves by whatever way leads to the client, which may be another interface than its
- * request came by. Only a link-local address means nothing without its interface. */
+/* Removes the interface on which the request arrived, so that the answer takes whatever route leads
+ * to the client. Only a link-local address keeps its interface, because it needs one. */
 static void forget_interface(struct msghdr *message) {
     for (struct cmsghdr *one = CMSG_FIRSTHDR(message); one != NULL;
          one = CMSG_NXTHDR(message, one)) {
@@ -114,8 +114,9 @@ static void set(int fd, int level, int name, int value) {
     setsockopt(fd, level, name, &value, sizeof value);
 }
 
-/* Has the kernel say at which address each datagram arrived, and sets the buffer in which a burst
- * waits. Without the rights of root the buffer is at most net.core.rmem_max. */
+/* Makes the kernel report at which address each datagram arrived, and sets the size of the buffer
+ * in which a burst waits. Without the rights of root the buffer has at most net.core.rmem_max
+ * bytes. */
 static void prepare(int fd, int family) {
     if (family == AF_INET6) set(fd, IPPROTO_IPV6, IPV6_RECVPKTINFO, 1);
     else set(fd, IPPROTO_IP, IP_PKTINFO, 1);
@@ -151,7 +152,7 @@ static int open_at(const struct sockaddr_storage *at, int type, unsigned long *p
     return is_bound ? fd : give_up(fd);
 }
 
-/* The socket that is standard input, which other processes may have too. */
+/* Uses standard input as the socket. Other processes may have the same socket. */
 static int inherited(unsigned long *port) {
     struct sockaddr_storage name;
     socklen_t length = sizeof name;
@@ -163,7 +164,7 @@ static int inherited(unsigned long *port) {
     return give_up(fd);
 }
 
-/* Reads an address. Sets errno to EINVAL if it is none. */
+/* Reads an address. Sets errno to EINVAL if the text is not an address. */
 static bool read_address(const char *word, struct sockaddr_storage *at) {
     struct sockaddr_in *four = (struct sockaddr_in *)at;
     struct sockaddr_in6 *six = (struct sockaddr_in6 *)at;
@@ -184,7 +185,7 @@ bool read_host(const char *host, unsigned long port, stunp_address *address) {
     return true;
 }
 
-/* Opens a socket of each address on one port, and one for TCP at the address of each of these. */
+/* Opens a socket for each address on one port, and one for TCP at each of these addresses. */
 static bool open_each(const char *const *at, int count, const struct place *place,
                       unsigned long *port, struct listener *listener) {
     for (int i = 0; i < count; i++) {
@@ -206,7 +207,7 @@ static bool open_each(const char *const *at, int count, const struct place *plac
     return true;
 }
 
-/* Both families on one port, or whichever the machine has. */
+/* Opens sockets of both families on one port, or of the family that the machine has. */
 static bool open_both(const struct place *place, unsigned long *port, struct listener *listener) {
     static const char *const all[] = {"::", "0.0.0.0"};
     for (int i = 0; i < 2; i++)
@@ -299,7 +300,8 @@ int hard_error(int socket) {
             memcpy(&error, CMSG_DATA(one), sizeof error);
             bool is_icmp =
                 error.ee_origin == SO_EE_ORIGIN_ICMP || error.ee_origin == SO_EE_ORIGIN_ICMP6;
-            /* No such port, no such protocol. That a network or host is not reached may pass. */
+            /* There is no such port or protocol. If a network or host is unreachable, this may be
+             * temporary. */
             if (is_icmp && (error.ee_errno == ECONNREFUSED || error.ee_errno == ENOPROTOOPT))
                 hard = (int)error.ee_errno;
         }
@@ -315,7 +317,7 @@ void rest_after(const char *what) {
     nanosleep(&rest, NULL);
 }
 
-/* Returns the header by which a datagram and its peer are read, or an answer is sent. */
+/* Returns the header with which a datagram and its peer are read, or an answer is sent. */
 static struct msghdr header_of(struct peer *peer, struct iovec *data) {
     return (struct msghdr){.msg_name = &peer->name,
                            .msg_namelen = sizeof peer->name,
@@ -388,7 +390,7 @@ void answer_batch(int socket, const struct datagram *got, const struct answer *a
         messages[left] = (struct mmsghdr){.msg_hdr = answer_to(&to[left], &data[left])};
         left++;
     }
-    /* One that cannot be sent is left out, and the next ones are not. */
+    /* An answer that cannot be sent is left out, but the next ones are sent. */
     for (unsigned sent = 0; sent < left;) {
         int more = sendmmsg(socket, messages + sent, left - sent, 0);
         sent += more > 0 ? (unsigned)more : 1;

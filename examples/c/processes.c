@@ -1,4 +1,4 @@
-/* processes.h over Linux. */
+/* Implements processes.h on Linux. */
 #define _GNU_SOURCE
 #include "processes.h"
 #include "net.h"
@@ -15,7 +15,7 @@
 
 volatile sig_atomic_t is_ending, hangups, reports;
 
-/* How many hangups each process has followed, in memory that all share. */
+/* How many SIGHUPs each process has acted on, in memory that all processes share. */
 static unsigned long *hangups_done;
 
 static void hear(int number) {
@@ -52,8 +52,8 @@ int start_thread(pthread_t *thread, void *(*run)(void *), void *with) {
 static bool is_serving;
 enum { LONGEST_COMPLAINT = 2048 };
 
-/* Prints a line after what begins it. A pipe that can be written to has room for a whole line, so
- * that it is not torn. */
+/* Prints a line after a prefix. A pipe that can be written to has room for a whole line, so the
+ * line is not split. */
 static void print(const char *begin, const char *format, va_list values) {
     char line[1100];
     struct pollfd out = {STDOUT_FILENO, POLLOUT, 0};
@@ -90,7 +90,7 @@ void complain(const char *format, ...) {
     fprintf(stderr, "%s%sudp_server: %s", time, is_serving ? " " : "", line);
 }
 
-/* Prints the port, which says that the server serves from now on. */
+/* Prints the port, which shows that the server serves from now on. */
 static void say_port(unsigned long port) {
     is_serving = true;
     say("port %lu\n", port);
@@ -106,8 +106,8 @@ static int serve_alone(const struct service *service) {
     return is_right ? 0 : 1;
 }
 
-/* Whether nobody else has the port; the sockets of workers share it, and would share it with others
- * too. Port 0 becomes one that was free. */
+/* Returns whether no other program has the port. The sockets of workers share it, and would share
+ * it with other programs too. Port 0 becomes a port that was free. */
 static bool is_free(const struct service *service, unsigned long *port) {
     struct place place = service->place;
     struct listener listener;
@@ -117,7 +117,7 @@ static bool is_free(const struct service *service, unsigned long *port) {
     return true;
 }
 
-/* Answers the number of a new process that serves, or -1. */
+/* Starts a process that serves, and returns its number, or -1. */
 static pid_t start_worker(const struct service *service, unsigned long port,
                           unsigned long number) {
     pid_t parent = getpid();
@@ -140,20 +140,21 @@ static void tell_all(const pid_t *workers, unsigned long processes, int number) 
     for (unsigned long i = 0; i < processes; i++) kill(workers[i], number);
 }
 
-/* The round in which a hangup is passed on to one worker after the other. */
+/* The round in which a SIGHUP is passed on to one worker after the other. */
 struct round {
-    sig_atomic_t heard;        /* the hangups up to those of this round */
-    unsigned long turn;        /* the worker that follows it, or their number: the round is over */
-    unsigned long done_before; /* what that worker had followed when it got the signal */
+    sig_atomic_t heard;        /* `hangups` when this round began */
+    unsigned long turn;        /* the worker that acts on it now; the number of workers if the round
+                                * is over */
+    unsigned long done_before; /* how many that worker had acted on when it got the signal */
 };
 
-/* Passes the hangup on to the worker whose turn it is. */
+/* Passes the SIGHUP on to the worker whose turn it is. */
 static void take_turn(struct round *round, const pid_t *workers) {
     round->done_before = __atomic_load_n(&hangups_done[round->turn], __ATOMIC_RELAXED);
     kill(workers[round->turn], SIGHUP);
 }
 
-/* Goes on with a round if the worker whose turn it was is done, or begins one if there was a hangup
+/* Continues a round if the worker whose turn it was is done, or begins a round if a SIGHUP arrived
  * since the last one began. */
 static void pass_hangups_on(struct round *round, const pid_t *workers, unsigned long processes) {
     sig_atomic_t heard = hangups;
@@ -167,8 +168,9 @@ static void pass_hangups_on(struct round *round, const pid_t *workers, unsigned 
     take_turn(round, workers);
 }
 
-/* Waits for a signal to end, or until a worker ended, and then has all end. One that ended is not
- * waited for before, so that its number is nobody else's when the others are told. */
+/* Waits for a signal to end, or until a worker has ended, and then ends all workers. A worker that
+ * has ended is not reaped before that, so that no other process has its number when the signals are
+ * sent. */
 static int end_together(const struct service *service, const pid_t *workers) {
     siginfo_t ended = {0};
     struct round round = {.turn = service->processes};

@@ -1,4 +1,4 @@
-/* reload.h over POSIX threads. */
+/* Implements reload.h with POSIX threads. */
 #define _GNU_SOURCE
 #include "reload.h"
 #include "processes.h"
@@ -9,22 +9,25 @@
 #include <semaphore.h>
 #include <string.h>
 
-/* The thread makes a reload FILLED, or ENDED if there are no new users, and the loop all else. */
+/* The thread sets the state of a reload to FILLED, or to ENDED if there are no new users. The loop
+ * sets all other states. */
 enum step { NONE, READING, FILLED, TAKEN, ENDED };
 
 static struct {
     pthread_t thread;
     sem_t is_taken;
-    enum step step; /* of both, so it is read and written in one step */
+    enum step step; /* the thread and the loop use it, so it is read and written atomically */
     fill_users *fill;
-    stunp_endpoint_users table; /* the new one and, when the loop has taken that, the old one */
+    stunp_endpoint_users table; /* the new table; the old table once the loop has taken the new
+                                 * one */
 } reload;
 
 static enum step step(void) { return __atomic_load_n(&reload.step, __ATOMIC_ACQUIRE); }
 static void become(enum step next) { __atomic_store_n(&reload.step, next, __ATOMIC_RELEASE); }
 
-/* Gives what the old table had back to the system. A thread has memory apart from that of the loop,
- * and what is free in one is of no use to the next reload in the other. */
+/* Returns the memory of the old table to the system. The memory from which a thread allocates is
+ * separate from the memory of the loop, so free memory of the one is of no use to a reload in the
+ * other. */
 static void give_memory_back(void) {
 #ifdef __GLIBC__
     malloc_trim(0);

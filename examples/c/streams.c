@@ -1,4 +1,4 @@
-/* streams.h over Linux. */
+/* Implements streams.h on Linux. */
 #define _GNU_SOURCE
 #include "streams.h"
 #include <errno.h>
@@ -9,9 +9,9 @@
 static struct connection {
     bool is_open;
     int socket;
-    uint64_t since;      /* when the last whole message came, or the connection began */
+    uint64_t since;      /* when the last complete message arrived, or the connection began */
     size_t length;       /* bytes in the buffer below that are not answered yet */
-    struct datagram got; /* the buffer, and where the messages come from */
+    struct datagram got; /* the buffer, and the address from which the messages come */
 } connections[MOST_CONNECTIONS];
 
 static void end(struct connection *one) {
@@ -19,7 +19,7 @@ static void end(struct connection *one) {
     one->is_open = false;
 }
 
-/* A connection that is free; if none is, the one that has been silent for longest makes room. */
+/* Returns a free connection. If there is none, ends the one that has been silent for longest. */
 static struct connection *room(void) {
     struct connection *oldest = connections;
     for (struct connection *one = connections; one < connections + MOST_CONNECTIONS; one++) {
@@ -53,9 +53,9 @@ void accept_stream(int listening, int queue, int first) {
     if (!watch(queue, socket, first + (int)(one - connections))) end(one);
 }
 
-/* Answers the messages that are whole. Returns false if the connection is to end: no message
- * begins in the stream, one is too long, or there is no room for an answer, since the client reads
- * none. */
+/* Answers the complete messages. Returns false if the connection has to end: no message begins at
+ * this point of the stream, a message is too long, or there is no room for an answer because the
+ * client does not read its answers. */
 static bool answer_whole(struct connection *one, answer_message *answer_one) {
     static struct answer answer;
     struct datagram *got = &one->got;
@@ -78,7 +78,7 @@ static bool answer_whole(struct connection *one, answer_message *answer_one) {
 void read_stream(int number, answer_message *answer) {
     struct connection *one = &connections[number];
     struct datagram *got = &one->got;
-    if (!one->is_open) return; /* it made room for another one just now */
+    if (!one->is_open) return; /* it was just ended to make room for another one */
     ssize_t more = recv(one->socket, got->bytes + one->length, sizeof got->bytes - one->length, 0);
     if (more < 0 && (errno == EINTR || errno == EAGAIN)) return;
     if (more > 0) one->length += (size_t)more;

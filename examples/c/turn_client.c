@@ -1,13 +1,15 @@
 /* A session at a TURN server over UDP (RFC 8656): Allocate, CreatePermission, data by indications,
  * ChannelBind, data on the channel, and a Refresh that ends it.
  *
- *     turn_client HOST PORT NAME PASSWORD PEER PORT [--within SECONDS]
+ *     turn_client HOST PORT NAME PASSWORD PEER PORT [--address] [--within SECONDS]
  *
- * The peer, an IP address, must send back what arrives, as turnutils_peer of coturn does. The
- * program prints what was allocated, and which data came back. It gives up after 30 s. Once it has
- * read what was allocated, it ends the allocation after an error too. Status 0; or 1, and why on
- * standard error; or 2 for wrong arguments. What follows `--` is not an option, such as a PASSWORD
- * that begins with `-`. */
+ * The peer, an IP address, must send back the data that arrives, as turnutils_peer of coturn does.
+ * The program prints what was allocated, and which data came back. With `--address` it asks for its
+ * own address before and after the allocation, with an unsigned Binding request, because many
+ * servers do not sign the response. It gives up after 30 s. Once it has read what was allocated, it
+ * ends the allocation even after an error. The status is 0; 1, with the reason on standard error;
+ * or 2 for wrong arguments. Arguments after `--` are not options, such as a PASSWORD that begins
+ * with `-`. */
 #define _GNU_SOURCE
 #include "asker.h"
 #include "heap.h"
@@ -32,7 +34,7 @@ static bool find_address(const struct datagram *got, uint32_t type, stunp_addres
     return octets >= 0;
 }
 
-/* ---- Data: neither way is signed, and nothing says whether it arrived */
+/* ---- Data, which is not signed in either direction, and whose arrival is not confirmed */
 
 /* Writes data to the front of a buffer with room for MOST_BYTES. */
 typedef stunp_writer write_data(const stunp_address *peer, const char *text, uint8_t *bytes);
@@ -102,7 +104,19 @@ static bool transact(struct asker *asker, const char *step, uint32_t method, con
     return ask(asker, method, body, got) || fails(step, asker->why);
 }
 
-/* The relayed address is of the peer's family. */
+/* Prints the address of the socket as the server sees it. */
+static bool find_own_address(struct asker *asker) {
+    stunp_request_options options = STUNP_INIT(stunp_request_options);
+    struct datagram got;
+    stunp_address own;
+    options.is_unsigned = true;
+    if (!ask_as(asker, STUNP_BINDING, NULL, &options, &got)) return fails("Binding", asker->why);
+    if (!find_address(&got, STUNP_XOR_MAPPED_ADDRESS, &own)) return fails("Binding", "no address");
+    printf("address %s\n", text_of(&own));
+    return true;
+}
+
+/* Allocates a relayed address of the same family as the peer's address. */
 static bool allocate(struct asker *asker, const stunp_address *peer) {
     uint8_t room[32];
     stunp_body body = stunp_body_on(room, sizeof room);
@@ -119,7 +133,7 @@ static bool allocate(struct asker *asker, const stunp_address *peer) {
     return true;
 }
 
-static bool run(struct asker *asker, const stunp_address *peer) {
+static bool run(struct asker *asker, const stunp_address *peer, bool has_address) {
     uint8_t rooms[3][32];
     stunp_body permission = stunp_body_on(rooms[0], 32), channel = stunp_body_on(rooms[1], 32),
                end = stunp_body_on(rooms[2], 32);
@@ -128,9 +142,11 @@ static bool run(struct asker *asker, const stunp_address *peer) {
     stunp_body_add_channel_number(&channel, CHANNEL);
     stunp_body_add_peer(&channel, peer);
     stunp_body_add_number(&end, STUNP_LIFETIME, 0, 4);
+    if (has_address && !find_own_address(asker)) return false;
     if (!allocate(asker, peer)) return false;
     bool is_right =
-        transact(asker, "CreatePermission", STUNP_CREATE_PERMISSION, &permission, &got)
+        (!has_address || find_own_address(asker))
+        && transact(asker, "CreatePermission", STUNP_CREATE_PERMISSION, &permission, &got)
         && carry(asker, peer, write_indication, is_indication, "by indication")
         && transact(asker, "ChannelBind", STUNP_CHANNEL_BIND, &channel, &got)
         && carry(asker, peer, write_on_channel, is_on_channel, "on the channel");
@@ -145,14 +161,16 @@ int main(int count, char **words) {
     stunp_address peer;
     unsigned long port;
     uint64_t within = 30 * SECOND;
+    bool has_address = false;
     const struct option options[] = {
+        {"--address", .flag = &has_address},
         {"--within", .nanoseconds = &within, .least = 0, .most = 1000000},
         {.name = NULL},
     };
     if (read_options(count, words, options) != 6 || *words[2] == 0
         || !read_number(words[5], 0, 65535, &port) || !read_host(words[4], port, &peer)) {
         fprintf(stderr, "usage: turn_client HOST PORT NAME PASSWORD PEER PORT "
-                        "[--within SECONDS]\n");
+                        "[--address] [--within SECONDS]\n");
         return 2;
     }
     stunp_endpoint_client_settings settings = STUNP_INIT(stunp_endpoint_client_settings);
@@ -160,7 +178,7 @@ int main(int count, char **words) {
     stunp_heap_bound(MOST_MEMORY);
     bool is_right = open_asker(&asker, words[0], words[1], &settings, within);
     explicit_bzero(words[3], strlen(words[3]));
-    is_right = is_right && run(&asker, &peer);
+    is_right = is_right && run(&asker, &peer, has_address);
     close_asker(&asker);
     return is_right ? 0 : 1;
 }

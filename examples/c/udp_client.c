@@ -1,16 +1,18 @@
-/* Asks a STUN server over UDP (RFC 8489) at which address it sees this client, and prints it.
+/* Asks a STUN server over UDP (RFC 8489) for the address from which it sees this client, and prints
+ * it.
  *
  *     udp_client HOST PORT [NAME PASSWORD] [OPTION]..
  *
- * --user FILE         reads both from the last line of a file, or of standard input if it is `-`
+ * --user FILE         reads NAME and PASSWORD from the last line of FILE, or of standard input if
+ *                     FILE is `-`
  * --sha256            supports HMAC-SHA256 beside HMAC-SHA1
  * --within SECONDS    gives up after SECONDS; without an answer a request ends after 39.5 s, or
  *                     within 79 s if it was challenged
  * --                  what follows is not an option, such as a PASSWORD that begins with `-`
  *
  * Without a name it accepts an unsigned response; with a name, only a response that the server has
- * signed. Status 0; or 1, and why on standard error: `no answer`, `refused CODE` or `failed ..`; or
- * 2 for wrong arguments. */
+ * signed. The status is 0; 1, with the reason on standard error: `no answer`, `refused CODE` or
+ * `failed ..`; or 2 for wrong arguments. */
 #define _GNU_SOURCE
 #include "asker.h"
 #include "heap.h"
@@ -21,7 +23,7 @@
 enum { MOST_MEMORY = 1 << 20 };
 
 /* Reads the user of the arguments or of a file, if there is one, into `line`. A file without a user
- * is an error, because its owner wants no answer that nobody signed. */
+ * is an error, because whoever names a file does not want an unsigned answer. */
 static bool set_user(stunp_endpoint_client_settings *settings, char **words, int count,
                      const char *file, char line[LONGEST_LINE]) {
     char *pair[2] = {NULL, NULL};

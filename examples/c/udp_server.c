@@ -1,14 +1,14 @@
-/* A STUN server on UDP and TCP (RFC 8489), IPv4 and IPv6, with users, over stunp_endpoint.h.
+/* A STUN server on UDP and TCP (RFC 8489), IPv4 and IPv6, with users, built on stunp_endpoint.h.
  *
- * It answers everybody with the address that the request came from or, if it has a realm, the users
- * of that realm alone, and challenges everybody else (section 9.2.4). It stores nothing about an
- * address, so a flood takes no memory, and any number of processes and machines can serve the same
- * clients if they have the same secret.
+ * It answers everybody with the address that the request came from. If it has a realm, it answers
+ * only the users of that realm, and challenges everybody else (section 9.2.4). It stores nothing
+ * about an address, so a flood uses no memory, and any number of processes and machines can serve
+ * the same clients if they have the same secret.
  *
  *     udp_server PORT [REALM [NAME PASSWORD].. [--users FILE]] [OPTION]..
  *
- * `--help` lists the options. SIGHUP has it read the file of users again, SIGUSR1 has it print its
- * counters, and SIGTERM ends it with status 0. */
+ * `--help` lists the options. At SIGHUP it reads the file of users again, at SIGUSR1 it prints its
+ * counters, and at SIGTERM it ends with status 0. */
 #define _GNU_SOURCE
 #include "counters.h"
 #include "heap.h"
@@ -68,7 +68,7 @@ static const char help[] =
 
 enum { MOST_BATCHES = 4 /* of one socket in turn */ };
 enum { MOST_WAIT = 1000, MOST_WAIT_IN_RELOAD = 10 /* milliseconds of a turn of the loop */ };
-enum { MEMORY = 1 << 30 /* of one process, at most: users, and one answer */ };
+enum { MEMORY = 1 << 30 /* the most bytes that one process allocates, for users and one answer */ };
 
 static struct {
     unsigned long port, workers, expiry, ahead, counts, idle;
@@ -106,7 +106,8 @@ static volatile sig_atomic_t jumps;
 
 static void jump(int number) { jumps += number == SIGUSR2; }
 
-/* Seconds of the wall clock: by another one, nonces of an earlier run could be current again. */
+/* Returns the seconds of the wall clock. With another clock, nonces of an earlier run could be
+ * current again. */
 static uint64_t now(void) {
     struct timespec now;
     clock_gettime(CLOCK_REALTIME, &now);
@@ -124,7 +125,7 @@ static void count_code(uint32_t code) {
                         : NOT_BINDING);
 }
 
-/* The types that must be understood, and are. */
+/* The types of attributes that must be understood, and that this server understands. */
 static const uint16_t known[] = {
     STUNP_MAPPED_ADDRESS,     STUNP_USERNAME, STUNP_MESSAGE_INTEGRITY,
     STUNP_UNKNOWN_ATTRIBUTES, STUNP_REALM,    STUNP_MESSAGE_INTEGRITY_SHA256,
@@ -134,7 +135,7 @@ static const uint16_t known[] = {
 enum { KNOWN_TYPES = sizeof known / sizeof *known };
 
 /* Returns the code of the answer to a request that is understood: 200 to Binding, 400 to an
- * Allocate without REQUESTED-TRANSPORT (RFC 8656, section 7.2), and 508 to all else. */
+ * Allocate without REQUESTED-TRANSPORT (RFC 8656, section 7.2), and 508 to everything else. */
 static uint32_t code_of(const struct datagram *got, uint32_t method) {
     bool is_malformed =
         method == STUNP_ALLOCATE
@@ -142,7 +143,7 @@ static uint32_t code_of(const struct datagram *got, uint32_t method) {
     return method == STUNP_BINDING ? 200 : is_malformed ? 400 : 508;
 }
 
-/* Adds what such an answer has: the address of the client, or the error. */
+/* Adds the contents of an answer with this code: the address of the client, or the error. */
 static void fill_answer(stunp_writer *writer, uint32_t code, const stunp_address *from) {
     if (code == 200)
         stunp_write_xor_address(writer, STUNP_XOR_MAPPED_ADDRESS, from->octets, from->length,
@@ -168,7 +169,7 @@ static void drop(const stunp_address *from, enum number what, const char *why) {
     if (settings.is_verbose) say_at_time("%s dropped: %s\n", text_of(from), why);
 }
 
-/* What the server's reason for a drop counts as. */
+/* Returns the counter for the reason for which the server dropped a datagram. */
 static enum number counter_of(uint32_t why) {
     return why == STUNP_DROP_NOT_STUN             ? NOT_STUN
            : why == STUNP_DROP_MALFORMED          ? MALFORMED
@@ -214,7 +215,7 @@ static void settle(const struct datagram *got, const stunp_judged *judged,
     else drop(&got->from, NOT_BINDING, "not a request");
 }
 
-/* Judges datagrams at a server of users by one call, and answers them. */
+/* Judges datagrams at a server with users in one call, and answers them. */
 static void answer_users(const struct datagram *const *got, struct answer *const *answers,
                          size_t number) {
     /* An answer has fewer bytes than its request may have, so all fit. */
@@ -234,7 +235,7 @@ static void answer_users(const struct datagram *const *got, struct answer *const
     }
 }
 
-/* Judges a datagram at a server that everybody may ask, and answers it. */
+/* Judges a datagram at a server that answers everybody, and answers it. */
 static void answer_anybody(const struct datagram *got, struct answer *answer) {
     stunp_header header;
     int64_t fingerprint = stunp_check_fingerprint(got->bytes, got->length);
@@ -262,7 +263,7 @@ static void answer_anybody(const struct datagram *got, struct answer *answer) {
     }
 }
 
-/* Whether a datagram is to be judged. Begins its answer, which has no bytes yet. */
+/* Returns whether to judge a datagram. Begins its answer, which has no bytes yet. */
 static bool is_taken(const struct datagram *got, struct answer *answer) {
     int64_t method = stunp_method(got->bytes, got->length);
     answer->start = answer->bytes, answer->length = 0;
@@ -271,7 +272,7 @@ static bool is_taken(const struct datagram *got, struct answer *answer) {
     return false;
 }
 
-/* Answers datagrams, at most BATCH. */
+/* Answers at most BATCH datagrams. */
 static void answer_all(const struct datagram *got, struct answer *answers, int number) {
     const struct datagram *taken[BATCH];
     struct answer *to[BATCH];
@@ -306,7 +307,7 @@ static bool fill_again(stunp_endpoint_users *table) {
 /* Reads the file of users again, if a SIGHUP arrived after the last reading began. A file with a
  * bad line changes nothing. */
 static void follow_hangups(unsigned long number) {
-    static sig_atomic_t read_at; /* 0, so that a SIGHUP counts that arrived before the first turn */
+    static sig_atomic_t read_at; /* 0, so that a SIGHUP that arrived before the first turn counts */
     if (is_reloading()) {
         if (!go_on_with_reload(&users)) return;
         say_hangup_is_done(number);
@@ -317,7 +318,7 @@ static void follow_hangups(unsigned long number) {
     read_at = heard;
 }
 
-/* Ends a reload that is under way. It stops reading when `is_ending`. */
+/* Ends a reload that is in progress. It stops reading when `is_ending`. */
 static void end_reload(void) {
     const struct timespec rest = {0, 1000000};
     while (is_reloading() && !go_on_with_reload(&users)) nanosleep(&rest, NULL);
@@ -330,7 +331,8 @@ static void answer_one(const struct datagram *got, struct answer *answer) {
     answer_all(got, answer, 1);
 }
 
-/* Answers datagrams that wait at a socket; not all of them, so that other sockets get a turn. */
+/* Answers datagrams that wait at a socket, but not all of them, so that other sockets get a
+ * turn. */
 static void serve_some(int socket) {
     static struct datagram got[BATCH];
     static struct answer answers[BATCH];
@@ -341,11 +343,11 @@ static void serve_some(int socket) {
     }
 }
 
-/* What epoll waits for, by number: UDP sockets, sockets that listen, and from FIRST_CONNECTION on
+/* The numbers of what epoll waits for: UDP sockets, listening sockets, and from FIRST_CONNECTION on
  * the connections. */
 enum { FIRST_STREAM = MOST_SOCKETS, FIRST_CONNECTION = 2 * MOST_SOCKETS };
 
-/* An epoll of the sockets, or -1. */
+/* Returns an epoll for the sockets, or -1. */
 static int watch_all(const struct listener *listener) {
     int queue = epoll_create1(EPOLL_CLOEXEC);
     bool is_right = queue >= 0;
@@ -362,8 +364,8 @@ static void serve_one(const struct listener *listener, int queue, int number) {
     else accept_stream(listener->streams[number - FIRST_STREAM], queue, FIRST_CONNECTION);
 }
 
-/* Prints the counters if they are due or asked for, and has a thread write their file. The first
- * process calls this now and then. */
+/* Prints the counters if they are due or were requested, and starts the thread that writes them to
+ * a file. The first process calls this now and then. */
 static void look(void) {
     static sig_atomic_t told;
     static uint64_t due;
@@ -396,7 +398,7 @@ static bool serve(const struct listener *listener, unsigned long number) {
 
 /* ---- Settings */
 
-/* The server of a realm, and its users. */
+/* Creates the server of a realm, and fills the table of its users. */
 static bool begin(const char *realm) {
     uint8_t secret[32], previous[32];
     stunp_endpoint_server_settings wanted = STUNP_INIT(stunp_endpoint_server_settings);
@@ -429,7 +431,7 @@ static bool has_right_words(int number, char **words) {
 }
 
 int main(int number, char **words) {
-    hear_signals(); /* first: a SIGHUP while the users are read does not end the program */
+    hear_signals(); /* first, so that a SIGHUP while the users are read does not end the program */
     sigaction(SIGUSR2, &(struct sigaction){.sa_handler = jump, .sa_flags = SA_RESTART}, NULL);
     number = read_options(number, words, options);
     if (settings.wants_help || settings.wants_version) {

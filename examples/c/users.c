@@ -1,4 +1,4 @@
-/* users.h: a line at a time, so that a file may have any size. */
+/* Implements users.h. It reads one line at a time, so that a file may have any size. */
 #define _GNU_SOURCE
 #include "users.h"
 #include "processes.h"
@@ -49,13 +49,13 @@ static bool read_hexadecimal(const char *letters, size_t count, uint8_t *bytes) 
     return true;
 }
 
-/* Keys in the place of a password. A length of 0 is a key that is not there. */
+/* Keys in place of a password. The length 0 means that there is no such key. */
 struct keys {
     uint8_t sha1[16], sha256[32];
     size_t sha1_length, sha256_length;
 };
 
-/* Reads `0xKEY [0xKEY]`. Anything else is a password. */
+/* Reads `0xKEY [0xKEY]`. Any other text is a password. */
 static bool read_keys(const char *text, struct keys *keys) {
     *keys = (struct keys){.sha1_length = 0};
     for (const char *word = text; *word != 0;) {
@@ -71,7 +71,7 @@ static bool read_keys(const char *text, struct keys *keys) {
     return true;
 }
 
-/* Adds the user of a line. Returns STUNP_NOT_TEXT or another refusal if the line is none. */
+/* Adds the user of a line. Returns STUNP_NOT_TEXT or another refusal if the line is not a user. */
 static int64_t add_line(stunp_endpoint_users *users, char *line) {
     struct keys keys;
     size_t name = strcspn(line, " \t");
@@ -86,11 +86,11 @@ static int64_t add_line(stunp_endpoint_users *users, char *line) {
     return answer;
 }
 
-/* Whether the program is ending, in any thread. */
+/* Returns whether the program is ending, in any thread. */
 static bool gives_up(void) { return __atomic_load_n(&is_ending, __ATOMIC_RELAXED) != 0; }
 
-/* Adds the users of lines. Returns how many lines are none, or -1 if it gave up, as it does if the
- * program is ending. */
+/* Adds the users of lines. Returns how many lines are not users, or -1 if it gave up, for example
+ * because the program is ending. */
 static long add_lines(stunp_endpoint_users *users, const char *path, const char *what,
                       FILE *file) {
     static char line[LONGEST_LINE];
@@ -119,7 +119,7 @@ bool add_file(stunp_endpoint_users *users, const char *path, const char *what) {
     bool is_input = strcmp(path, "-") == 0;
     FILE *file = is_input ? stdin : fopen(path, "re");
     if (file == NULL) return fails(path, strerror(errno));
-    /* What is read ahead is overwritten too. */
+    /* Bytes that were read ahead are overwritten too. */
     static char ahead[BUFSIZ];
     setvbuf(file, ahead, _IOFBF, sizeof ahead);
     long bad = add_lines(users, is_input ? "standard input" : path, what, file);

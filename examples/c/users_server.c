@@ -1,4 +1,5 @@
-/* A STUN server whose users are rows of a PostgreSQL database, over stunp_endpoint.h (docs/USERS.md).
+/* A STUN server whose users are rows of a PostgreSQL database, built on stunp_endpoint.h
+ * (docs/USERS.md).
  *
  *     users_server CONNECTION REALM serve PORT
  *     users_server CONNECTION REALM set NAME PASSWORD
@@ -6,12 +7,12 @@
  *
  * CONNECTION is what libpq takes, such as "host=localhost user=stun dbname=stun". The table is that
  * of docs/USERS.md. `serve` answers the users in the table with the address that the request came
- * from; its first line of output is `port N`, and port 0 is any free one. `set` adds a user or
- * changes the password of one, and `remove` removes one: the next request is judged by it.
+ * from; its first line of output is `port N`, and port 0 means any free port. `set` adds a user or
+ * changes the user's password, and `remove` removes a user. Both take effect with the next request.
  *
- * A query takes at most a second, and other datagrams wait meanwhile. A server of many users asks
- * its database on another thread, and calls stunp_endpoint_server_resume when the row is there.
- * `make -C examples/c OUT/users_server` builds it where libpq is installed. */
+ * A query takes at most a second, and other datagrams wait meanwhile. A server with many users
+ * queries its database on another thread, and calls stunp_endpoint_server_resume when the row has
+ * arrived. `make -C examples/c out/users_server` builds it if libpq is installed. */
 #define _GNU_SOURCE
 #include "net.h"
 #include <libpq-fe.h>
@@ -40,7 +41,8 @@ size_t answer(const stunp_endpoint_server *server, const uint8_t *bytes, size_t 
         kind = stunp_endpoint_server_resume(server, there ? &found : NULL, bytes, length, from,
                                             unix_seconds, out, room, &received);
     }
-    if (kind == STUNP_IS_REQUEST) { /* of the user in received.name, and not answered inside */
+    if (kind == STUNP_IS_REQUEST) {
+        /* A signed request from received.name that the server leaves to you. */
         stunp_writer error = stunp_reply_error(&received.reply, 400, "Bad Request", out, room);
         int64_t written = stunp_reply_finish(&received.reply, &error);
         stunp_reply_wipe(&received.reply);
@@ -60,7 +62,8 @@ static bool is_connected(void) {
     return PQstatus(database) == CONNECTION_OK;
 }
 
-/* Runs a query with values of the types text (25) and bytea (17), and asks for bytes as they are. */
+/* Runs a query with values of the types text (25) and bytea (17), and requests bytes in binary
+ * form. */
 enum { TEXT = 25, BYTES = 17, MOST_VALUES = 4 };
 struct value {
     Oid type;
@@ -78,7 +81,7 @@ static PGresult *ask(const char *query, const struct value *values, int count) {
     return PQexecParams(database, query, count, types, bytes, lengths, formats, 1);
 }
 
-/* The key in a column of the row, if it is there with this length. */
+/* Returns the key in a column of the row, if there is one with this length. */
 static const uint8_t *key_at(const PGresult *rows, int column, int length) {
     bool is_there = !PQgetisnull(rows, 0, column) && PQgetlength(rows, 0, column) == length;
     return is_there ? (const uint8_t *)PQgetvalue(rows, 0, column) : NULL;

@@ -2,7 +2,7 @@
  *
  *     verify PASSWORD < MESSAGE
  *
- * Status 0; or 1 if none is valid or nothing can be read, or 2 for wrong arguments. */
+ * The status is 0; 1 if no signature is valid or nothing can be read; or 2 for wrong arguments. */
 #include "stunp.h"
 #include <stdio.h>
 

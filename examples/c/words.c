@@ -1,4 +1,4 @@
-/* words.h over Linux. */
+/* Implements words.h on Linux. */
 #define _GNU_SOURCE
 #include "words.h"
 #include "net.h"
@@ -12,7 +12,7 @@
 bool read_number(const char *word, unsigned long least, unsigned long most, unsigned long *number) {
     char *end;
     if (word == NULL || *word < '0' || *word > '9') return false;
-    errno = 0; /* strtoul sets it where the number is above ULONG_MAX */
+    errno = 0; /* strtoul sets it if the number is above ULONG_MAX */
     *number = strtoul(word, &end, 10);
     return errno == 0 && *end == 0 && *number >= least && *number <= most;
 }
@@ -27,7 +27,7 @@ static bool read_seconds(const char *word, unsigned long least, unsigned long mo
     return true;
 }
 
-/* What follows an option. */
+/* Reads the value of an option. */
 static bool read_value(const char *word, const struct option *option) {
     if (option->text != NULL) return (*option->text = word) != NULL;
     if (option->texts != NULL) {
@@ -65,9 +65,12 @@ bool read_user(const char *path, char line[LONGEST_LINE], char *pair[2]) {
         return false;
     }
     setvbuf(file, NULL, _IONBF, 0); /* so that no other copy of a password is left */
+    bool is_cut = false;
     *line = 0;
-    while (fgets(next, sizeof next, file) != NULL) {
-        next[strcspn(next, "\r\n")] = 0;
+    while (!is_cut && fgets(next, sizeof next, file) != NULL) {
+        size_t length = strcspn(next, "\r\n");
+        is_cut = next[length] == 0 && length == sizeof next - 1;
+        next[length] = 0;
         if (*next != 0) memcpy(line, next, sizeof next);
     }
     explicit_bzero(next, sizeof next);
@@ -75,7 +78,8 @@ bool read_user(const char *path, char line[LONGEST_LINE], char *pair[2]) {
     pair[0] = line;
     pair[1] = strpbrk(line, " \t");
     if (pair[1] != NULL) *pair[1]++ = 0;
-    if (*line == 0) fprintf(stderr, "failed: nobody in the file\n");
+    if (is_cut) fprintf(stderr, "failed: a line of more than %d bytes\n", LONGEST_LINE - 2);
+    else if (*line == 0) fprintf(stderr, "failed: nobody in the file\n");
     else if (pair[1] == NULL) fprintf(stderr, "failed: a line is `NAME PASSWORD`\n");
-    return *line != 0 && pair[1] != NULL;
+    return !is_cut && *line != 0 && pair[1] != NULL;
 }

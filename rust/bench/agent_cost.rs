@@ -6,10 +6,11 @@
 //! ```
 //!
 //! The agent is `crate` (`StunAgent`) or `plain` (`plain_agent.rs`), and has 100,000 requests
-//! outstanding, which were all sent at one time. The call is `send`, `again` (`poll_transmit` with
-//! all due), `response`, or, of the crate alone, `cancel` or `end` (`poll` with all over). The
-//! difference between 600 and 100 times, divided by 500, is the cost of one call. All messages are
-//! made before, as many for each number of calls.
+//! outstanding, which were all sent at the same time. The call is `send`, `again` (`poll_transmit`
+//! while all requests are due), `response` or, for `crate` only, `cancel` or `end` (`poll` after
+//! all requests have timed out). The difference between 600 and 100 times, divided by 500, is the
+//! cost of one call. All messages are made before the calls, and their number does not depend on
+//! the number of calls.
 
 mod plain_agent;
 
@@ -24,7 +25,7 @@ use std::time::Duration;
 
 const MOST: usize = 1000;
 
-/// The ID of the request of this number: 64 bits that look random.
+/// Returns the ID of the request with this number, of which 64 bits look random.
 fn id(number: usize) -> TransactionId {
     let mut bits = (number as u64 + 1).wrapping_mul(0x9E37_79B9_7F4A_7C15);
     bits ^= bits >> 30;
@@ -59,7 +60,7 @@ fn response(number: usize) -> Vec<u8> {
     response.finish()
 }
 
-/// What is sent and what arrives in the calls that are counted.
+/// The messages that are sent and received in the calls that are counted.
 struct Messages {
     requests: Vec<Vec<u8>>,
     responses: Vec<Vec<u8>>,

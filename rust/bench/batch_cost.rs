@@ -8,8 +8,8 @@
 //! The answers come one by one (`into`, by `receive_into`), or 50 at once (`batch`, by
 //! `receive_many`). The algorithms are `sha1`, or `sha256` for both. The datagrams are `signed` (a
 //! request that is answered with a success) or `new` (an unsigned request from a new address each
-//! time). This is a program of its own, because whatever else a program calls changes what its
-//! compiler puts in line.
+//! time). This is a separate program, because any further calls in a program change what the
+//! compiler inlines.
 
 use seatcrane_stun::auth::*;
 use seatcrane_stun::endpoint::{Answers, LongTerm, Received, Server, UnixTime, Users};
@@ -18,7 +18,7 @@ use seatcrane_stun::types::prelude::*;
 use std::hint::black_box;
 use std::net::SocketAddr;
 
-/// How many datagrams a batch has.
+/// The number of datagrams in a batch.
 const BATCH: u32 = 50;
 
 fn alice() -> LongTermCredentials {
@@ -41,7 +41,7 @@ struct Datagrams<'a> {
     count: u32,
 }
 
-/// Where the datagrams of the client come from.
+/// Returns the address that the datagrams of the client come from.
 fn client_address() -> SocketAddr {
     ([10, 0, 0, 1], 4242).into()
 }

@@ -1,6 +1,7 @@
-//! Times calls of the crate beside plain code over the same crates of digests: for each the least
-//! nanoseconds of many short rounds in turn, so that other work of the machine does not count, and
-//! their ratio. `bench/rust.sh` runs it.
+//! Times calls of the crate, and plain code that uses the same digest crates. For each pair it
+//! prints the least time of both, in nanoseconds, and their ratio. The rounds are short and
+//! alternate, and only the shortest counts, so that other work of the machine has little effect.
+//! `bench/rust.sh` runs this program.
 
 use md5::{Digest, Md5};
 use seatcrane_stun::auth::ShortTermAuth;
@@ -23,7 +24,8 @@ const TEXTS: [&str; 3] = [
     "TheMatrIX",
 ];
 
-/// HMAC (RFC 2104) of two pieces, as anybody writes it by a hasher with a block of 64 bytes.
+/// Returns the HMAC (RFC 2104) of two pieces, written plainly with a hasher whose blocks have 64
+/// bytes.
 fn hmac<D: Digest>(key: &[u8], pieces: [&[u8]; 2]) -> impl AsRef<[u8]> + use<D> {
     let (mut inner, mut outer) = ([0x36; 64], [0x5c; 64]);
     for (i, byte) in key.iter().enumerate() {
@@ -38,7 +40,8 @@ fn hmac<D: Digest>(key: &[u8], pieces: [&[u8]; 2]) -> impl AsRef<[u8]> + use<D> 
     D::new().chain_update(outer).chain_update(digest).finalize()
 }
 
-/// What the digest at a place covers: the start with the length as it is to be, and the rest.
+/// Returns what the digest in the attribute at the offset `place` covers: the first four bytes with
+/// the length that counts for the digest, and the rest up to the attribute.
 fn covered(message: &[u8], place: usize, value: usize) -> ([u8; 4], &[u8]) {
     let length = ((place + 4 + value - 20) as u16).to_be_bytes();
     (
@@ -47,7 +50,7 @@ fn covered(message: &[u8], place: usize, value: usize) -> ([u8; 4], &[u8]) {
     )
 }
 
-/// Whether the digest at a place is that of what it covers.
+/// Returns `true` if the digest in the attribute at the offset `place` is valid.
 fn is_signed<D: Digest>(message: &[u8], place: usize, value: usize) -> bool {
     let (start, rest) = covered(message, place, value);
     let digest = hmac::<D>(PASSWORD, [&start, rest]);
@@ -59,7 +62,7 @@ fn is_signed<D: Digest>(message: &[u8], place: usize, value: usize) -> bool {
         == 0
 }
 
-/// CRC-32 a byte at a time, as anybody writes it with a table.
+/// Returns the CRC-32, computed byte by byte with a table.
 fn crc32(table: &[u32; 256], bytes: &[u8]) -> u32 {
     let step = |crc: u32, byte: &u8| crc >> 8 ^ table[usize::from(crc as u8 ^ byte)];
     !bytes.iter().fold(!0, step)
@@ -72,7 +75,7 @@ fn crc_table() -> [u32; 256] {
     })
 }
 
-/// Judges a connectivity check of ICE by the calls that an agent makes.
+/// Judges a connectivity check of ICE with the calls that an agent makes.
 fn judge(auth: &mut ShortTermAuth, bytes: &[u8]) {
     let check = Message::from_bytes(bytes).unwrap();
     assert_eq!(check_fingerprint(&check), Fingerprint::Right);
@@ -113,7 +116,7 @@ fn time(call: &mut dyn FnMut()) -> f64 {
     start.elapsed().as_nanos() as f64 / CALLS as f64
 }
 
-/// One line of the table.
+/// Measures a call and plain code, and prints them as a line of the table.
 fn measure(title: &str, mut call: impl FnMut(), mut plain: impl FnMut()) {
     let (mut ours, mut theirs) = (f64::MAX, f64::MAX);
     for _ in 0..ROUNDS {
@@ -202,7 +205,7 @@ fn main() {
     measure_ice();
 }
 
-/// A check like that of RFC 5769, section 2.1, which has 108 bytes.
+/// Returns a check like the request of RFC 5769, section 2.1, which has 108 bytes.
 fn check() -> Result<Vec<u8>, StunWriteError> {
     let id = TransactionId::from([7; 12]);
     let mut check = Message::builder_request_with_id(BINDING, id, MessageWriteVec::new());
@@ -214,7 +217,7 @@ fn check() -> Result<Vec<u8>, StunWriteError> {
     finish_with_fingerprint(check)
 }
 
-/// The lines of a check of ICE.
+/// Prints the lines of the table that are about a check of ICE.
 fn measure_ice() {
     let bytes = &check().unwrap()[..];
     let message = Message::from_bytes(bytes).unwrap();

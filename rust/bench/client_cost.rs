@@ -1,4 +1,4 @@
-//! Makes 1,000 Binding requests and reads their responses, some times over, so that
+//! Makes 1,000 Binding requests and reads their responses, several times over, so that
 //! `bench/endpoint.py` can count the instructions of one:
 //!
 //! ```text
@@ -8,10 +8,10 @@
 //! The difference between 3 and 1 times, divided by 2,000, is the cost of one request and its
 //! response. The client is `endpoint` (`endpoint::Client`), or `calls`: the calls of `agent` and
 //! `auth` that it makes, in a row. `calls` derives the transaction IDs as the endpoint does: the
-//! n-th is the first 96 bits of HMAC-SHA1(seed, n). `counted` is the same calls with IDs that are
-//! counted up, which cost nothing, and which a program must not use. With `signed` the client has
-//! long-term credentials, with `unsigned` none. The responses are made before, by an
-//! `endpoint::Server`.
+//! n-th is the first 96 bits of HMAC-SHA1(seed, n). `counted` makes the same calls with consecutive
+//! IDs. These cost nothing, but a program must not use them, because an attacker can guess them.
+//! With `signed` the client has long-term credentials, with `unsigned` none. An `endpoint::Server`,
+//! or an `endpoint::OpenServer` for `unsigned`, makes the responses in advance.
 
 use seatcrane_stun::Instant;
 use seatcrane_stun::agent::{StunAgent, StunAgentPollRet};
@@ -27,14 +27,14 @@ use std::net::SocketAddr;
 
 const REQUESTS: u32 = 1000;
 
-/// What answers a request.
+/// Returns the response to a request.
 type Peer<'a> = dyn FnMut(&[u8]) -> Vec<u8> + 'a;
 
 fn server_address() -> SocketAddr {
     ([192, 0, 2, 1], 3478).into()
 }
 
-/// The requests of an `endpoint::Client`, each started when the one before has ended.
+/// Makes the requests with an `endpoint::Client`, each after the request before it has ended.
 fn by_endpoint(is_signed: bool, peer: &mut Peer<'_>) {
     let (server, now) = (server_address(), Instant::ZERO);
     let mut client = Client::builder(server);
@@ -62,7 +62,7 @@ fn by_endpoint(is_signed: bool, peer: &mut Peer<'_>) {
 struct Calls {
     agent: StunAgent,
     auth: LongTermClientAuth,
-    // Without a seed the IDs are counted up.
+    // Without a seed, the IDs are consecutive numbers.
     seed: Option<PreparedKey>,
     next_id: u64,
 }
@@ -104,7 +104,7 @@ impl Calls {
         peer(sent.unwrap().data.as_ref())
     }
 
-    /// Reads a response. Returns false if the request is to be sent again.
+    /// Reads a response. Returns `false` if the request must be sent again.
     fn read(&mut self, response: &[u8], is_signed: bool, now: Instant) -> bool {
         let message = Message::from_bytes(response).unwrap();
         assert_ne!(check_fingerprint(&message), Fingerprint::Wrong);

@@ -4,11 +4,12 @@
 //! client_many 10000 100000
 //! ```
 //!
-//! For each number it starts that many Binding requests without credentials, returns their bytes,
-//! returns them again half a second later, reads all the responses, and returns all the ends, with one
-//! client after another, until a million requests have ended. A row has the mean time of a call of each
-//! kind, in nanoseconds, and the time of all for one client, in milliseconds. On Linux that is time of
-//! the processor, so what else the machine does counts little; elsewhere it is what a clock shows.
+//! For each number, a client starts that many Binding requests without credentials, sends them,
+//! sends them again half a second later, reads all the responses, and reports how each request
+//! ended. Further clients do the same until a million requests have ended. A row has the mean time
+//! of a call of each kind, in nanoseconds, and the time of all calls of one client, in
+//! milliseconds. On Linux this is CPU time, so other work of the machine has little effect;
+//! elsewhere it is wall-clock time.
 
 use seatcrane_stun::Instant;
 use seatcrane_stun::endpoint::{Body, Client, Input, Output};
@@ -18,7 +19,7 @@ use std::net::SocketAddr;
 use std::sync::OnceLock;
 use std::time::Duration;
 
-/// How many requests a row has at least. Linux counts the time of a processor in steps of milliseconds.
+/// The least number of requests for a row, because Linux counts CPU time in steps of milliseconds.
 const REQUESTS: usize = 1_000_000;
 
 /// Calls `poll` until it returns a wait, and returns how many calls returned something else.
@@ -34,8 +35,8 @@ fn polled(client: &mut Client, now: Instant, mut sent: impl FnMut(&[u8])) -> usi
     }
 }
 
-/// Returns how much time of the processor this thread has taken, as Linux counts it. Where that is not
-/// told, returns the time since the first call.
+/// Returns the CPU time of this thread, as Linux counts it. On a system that does not report it,
+/// returns the time since the first call.
 fn spent() -> Duration {
     static BEGUN: OnceLock<std::time::Instant> = OnceLock::new();
     let begun = BEGUN.get_or_init(std::time::Instant::now);

@@ -5,13 +5,13 @@
 //! growth 1000 100000
 //! ```
 //!
-//! Each call is timed in several rounds that do the same, and the least time of each call counts,
-//! so that other work of the machine does not. A row has the median of the calls, the time that
-//! one call in a thousand exceeds, and the longest, in nanoseconds. The plain agent has the maps of
-//! the standard library alone ([plain_agent.rs](plain_agent.rs)).
+//! Each call is timed in several identical rounds, and only its least time counts, so that other
+//! work of the machine has little effect. A row has the median of the calls, the time that one call
+//! in a thousand exceeds, and the longest time, in nanoseconds. The plain agent uses only the maps
+//! of the standard library ([plain_agent.rs](plain_agent.rs)).
 //!
-//! On Linux, `growth memory 100000` prints the resident bytes of an outstanding request, a user and
-//! an address with a nonce, if there are that many.
+//! On Linux, `growth memory 100000` prints how many bytes of resident memory an outstanding
+//! request, a user, and an address with a nonce take, if there are 100,000 of each.
 
 mod plain_agent;
 
@@ -77,7 +77,7 @@ impl Table {
     }
 }
 
-/// An ID or a port that looks random, but each number has another one.
+/// Returns an ID or a port that looks random, and that is different for each number.
 fn scattered(i: usize) -> u64 {
     (i as u64 + 1).wrapping_mul(0x9E37_79B9_7F4A_7C15)
 }
@@ -92,12 +92,12 @@ fn at(millis: u64) -> Instant {
     Instant::ZERO + Duration::from_millis(millis)
 }
 
-/// A request with the ID of this number.
+/// Returns a request whose ID is made from this number.
 fn request(i: usize) -> Vec<u8> {
     Message::builder_request_with_id(BINDING, id(i), MessageWriteVec::new()).finish()
 }
 
-/// The success that answers a request.
+/// Returns the success response to a request.
 fn success(request: &[u8], address: SocketAddr) -> Vec<u8> {
     let request = Message::from_bytes(request).unwrap();
     let mut answer = Message::builder_success(&request, MessageWriteVec::new());
@@ -105,7 +105,7 @@ fn success(request: &[u8], address: SocketAddr) -> Vec<u8> {
     answer.finish()
 }
 
-/// The numbers below `size` in an order that looks random.
+/// Returns the numbers below `size` in an order that looks random.
 fn shuffled(size: usize) -> Vec<usize> {
     let mut order: Vec<usize> = (0..size).collect();
     order.sort_unstable_by_key(|i| scattered(*i).rotate_left(32));
@@ -115,7 +115,8 @@ fn shuffled(size: usize) -> Vec<usize> {
 const REMOTE: ([u8; 4], u16) = ([192, 0, 2, 1], 3478);
 const LOCAL: ([u8; 4], u16) = ([192, 0, 2, 2], 4242);
 
-/// The time at which this request is sent first, and sent again.
+/// Returns the time at which this request is sent first; `sent_again` returns when it is sent
+/// again.
 fn first_sent(i: usize) -> Instant {
     at(i as u64 / 1000)
 }
@@ -178,8 +179,8 @@ fn plain_agent(size: usize, table: &mut Table) {
     }
 }
 
-/// Lets all requests end at once, and sends as many again. With glibc, a call may stop to gather
-/// the small blocks that were freed before it.
+/// Ends all requests at once, and then sends as many again. With glibc, a call may take longer
+/// because it merges the small blocks that were freed before.
 fn ending_agent(size: usize, table: &mut Table) {
     let (remote, local) = (REMOTE.into(), LOCAL.into());
     let mut agent = StunAgent::builder(TransportType::Udp, local).build();
@@ -217,7 +218,7 @@ fn address(i: usize) -> SocketAddr {
         .into()
 }
 
-/// The nonce in a challenge is read, and a request is signed, by the client with this number.
+/// Returns the request that the client with this number signs after it has read a challenge.
 fn signed(i: usize, challenge: &[u8]) -> Vec<u8> {
     let mut client = LongTermClientAuth::new();
     client.set_credentials(credentials(i));
@@ -290,7 +291,7 @@ fn server(size: usize, table: &mut Table) {
     });
 }
 
-/// The resident memory of this process, in bytes.
+/// Returns the resident memory of this process, in bytes.
 fn resident() -> usize {
     let statm = std::fs::read_to_string("/proc/self/statm").expect("Linux");
     let pages = statm.split(' ').nth(1).unwrap();

@@ -34,7 +34,7 @@ const KNOWN: [AttributeType; 11] = [
     AttributeType::NONCE,
 ];
 
-/// The calls of an agent that is controlled, for a check that it accepts.
+/// Makes the calls of a controlled agent for a check that it accepts.
 fn by_calls(auth: &mut ShortTermAuth, name: &str, bytes: &[u8], from: SocketAddr) -> Vec<u8> {
     let check = Message::from_bytes(bytes).unwrap();
     assert_eq!(check_fingerprint(&check), Fingerprint::Right);

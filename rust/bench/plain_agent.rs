@@ -1,5 +1,5 @@
-//! An agent of the standard library's maps alone, to compare the library's with: it stores requests
-//! in a `BTreeMap` and their deadlines in a `BTreeSet`.
+//! An agent that uses only the maps of the standard library, to be compared with the agent of this
+//! crate. It stores requests in a `BTreeMap` and their deadlines in a `BTreeSet`.
 
 use seatcrane_stun::Instant;
 use seatcrane_stun::types::message::{Message, TransactionId};

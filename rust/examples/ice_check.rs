@@ -1,6 +1,6 @@
 //! A connectivity check of ICE in each direction (RFC 8445, section 7), both agents in one process,
 //! without a socket. Both begin as the controlling agent, so the first answer is a 487, and the
-//! agent that it goes to takes the other role. A `StunAgent` would send each check again until its
+//! agent that receives it takes the other role. A `StunAgent` would send each check again until its
 //! answer arrives.
 
 use seatcrane_stun::Instant;
@@ -14,7 +14,7 @@ use std::net::SocketAddr;
 /// The priority of a peer-reflexive candidate (RFC 8445, section 5.1.2).
 const PRIORITY: u32 = 0x6e00_01ff;
 
-/// One agent with one pair: its own address, and that of the peer.
+/// One agent with one pair: its own address, and the address of the peer.
 struct Agent {
     name: &'static str,
     checker: Checker,
@@ -24,7 +24,7 @@ struct Agent {
 }
 
 impl Agent {
-    /// Sends a check. The bytes go to the address of the peer.
+    /// Starts a check, and returns its bytes, to be sent to the address of the peer.
     fn send(&mut self, nominate: bool, now: Instant) -> Result<Vec<u8>, Box<dyn Error>> {
         let id = TransactionId::generate();
         let check = self.checker.check(id, self.peer, PRIORITY, nominate)?;
@@ -59,14 +59,14 @@ impl Agent {
     }
 }
 
-/// Two random numbers. Those of a transaction ID are as good as any.
+/// Returns two random numbers, taken from a random transaction ID.
 fn random_numbers() -> [u64; 2] {
     let number = TransactionId::generate().as_u128();
     [number as u64, (number >> 32) as u64]
 }
 
 fn main() -> Result<(), Box<dyn Error>> {
-    // What each side tells the other over its signalling: a name and a password. Both are random.
+    // Each side sends the other a name and a password through its signalling. Both are random.
     let (left, right) = (
         ("evtj", "asd88fgpdd777uzjYhagZg"),
         ("h6vY", "VOkJxbRl1RmTxUk/WvJxBt"),

@@ -5,7 +5,7 @@
 //! Each of the CALLERS is a thread that makes REQUESTS Binding requests, one after another. They
 //! share a `Front`, whose `ask` returns the response. One thread owns the client, and waits for
 //! three things: a caller, a datagram and a time. The standard library cannot wait for a socket and
-//! a channel together, so another thread reads the socket and passes on what arrives.
+//! a channel together, so another thread reads the socket and passes on the datagrams.
 //!
 //! On tokio one task does both: `tokio_client` of examples/rust.
 
@@ -28,13 +28,13 @@ const USAGE: &str = "many HOST PORT CALLERS REQUESTS [NAME PASSWORD]";
 
 type Answer = Result<Response, Box<dyn Error + Send + Sync>>;
 
-/// What the owner of the client waits for.
+/// The events for which the owner of the client waits.
 enum Event {
     Request(Method, Body, Sender<Answer>),
     Datagram(Vec<u8>),
 }
 
-/// The callers' side of a client, which any number of threads can share by clones.
+/// The callers' side of a client. Any number of threads can share it, each with a clone.
 #[derive(Clone)]
 struct Front(Sender<Event>);
 
@@ -73,7 +73,7 @@ fn read(socket: &UdpSocket, events: &Sender<Event>) {
                 return;
             }
             Ok(_) => {}
-            Err(_) => thread::sleep(Duration::from_millis(10)), // such as of a port that is closed
+            Err(_) => thread::sleep(Duration::from_millis(10)), // such as for a closed port
         }
     }
 }
@@ -84,7 +84,7 @@ fn drive(socket: &UdpSocket, server: SocketAddr, mut client: Client, events: &Re
     loop {
         let until = loop {
             match client.poll(clock.now()) {
-                // what is lost is sent again
+                // lost datagrams are sent again
                 Output::Transmit { bytes, .. } => drop(socket.send(bytes)),
                 Output::Ended(request, answer) => {
                     let caller: Option<Sender<Answer>> = callers.remove(&request);

@@ -3,19 +3,21 @@
 //!
 //!     nat_discovery HOST [PORT] [--within SECONDS]
 //!
-//! It prints the address of a socket, the address that the server sees in its place, and in words
-//! how the NAT maps addresses and what it lets in. A test that gets no response takes the given
-//! time, 3 seconds unless given. Status 0; or 1, and why on standard error; or 2 for wrong
-//! arguments.
+//! It prints the address of a socket, the address that the server sees in its place, and a
+//! description of how the NAT maps addresses and what it lets in. A test without a response takes
+//! the given time, by default 3 seconds. The status is 0 after a success, 1 after a failure, with
+//! the reason on standard error, and 2 for wrong arguments.
 
 #[path = "client/asker.rs"]
 mod asker;
 
 use asker::{Arguments, arguments, find};
 use seatcrane_stun::endpoint::{
-    Body, Client, Clock, Output, RequestError, Response, Retransmission, random_seed,
+    Body, Client, Clock, Output, RequestError, RequestOptions, Response, Retransmission,
+    random_seed,
 };
 use seatcrane_stun::extra::attribute::{ChangeRequest, OtherAddress};
+use seatcrane_stun::extra::canonical;
 use seatcrane_stun::types::message::BINDING;
 use std::error::Error;
 use std::net::{SocketAddr, UdpSocket};
@@ -36,7 +38,8 @@ const FILTERINGS: [&str; 3] = [
     "address and port-dependent: ports that were sent something may send",
 ];
 
-/// What a response says: the address that the server saw, and its other address, if it has one.
+/// The contents of a response: the address that the server saw, and the server's other address, if
+/// the response names one.
 struct Answer {
     mapped: SocketAddr,
     other: Option<SocketAddr>,
@@ -61,7 +64,7 @@ impl Answer {
     }
 }
 
-/// A socket, from which tests are made one after the other.
+/// A socket from which tests are made, one after the other.
 struct Tests {
     socket: UdpSocket,
     within: Duration,
@@ -83,8 +86,8 @@ impl Tests {
         answer.ok_or_else(|| format!("no answer from {to}").into())
     }
 
-    /// Returns `true` if a response arrives that was asked to come from another address of the
-    /// server, which is `from`.
+    /// Asks the server to respond from its other address `from`, and returns `true` if that
+    /// response arrives.
     fn hears(
         &self,
         server: SocketAddr,
@@ -95,8 +98,8 @@ impl Tests {
         Ok(self.test(server, body, from)?.is_some())
     }
 
-    /// Sends a Binding request, and returns the response that comes from this address, if one does
-    /// in time. Datagrams from elsewhere are ignored.
+    /// Sends a Binding request, and returns the response if one arrives from this address in time.
+    /// The client ignores datagrams from other addresses.
     fn test(
         &self,
         to: SocketAddr,
@@ -107,7 +110,8 @@ impl Tests {
         let plan = Retransmission::new(part, Duration::MAX, 3, 3 * part);
         let mut client = Client::builder(to).retransmission(plan).build(random_seed())?;
         let (clock, mut bytes) = (Clock::start(), [0; 4096]);
-        client.request(BINDING, body, clock.now())?;
+        let options = RequestOptions::new().answered_from(from);
+        client.request_with(BINDING, body, &options, clock.now())?;
         loop {
             match client.poll(clock.now()) {
                 Output::Transmit { bytes, .. } => drop(self.socket.send_to(bytes, to)),
@@ -116,12 +120,8 @@ impl Tests {
                 Output::Ended(_, Err(error)) => return Err(error.into()),
                 Output::Wait(until) => {
                     self.socket.set_read_timeout(clock.timeout(until))?;
-                    match self.socket.recv_from(&mut bytes) {
-                        // The client knows one address of its server, the one that it asked.
-                        Ok((length, source)) if source == from => {
-                            let _ = client.receive(&bytes[..length], to, clock.now());
-                        }
-                        _ => {}
+                    if let Ok((length, source)) = self.socket.recv_from(&mut bytes) {
+                        let _ = client.receive(&bytes[..length], source, clock.now());
                     }
                 }
                 _ => {}
@@ -153,7 +153,7 @@ fn mapping(
 }
 
 /// Finds out the filtering (section 4.4). The socket must have sent nothing to the other addresses
-/// of the server, because a NAT may let in whatever comes from where something was sent.
+/// of the server, because a NAT may let in everything from an address to which something was sent.
 fn filtering(tests: &Tests, server: SocketAddr) -> Result<&'static str, Box<dyn Error>> {
     let other = tests.ask(server)?.other(server)?;
     if tests.hears(server, ChangeRequest::new(true, true), other)? {
@@ -168,7 +168,9 @@ fn filtering(tests: &Tests, server: SocketAddr) -> Result<&'static str, Box<dyn 
 
 fn discover(arguments: &Arguments) -> Result<(), Box<dyn Error>> {
     let port = arguments.left.get(1).map_or("3478", String::as_str);
-    let (server, within) = (find(&arguments.left[0], port)?, arguments.within);
+    // If the address is `::ffff:a.b.c.d`, it is used as `a.b.c.d`, as the server names it.
+    let server = canonical(find(&arguments.left[0], port)?);
+    let within = arguments.within;
     let tests = Tests::open(server, within)?;
     println!("socket     {}", tests.socket.local_addr()?);
     let (mapped, mapping) = mapping(&tests, server)?;

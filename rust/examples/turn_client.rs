@@ -1,17 +1,19 @@
 //! A session at a TURN server over UDP (RFC 8656): Allocate, CreatePermission for all peers, data
 //! by indications, ChannelBind, data on the channel, and a Refresh that ends it.
 //!
-//!     turn_client HOST PORT NAME PASSWORD PEER PORT [PEER PORT].. [--within SECONDS]
+//!     turn_client HOST PORT NAME PASSWORD PEER PORT [PEER PORT].. [--address] [--within SECONDS]
 //!
-//! Each peer is to send back what arrives, as `turnutils_peer` of coturn does. The program prints
-//! what was allocated, and which data came back. It ends the allocation after an error too. Status
-//! 0; or 1, and why on standard error; or 2 for wrong arguments.
+//! Each peer must send back the data that arrives, as `turnutils_peer` of coturn does. The program
+//! prints what was allocated, and which data came back. With `--address` it asks for its own
+//! address before and after the allocation, with an unsigned Binding request, because many servers
+//! do not sign the response. It ends the allocation even after an error. The status is 0 after a
+//! success, 1 after a failure, with the reason on standard error, and 2 for wrong arguments.
 
 #[path = "client/asker.rs"]
 mod asker;
 
 use asker::{Arguments, Asker, arguments, find};
-use seatcrane_stun::endpoint::{Body, Client, Credentials, Response};
+use seatcrane_stun::endpoint::{Body, Client, Credentials, RequestOptions, Response};
 use seatcrane_stun::extra::attribute::*;
 use seatcrane_stun::extra::turn::{ChannelData, TurnMethod};
 use seatcrane_stun::types::message::*;
@@ -22,8 +24,8 @@ use std::process::ExitCode;
 use std::time::Duration;
 
 const USAGE: &str =
-    "turn_client HOST PORT NAME PASSWORD PEER PORT [PEER PORT].. [--within SECONDS]";
-/// The channel of the first peer, the next one of the second, and so on.
+    "turn_client HOST PORT NAME PASSWORD PEER PORT [PEER PORT].. [--address] [--within SECONDS]";
+/// The channel of the first peer. The second peer has the next channel, and so on.
 const FIRST_CHANNEL: u16 = 0x4000;
 /// Data that does not come back is sent again after this time.
 const REPEAT: Duration = Duration::from_millis(500);
@@ -33,9 +35,10 @@ type Failure = Box<dyn Error>;
 struct Session {
     asker: Asker,
     peers: Vec<SocketAddr>,
+    has_address: bool,
 }
 
-/// Data to a peer by a Send indication (RFC 8656, section 11). Indications are not signed.
+/// Returns data for a peer in a Send indication (RFC 8656, section 11). Indications are not signed.
 fn indication(peer: SocketAddr, text: &str) -> Result<Vec<u8>, StunWriteError> {
     let mut page = Message::builder_indication(TurnMethod::Send.method(), MessageWriteVec::new());
     let id = page.transaction_id();
@@ -58,7 +61,7 @@ fn is_indication(bytes: &[u8], peer: SocketAddr, text: &str) -> bool {
             .is_ok_and(|data| data.data() == text.as_bytes())
 }
 
-/// Data on a channel (RFC 8656, section 12.4).
+/// Returns the bytes of a ChannelData message (RFC 8656, section 12.4).
 fn on_channel(channel: u16, text: &str) -> Vec<u8> {
     let (mut bytes, data) = (Vec::new(), ChannelData::new(channel, text.as_bytes()));
     data.expect("a channel, and a short text").write(&mut bytes);
@@ -71,10 +74,21 @@ impl Session {
         asked.map_err(|error| format!("{method:?}: {error}").into())
     }
 
+    /// Asks for the address of this socket, if `--address` was given. This also keeps the binding
+    /// of a NAT alive.
+    fn address(&mut self) -> Result<(), Failure> {
+        if self.has_address {
+            let unsigned = RequestOptions::new().unsigned();
+            let response = self.asker.ask_with(BINDING, Body::new(), &unsigned)?;
+            println!("address {}", response.message().xor_mapped_address()?);
+        }
+        Ok(())
+    }
+
     fn allocate(&mut self) -> Result<(), Failure> {
         let mut body = Body::new().add(&RequestedTransport::new(RequestedTransport::UDP))?;
         if self.peers[0].is_ipv6() {
-            // The relayed address is of IPv4 unless a family is asked for.
+            // The relayed address is an IPv4 address unless a family is requested.
             body = body.add(&RequestedAddressFamily::new(AddressFamily::Ipv6))?;
         }
         let response = self.ask(TurnMethod::Allocate, body)?;
@@ -89,7 +103,7 @@ impl Session {
         Ok(())
     }
 
-    /// One request permits all peers: the attribute may repeat.
+    /// Permits all peers with one request, because XOR-PEER-ADDRESS may repeat.
     fn permit(&mut self) -> Result<(), Failure> {
         let mut body = Body::new();
         for peer in &self.peers {
@@ -140,8 +154,9 @@ impl Session {
     }
 
     fn run(&mut self) -> Result<(), Failure> {
+        self.address()?;
         self.allocate()?;
-        let exchanged = self.exchange();
+        let exchanged = self.address().and_then(|()| self.exchange());
         self.asker.extend(Duration::from_secs(1));
         let ended = self.ask(TurnMethod::Refresh, Body::new().add(&Lifetime::new(0))?);
         if ended.is_ok() {
@@ -164,10 +179,11 @@ fn session(arguments: &Arguments) -> Result<(), Failure> {
         arguments.within,
     )?;
     let peers = peers.collect::<Result<_, _>>()?;
-    Session { asker, peers }.run()
+    let has_address = arguments.has_address;
+    Session { asker, peers, has_address }.run()
 }
 
 fn main() -> ExitCode {
     let is_right = |words: &Arguments| words.left.len() >= 6 && words.left.len() % 2 == 0;
-    asker::run(USAGE, arguments(30.0, &[]).filter(is_right), session)
+    asker::run(USAGE, arguments(30.0, &["--address"]).filter(is_right), session)
 }

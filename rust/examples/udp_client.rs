@@ -1,11 +1,13 @@
-//! Asks a STUN server over UDP (RFC 8489) at which address it sees this client, and prints it.
+//! Asks a STUN server over UDP (RFC 8489) for the address from which it sees this client, and
+//! prints it.
 //!
 //!     udp_client HOST PORT [NAME PASSWORD] [--user FILE] [--sha256] [--within SECONDS]
 //!
-//! Without a name it accepts an answer that nobody signed; with one, only an answer that the server
-//! signed. A file, or standard input if it is `-`, has a line `NAME PASSWORD`. What follows `--` is
-//! not an option, such as a password that begins with `-`. Status 0; or 1, and why on standard
-//! error: `no answer`, `refused ..` or `failed ..`; or 2 for wrong arguments.
+//! Without a name it accepts an unsigned answer. With a name it accepts only an answer that the
+//! server signed. FILE, or standard input if FILE is `-`, has a line `NAME PASSWORD`. Write `--`
+//! before a password that begins with `-`, because arguments after `--` are not options. The status
+//! is 0 after a success, 1 after a failure, with the reason on standard error (`no answer`,
+//! `refused ..` or `failed ..`), and 2 for wrong arguments.
 
 #[path = "client/asker.rs"]
 mod asker;
@@ -20,8 +22,9 @@ use std::process::ExitCode;
 const USAGE: &str =
     "udp_client HOST PORT [NAME PASSWORD] [--user FILE] [--sha256] [--within SECONDS]";
 
-/// Returns the name and the password to ask with, if there are any: in a file, those of the last
-/// line. A file without a user is an error, because its owner wants no answer that nobody signed.
+/// Returns the name and the password for the request, if there are any. If a file is given, they
+/// are in its last line. A file without a user is an error, because a user who names a file does
+/// not want an unsigned answer.
 fn credentials(arguments: &Arguments) -> Result<Credentials, Box<dyn Error>> {
     let Some(path) = &arguments.file else {
         let pair = arguments.left.get(2..4);

@@ -1,19 +1,21 @@
-//! A STUN server on UDP and TCP (RFC 8489), IPv4 and IPv6, over `endpoint`. It answers
-//! everybody with the address that the request came from or, if it has a realm, its users alone
+//! A STUN server on UDP and TCP (RFC 8489), IPv4 and IPv6, built on `endpoint`. It answers
+//! everybody with the address that the request came from or, if it has a realm, only its users
 //! (section 9.2.4). `--help` lists its arguments. The first line of output is `port N`.
 //!
-//! It stores nothing about addresses, so a flood takes no memory, and any number of threads,
+//! It stores nothing about addresses, so a flood uses no memory, and any number of threads,
 //! processes and machines can serve the same clients if they have the same secret. While it serves,
 //! it allocates only bytes of one answer at a time; if that fails, it drops the datagram.
 //!
-//! It calls the system by the standard library alone and without `unsafe`, which has these limits:
+//! It calls the system only through the standard library and without `unsafe`, which has these
+//! limits:
 //! - It cannot catch a signal, so SIGHUP ends it. It looks every second at the length and the time
 //!   of the file of users, and prints its counters at an interval.
-//! - It cannot set the options of a socket. IPv4 arrives at the IPv6 socket `::`, unless the system
-//!   keeps them apart (`net.ipv6.bindv6only`, and Windows): then name both by `--at`. On a machine
-//!   with several addresses, an answer may leave from another one than was asked, unless each is
-//!   named. The socket's buffer is the system's (`net.core.rmem_default`). For SO_REUSEPORT, make
-//!   the socket elsewhere and pass it as standard input (`--at -`).
+//! - It cannot set socket options. IPv4 arrives at the IPv6 socket `::`, unless the system keeps
+//!   the two apart (`net.ipv6.bindv6only`, and Windows). In that case, name an address of each with
+//!   `--at`. On a machine with several addresses, an answer may leave from an address at which the
+//!   request did not arrive, unless you name each address. The socket's buffer has the default size
+//!   of the system (`net.core.rmem_default`). For SO_REUSEPORT, create the socket elsewhere and
+//!   pass it as standard input (`--at -`).
 
 #[path = "udp_server/counts.rs"]
 mod counts;
@@ -37,7 +39,7 @@ use seatcrane_stun::extra::{Frame, next_frame};
 use seatcrane_stun::types::message::*;
 use std::error::Error;
 use std::fs::{self, Metadata};
-use std::io::{self, Read, Write};
+use std::io::{self, ErrorKind, Read, Write};
 use std::mem;
 use std::net::{IpAddr, SocketAddr, TcpListener, UdpSocket};
 use std::process::ExitCode;
@@ -93,7 +95,7 @@ struct Settings {
     file: Option<String>,
     secret: Option<String>,
     previous: Option<String>,
-    /// The file of the counters, and that by way of which it is written.
+    /// The file of the counters, and the temporary file through which it is written.
     metrics: Option<[String; 2]>,
     has_sha256: bool,
     has_tcp: bool,
@@ -104,7 +106,7 @@ struct Settings {
     is_verbose: bool,
 }
 
-/// What all threads share. Without a realm, the open server answers.
+/// The state that all threads share. Without a realm, the open server answers.
 struct Service<'a> {
     settings: &'a Settings,
     sockets: Vec<UdpSocket>,
@@ -158,8 +160,8 @@ impl Service<'_> {
         })
     }
 
-    /// Returns what a message comes to that arrived at the socket with this number. Messages with a
-    /// method that is not supported get no answer (section 6.3).
+    /// Returns the outcome of a message that arrived at the socket with this number. Messages with
+    /// a method that is not supported get no answer (section 6.3).
     fn judge(&self, bytes: &[u8], from: SocketAddr, at: usize) -> Outcome {
         let is_ours = |header: MessageHeader| header.get_type().method() == BINDING;
         if !MessageHeader::from_bytes(bytes).map_or(true, is_ours) {
@@ -189,7 +191,8 @@ impl Service<'_> {
         }
     }
 
-    /// Responds to a request of NAT behavior discovery. Others are answered before.
+    /// Responds to a request of NAT behavior discovery. All other requests have been answered
+    /// before this call.
     fn respond(&self, request: &Message<'_>, reply: &Reply, at: usize) -> Outcome {
         match discovery::respond(&self.addresses, request, reply, at) {
             Ok((code, bytes, to, from)) => Outcome::Answer(code, bytes, to, Some(from)),
@@ -197,7 +200,7 @@ impl Service<'_> {
         }
     }
 
-    /// Judges a message, counts the outcome and prints it if that is asked for.
+    /// Judges a message, counts the outcome, and prints it if this was requested.
     fn receive(&self, bytes: &[u8], from: SocketAddr, at: usize) -> Outcome {
         let outcome = self.judge(bytes, from, at);
         self.counts.note(&outcome);
@@ -208,9 +211,8 @@ impl Service<'_> {
         outcome
     }
 
-    /// Builds the table of users again once their file is not as it was when it was first read, and
-    /// has stayed the same for a second: it may be written in pieces. If it cannot be read, the
-    /// users are unchanged.
+    /// Builds the table of users again once their file has changed and then stayed the same for a
+    /// second, because it may be written in pieces. If it cannot be read, the users are unchanged.
     fn reload(&self, file: &str, first: Option<Stamp>) {
         let Some((server, table)) = &self.of_realm else {
             return;
@@ -224,7 +226,7 @@ impl Service<'_> {
                     Ok(users) => {
                         let mut current = table.write().unwrap_or_else(PoisonError::into_inner);
                         let old = mem::replace(&mut *current, users);
-                        drop(current); // requests are judged again, while the old table goes
+                        drop(current); // the other threads go on while the old table is freed
                         drop(old);
                     }
                     Err(error) => log::complain(format_args!("the users are unchanged: {error}")),
@@ -235,7 +237,7 @@ impl Service<'_> {
         }
     }
 
-    /// Writes the file of counters now and then, and reports when that begins to fail.
+    /// Writes the file of counters now and then, and reports when this begins to fail.
     fn write_metrics(&self, file: &str, new: &str) {
         let mut was_right = true;
         loop {
@@ -250,7 +252,7 @@ impl Service<'_> {
 
     /// Answers the datagrams of the socket with this number.
     fn serve(&self, at: usize) {
-        let mut bytes = [0; MOST_LENGTH + 1]; // a longer datagram is cut, and so malformed
+        let mut bytes = [0; MOST_LENGTH + 1]; // a longer datagram is truncated, and so malformed
         loop {
             let Ok((length, peer)) = self.sockets[at].recv_from(&mut bytes) else {
                 thread::sleep(Duration::from_millis(10)); // the next call may fail at once too
@@ -278,8 +280,8 @@ impl Service<'_> {
         }
     }
 
-    /// Answers messages until the connection ends, has no whole message for too long, or carries no
-    /// STUN.
+    /// Answers messages until the connection ends, has no complete message for too long, or carries
+    /// something other than STUN.
     fn converse(&self, open: &Open, peer: SocketAddr, bytes: &mut [u8]) -> io::Result<()> {
         let idle = Duration::from_secs(self.settings.idle);
         let (mut stream, mut length) = (&open.stream, 0);
@@ -298,9 +300,11 @@ impl Service<'_> {
                     let end = open.since() + idle;
                     let left = end.saturating_duration_since(Instant::now());
                     stream.set_read_timeout(Some(left.max(Duration::from_nanos(1000))))?;
-                    match stream.read(&mut bytes[length..])? {
-                        0 => return Ok(()),
-                        read => length += read,
+                    match stream.read(&mut bytes[length..]) {
+                        Ok(0) => return Ok(()),
+                        Ok(read) => length += read,
+                        Err(error) if error.kind() == ErrorKind::Interrupted => {} // by SIGCONT
+                        Err(error) => return Err(error),
                     }
                 }
                 _ => return Ok(()),
@@ -330,7 +334,8 @@ fn inherited() -> io::Result<UdpSocket> {
     Err(io::ErrorKind::Unsupported.into())
 }
 
-/// Binds a socket for each address, all with the same port; or the four of NAT behavior discovery.
+/// Binds a socket for each address, all with the same port; or the four sockets of NAT behavior
+/// discovery.
 fn sockets(settings: &Settings) -> Result<Vec<UdpSocket>, Box<dyn Error>> {
     let (mut port, mut bound) = (settings.port, Vec::new());
     for at in &settings.at {
@@ -353,6 +358,7 @@ fn sockets(settings: &Settings) -> Result<Vec<UdpSocket>, Box<dyn Error>> {
             port => port,
         };
         bound.push(UdpSocket::bind((first.ip(), other_port))?);
+        let other_port = bound[1].local_addr()?.port(); // the system chooses it if it was 0
         bound.push(UdpSocket::bind((other.ip(), first.port()))?);
         bound.push(UdpSocket::bind((other.ip(), other_port))?);
     }
@@ -367,8 +373,8 @@ fn stamp(file: &str) -> Option<Stamp> {
     Some((of.modified().ok()?, of.len(), identity(&of)))
 }
 
-/// Returns the number of a file and when it was last changed: a copy that keeps time and length
-/// has others.
+/// Returns the inode number of a file and when it was last changed. A copy of the file with the
+/// same time and length has a different identity.
 #[cfg(unix)]
 fn identity(of: &Metadata) -> [u64; 3] {
     use std::os::unix::fs::MetadataExt;
@@ -430,7 +436,7 @@ fn other(word: &str) -> Option<SocketAddr> {
     address.ok().or_else(|| word.parse().ok())
 }
 
-/// Returns the settings of the arguments, or `None` if they are wrong.
+/// Returns the settings in the arguments, or `None` if they are wrong.
 fn settings(mut words: Words) -> Option<Settings> {
     let mut settings = Settings {
         expiry: 3600,

@@ -1,5 +1,5 @@
-//! Attributes whose value is an address, each as a type of its own. Those whose address is XORed
-//! have the `TransactionId` of this crate's front.
+//! Attributes whose value is an address, each as a type of its own. The types with an XORed address
+//! take the [`TransactionId`] of this crate, which contains the transaction ID of the core.
 
 use crate::exported::stun_types::attribute::{
     self as proved, Attribute, AttributeFromRaw, AttributeStaticType, AttributeType, RawAttribute,
@@ -40,9 +40,9 @@ macro_rules! hidden_address {
                 self.0.addr(id.0)
             }
 
-            /// Like `addr`, but an IPv4 address that the attribute has as IPv6, `::ffff:a.b.c.d`, is
-            /// returned as IPv4. Compare this one with lists of networks: `::ffff:127.0.0.1` is in
-            /// no IPv4 network.
+            /// Like `addr`, but returns an address `::ffff:a.b.c.d` as the IPv4 address `a.b.c.d`.
+            /// Compare this address with lists of networks, and not the result of `addr`, because
+            /// `::ffff:127.0.0.1` is in no IPv4 network.
             pub fn canonical_addr(&self, id: TransactionId) -> SocketAddr {
                 $crate::extra::canonical(self.0.addr(id.0))
             }
@@ -81,8 +81,8 @@ macro_rules! plain_address {
                 self.0.addr()
             }
 
-            /// Returns the address, and an IPv4 address that the attribute has as IPv6,
-            /// `::ffff:a.b.c.d`, as IPv4. Compare this one with lists of networks:
+            /// Like `addr`, but returns an address `::ffff:a.b.c.d` as the IPv4 address `a.b.c.d`.
+            /// Compare this address with lists of networks, and not the result of `addr`, because
             /// `::ffff:127.0.0.1` is in no IPv4 network.
             pub fn canonical_addr(&self) -> SocketAddr {
                 $crate::extra::canonical(self.0.addr())

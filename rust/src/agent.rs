@@ -5,7 +5,7 @@
 //! performs no I/O: it owns no socket and reads no clock. You drive it from your own event loop, in
 //! the steps of `docs/PARTS.md` in the repository. After every call that takes `&mut self`, call
 //! [`StunAgent::poll_transmit`] until it returns `None`, and then [`StunAgent::poll`], because only
-//! the former advances the timers. The page of [`auth`](crate::auth) has a whole loop.
+//! `poll_transmit` advances the timers. The page of [`auth`](crate::auth) has a whole loop.
 //!
 //! # Examples
 //!
@@ -97,8 +97,8 @@ pub use crate::transmit::Transmit;
 pub enum StunAgentPollRet {
     /// The request with this transaction ID has ended: no response arrived in time.
     TransactionTimedOut(TransactionId),
-    /// The request with this transaction ID has ended, after [`StunRequestMut::cancel`] or
-    /// [`StunRequestMut::cancel_retransmissions`].
+    /// The request with this transaction ID has ended because you canceled it or its
+    /// retransmissions ([`StunRequestMut::cancel`], [`StunRequestMut::cancel_retransmissions`]).
     TransactionCancelled(TransactionId),
     /// No request has ended. Poll again at this time, or earlier if you make another call first.
     WaitUntil(Instant),
@@ -147,7 +147,7 @@ impl StunAgentBuilder {
     /// Sets the retransmission timeouts.
     ///
     /// - `initial` is the wait after the first transmission (RTO in the RFC). Each further wait is
-    ///   twice the one before.
+    ///   twice the wait before it.
     /// - `max` is an upper bound on those waits.
     /// - `retransmits` is the number of transmissions over UDP, the first one included (Rc in the
     ///   RFC). 0 counts as 1.
@@ -192,10 +192,10 @@ impl StunAgentBuilder {
 /// The agent also remembers the source address of every message that it accepted. It calls these
 /// addresses *validated peers*. The list grows until you call
 /// [`forget_validated_peer`](StunAgent::forget_validated_peer), so limit the number of strangers
-/// whose requests you pass to the agent.
+/// whose messages you pass to the agent.
 ///
-/// An agent does not verify signatures. Whether a message may be believed is for the
-/// [authenticators](crate::auth) to decide.
+/// An agent does not verify signatures. Use the [authenticators](crate::auth) to find out whether
+/// to believe a message.
 pub struct StunAgent(proved::StunAgent);
 
 impl fmt::Debug for StunAgent {
@@ -240,19 +240,19 @@ impl StunAgent {
         self.0.local_addr()
     }
 
-    /// Returns the only address that the agent may send to, if
-    /// [`StunAgentBuilder::remote_addr`] set one.
+    /// Returns the only address that the agent may send to, or `None` if
+    /// [`StunAgentBuilder::remote_addr`] did not set one.
     pub fn remote_addr(&self) -> Option<SocketAddr> {
         self.0.remote_addr()
     }
 
-    /// Returns the statistics, if the agent keeps them.
+    /// Returns the statistics, or `None` if the agent keeps none.
     pub fn stats(&self) -> Option<&StunAgentStats> {
         self.0.stats()
     }
 
-    /// Returns a mutable reference to the statistics, if the agent keeps them. Use it to reset
-    /// them.
+    /// Returns a mutable reference to the statistics, or `None` if the agent keeps none. Use it to
+    /// reset them.
     pub fn stats_mut(&mut self) -> Option<&mut StunAgentStats> {
         self.0.stats_mut()
     }
@@ -263,8 +263,8 @@ impl StunAgent {
     ///
     /// # Errors
     ///
-    /// [`StunError::ProtocolViolation`] if the agent has a fixed remote address and `to` is a
-    /// different one.
+    /// Fails with [`StunError::ProtocolViolation`] if the agent has a fixed remote address and `to`
+    /// is a different one.
     pub fn send_data<T: AsRef<[u8]>>(
         &self,
         bytes: T,
@@ -280,7 +280,7 @@ impl StunAgent {
     ///
     /// # Errors
     ///
-    /// The first of these that applies. The agent is then unchanged.
+    /// Returns the first of these errors that applies. The agent is then unchanged.
     ///
     /// - [`StunError::ParseError`]: the bytes do not start with a STUN header.
     /// - [`StunError::ProtocolViolation`]: the message is a request, or the agent has a fixed
@@ -306,11 +306,11 @@ impl StunAgent {
     /// time a retransmission is due.
     ///
     /// Each request needs a new, unpredictable transaction ID. This includes the signed request
-    /// that answers a 401 or a 438: build it from scratch.
+    /// that you send after a 401 or a 438, so build that request from scratch.
     ///
     /// # Errors
     ///
-    /// The first of these that applies. The agent is then unchanged.
+    /// Returns the first of these errors that applies. The agent is then unchanged.
     ///
     /// - [`StunError::ParseError`]: the bytes do not start with a STUN header.
     /// - [`StunError::ProtocolViolation`]: the message is not a request, or the agent has a fixed
@@ -387,7 +387,7 @@ impl StunAgent {
 
     /// Like [`handle_stun_message_with_time`](StunAgent::handle_stun_message_with_time), but does
     /// not measure the round-trip time.
-    #[must_use = "a message that is not taken is to be dropped"]
+    #[must_use = "drop a message that is not accepted"]
     pub fn handle_stun_message(&mut self, message: &Message<'_>, from: SocketAddr) -> bool {
         let is_accepted = granted(self.0.handle_stun_message(&message.0, from));
         event!(id = %message.transaction_id(), %from, is_accepted, "got a message");
@@ -404,14 +404,16 @@ impl StunAgent {
     ///
     /// The source of an accepted message becomes a validated peer.
     ///
-    /// A round trip is measured only if the response arrives before the first retransmission of its
-    /// request, sent or suppressed. After that it is unclear which transmission was answered.
+    /// A round trip is measured only if the response arrives before
+    /// [`poll_transmit`](StunAgent::poll_transmit) has returned the first retransmission of its
+    /// request, or would have returned it if you had not stopped the retransmissions. After that it
+    /// is unclear which transmission was answered.
     ///
     /// # Security
     ///
-    /// Ask the authenticator first. The agent does not verify the signature, so an attacker who can
-    /// send from the server's address and knows the transaction ID could end your request with a
-    /// forged response.
+    /// Call the authenticator before this call. The agent does not verify the signature, so an
+    /// attacker who can send from the server's address and knows the transaction ID could end your
+    /// request with a forged response.
     ///
     /// # Examples
     ///
@@ -444,7 +446,7 @@ impl StunAgent {
     /// assert!(!agent.handle_stun_message_with_time(&response, server, now));
     /// # Ok::<(), Box<dyn std::error::Error>>(())
     /// ```
-    #[must_use = "a message that is not taken is to be dropped"]
+    #[must_use = "drop a message that is not accepted"]
     pub fn handle_stun_message_with_time(
         &mut self,
         message: &Message<'_>,
@@ -456,7 +458,7 @@ impl StunAgent {
         is_accepted
     }
 
-    /// Returns the outstanding request with this transaction ID, if there is one.
+    /// Returns the outstanding request with this transaction ID, or `None` if there is none.
     pub fn request_transaction(&self, id: TransactionId) -> Option<StunRequest<'_>> {
         let request = self.0.request_transaction(id.0)?;
         let (peer_address, integrity) = (request.peer_address(), request.integrity());
@@ -467,8 +469,8 @@ impl StunAgent {
         })
     }
 
-    /// Returns a handle with which to cancel the outstanding request with this transaction ID, or
-    /// to change its timeouts, if there is such a request.
+    /// Returns a handle to the outstanding request with this transaction ID, or `None` if there is
+    /// none. Use it to cancel the request, or to change its timeouts.
     ///
     /// # Examples
     ///
@@ -506,11 +508,12 @@ impl StunAgent {
         })
     }
 
-    /// Ends at most one request, or returns how long to wait.
+    /// Ends at most one request and returns which one, or returns the time at which to poll again.
     ///
-    /// If several requests are over, each call reports one of them, so call again at once after an
-    /// end. [`StunAgentPollRet::WaitUntil`] is never before `now` and at most one hour after it.
-    /// Poll again at that time, and after every other call that takes `&mut self`.
+    /// If several requests have ended, each call reports one of them, so call again at once after a
+    /// call that reports a request. [`StunAgentPollRet::WaitUntil`] is never before `now` and at
+    /// most one hour after it. Poll again at that time, and after every other call that takes `&mut
+    /// self`.
     ///
     /// Call [`poll_transmit`](StunAgent::poll_transmit) first, until it returns `None`. See the
     /// [module documentation](self) for the whole loop.
@@ -530,7 +533,7 @@ impl StunAgent {
         }
     }
 
-    /// Returns the next retransmission that is due, if there is one.
+    /// Returns the next retransmission that is due, or `None` if none is due.
     ///
     /// Each call returns one request at most, so call until it returns `None`. When many requests
     /// are due at once, you may send some of them, read from your socket, and continue: no
@@ -560,8 +563,8 @@ fn lent<T: AsRef<[u8]>>(sent: proved::Transmit<Lent<T>>) -> Transmit<T> {
 ///
 /// # Examples
 ///
-/// Whether a response may be passed to an authenticator: it must answer an outstanding request,
-/// and come from the address that the request was sent to.
+/// Checking whether a response may be passed to an authenticator: it must answer an outstanding
+/// request, and come from the address that the request was sent to.
 ///
 /// ```
 /// use seatcrane_stun::agent::StunAgent;
@@ -592,8 +595,8 @@ impl StunRequest<'_> {
         self.peer_address
     }
 
-    /// Returns the algorithm of the request's integrity attribute, or `None` if it has none. If it
-    /// has both attributes, this is HMAC-SHA256.
+    /// Returns the algorithm of the request's integrity attribute, or `None` if the request has no
+    /// such attribute. If it has both integrity attributes, this is HMAC-SHA256.
     #[must_use]
     pub fn integrity(&self) -> Option<IntegrityAlgorithm> {
         self.integrity
@@ -608,8 +611,8 @@ impl StunRequest<'_> {
 
 /// A mutable handle to an outstanding request, returned by [`StunAgent::mut_request_transaction`].
 ///
-/// If the request ends while you hold the handle, the calls that change it have no effect. The
-/// peer address and the algorithm can still be read.
+/// If the request ends while you have the handle, the calls that change the request have no effect.
+/// The peer address and the algorithm can still be read.
 ///
 /// # Examples
 ///
@@ -649,8 +652,8 @@ impl StunRequestMut<'_> {
         self.peer_address
     }
 
-    /// Returns the algorithm of the request's integrity attribute, or `None` if it has none. If it
-    /// has both attributes, this is HMAC-SHA256.
+    /// Returns the algorithm of the request's integrity attribute, or `None` if the request has no
+    /// such attribute. If it has both integrity attributes, this is HMAC-SHA256.
     #[must_use]
     pub fn integrity(&self) -> Option<IntegrityAlgorithm> {
         self.integrity
@@ -694,7 +697,7 @@ impl StunRequestMut<'_> {
     /// The new timeouts take effect as if they had been set from the start. Timeouts that have
     /// already passed still count, and the current wait still starts at the last transmission. The
     /// waits between transmissions have no upper bound, even if the builder set one: use
-    /// [`configure_timeout_with_max`](StunRequestMut::configure_timeout_with_max) to set it.
+    /// [`configure_timeout_with_max`](StunRequestMut::configure_timeout_with_max) to set a bound.
     pub fn configure_timeout(
         &mut self,
         initial: Duration,
@@ -720,7 +723,7 @@ impl StunRequestMut<'_> {
         });
     }
 
-    /// Applies a change to the request if it is still outstanding.
+    /// Applies a change to the request. Does nothing if the request is no longer outstanding.
     fn change(&mut self, change: impl FnOnce(&mut proved::StunRequestMut<'_>)) {
         if let Some(mut request) = self.agent.0.mut_request_transaction(self.id.0) {
             change(&mut request);

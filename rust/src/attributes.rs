@@ -1,9 +1,10 @@
-//! The table of the further attributes. Each row has the number's name and the RFC, the form, which
-//! is a macro, and what the form needs: the type, which gets its page from the comment above the
-//! row, and how its value is called. The numbers are those of the proved sources.
+//! The table of the further attributes. Each row has the name of the constant of `AttributeType`,
+//! the RFC, and a form, which is a macro. The arguments of the form are the name of the type and,
+//! for some forms, the name of its value. The comment above a row becomes the page of the type. The
+//! numbers are those of the proved sources.
 //!
-//! From it are made the types of [`extra::attribute`](crate::extra::attribute), the constants of
-//! `AttributeType`, the list of those that a client understands, and a test of each row.
+//! The table generates the types of [`extra::attribute`](crate::extra::attribute), the constants of
+//! `AttributeType`, the list of types that a client understands, and a test of each row.
 
 use crate::address::{hidden_address, plain_address};
 use crate::bytes::bytes_attribute;
@@ -23,7 +24,8 @@ use crate::transaction::TransactionId;
 use core::fmt;
 use core::net::SocketAddr;
 
-/// The type is that of the sources, and has a file there, or its module is named.
+/// Exports a type for which the proved sources have a file of its own. If the row names a module,
+/// the type is in that module of `stun_extra`, and otherwise in `stun_attributes`.
 macro_rules! own_attribute {
     (@test $($row:tt)*) => {};
     ($name:ident) => {
@@ -48,7 +50,7 @@ macro_rules! table {
             )*
         }
 
-        /// Returns the registered name of the type of a row.
+        /// Returns the registered name of a type, or `None` if no row has this type.
         pub(crate) fn name_in_table(kind: AttributeType) -> Option<&'static str> {
             let rows = [$(($name::TYPE, $rfc)),*];
             let (_, text) = rows.into_iter().find(|(of, _)| *of == kind)?;
@@ -69,7 +71,7 @@ macro_rules! table {
 table! {
     // STUN (RFC 8489, section 14).
 
-    /// MAPPED-ADDRESS (RFC 8489, section 14.1): the address from which a request came, not XORed.
+    /// MAPPED-ADDRESS (RFC 8489, section 14.1): the address that a request came from, not XORed.
     ///
     /// # Examples
     ///
@@ -94,7 +96,7 @@ table! {
     UNKNOWN_ATTRIBUTES, "UNKNOWN-ATTRIBUTES (RFC 8489, section 14.13)":
         own_attribute(UnknownAttributes, unknown);
 
-    /// SOFTWARE (RFC 8489, section 14.14): a description of the software that the sender uses,
+    /// SOFTWARE (RFC 8489, section 14.14): a description of the software that the sender uses, in
     /// UTF-8 of at most 763 bytes.
     ///
     /// # Examples
@@ -139,8 +141,8 @@ table! {
         plain_address(AlternateServer, server);
 
     /// ALTERNATE-DOMAIN (RFC 8489, section 14.16): the domain name of the server in
-    /// ALTERNATE-SERVER, which its TLS certificate must contain. It has at most 255 bytes. It is
-    /// not checked to be a domain name.
+    /// ALTERNATE-SERVER, which its TLS certificate must contain. It has at most 255 bytes. No call
+    /// checks that it is a domain name.
     ///
     /// # Examples
     ///
@@ -156,8 +158,8 @@ table! {
 
     // ICE (RFC 8445, section 16.1).
 
-    /// PRIORITY (RFC 8445, section 16.1): the priority of a peer-reflexive candidate that this
-    /// check may discover.
+    /// PRIORITY (RFC 8445, section 16.1): the priority of the peer-reflexive candidate that a
+    /// connectivity check with this attribute may discover.
     ///
     /// # Examples
     ///
@@ -179,8 +181,8 @@ table! {
     PRIORITY, "PRIORITY (RFC 8445, section 16.1)":
         number_attribute(Priority, number, priority: u32, "the priority");
 
-    /// USE-CANDIDATE (RFC 8445, section 16.1): the controlling agent nominates the candidate pair
-    /// of this check. It has no value.
+    /// USE-CANDIDATE (RFC 8445, section 16.1): with this attribute in a connectivity check, the
+    /// controlling agent nominates the candidate pair of the check. It has no value.
     ///
     /// # Examples
     ///
@@ -281,7 +283,7 @@ table! {
         number_attribute(Lifetime, number, seconds: u32, "the number of seconds");
 
     /// XOR-PEER-ADDRESS (RFC 8656, section 18.3): the address of a peer of a TURN client, XORed
-    /// like that of [`XorMappedAddress`](crate::types::attribute::XorMappedAddress).
+    /// like the address in [`XorMappedAddress`](crate::types::attribute::XorMappedAddress).
     ///
     /// # Examples
     ///
@@ -331,7 +333,7 @@ table! {
         bytes_attribute(Data, data, "the bytes");
 
     /// XOR-RELAYED-ADDRESS (RFC 8656, section 18.5): the address that a TURN server relays from,
-    /// XORed like that of [`XorMappedAddress`](crate::types::attribute::XorMappedAddress).
+    /// XORed like the address in [`XorMappedAddress`](crate::types::attribute::XorMappedAddress).
     ///
     /// # Examples
     ///
@@ -405,10 +407,10 @@ table! {
         own_attribute(ReservationToken);
 
     /// ADDITIONAL-ADDRESS-FAMILY (RFC 8656, section 18.11): in an Allocate request, the family of a
-    /// second relayed address, beside one of IPv4.
+    /// second relayed address, in addition to an IPv4 address.
     ///
-    /// Only IPv6 is allowed. A server answers IPv4 with the error 400 (section 7.2), so IPv4 can be
-    /// parsed here.
+    /// A client may send only IPv6. IPv4 can be parsed too, because a server must answer it with
+    /// the error 400 (section 7.2).
     ///
     /// # Examples
     ///
@@ -428,7 +430,7 @@ table! {
     ICMP, "ICMP (RFC 8656, section 18.13)":
         own_attribute(Icmp);
 
-    // TURN over TCP (RFC 6062) and with mobility (RFC 8016).
+    // TURN: TCP allocations (RFC 6062, section 6.2.1) and mobility (RFC 8016, section 3.3).
 
     /// CONNECTION-ID (RFC 6062, section 6.2.1): the number of a TCP connection between a TURN
     /// server and a peer of its client.
@@ -453,9 +455,9 @@ table! {
     CONNECTION_ID, "CONNECTION-ID (RFC 6062, section 6.2.1)":
         number_attribute(ConnectionId, number, connection: u32, "the number of the connection");
 
-    /// MOBILITY-TICKET (RFC 8016, section 3.3): the ticket by which a TURN server recognizes an
-    /// allocation when its client comes from another address. A client asks for a ticket with an
-    /// empty one.
+    /// MOBILITY-TICKET (RFC 8016, section 3.3): the ticket with which a TURN server recognizes an
+    /// allocation when its client has a new address. To ask for a ticket, a client sends an empty
+    /// MOBILITY-TICKET.
     ///
     /// # Examples
     ///
@@ -479,8 +481,8 @@ table! {
 
     // Third-party authorization (RFC 7635, section 6).
 
-    /// THIRD-PARTY-AUTHORIZATION (RFC 7635, section 6.1): the name of the server, with which a
-    /// client asks an authorization server for a token.
+    /// THIRD-PARTY-AUTHORIZATION (RFC 7635, section 6.1): the name of the STUN server, which a
+    /// client passes to an authorization server when it requests a token.
     ///
     /// # Examples
     ///
@@ -526,9 +528,9 @@ table! {
     ACCESS_TOKEN, "ACCESS-TOKEN (RFC 7635, section 6.2)":
         bytes_attribute(AccessToken, token, "the token");
 
-    /// ECN-CHECK (RFC 6679, section 7.2.2): the ECN field that a request arrived with, which its
-    /// response echoes. The lowest bit is 1 if the two bits above it are that field. All other bits
-    /// are reserved: write zeros, and ignore them when you read.
+    /// ECN-CHECK (RFC 6679, section 7.2.2): the ECN field with which a request arrived, and which
+    /// its response echoes. The lowest bit is 1 if the two bits above it are the value of that
+    /// field. All other bits are reserved: write zeros, and ignore them when you read.
     ///
     /// # Examples
     ///
@@ -556,8 +558,8 @@ table! {
     CHANGE_REQUEST, "CHANGE-REQUEST (RFC 5780, section 7.2)":
         own_attribute(ChangeRequest);
 
-    /// RESPONSE-ORIGIN (RFC 5780, section 7.3): the address that a response was sent from. If it is
-    /// not the address that the response came from, there is a NAT in front of the server.
+    /// RESPONSE-ORIGIN (RFC 5780, section 7.3): the address from which the server sent a response.
+    /// If the response arrived from a different address, there is a NAT in front of the server.
     ///
     /// # Examples
     ///
@@ -581,8 +583,8 @@ table! {
     RESPONSE_ORIGIN, "RESPONSE-ORIGIN (RFC 5780, section 7.3)":
         plain_address(ResponseOrigin, addr);
 
-    /// OTHER-ADDRESS (RFC 5780, section 7.4): the address and the port that a server answers from
-    /// if a client asks, in CHANGE-REQUEST, for another address and another port.
+    /// OTHER-ADDRESS (RFC 5780, section 7.4): the address and the port from which a server answers
+    /// if a client asks for another address and another port in CHANGE-REQUEST.
     ///
     /// # Examples
     ///
@@ -608,8 +610,8 @@ table! {
     /// RESPONSE-PORT (RFC 5780, section 7.5): the port, at the address of the client, to which a
     /// server should send its response.
     ///
-    /// It is written with a length of 2, which leaves the two bytes after the port to the padding
-    /// of the attribute. It is parsed with a length of 2 and of 4, because senders differ in this.
+    /// The value is written with a length of 2, so the two bytes after the port are padding. It can
+    /// be parsed with a length of 2 or 4, because senders differ in this.
     ///
     /// # Examples
     ///
@@ -654,7 +656,8 @@ table! {
         bytes_attribute(Padding, padding, "the padding");
 }
 
-/// The attribute is written as this value, which is read back. The others are refused.
+/// Asserts that the attribute is written as `value`, that `value` is parsed as the attribute, and
+/// that each of `others` is refused.
 #[cfg(test)]
 #[track_caller]
 fn stands<'a, A>(attribute: &A, value: &'a [u8], others: &[&'a [u8]])

@@ -1,12 +1,13 @@
 //! Message authentication (RFC 8489, section 9): who signed a message?
 //!
-//! STUN has two mechanisms. Which one applies is fixed by the protocol that uses STUN.
+//! STUN has two mechanisms. The protocol that uses STUN decides which of them applies.
 //!
 //! - **Short-term credentials**: both sides share a password that is valid for one session. ICE
 //!   uses them. [`ShortTermAuth`] signs and verifies.
 //! - **Long-term credentials**: a user has a name and a password at a server. STUN and TURN servers
 //!   use them. The server challenges the client with a realm and a nonce. [`LongTermClientAuth`]
-//!   answers challenges, and [`LongTermServerAuth`] issues them and verifies what comes back.
+//!   answers challenges, and [`LongTermServerAuth`] issues them and verifies the requests that
+//!   answer them.
 //!
 //! Like the rest of the crate, an authenticator performs no I/O. You pass it each message that
 //! arrives, act on the verdict, and let it sign each message that you send. Call the authenticator
@@ -191,7 +192,8 @@ impl ShortTermAuth {
         self.kept = Some((credentials, algorithm));
     }
 
-    /// Returns the credentials that were set, and the algorithm to sign with.
+    /// Returns the credentials and the algorithm to sign with, or `None` if no credentials were
+    /// set.
     #[must_use]
     pub fn credentials(&self) -> Option<(&ShortTermCredentials, IntegrityAlgorithm)> {
         self.kept
@@ -199,7 +201,7 @@ impl ShortTermAuth {
             .map(|(credentials, algorithm)| (credentials, *algorithm))
     }
 
-    /// Returns the key that the credentials give, which is the password itself.
+    /// Returns the key, which is the password itself, or `None` if no credentials were set.
     #[must_use]
     pub fn integrity_key(&self) -> Option<&IntegrityKey> {
         self.key.as_ref()
@@ -220,7 +222,7 @@ impl ShortTermAuth {
     ///
     /// # Errors
     ///
-    /// The first of these that applies. The writer is then dropped.
+    /// Returns the first of these errors that applies. The writer is then dropped.
     ///
     /// - [`StunWriteError::NotAllowed`]: the writer is empty. Start it with one of the builders of
     ///   [`Message`].
@@ -235,12 +237,12 @@ impl ShortTermAuth {
         self.proved.sign_outgoing_message(with_header(message)?)
     }
 
-    /// Like [`sign_outgoing_message`](Self::sign_outgoing_message), for a message that is known to
-    /// be signable.
+    /// Like [`sign_outgoing_message`](Self::sign_outgoing_message), but panics instead of returning
+    /// an error.
     ///
     /// # Panics
     ///
-    /// If `sign_outgoing_message` would return an error.
+    /// Panics if `sign_outgoing_message` would return an error.
     pub fn sign_outgoing_message_unchecked<W: MessageWrite>(&mut self, message: W) -> W {
         self.sign_outgoing_message(message).expect(UNSIGNED)
     }
@@ -248,7 +250,7 @@ impl ShortTermAuth {
     /// Verifies the signature of a message, and returns the algorithm that it was signed with.
     ///
     /// If the message has MESSAGE-INTEGRITY-SHA256, only that attribute is checked. Otherwise
-    /// MESSAGE-INTEGRITY is.
+    /// MESSAGE-INTEGRITY is checked.
     ///
     /// Returns `Ok(None)` if no credentials were set, because nothing was checked then. Do not
     /// mistake it for a valid signature.
@@ -256,8 +258,8 @@ impl ShortTermAuth {
     /// # Errors
     ///
     /// - [`ValidateError::Parse`]: the message has no integrity attribute (`MissingAttribute`), or
-    ///   one of a wrong length (`InvalidAttributeData`).
-    /// - [`ValidateError::IntegrityFailed`]: the signature does not verify with this password.
+    ///   its length is wrong (`InvalidAttributeData`).
+    /// - [`ValidateError::IntegrityFailed`]: the signature was not made with this password.
     pub fn validate_incoming_message(
         &mut self,
         message: &Message<'_>,
@@ -269,37 +271,37 @@ impl ShortTermAuth {
 /// The client side of long-term authentication (RFC 8489, section 9.2): answers a server's
 /// challenges, signs requests and verifies responses.
 ///
-/// A client starts without a key, so its first request goes out unsigned. The server answers 401,
-/// with a realm and a nonce. The client accepts this challenge: it derives its key from user name,
-/// realm and password, and its next request is signed. A success response whose signature verifies
-/// confirms the key. After that, a 401 is no longer treated as a challenge, because an attacker
-/// could have sent it.
+/// A client starts without a key, so its first request is not signed. The server answers 401, with
+/// a realm and a nonce. The client accepts this challenge: it derives its key from user name, realm
+/// and password, and its next request is signed. A success response with a valid signature confirms
+/// the key. After that, a 401 is no longer treated as a challenge, because an attacker could have
+/// sent it.
 ///
 /// Use one client for each server and user. To change the user after a success, create a new
 /// client.
 ///
 /// # Security
 ///
-/// Until the key is confirmed, an attacker who can forge a response can make the client answer
-/// their challenge instead of the server's. The realm, and with it the key, is then of their
-/// choosing, and so is the algorithm.
+/// Until the key is confirmed, an attacker who can forge a response can make the client answer a
+/// challenge of the attacker instead of the server's. The attacker then chooses the realm, and with
+/// it the key, and also the algorithm.
 ///
 /// So a client that supports HMAC-SHA256 can be downgraded to HMAC-SHA1, even if the server
 /// supports HMAC-SHA256 too. One forged 401 is enough, with a nonce such as `x` that has no
 /// security bits, and without PASSWORD-ALGORITHMS: the client takes the server for an old one, and
 /// signs with HMAC-SHA1. The server answers that nonce with its own 438. The client takes the nonce
-/// from the 438 but keeps the algorithm, and the server accepts the next request as one of an old
-/// client. Both sides then report [`Validated`](LongTermClientValidation::Validated) with
-/// HMAC-SHA1. A client of HMAC-SHA256 alone falls to two forged messages: a 401 with a nonce such
-/// as `obMatJos2QAAAx`, whose security bits ask for no algorithms, and a 438 with the server's
-/// nonce. If you need HMAC-SHA256, compare
+/// from the 438 but keeps the algorithm, and the server accepts the next request as a request of an
+/// old client. Both sides then report [`Validated`](LongTermClientValidation::Validated) with
+/// HMAC-SHA1. A client that supports only HMAC-SHA256 can be downgraded by two forged messages: a
+/// 401 without a list of algorithms, whose nonce has security bits but not *Password algorithms*,
+/// such as `obMatJos2QAAAx`, and a 438 with the server's nonce. If you need HMAC-SHA256, compare
 /// [`signing_algorithm`](LongTermClientAuth::signing_algorithm) with it after each
 /// [`ResendRequest`](LongTermClientValidation::ResendRequest), before you sign, and give up if it
 /// differs. `SECURITY.md` in the repository describes the attack and other measures.
 ///
 /// # Examples
 ///
-/// A client of HMAC-SHA256 that does not let itself be downgraded:
+/// A client that supports only HMAC-SHA256, and gives up if it is downgraded:
 ///
 /// ```
 /// use seatcrane_stun::auth::{
@@ -369,7 +371,7 @@ impl LongTermClientAuth {
         self.credentials = Some(credentials);
     }
 
-    /// Returns the user name and password, if they were set.
+    /// Returns the user name and password, or `None` if they were not set.
     #[must_use]
     pub fn credentials(&self) -> Option<&LongTermCredentials> {
         self.credentials.as_ref()
@@ -383,8 +385,8 @@ impl LongTermClientAuth {
 
     /// Adds a supported algorithm.
     ///
-    /// If the server offers a list of algorithms, the client uses the first algorithm of that list
-    /// which it supports.
+    /// If the server offers a list of algorithms, the client uses the first algorithm in that list
+    /// that it supports.
     pub fn add_supported_integrity(&mut self, algorithm: IntegrityAlgorithm) {
         self.proved.add_supported_integrity(algorithm);
     }
@@ -393,12 +395,12 @@ impl LongTermClientAuth {
     ///
     /// # Security
     ///
-    /// This does not protect a client of HMAC-SHA256 from being downgraded. A 401 that has no list
-    /// of algorithms, and whose nonce has security bits that ask for none, makes the client sign
-    /// with HMAC-SHA1 whatever it supports, and such a 401 can be forged. To refuse HMAC-SHA1, call
-    /// [`signing_algorithm`](Self::signing_algorithm) after each
-    /// [`LongTermClientValidation::ResendRequest`], before you sign, and give up if it is not the
-    /// algorithm that you want.
+    /// This does not protect a client that supports only HMAC-SHA256 from being downgraded. If a
+    /// 401 has no list of algorithms, and its nonce has security bits but not *Password
+    /// algorithms*, the client signs with HMAC-SHA1, whatever it supports. An attacker can forge
+    /// such a 401. To refuse HMAC-SHA1, call [`signing_algorithm`](Self::signing_algorithm) after
+    /// each [`LongTermClientValidation::ResendRequest`], before you sign, and give up if it is not
+    /// the algorithm that you want.
     pub fn set_supported_integrity(&mut self, algorithm: IntegrityAlgorithm) {
         self.proved.set_supported_integrity(algorithm);
     }
@@ -422,14 +424,14 @@ impl LongTermClientAuth {
         self.proved.signing_algorithm()
     }
 
-    /// Returns the number of bytes that signing adds to a request. It is 0 if the client has not
-    /// accepted a challenge yet.
+    /// Returns the number of bytes that [`sign_outgoing_message`](Self::sign_outgoing_message) adds
+    /// to a request, or 0 if the client has not accepted a challenge yet.
     #[must_use]
     pub fn message_signature_bytes(&self) -> usize {
         self.proved.message_signature_bytes()
     }
 
-    /// Signs a message for the server, as the accepted challenge asks for.
+    /// Signs a message for the server, as the accepted challenge requires.
     ///
     /// If the client has not accepted a challenge yet, the message is returned unchanged. Otherwise
     /// these attributes are appended, in this order:
@@ -445,11 +447,11 @@ impl LongTermClientAuth {
     /// # Errors
     ///
     /// [`StunWriteError::NotAllowed`] if the writer is empty. Otherwise the attributes are written
-    /// in the order above, and the first one that cannot be written decides. The writer is then
-    /// dropped, and the client is unchanged.
+    /// in the order above, and the call fails with the error of the first one that cannot be
+    /// written. The writer is then dropped, and the client is unchanged.
     ///
     /// - [`StunWriteError::MessageIntegrityExists`], [`StunWriteError::AttributeExists`]: the
-    ///   message has this attribute, or a signature, already.
+    ///   message already has a signature, or an attribute of the type to add.
     /// - [`StunWriteError::TooLarge`]: the message would be too long, or the user name has more
     ///   than 513 bytes.
     /// - [`StunWriteError::TooSmall`]: the writer has no room.
@@ -461,57 +463,59 @@ impl LongTermClientAuth {
         self.proved.sign_outgoing_message(with_header(message)?)
     }
 
-    /// Like [`sign_outgoing_message`](Self::sign_outgoing_message), for a message that is known to
-    /// be signable.
+    /// Like [`sign_outgoing_message`](Self::sign_outgoing_message), but panics instead of returning
+    /// an error.
     ///
     /// # Panics
     ///
-    /// If `sign_outgoing_message` would return an error.
+    /// Panics if `sign_outgoing_message` would return an error.
     pub fn sign_outgoing_message_unchecked<W: MessageWrite>(&mut self, message: W) -> W {
         self.sign_outgoing_message(message).expect(UNSIGNED)
     }
 
     /// Judges a response from the server (RFC 8489, section 9.2.5).
     ///
-    /// - A **401** is a challenge until the first success has been validated, and is as good as its
-    ///   signature after that. If the client can answer the challenge, it stores realm and nonce,
-    ///   makes its key, and returns [`LongTermClientValidation::ResendRequest`].
-    /// - A **438** that has REALM and NONCE replaces both, whether it is signed or not, and also
-    ///   returns `ResendRequest`. The key, and with it the algorithm, stays. If no challenge has
-    ///   been accepted yet, nothing is stored.
-    /// - **Any other response** is [`LongTermClientValidation::Validated`] if its signature
-    ///   verifies.
+    /// - A **401** is a challenge until the first success has been validated. After that it is
+    ///   judged by its signature, like any other response. If the client can answer the challenge,
+    ///   it stores realm and nonce, makes its key, and returns
+    ///   [`LongTermClientValidation::ResendRequest`].
+    /// - If a **438** has REALM and NONCE, the client replaces its stored realm and nonce, whether
+    ///   the response is signed or not, and also returns `ResendRequest`. It keeps its key, and
+    ///   with it the algorithm. If it has not accepted a challenge yet, it stores nothing.
+    /// - **Any other response** is [`LongTermClientValidation::Validated`] if its signature is
+    ///   valid.
     ///
     /// After `ResendRequest` pass the response to the agent, and send a new request with a new
     /// transaction ID, signed by [`sign_outgoing_message`](Self::sign_outgoing_message).
     ///
     /// # Security
     ///
-    /// This call sees neither the transaction ID nor the source address. Pass it only responses to
-    /// an outstanding request of yours, from the address that the request went to
+    /// This call checks neither the transaction ID nor the source address. Pass it only responses
+    /// to an outstanding request of yours, from the address to which the request was sent
     /// ([`StunAgent::request_transaction`](crate::agent::StunAgent::request_transaction)). Limit
     /// the number of requests that you send again: a server, or an attacker who sees a transaction
     /// ID, can otherwise make you resend forever.
     ///
     /// # Errors
     ///
-    /// An error leaves the client unchanged. For a 401 that is a challenge, the first of these that
-    /// applies is returned:
+    /// An error leaves the client unchanged. For a 401 that is a challenge, returns the first of
+    /// these errors that applies:
     ///
     /// - `Unauthorized`: no credentials are set, REALM or NONCE is missing, or the client has
     ///   already answered this challenge, which usually means a wrong password. Give up.
     /// - `UnsupportedFeature`: client and server have no algorithm in common. If the nonce
-    ///   announces a list of algorithms and there is none, the error is `Unauthorized` instead.
-    ///   Give up.
+    ///   announces a list of algorithms and the response has none, the error is `Unauthorized`
+    ///   instead. Give up.
     /// - `UnsupportedFeature`: the user name must be hashed ([`Feature::Required`]), and the nonce
     ///   does not allow it. Give up.
     ///
-    /// For every other response:
+    /// For every other response, returns:
     ///
-    /// - `IntegrityFailed`: the signature is missing or does not verify. Drop the response, which
-    ///   may be forged, and keep waiting.
+    /// - `IntegrityFailed`: the signature is missing or invalid. Drop the response, which may be
+    ///   forged, and keep waiting.
     ///
-    /// `OutOfMemory` can take the place of `ResendRequest` only.
+    /// `OutOfMemory` means that an allocation failed. Only a call that would otherwise return
+    /// `ResendRequest` can fail with it.
     ///
     /// # Examples
     ///
@@ -548,8 +552,9 @@ impl LongTermClientAuth {
 /// The server side of long-term authentication (RFC 8489, section 9.2.4): the users of a realm, and
 /// a record for each client address.
 ///
-/// The record of an address holds the nonce that it must use, the time at which that nonce expires,
-/// the algorithms that it was offered, and its *client*: the user who was validated there last.
+/// The record of an address holds the latest nonce that was made for it, the time at which that
+/// nonce expires, the algorithms that the address was offered, and its *client*. The client is the
+/// user who was validated there last.
 ///
 /// # Memory
 ///
@@ -589,7 +594,8 @@ impl LongTermServerAuth {
     /// are valid for one hour.
     ///
     /// A realm longer than 763 bytes is accepted here, but then no response can be signed. Keep it
-    /// short: it is part of every challenge, and a challenge goes to whoever asks.
+    /// short, because it is part of every challenge, and the server sends a challenge to anybody
+    /// who sends a request.
     #[must_use]
     pub fn new(realm: String) -> LongTermServerAuth {
         LongTermServerAuth {
@@ -602,20 +608,20 @@ impl LongTermServerAuth {
         self.proved.realm()
     }
 
-    /// Adds a user, or replaces the password of an existing one.
+    /// Adds a user, or replaces the password of an existing user.
     ///
-    /// A user whose name is longer than 513 bytes can only be named by USERHASH.
+    /// If the name is longer than 513 bytes, a message can name this user only by USERHASH.
     pub fn add_user(&mut self, credentials: LongTermCredentials) {
         granted(self.proved.add_user(credentials.0));
     }
 
-    /// Adds a user by stored keys in place of a password, or replaces the password or keys of an
-    /// existing one.
+    /// Adds a user with stored keys instead of a password, or replaces the password or keys of an
+    /// existing user.
     ///
-    /// The keys must have been made for the server's realm. The user has those whose algorithms the
-    /// server supports, also if you add a supported algorithm later.
+    /// The keys must have been made for the server's realm. All of them are stored, so a key can be
+    /// used as soon as the server supports its algorithm, even if that is later.
     ///
-    /// A user whose name is longer than 513 bytes can only be named by USERHASH.
+    /// If the name is longer than 513 bytes, a message can name this user only by USERHASH.
     ///
     /// # Examples
     ///
@@ -634,7 +640,7 @@ impl LongTermServerAuth {
         granted(self.proved.add_user_with_keys(text(username), keys));
     }
 
-    /// Removes a user. Requests in that name are refused from now on.
+    /// Removes a user. Requests that name this user are refused from now on.
     ///
     /// If the user is still the client of an address, messages to that address cannot be signed
     /// until you call [`remove_client`](Self::remove_client) for it.
@@ -666,7 +672,7 @@ impl LongTermServerAuth {
     }
 
     /// Sets whether clients may send a hash (USERHASH) in place of the user name. Nonces that are
-    /// made from now on tell them so.
+    /// made from now on announce this setting.
     ///
     /// A server treats [`Feature::Required`] like [`Feature::Auto`]: it still accepts a plain
     /// USERNAME.
@@ -697,8 +703,8 @@ impl LongTermServerAuth {
     /// agreed on.
     ///
     /// Call this right after [`Validated`](LongTermServerValidation::Validated) to learn who sent
-    /// the request. Do not read the USERNAME attribute for it: a message may carry two, and
-    /// [`Message::attribute`] returns the first while the authenticator judges the last.
+    /// the request. Do not read the USERNAME attribute instead: a message may have two of them, and
+    /// [`Message::attribute`] returns the first, while the authenticator judges the last.
     ///
     /// Returns `None` if nobody was validated here, or after
     /// [`remove_client`](Self::remove_client). A user who has been removed since is still returned.
@@ -706,29 +712,29 @@ impl LongTermServerAuth {
         self.proved.client(client)
     }
 
-    /// Forgets the client of an address, but keeps its nonce. Responses to this address are not
+    /// Forgets the client of an address, but not its nonce. Responses to this address are not
     /// signed until a client is validated there again.
     ///
     /// Call this after every response. As long as an address has a client, its record never
-    /// expires, and its 401 and 438 responses carry no list of algorithms, so that a client that
-    /// starts afresh at the same address cannot authenticate.
+    /// expires, and its 401 and 438 responses carry no list of algorithms, so a new client at the
+    /// same address cannot authenticate.
     ///
-    /// The memory of the client's name stays with the record, until another user is validated there
-    /// or the record is forgotten. So a client who returns allocates nothing.
+    /// The record keeps the memory of the client's name, until another user is validated at this
+    /// address or the record is removed. So nothing is allocated for a client that returns.
     pub fn remove_client(&mut self, client: SocketAddr) {
         self.proved.remove_client(client);
     }
 
     /// Removes the record of an address: its nonce, the algorithms that it was offered, and its
-    /// client. The next message from there is treated as the first.
+    /// client. The next message from this address is treated as its first.
     pub fn forget(&mut self, client: SocketAddr) {
         self.proved.forget(client);
     }
 
     /// Removes every record that has no client and whose nonce expired before `now`.
     ///
-    /// Pass the current time minus the nonce lifetime, so that a record outlives its nonce by as
-    /// long again. A client that comes back within that time is answered 438 and can continue. If
+    /// Pass the current time minus the nonce lifetime. A record then outlives its nonce by one more
+    /// lifetime. A client that returns within that time is answered with a 438 and can continue. If
     /// its record were gone, and it repeated the algorithms that it was once offered, it would be
     /// refused with `BadRequest`.
     ///
@@ -757,7 +763,7 @@ impl LongTermServerAuth {
     ///
     /// It starts at the address `from`, in the order of `SocketAddr`, or at the first address if
     /// `from` is `None`. It returns the address at which to continue, or `None` once it has visited
-    /// all of them. So pass the result of each call to the next:
+    /// all records. So pass the result of each call to the next:
     ///
     /// ```
     /// # use seatcrane_stun::Instant;
@@ -775,8 +781,8 @@ impl LongTermServerAuth {
         self.proved.forget_expired_within(now, from, most)
     }
 
-    /// Returns the number of bytes that signing adds to a message to this address, or 0 if no nonce
-    /// was made for the address.
+    /// Returns the number of bytes that [`sign_outgoing_message`](Self::sign_outgoing_message) adds
+    /// to a message to this address, or 0 if no nonce was made for the address.
     ///
     /// `is_request` is `true` for a request or an indication, and `false` for a response.
     pub fn message_signature_bytes(&self, to: SocketAddr, is_request: bool) -> usize {
@@ -790,8 +796,9 @@ impl LongTermServerAuth {
     /// attributes are appended, in this order:
     ///
     /// - to a response, NONCE and REALM;
-    /// - to a response to an address without a client, PASSWORD-ALGORITHMS. The algorithms that it
-    ///   lists are then the ones that this address was offered, so send what you sign;
+    /// - to a response to an address without a client, PASSWORD-ALGORITHMS. From then on, the
+    ///   listed algorithms count as those that this address was offered, so send every response
+    ///   that you sign;
     /// - PASSWORD-ALGORITHM, if the client uses HMAC-SHA256;
     /// - MESSAGE-INTEGRITY or MESSAGE-INTEGRITY-SHA256, if the address has a client.
     ///
@@ -799,18 +806,18 @@ impl LongTermServerAuth {
     /// [`Validated`](LongTermServerValidation::Validated), whatever its error code: a client drops
     /// an unsigned response to a signed request, and waits until its request times out. Pass the
     /// 401 and the 438 of a refused request to this call too, because they need the nonce and the
-    /// realm. Only the 400 of a request that failed authentication, which was refused with
-    /// [`BadRequest`](LongTermServerAuthErrorReason::BadRequest), goes out as it is (RFC 8489,
-    /// section 9.2.4).
+    /// realm. Only the 400 to a request that this server refused with
+    /// [`BadRequest`](LongTermServerAuthErrorReason::BadRequest) is sent without this call (RFC
+    /// 8489, section 9.2.4).
     ///
     /// # Errors
     ///
     /// [`StunWriteError::NotAllowed`] if the writer is empty. Otherwise the attributes are written
-    /// in the order above, and the first one that cannot be written decides. The writer is then
-    /// dropped, and the server is unchanged.
+    /// in the order above, and the call fails with the error of the first one that cannot be
+    /// written. The writer is then dropped, and the server is unchanged.
     ///
     /// - [`StunWriteError::MessageIntegrityExists`], [`StunWriteError::AttributeExists`]: the
-    ///   message has this attribute, or a signature, already.
+    ///   message already has a signature, or an attribute of the type to add.
     /// - [`StunWriteError::TooLarge`]: the message would be too long, or the realm has more than
     ///   763 bytes.
     /// - [`StunWriteError::TooSmall`]: the writer has no room.
@@ -846,12 +853,12 @@ impl LongTermServerAuth {
         self.proved.sign_outgoing_message(with_header(message)?, to)
     }
 
-    /// Like [`sign_outgoing_message`](Self::sign_outgoing_message), for a message that is known to
-    /// be signable.
+    /// Like [`sign_outgoing_message`](Self::sign_outgoing_message), but panics instead of returning
+    /// an error.
     ///
     /// # Panics
     ///
-    /// If `sign_outgoing_message` would return an error.
+    /// Panics if `sign_outgoing_message` would return an error.
     pub fn sign_outgoing_message_unchecked<W: MessageWrite>(
         &mut self,
         message: W,
@@ -868,19 +875,19 @@ impl LongTermServerAuth {
     /// - its NONCE is the current one of the address;
     /// - its algorithms agree with those that the address was offered;
     /// - it names a registered user, who has a key for the agreed algorithm;
-    /// - its signature verifies with that key.
+    /// - its signature is valid under that key.
     ///
     /// The user is then the [`client`](Self::client) of the address. A response is validated if its
-    /// signature verifies with the key of that client.
+    /// signature is valid under the key of that client.
     ///
     /// If the address has no current nonce, a new one is made, from sixteen random numbers. This
-    /// happens for a message without an integrity attribute, and for one that has REALM, NONCE and
-    /// a user name.
+    /// happens for a message without an integrity attribute, and for a message that has REALM,
+    /// NONCE and a user name.
     ///
     /// # Errors
     ///
-    /// For a response, `IntegrityFailed`: drop it. For a request or an indication, the first of
-    /// these that applies:
+    /// For a response that is not validated, returns `IntegrityFailed`: drop the response. For a
+    /// request or an indication, returns the first of these errors that applies:
     ///
     /// | Reason | Cause | Answer |
     /// |---|---|---|
@@ -891,21 +898,21 @@ impl LongTermServerAuth {
     /// | `StaleNonce` | the nonce is not current | 438 |
     /// | `Unauthorized` | the user is unknown or has no key, or the signature is wrong | 401 |
     ///
-    /// `OutOfMemory` can occur only when a nonce must be made or a new client stored. Drop the
-    /// message.
+    /// `OutOfMemory` means that an allocation failed, which can happen only if a nonce must be made
+    /// or a new client stored. Drop the message.
     ///
     /// Answer `BadRequest` with 438 if the address had no nonce before this call and has one after
     /// it. Its record was then lost, for example in a restart, and the client repeats an old offer.
-    /// It treats an unsigned 400 as forged and would ask in vain, but a 438 gives it a nonce with
-    /// which it can continue.
+    /// The client treats an unsigned 400 as forged, and would send its request again in vain, but a
+    /// 438 gives it a nonce with which it can continue.
     ///
     /// # Panics
     ///
-    /// If the operating system provides no random numbers.
+    /// Panics if the operating system provides no random numbers.
     ///
     /// # Examples
     ///
-    /// Which code a request is answered with, where 200 stands for a success:
+    /// Choosing the code that a request is answered with, where 200 stands for a success:
     ///
     /// ```
     /// use seatcrane_stun::auth::LongTermServerAuthErrorReason as Reason;
@@ -954,11 +961,11 @@ impl LongTermServerAuth {
         judged(message, verdict)
     }
 
-    /// Like `validate_incoming_message`, with random numbers of a generator of yours: `fill` fills a
-    /// slice with random bytes, for example `|bytes| rng.fill_bytes(bytes)` with the crate `rand`. It
-    /// is called once if a nonce is made, and otherwise not at all.
+    /// Like `validate_incoming_message`, with random numbers from your own generator: `fill` fills
+    /// a slice with random bytes, for example `|bytes| rng.fill_bytes(bytes)` with the crate
+    /// `rand`. It is called once if a nonce is made, and otherwise not at all.
     ///
-    /// Whoever can predict these numbers can predict nonces, so use a cryptographically secure
+    /// Anybody who can predict these numbers can predict nonces, so use a cryptographically secure
     /// generator.
     ///
     /// # Errors
@@ -980,10 +987,10 @@ impl LongTermServerAuth {
 
     /// Like `validate_incoming_message`, with sixteen random numbers of your own.
     ///
-    /// Whoever can predict these numbers can predict nonces. They are read only if a nonce is made.
-    /// If none was made, so that [`nonce_for_client`](Self::nonce_for_client) returns the same as
-    /// before the call, you may pass them to the next call. Otherwise they are in the nonce, which
-    /// everybody can see: never pass them again.
+    /// Anybody who can predict these numbers can predict nonces. They are read only if a nonce is
+    /// made. You may pass them to the next call if no nonce was made, which is so if
+    /// [`nonce_for_client`](Self::nonce_for_client) returns the same as before the call. Otherwise
+    /// they are in the nonce, which everybody can see: never pass them again.
     ///
     /// # Errors
     ///
@@ -1017,7 +1024,7 @@ impl LongTermServerAuth {
     /// # Security
     ///
     /// This call does not check the signature. Anybody can send any name, so limit how often you
-    /// look one up.
+    /// look up a name.
     ///
     /// # Examples
     ///
@@ -1046,15 +1053,15 @@ impl LongTermServerAuth {
     }
 
     /// Returns the user whom a request or an indication names: by the hash in its last visible
-    /// USERHASH, or if it has none by the name in its last visible USERNAME.
+    /// USERHASH or, if no USERHASH is visible, by the name in its last visible USERNAME.
     ///
-    /// Returns `None` if the message has neither, or if it has a USERHASH while the server does not
-    /// accept hashes ([`Feature::Disabled`]), even if it also has a USERNAME. The verdict of
-    /// [`judge`](Self::judge) then does not depend on the users.
+    /// Returns `None` if neither attribute is visible. Also returns `None` if a USERHASH is visible
+    /// but the server does not accept hashes ([`Feature::Disabled`]), even if the message also has
+    /// a USERNAME. The verdict of [`judge`](Self::judge) then does not depend on the users.
     ///
     /// # Security
     ///
-    /// This call checks neither the signature nor the nonce, so an attacker can name anybody.
+    /// This call checks neither the signature nor the nonce, so an attacker can name any user.
     pub fn named_in<'a>(&self, message: &'a Message<'_>) -> Option<NamedUser<'a>> {
         self.proved.named_in(&message.0)
     }
@@ -1082,10 +1089,12 @@ impl LongTermServerAuth {
         }
     }
 
-    /// Checks the signature of a message with the key that a registered user has for a supported
-    /// algorithm, and returns the algorithm of the signature if it verifies.
+    /// Checks the signature of a message with the key that a registered user has for `algorithm`,
+    /// and returns the algorithm of the signature if it is valid. Returns `None` if the signature
+    /// is missing or invalid, or if there is no such user or key.
     ///
-    /// This is not authentication: the nonce is not checked, so a recorded message verifies again.
+    /// This is not authentication: the nonce is not checked, so a message that an attacker has
+    /// recorded and sends again is valid too.
     pub fn user_verifies(
         &self,
         name: &str,
@@ -1100,7 +1109,7 @@ impl LongTermServerAuth {
     ///
     /// [`judge`](Self::judge) takes such a nonce, and [`add_challenge`](Self::add_challenge) writes
     /// it into a response. A server that stores no nonces derives the numbers from a secret, the
-    /// address of the client and the time, because whoever can predict them can predict nonces.
+    /// address of the client and the time, because anybody who can predict them can predict nonces.
     pub fn nonce_of_words(&self, words: &[u32; 16]) -> String {
         String::from(granted(self.proved.nonce_of_words(words)).as_str())
     }
@@ -1113,32 +1122,34 @@ impl LongTermServerAuth {
     /// [`nonce_of_words`](Self::nonce_of_words). Do not pass responses: they are judged like
     /// requests.
     ///
-    /// What it accepts is what [`validate_incoming_message_with_words`][validate] accepts if this
-    /// nonce is current and all supported algorithms were offered. Sign the response with the key
-    /// that it returns, by [`add_message_integrity_with_prepared_key`][sign]. To sign it later, or
-    /// on another thread, clone the key: the clone needs nothing of the server.
+    /// It accepts the same messages as [`validate_incoming_message_with_words`][validate] does if
+    /// this nonce is current and all supported algorithms were offered. Sign the response with the
+    /// returned key, by [`add_message_integrity_with_prepared_key`][sign]. To sign it later, or on
+    /// another thread, clone the key: the clone does not need the server.
     ///
     /// [validate]: Self::validate_incoming_message_with_words
     /// [sign]: crate::types::prelude::MessageWriteExt::add_message_integrity_with_prepared_key
     ///
     /// # Security
     ///
-    /// Pass a nonce of `nonce_of_words`. A nonce without the security bit *Password algorithms* is
-    /// judged with HMAC-SHA1 even if the server supports HMAC-SHA256.
+    /// Pass a nonce that `nonce_of_words` made, because a message under a nonce without the
+    /// security bit *Password algorithms* is judged with HMAC-SHA1 even if the server supports
+    /// HMAC-SHA256.
     ///
     /// # Errors
     ///
-    /// The first of these that applies:
+    /// Returns the first of these errors that applies:
     ///
     /// - [`Unauthorized`](VerdictRefusal::Unauthorized) (answer 401): there is no well-formed
     ///   integrity attribute.
     /// - [`BadRequest`](VerdictRefusal::BadRequest) (answer 400): REALM, NONCE or the user name is
-    ///   missing, or the algorithms are not the ones that the server supports (answer 438 if
-    ///   the message has another nonce than `nonce`: its sender repeats an old offer, and takes an
-    ///   unsigned 400 for forged).
-    /// - [`Unauthorized`](VerdictRefusal::Unauthorized) (answer 401): the nonce is a different one,
-    ///   and its security bits differ.
-    /// - [`StaleNonce`](VerdictRefusal::StaleNonce) (answer 438): the nonce is a different one.
+    ///   missing, or the algorithms are not those that the server supports. If the message has
+    ///   another nonce than `nonce`, answer 438, because its sender repeats an old offer, and would
+    ///   treat an unsigned 400 as forged.
+    /// - [`Unauthorized`](VerdictRefusal::Unauthorized) (answer 401): the message has another
+    ///   nonce, whose security bits differ from those of `nonce`.
+    /// - [`StaleNonce`](VerdictRefusal::StaleNonce) (answer 438): the message has another nonce
+    ///   than `nonce`.
     /// - [`Unauthorized`](VerdictRefusal::Unauthorized) (answer 401): the user is unknown or has no
     ///   key, or the signature is wrong.
     ///
@@ -1176,13 +1187,14 @@ impl LongTermServerAuth {
     /// Judges a request or an indication like [`judge`](Self::judge), as a server whose only user
     /// is `user`.
     ///
-    /// The server's own users are ignored. If `user` is the one that [`named_in`](Self::named_in)
+    /// The server's own users are ignored. If `user` is the user whom [`named_in`](Self::named_in)
     /// returned, the verdict is the same as that of a server that has all users. If your database
-    /// has no such user, call [`judge`](Self::judge) on a server without users.
+    /// has no such user, call [`judge`](Self::judge) on a server without users, which refuses the
+    /// message like a message that names an unknown user.
     ///
     /// # Errors
     ///
-    /// The errors of [`judge`](Self::judge), in the same order.
+    /// Returns the errors of [`judge`](Self::judge), in the same order.
     pub fn judge_of<'a>(
         &'a self,
         message: &'a Message<'_>,
@@ -1193,9 +1205,10 @@ impl LongTermServerAuth {
         judged(message, accepted.map(Accepted))
     }
 
-    /// Adds to a response what a client needs to sign its next request under a nonce: NONCE, REALM
-    /// and, if the nonce has the security bit *Password algorithms*, PASSWORD-ALGORITHMS with the
-    /// supported algorithms, the strongest first (RFC 8489, section 9.2.4).
+    /// Adds to a response the attributes that a client needs to sign its next request under a
+    /// nonce: NONCE, REALM and, if the nonce has the security bit *Password algorithms*,
+    /// PASSWORD-ALGORITHMS with the supported algorithms, the strongest first (RFC 8489, section
+    /// 9.2.4).
     ///
     /// Call it for a 401 or a 438 of a server that stores no nonces, with the nonce under which you
     /// will [`judge`](Self::judge) the next request. Nothing is signed, and the records of
@@ -1204,11 +1217,11 @@ impl LongTermServerAuth {
     /// # Errors
     ///
     /// [`StunWriteError::NotAllowed`] if the writer is empty. Otherwise the attributes are written
-    /// in the order above, and the first one that cannot be written decides. The writer is then
-    /// dropped.
+    /// in the order above, and the call fails with the error of the first one that cannot be
+    /// written. The writer is then dropped.
     ///
     /// - [`StunWriteError::MessageIntegrityExists`], [`StunWriteError::AttributeExists`]: the
-    ///   message has this attribute, or a signature, already.
+    ///   message already has a signature, or an attribute of the type to add.
     /// - [`StunWriteError::TooLarge`]: the message would be too long, or the nonce or the realm has
     ///   more than 763 bytes.
     /// - [`StunWriteError::TooSmall`]: the writer has no room.
@@ -1269,10 +1282,11 @@ impl LongTermServerAuth {
         self.proved.add_challenge(with_header(message)?, nonce)
     }
 
-    /// Judges a message like a server whose only user is `user`, with random numbers of a generator
-    /// of yours: `fill` fills a slice with random bytes, for example `|bytes| rng.fill_bytes(bytes)`.
+    /// Judges a message like a server whose only user is `user`, with random numbers from your own
+    /// generator: `fill` fills a slice with random bytes, for example `|bytes|
+    /// rng.fill_bytes(bytes)`.
     ///
-    /// The server's own users are ignored. If `user` is the one that
+    /// The server's own users are ignored. If `user` is the user whom
     /// [`named_user`](Self::named_user) returned, the verdict is the same as that of a server that
     /// has all users. If your database has no such user, call
     /// [`validate_incoming_message_with_rng`](Self::validate_incoming_message_with_rng) on a server
@@ -1303,15 +1317,15 @@ impl LongTermServerAuth {
     /// Judges a message like a server whose only user is `user`, with sixteen random numbers of
     /// your own.
     ///
-    /// The server's own users are ignored. If `user` is the one that
+    /// The server's own users are ignored. If `user` is the user whom
     /// [`named_user`](Self::named_user) returned, the verdict is the same as that of a server that
     /// has all users. If your database has no such user, call
     /// [`validate_incoming_message_with_words`](Self::validate_incoming_message_with_words) on a
     /// server without users.
     ///
-    /// Whoever can predict the random numbers can predict nonces. They are read only if a nonce is
-    /// made, and may be passed again if none was made, as
-    /// [`validate_incoming_message_with_words`](Self::validate_incoming_message_with_words) says.
+    /// Anybody who can predict the random numbers can predict nonces. They are read only if a nonce
+    /// is made. You may pass them again only if no nonce was made (see
+    /// [`validate_incoming_message_with_words`](Self::validate_incoming_message_with_words)).
     ///
     /// # Errors
     ///
@@ -1337,7 +1351,7 @@ impl LongTermServerAuth {
 
     /// Like [`sign_outgoing_message`](Self::sign_outgoing_message), with the key of `user`.
     ///
-    /// Pass the user that the request was validated with.
+    /// Pass the user with whom the request was validated.
     ///
     /// # Errors
     ///
@@ -1356,7 +1370,7 @@ impl LongTermServerAuth {
 }
 
 /// A user with keys, made by [`LongTermServerAuth::prepare_user`] or
-/// [`LongTermServerAuth::prepare_user_with_keys`], who is passed along with each message.
+/// [`LongTermServerAuth::prepare_user_with_keys`], to pass to a server with each message.
 ///
 /// # Examples
 ///
@@ -1388,8 +1402,8 @@ pub struct LongTermServerUser {
 }
 
 impl LongTermServerUser {
-    /// Returns whether this user was prepared for the realm of `server`, and for the algorithms that
-    /// it supports now.
+    /// Returns whether this user was prepared for the realm of `server`, and for the algorithms
+    /// that the server supports now.
     ///
     /// If so, you can pass the user to the server. If not, prepare the user again, because the
     /// server would judge and sign for the realm and the algorithms that the user was prepared for.

@@ -9,7 +9,7 @@ use crate::kit::alloc::{AllocError, Global};
 use crate::kit::prelude::{String, TryClone};
 use alloc::alloc::{Layout, handle_alloc_error};
 
-/// Returns the value, or ends the program like the global allocator does if it has no memory.
+/// Returns the value, or aborts the program if memory ran out, as the standard collections do.
 pub(crate) fn granted<T, E: Into<AllocError>>(answer: Result<T, E>) -> T {
     answer.unwrap_or_else(|_| handle_alloc_error(Layout::new::<u8>()))
 }

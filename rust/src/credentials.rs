@@ -13,8 +13,8 @@ use core::fmt;
 /// Derives the long-term key of a user in a realm (RFC 8489, section 9.2.2): 16 bytes for `Sha1`,
 /// 32 bytes for `Sha256`.
 ///
-/// The texts are used as they are: to prepare them with OpaqueString (RFC 8265, section 4.2) is up
-/// to you. This does not allocate.
+/// The texts are used without preparation: apply OpaqueString (RFC 8265, section 4.2) yourself.
+/// This does not allocate.
 ///
 /// A database can store these keys instead of passwords: see
 /// [`StoredKeys`](crate::auth::StoredKeys).
@@ -39,7 +39,7 @@ pub fn long_term_key(
 }
 
 impl StoredKeys {
-    /// Returns no keys. Set the fields, or call [`with_sha1`](Self::with_sha1) and
+    /// Returns a value without keys. Set the fields, or call [`with_sha1`](Self::with_sha1) and
     /// [`with_sha256`](Self::with_sha256).
     ///
     /// # Examples
@@ -59,14 +59,14 @@ impl StoredKeys {
         }
     }
 
-    /// Sets the key for HMAC-SHA1, if there is one.
+    /// Sets the key for HMAC-SHA1, or removes it if `key` is `None`.
     #[must_use]
     pub fn with_sha1(mut self, key: impl Into<Option<[u8; 16]>>) -> StoredKeys {
         self.sha1 = key.into();
         self
     }
 
-    /// Sets the key for HMAC-SHA256, if there is one.
+    /// Sets the key for HMAC-SHA256, or removes it if `key` is `None`.
     #[must_use]
     pub fn with_sha256(mut self, key: impl Into<Option<[u8; 32]>>) -> StoredKeys {
         self.sha256 = key.into();
@@ -74,7 +74,7 @@ impl StoredKeys {
     }
 }
 
-/// Like [`StoredKeys::new`].
+/// Returns a value without keys, like [`StoredKeys::new`].
 impl Default for StoredKeys {
     fn default() -> StoredKeys {
         StoredKeys::new()
@@ -95,9 +95,8 @@ macro_rules! credentials {
 
 /// The password of a short-term credential (RFC 8489, section 9.1).
 ///
-/// The user name of a short-term credential is not part of it: see
-/// [`ShortTermAuth`](crate::auth::ShortTermAuth). The text is used as it is: to prepare it with
-/// OpaqueString (RFC 8265, section 4.2) is up to you.
+/// The user name is not part of this type: see [`ShortTermAuth`](crate::auth::ShortTermAuth). The
+/// text is used without preparation: apply OpaqueString (RFC 8265, section 4.2) yourself.
 ///
 /// # Examples
 ///
@@ -124,7 +123,7 @@ impl ShortTermCredentials {
         ShortTermCredentials(proved::ShortTermCredentials::new(text(password)).into())
     }
 
-    /// Returns what `new` made.
+    /// Returns the credentials of the core that `new` made.
     fn kept(&self) -> &proved::ShortTermCredentials {
         match &self.0 {
             Proved::ShortTerm(kept) => kept,
@@ -164,8 +163,7 @@ impl PartialEq for ShortTermCredentials {
 
 /// The name and the password of a user (RFC 8489, section 9.2).
 ///
-/// The texts are used as they are: to prepare them with OpaqueString (RFC 8265, section 4.2) is up
-/// to you.
+/// The texts are used without preparation: apply OpaqueString (RFC 8265, section 4.2) yourself.
 ///
 /// # Examples
 ///
@@ -255,7 +253,7 @@ pub struct LongTermKeyCredentials(Proved);
 credentials!(LongTermKeyCredentials);
 
 impl LongTermKeyCredentials {
-    /// Returns what `LongTermCredentials::to_key` made.
+    /// Returns the credentials of the core that `LongTermCredentials::to_key` made.
     fn kept(&self) -> &proved::LongTermKeyCredentials {
         match &self.0 {
             Proved::LongTerm(kept) => kept,
@@ -301,8 +299,7 @@ impl PartialEq for LongTermKeyCredentials {
     }
 }
 
-/// The credentials that a message is signed or verified with. `Debug` reveals only which kind they
-/// are.
+/// The credentials with which a message is signed or verified. `Debug` shows only their kind.
 ///
 /// # Examples
 ///

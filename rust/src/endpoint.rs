@@ -1,10 +1,10 @@
-//! STUN servers and clients, each as one value: what to do with a datagram.
+//! STUN servers and clients, each as one value that says what to do with a datagram.
 //!
-//! [`Server::receive`] takes a datagram, and returns a response to send, an accepted request for
-//! you, an indication, a response, or why the datagram is dropped. It has no record of any address.
-//! [`OpenServer`] answers everybody, and [`ShortTermServer`] has short-term credentials.
-//! [`Client::poll`] says what to send and how requests ended, and [`Client::receive`] takes what
-//! arrives. You own the sockets and the clocks.
+//! [`Server::receive`] takes a datagram, and returns a response to send, an accepted request that
+//! you answer, an indication, a response, or the reason why the datagram is dropped. The server
+//! stores no record of any address. [`OpenServer`] answers everybody, and [`ShortTermServer`] uses
+//! short-term credentials. [`Client::poll`] returns the bytes to send and how requests ended, and
+//! [`Client::receive`] takes the datagrams that arrive. You own the sockets and the clocks.
 //!
 //! # Examples
 //!
@@ -53,6 +53,7 @@ mod clock;
 mod given;
 mod indications;
 mod open;
+mod request_options;
 mod server;
 mod stream;
 mod time_limited;
@@ -83,6 +84,7 @@ pub use open::{
     ShortTermServer, ShortTermUsers,
 };
 pub(crate) use server::lent;
+pub use request_options::RequestOptions;
 pub use server::{
     Answer, Identified, LongTerm, Lookup, OwnedLookup, Received, Reply, ReplyWriter, Request,
     Server, ServerBuilder, User, UserError, Users,
@@ -90,20 +92,21 @@ pub use server::{
 pub use stream::{FrameBuffer, StreamError};
 pub use time_limited::TimeLimitedUsers;
 
-/// Types of attributes to pass to [`ServerBuilder::understands`], and to the other builders: the lists
-/// of [`crate::types`]. The types of STUN itself, which are in them, are always understood.
+/// Lists of attribute types to pass to [`ServerBuilder::understands`] and to `understands` of the
+/// other builders. [`crate::types`] has the same lists. The types of STUN itself are always
+/// understood, so you need not pass them.
 pub mod types {
     #[doc(no_inline)]
     pub use crate::types::{ICE, TURN};
 }
 
-/// Returns 32 random bytes of the operating system: the seed of a [`Client`], the secret of a server
-/// with [`LongTerm`] credentials, or what an agent of [`ice`] draws, such as its password and its
-/// tie-breaker. Never use the same bytes for two of these.
+/// Returns 32 random bytes from the operating system, for the seed of a [`Client`], the secret of a
+/// server with [`LongTerm`] credentials, or the password and the tie-breaker of an agent of
+/// [`ice`]. Never use the same bytes for two of these.
 ///
 /// # Panics
 ///
-/// If the operating system provides no random numbers.
+/// Panics if the operating system provides no random numbers.
 ///
 /// # Examples
 ///
@@ -133,7 +136,7 @@ impl UnixTime {
         UnixTime::at(std::time::SystemTime::now())
     }
 
-    /// Converts a time of the standard library, which you have read already, to whole seconds since the
+    /// Converts a time that you have already read from the system clock to whole seconds since the
     /// beginning of 1970. An earlier time becomes the beginning of 1970.
     ///
     /// # Examples
@@ -154,7 +157,7 @@ impl UnixTime {
     }
 }
 
-/// The code of the response and its reason phrase, as `401 Unauthenticated`.
+/// Writes the code of the response and its reason phrase, such as `401 Unauthenticated`.
 impl fmt::Display for Refusal {
     fn fmt(&self, f: &mut fmt::Formatter<'_>) -> fmt::Result {
         write!(f, "{} {}", self.code(), self.phrase())
@@ -173,16 +176,16 @@ impl Cause {
         Cause::UnknownAttribute,
     ];
 
-    /// How many causes there are.
+    /// The number of causes.
     pub const COUNT: usize = 7;
 
-    /// Returns a number below [`COUNT`](Self::COUNT), for counters of yours.
+    /// Returns the index of this cause in [`ALL`](Self::ALL), for an array of counters.
     #[must_use]
     pub fn index(self) -> usize {
         self as usize
     }
 
-    /// Returns the name of the cause, as in the source.
+    /// Returns the name of this variant, such as `StaleNonce`.
     #[must_use]
     pub fn name(self) -> &'static str {
         match self {
@@ -240,38 +243,50 @@ impl fmt::Display for Cause {
 #[derive(Clone, Copy, Debug, PartialEq, Eq, Hash)]
 #[non_exhaustive]
 pub enum DropReason {
-    /// It does not begin with the header of a STUN message.
+    /// The datagram does not begin with the header of a STUN message.
     NotStun,
-    /// Its length or its attributes are not what its header says.
+    /// The datagram begins with the header of a STUN message, but does not have the length that the
+    /// header states, or its attributes do not fill that length exactly.
     Malformed,
-    /// It has a FINGERPRINT that is wrong, is not the last attribute, or does not have 4 bytes: it is
-    /// damaged, or belongs to another protocol (RFC 8489, section 14.7).
+    /// The datagram has a FINGERPRINT that is wrong, is not the last attribute, or does not have 4
+    /// bytes. So it is damaged, or belongs to another protocol (RFC 8489, section 14.7).
     WrongFingerprint,
-    /// It is an indication with an attribute that must be understood and is not.
+    /// The datagram is an indication with an attribute that must be understood but is not: its type
+    /// is neither one of STUN itself, nor one that you passed to
+    /// [`understands`](ServerBuilder::understands).
     UnknownAttribute,
-    /// It is a response without the valid signature that it must have, or a 401 or a 438 to a message of
-    /// a request in whose place the client has sent another one.
+    /// The datagram is a response without a valid signature, although it must have one. Or it is a
+    /// 401 or a 438 that answers an earlier message of its request, which the client has since
+    /// replaced with another message.
     NotVerified,
-    /// It is a 401 or a 438 that the client cannot answer: without realm or nonce, with no algorithm
-    /// that the client supports, with a nonce that does not allow hashed names although the client
-    /// must send one, or with a list so long that the request would not fit in a message.
+    /// The datagram is a 401 or a 438 without a valid signature that the client cannot answer, for
+    /// one of these reasons:
+    ///
+    /// - It lacks the realm or the nonce.
+    /// - It has no algorithm that the client supports.
+    /// - Its nonce does not allow hashed names, although the client must send one.
+    ///
+    /// Or it is a 401 or a 438, signed or not, whose list of algorithms is so long that the request
+    /// would not fit in a message.
     UnanswerableChallenge,
-    /// It is a 401 or a 438 with a weaker algorithm, or without hashed names, although a request
-    /// succeeded with the stronger one.
+    /// The datagram is a 401 or a 438 that is weaker than a challenge with which a request has
+    /// succeeded. It offers only a weaker algorithm, or it does not allow hashed names although
+    /// that challenge did.
     WeakerChallenge,
-    /// An allocation failed, or a client has no transaction ID left to send a request again under.
-    /// The sender of the request sends it again, until it times out.
+    /// An allocation failed, or a client has no transaction ID left for another message of a
+    /// request. The client continues to retransmit the request until it times out.
     OutOfMemory,
-    /// It has no FINGERPRINT, although the settings require one (RFC 8489, section 7.3).
+    /// The datagram has no FINGERPRINT, although the settings require one (RFC 8489, section 7.3).
     MissingFingerprint,
-    /// It is a 401 or a 438 that arrived more than one plan after the request was started (39.5 seconds
-    /// by default; see [`Retransmission`]). The client answers it no more, so that the request ends
-    /// within two plans.
+    /// The datagram is a 401 or a 438 that arrived later than one plan after the request was
+    /// started (a plan takes 39.5 seconds by default; see [`Retransmission`]). The client no longer
+    /// answers challenges of this request, so that it ends within two plans.
     LateChallenge,
-    /// It is the challenge that the request is signed for, once more. The request is sent again by its
-    /// timer, and ends as [`Unauthorized`](RequestError::Unauthorized) if one arrives after that.
+    /// The datagram repeats the challenge for which the request is signed. The client retransmits
+    /// the request when its timer fires. If the challenge arrives again after that, the request
+    /// ends with [`Unauthorized`](RequestError::Unauthorized).
     Refused,
-    /// It is a request or an indication with a method that you do not serve
+    /// The datagram is a request or an indication with a method that you do not serve
     /// ([`ServerBuilder::methods`], [`ResponseSettings::methods`]; RFC 8489, section 6.3).
     OtherMethod,
 }
@@ -293,16 +308,16 @@ impl DropReason {
         DropReason::OtherMethod,
     ];
 
-    /// How many reasons there are.
+    /// The number of reasons.
     pub const COUNT: usize = 12;
 
-    /// Returns a number below [`COUNT`](Self::COUNT), for counters of yours.
+    /// Returns the index of this reason in [`ALL`](Self::ALL), for an array of counters.
     #[must_use]
     pub fn index(self) -> usize {
         self as usize
     }
 
-    /// Returns the name of the reason, as in the source.
+    /// Returns the name of this variant, such as `Malformed`.
     #[must_use]
     pub fn name(self) -> &'static str {
         match self {

@@ -3,14 +3,14 @@
 //!
 //! - FINGERPRINT: [`finish_with_fingerprint`] and [`check_fingerprint`].
 //! - Unknown attributes: [`answer_unknown`] for a server, [`ends_failed`] for a client,
-//!   [`has_unknown`] for indications. [`unknown_types`] and [`unknown_attributes`] are there for
+//!   [`has_unknown`] for indications. [`unknown_types`] and [`unknown_attributes`] are for
 //!   responses that you build yourself.
 //! - Streams: [`next_frame`] finds the next message in the bytes of a TCP connection,
 //!   [`next_turn_frame`] the next message or ChannelData, and [`next_packet_frame`] the next packet
 //!   with a length in front (RFC 4571), as ICE sends it over TCP. [`is_stun`] recognizes STUN on a
 //!   port that other protocols share.
 //! - Attributes: [`attribute`]. Methods of TURN, and data on its channels: [`turn`].
-//! - Addresses: [`canonical`] returns an IPv4 address as IPv4 in either spelling.
+//! - Addresses: [`canonical`] returns an address `::ffff:a.b.c.d` as the IPv4 address `a.b.c.d`.
 //!
 //! # Examples
 //!
@@ -101,12 +101,13 @@ pub mod attribute {
     };
 }
 
-/// Finds the message at the front of the bytes of a stream (RFC 8489, section 6.2.2). The bytes
-/// must begin where a message begins.
+/// Finds the message at the front of the bytes of a stream (RFC 8489, section 6.2.2). The first
+/// byte must be the first byte of a message.
 ///
-/// [`Frame::Need`] counts the bytes that the header lacks, or after a whole header those that the
-/// message lacks. [`Frame::NotStun`] is returned as soon as a byte decides it: the first, the
-/// fourth, or one of the magic cookie, which are the fifth to the eighth (section 5).
+/// [`Frame::Need`] counts the bytes that the header lacks or, after a complete header, those that
+/// the message lacks. [`Frame::NotStun`] is returned as soon as one of these bytes shows that the
+/// stream is not STUN: the first, the fourth, or one of the magic cookie, which are the fifth to
+/// the eighth (section 5).
 ///
 /// # Examples
 ///
@@ -123,11 +124,13 @@ pub fn next_frame(bytes: &[u8]) -> Frame {
 }
 
 /// Finds the message or the ChannelData at the front of the bytes of a stream, as TURN sends them
-/// over TCP (RFC 8656, sections 12.4 and 12.5). The bytes must begin where one of them begins.
+/// over TCP (RFC 8656, sections 12.4 and 12.5). The first byte must be the first byte of a message
+/// or of ChannelData.
 ///
 /// [`Frame::Message`] is ChannelData if the first byte is 0x40 to 0x7F, and then it counts the
-/// header of 4 bytes and the padding. RFC 8656 uses channels with 0x40 to 0x4F alone, and RFC 5766
-/// with all. [`Frame::NotStun`] is returned as soon as a byte decides it, as [`next_frame`] does.
+/// header of 4 bytes and the padding. RFC 8656 uses only channels that begin with 0x40 to 0x4F, and
+/// RFC 5766 uses all of them. [`Frame::NotStun`] is returned as soon as a byte shows that the
+/// stream is neither STUN nor ChannelData, as in [`next_frame`].
 ///
 /// # Examples
 ///
@@ -143,12 +146,12 @@ pub fn next_turn_frame(bytes: &[u8]) -> Frame {
     framing::next_turn_frame(bytes)
 }
 
-/// Finds the packet at the front of the bytes of a stream in which each packet has its length in 2
-/// bytes in front, as ICE sends them over TCP (RFC 4571, section 2). The bytes must begin where a
-/// length begins.
+/// Finds the packet at the front of the bytes of a stream in which each packet comes after 2 bytes
+/// with its length, as ICE sends packets over TCP (RFC 4571, section 2). The first byte must be the
+/// first byte of a length.
 ///
-/// [`Frame::Message`] counts these 2 bytes too, and the packet may be empty. It never returns
-/// [`Frame::NotStun`], because any packet may have any bytes.
+/// [`Frame::Message`] counts these 2 bytes too, and the packet may be empty. The call never returns
+/// [`Frame::NotStun`], because a packet may contain any bytes.
 ///
 /// # Examples
 ///
@@ -165,8 +168,8 @@ pub fn next_packet_frame(bytes: &[u8]) -> Frame {
     framing::next_packet_frame(bytes)
 }
 
-/// Returns `true` if a packet is for STUN, on a port that other protocols share (RFC 8489, section
-/// 7; RFC 7983, section 7): its first byte is 0 to 3, and it begins with a header of STUN.
+/// Returns `true` if a packet on a port that other protocols share is for STUN (RFC 8489, section
+/// 7; RFC 7983, section 7): its first byte is 0 to 3, and it begins with a STUN header.
 ///
 /// # Examples
 ///
@@ -181,9 +184,10 @@ pub fn is_stun(packet: &[u8]) -> bool {
     framing::is_stun(packet)
 }
 
-/// Returns the registered reason phrase of an error code of STUN (RFC 8489, section 14.8), TURN (RFC
-/// 8656, section 19; RFC 6062, section 6.3; RFC 8016) or ICE (RFC 8445, section 16.1), or `None` if
-/// the code has none. [`Reply::refuse`](crate::endpoint::Reply::refuse) writes it.
+/// Returns the registered reason phrase of an error code of STUN (RFC 8489, section 14.8), TURN
+/// (RFC 8656, section 19; RFC 6062, section 6.3; RFC 8016) or ICE (RFC 8445, section 16.1), or
+/// `None` if no phrase is registered for the code.
+/// [`Reply::refuse`](crate::endpoint::Reply::refuse) writes this phrase.
 ///
 /// # Examples
 ///
@@ -224,8 +228,8 @@ pub fn reason_phrase(code: u16) -> Option<&'static str> {
 
 /// Checks the FINGERPRINT of a message (RFC 8489, section 14.7).
 ///
-/// A FINGERPRINT tells STUN from other protocols on the same port. It is no protection, because
-/// anybody can compute it.
+/// A FINGERPRINT distinguishes STUN from other protocols on the same port. It does not protect the
+/// message, because anybody can compute it.
 ///
 /// # Examples
 ///
@@ -250,11 +254,11 @@ pub fn check_fingerprint(message: &Message<'_>) -> Fingerprint {
 
 /// Adds FINGERPRINT to a message, and finishes the writer, so that nothing can follow it.
 ///
-/// Sign the message first if you want to sign it. Its signature stays valid.
+/// If you want to sign the message, do so first. Its signature stays valid.
 ///
 /// # Errors
 ///
-/// The first of these that applies. The writer is then dropped.
+/// Returns the first of these errors that applies. The writer is then dropped.
 ///
 /// - [`StunWriteError::NotAllowed`]: the writer holds no message. Start it with one of the builders
 ///   of [`Message`].
@@ -308,7 +312,7 @@ pub fn unknown_types<'a>(message: &Message<'a>, known: &'a [AttributeType]) -> U
 }
 
 /// Returns `true` if a message has a visible attribute that a receiver must understand, but whose
-/// type is not in `known`. Drop an indication that has one (RFC 8489, section 6.3.2).
+/// type is not in `known`. If the message is an indication, drop it (RFC 8489, section 6.3.2).
 ///
 /// # Examples
 ///
@@ -329,15 +333,15 @@ pub fn has_unknown(message: &Message<'_>, known: &[AttributeType]) -> bool {
 }
 
 /// Writes the error response to a request with unknown attributes into `writer`, which must be
-/// empty: it has the code 420 and UNKNOWN-ATTRIBUTES (RFC 8489, section 6.3.1). You can add
-/// attributes to it and sign it.
+/// empty. The response has the code 420 and UNKNOWN-ATTRIBUTES (RFC 8489, section 6.3.1). You can
+/// add attributes to it and sign it.
 ///
-/// Returns `None` if the message is not a request, or if it has no visible attribute that the
-/// server must understand and whose type is not in `known`.
+/// Returns `None`, and drops the writer, if the message is not a request, or if it has no visible
+/// attribute that the server must understand and whose type is not in `known`.
 ///
 /// # Errors
 ///
-/// The first of these that applies. The writer is then dropped.
+/// Returns the first of these errors that applies. The writer is then dropped.
 ///
 /// - [`StunWriteError::NotAllowed`]: the writer has bytes already.
 /// - [`StunWriteError::TooSmall`]: the writer has no room for the response.
@@ -374,11 +378,11 @@ pub fn answer_unknown<W: MessageWrite>(
     unknown::answer_unknown(&request.0, known, writer)
 }
 
-/// Returns `true` if a response ends its request as failed, whatever else it says (RFC 8489,
+/// Returns `true` if a response ends its request as failed, whatever else it contains (RFC 8489,
 /// sections 6.3.3 and 6.3.4).
 ///
-/// This is so if it has a visible attribute that the client must understand and whose type is not
-/// in `known`, or if it is an error response without ERROR-CODE.
+/// A response does so if it has a visible attribute that the client must understand and whose type
+/// is not in `known`, or if it is an error response without ERROR-CODE.
 ///
 /// # Examples
 ///

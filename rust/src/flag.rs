@@ -16,7 +16,7 @@ macro_rules! flag_attribute {
             }
         }
 
-        /// Like `new`.
+        /// Creates the attribute, like `new`.
         impl Default for $name {
             fn default() -> $name {
                 $name::new()

@@ -27,12 +27,12 @@ impl Instant {
     }
 
     /// Returns this time on the standard library's clock, for a timer such as `sleep_until`.
-    /// `start` is the one that was passed to [`from_std`](Instant::from_std).
+    /// `start` is the time that was passed to [`from_std`](Instant::from_std).
     ///
     /// # Panics
     ///
-    /// If the standard library's clock cannot represent the time. Where its times have 64 bits of
-    /// seconds, as on Linux, it represents all of them.
+    /// Panics if the standard library's clock cannot represent the time. If its times have 64 bits
+    /// of seconds, as on Linux, it can represent all of them.
     ///
     /// # Examples
     ///
@@ -59,8 +59,8 @@ impl Instant {
 
     /// Returns the time elapsed since `earlier`, or zero if `earlier` is later than `self`.
     ///
-    /// This is what [`duration_since`](Instant::duration_since) returns too. The two names are
-    /// those of the standard library.
+    /// [`duration_since`](Instant::duration_since) returns the same. Both names exist because the
+    /// standard library has both.
     #[must_use]
     pub fn saturating_duration_since(self, earlier: Instant) -> Duration {
         self - earlier
@@ -85,14 +85,14 @@ impl Instant {
     }
 }
 
-/// The sum stops at [`Instant::MAX`].
+/// Adds a duration. The sum stops at [`Instant::MAX`].
 impl AddAssign<Duration> for Instant {
     fn add_assign(&mut self, span: Duration) {
         *self = *self + span;
     }
 }
 
-/// The time `span` earlier. The difference stops at [`Instant::ZERO`].
+/// Returns the time `span` earlier. The difference stops at [`Instant::ZERO`].
 impl Sub<Duration> for Instant {
     type Output = Instant;
 
@@ -101,7 +101,7 @@ impl Sub<Duration> for Instant {
     }
 }
 
-/// The difference stops at [`Instant::ZERO`].
+/// Subtracts a duration. The difference stops at [`Instant::ZERO`].
 impl SubAssign<Duration> for Instant {
     fn sub_assign(&mut self, span: Duration) {
         *self = *self - span;

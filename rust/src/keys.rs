@@ -1,4 +1,4 @@
-//! Keys, and whom a message was accepted from.
+//! Keys, and the user from whom a message was accepted.
 
 use crate::copies::{copy, granted};
 use crate::exported::stun_auth::auth as proved_auth;
@@ -10,7 +10,8 @@ use core::fmt;
 /// A key that messages are signed and verified with: the bytes of a password, or a hash that
 /// [`long_term_key`](crate::types::message::long_term_key) makes.
 ///
-/// Up to 32 bytes are stored in the key itself; a longer key is allocated. `Debug` shows none of it.
+/// Up to 32 bytes are stored in the key itself; a longer key is allocated. `Debug` shows none of
+/// it.
 ///
 /// # Examples
 ///
@@ -49,7 +50,7 @@ impl Clone for IntegrityKey {
     }
 }
 
-/// Keys are equal if and only if their bytes are. Keys of the same length are compared without an
+/// Returns whether two keys have the same bytes. Keys of the same length are compared without an
 /// early exit.
 impl PartialEq for IntegrityKey {
     fn eq(&self, other: &IntegrityKey) -> bool {
@@ -65,12 +66,12 @@ impl fmt::Debug for IntegrityKey {
     }
 }
 
-/// A key for which, for one algorithm, the part of HMAC that comes before the text has been computed
-/// (RFC 2104, section 4).
+/// A key with the part of an HMAC that does not depend on the text, computed in advance for one
+/// algorithm (RFC 2104, section 4).
 ///
-/// A digest with that algorithm hashes two blocks fewer than a digest with the key alone. With the
-/// other algorithm the key works too, at the usual cost. Everything in it is as secret as the key, and
-/// `Debug` shows none of it.
+/// An HMAC with that algorithm then hashes two blocks fewer than with the key alone. The key also
+/// works with the other algorithm, at the usual cost. Everything in a `PreparedKey` is as secret as
+/// the key, and `Debug` shows none of it.
 ///
 /// # Examples
 ///
@@ -109,14 +110,14 @@ impl PreparedKey {
         &self.key
     }
 
-    /// Computes the HMAC-SHA1 of the pieces, taken one after the other as one text. This does not
+    /// Computes the HMAC-SHA1 of the text that consists of these pieces in order. Does not
     /// allocate.
     #[must_use]
     pub fn hmac_sha1(&self, pieces: &[&[u8]]) -> [u8; 20] {
         self.core.hmac_sha1(pieces)
     }
 
-    /// Computes the HMAC-SHA256 of the pieces, taken one after the other as one text. This does not
+    /// Computes the HMAC-SHA256 of the text that consists of these pieces in order. Does not
     /// allocate.
     #[must_use]
     pub fn hmac_sha256(&self, pieces: &[&[u8]]) -> [u8; 32] {
@@ -133,8 +134,8 @@ impl fmt::Debug for PreparedKey {
 /// The user whom a request or an indication was accepted from, with the algorithm that both sides
 /// agreed on and the user's key for it.
 ///
-/// It borrows from the server, from the user that was passed, or from the message. Sign the response
-/// with `key` and `algorithm`
+/// It borrows from the server, from the user that was passed, or from the message. Sign the
+/// response with `key` and `algorithm`
 /// ([`add_message_integrity_with_prepared_key`](crate::types::prelude::MessageWriteExt::add_message_integrity_with_prepared_key)).
 /// `Debug` shows nothing of it, because it has a key.
 ///
@@ -156,8 +157,9 @@ impl<'a> Accepted<'a> {
         self.0.name()
     }
 
-    /// Returns the algorithm that both sides agreed on, which the key is for. The signature of the
-    /// message may be of the other one (RFC 8489, section 9.2.4).
+    /// Returns the algorithm that both sides agreed on, which is also the algorithm of
+    /// [`key`](Self::key). The message itself may be signed with the other algorithm (RFC 8489,
+    /// section 9.2.4).
     #[must_use]
     pub fn algorithm(&self) -> IntegrityAlgorithm {
         self.0.algorithm()

@@ -1,4 +1,5 @@
-// Of two definitions of a link the first counts: here the names of README.md lead to their pages.
+// These links lead from names in README.md to their pages. README.md has its own definitions of the
+// names, but rustdoc uses the first definition of a link.
 //! [`agent`]: mod@agent
 //! [`auth`]: mod@auth
 //! [`endpoint`]: mod@endpoint
@@ -38,41 +39,42 @@
 //! | [`extra`] | FINGERPRINT, unknown attributes, framing over TCP, attributes of ICE and TURN |
 //! | [`stats`] | what an agent has counted |
 //!
-//! [`Instant`] is the type of times, and [`endpoint::UnixTime`] that of an [`endpoint::Server`]. Only
-//! `UnixTime::now`, `Instant::from_std` and `endpoint::Clock` read a clock.
+//! Times are of the type [`Instant`], but an [`endpoint::Server`] takes an [`endpoint::UnixTime`].
+//! Only `UnixTime::now`, `Instant::from_std` and `endpoint::Clock` read a clock.
 //!
 //! # Events
 //!
 //! With the feature `tracing`, the crate records events of the crate `tracing` with the level DEBUG
-//! and the target `seatcrane_stun`. They have addresses, transaction IDs and numbers of requests, but
-//! no user name, password, key, nonce or other content of a message.
+//! and the target `seatcrane_stun`. The events contain addresses, transaction IDs and numbers of
+//! requests, but no user name, password, key, nonce or other content of a message.
 //!
 //! | Event | Recorded when | Fields |
 //! |---|---|---|
 //! | `received` | a server, a client or an ICE agent of [`endpoint`] has judged a datagram, once for each call | `id`, `from`, `verdict`, `code`, `reason` |
-//! | `sent a request`, `sent a request again` | [`endpoint::Client::poll`], [`agent::StunAgent::send_request`] or `poll_transmit` returns it | `id`, `request` (of a client), `to`, `bytes` |
-//! | `a request ended` | [`endpoint::Client::poll`] returns its end | `request`, `result`: `success`, or the error as text |
-//! | `wrote a check` | [`endpoint::ice::Checker::check`] has written it | `id`, `to`, `nominates` |
+//! | `sent a request`, `sent a request again` | [`endpoint::Client::poll`], [`agent::StunAgent::send_request`] or `poll_transmit` returns the bytes of a request | `id`, `request` (of a client), `to`, `bytes` |
+//! | `a request ended` | [`endpoint::Client::poll`] returns how a request ended | `request`, `result`: `success`, or the error as text |
+//! | `wrote a check` | [`endpoint::ice::Checker::check`] has written a check | `id`, `to`, `nominates` |
 //! | `judged` | an authenticator of [`auth`] has judged a message | `id`, `class`, `verdict` |
-//! | `got a message` | a [`agent::StunAgent`] has accepted a message, or not | `id`, `from`, `is_accepted` |
-//! | `a request timed out`, `a request was canceled` | [`agent::StunAgent::poll`] returns that | `id` |
+//! | `got a message` | an [`agent::StunAgent`] has processed a message | `id`, `from`, `is_accepted` |
+//! | `a request timed out`, `a request was canceled` | [`agent::StunAgent::poll`] reports that a request ended in this way | `id` |
 //!
-//! The event `received` has one of these verdicts. It has no `id` if the datagram has no STUN header.
+//! The event `received` has one of these verdicts. It has no `id` if the datagram has no STUN
+//! header.
 //!
 //! | `verdict` | Of | Meaning |
 //! |---|---|---|
 //! | `answered` | servers | the server wrote a success response |
-//! | `refused` | servers, ICE agents | the answer is an error with this `code`; `reason` is the [`endpoint::Cause`] by its name, or the reason phrase if the server has no causes |
-//! | `accepted` | all | a request or a check is accepted; or a response takes effect, which at a client may be an error or a challenge with this `code` |
+//! | `refused` | servers, ICE agents | the answer is an error with this `code`; `reason` is the name of the [`endpoint::Cause`], or the reason phrase if the server has no causes |
+//! | `accepted` | all | a request or a check is accepted; or a response takes effect (at a client, it may be an error or a challenge with this `code`) |
 //! | `look-up` | [`endpoint::Server::identify`] | the request waits for its user, and [`endpoint::Server::resume`] records the verdict |
-//! | `valid`, `failed` | ICE agents | how the answer ended the check; `reason` is the [`endpoint::ice::Failure`] by its name |
+//! | `valid`, `failed` | ICE agents | the answer ended the check in this way; `reason` is the name of the [`endpoint::ice::Failure`] |
 //! | `indication` | all | the message is for the caller |
 //! | `response` | servers | the message is for a client on the same socket |
-//! | `not ours` | clients | another client on the socket may have asked for it |
-//! | `dropped` | all | `reason` is the [`endpoint::DropReason`] or [`endpoint::ice::DropReason`] by its name |
+//! | `not ours` | clients | the datagram may be for another client on the socket |
+//! | `dropped` | all | `reason` is the name of the [`endpoint::DropReason`] or [`endpoint::ice::DropReason`] |
 //!
-//! To find the cause of a refusal, the server judges the request again, so a refusal takes twice the
-//! time while somebody subscribes to these events. The calls that return the cause, such as
+//! To find the cause of a refusal, the server judges the request again, so a refusal takes twice as
+//! long while a subscriber records these events. The calls that return the cause, such as
 //! [`endpoint::Server::receive_with_cause`], judge it once.
 #![no_std]
 #![cfg_attr(docsrs, feature(doc_cfg))]
@@ -91,7 +93,7 @@ pub mod auth;
 mod bytes;
 mod copies;
 mod credentials;
-// The public modules export a part of these.
+// The public modules export only a part of `exported`, so the rest is unused.
 #[allow(dead_code, unused_imports)]
 mod exported;
 pub mod endpoint;
@@ -126,6 +128,6 @@ mod write;
 
 pub use exported::stun_base::instant::Instant;
 
-/// Empty, as in the crate `stun-proto`. The traits of attributes and writers are in
-/// [`types::prelude`].
+/// This module is empty, like `prelude` of the crate `stun-proto`. The traits of attributes and
+/// writers are in [`types::prelude`].
 pub mod prelude {}

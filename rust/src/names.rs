@@ -58,7 +58,7 @@ impl AttributeType {
 }
 
 /// Further registered codes. The builder leaves their reason phrase empty unless you set one;
-/// [`reason_phrase`](crate::extra::reason_phrase) returns the one that is registered.
+/// [`reason_phrase`](crate::extra::reason_phrase) returns the registered phrase.
 impl<'a> ErrorCode<'a> {
     /// 300: the client should try a different server.
     pub const TRY_ALTERNATE: u16 = 300;
@@ -66,9 +66,9 @@ impl<'a> ErrorCode<'a> {
     pub const FORBIDDEN: u16 = 403;
     /// 405: the server does not let this client move its allocation (RFC 8016).
     pub const MOBILITY_FORBIDDEN: u16 = 405;
-    /// 420: the request has an attribute that the server must understand and does not know.
+    /// 420: the request has an attribute that the server must understand but does not know.
     pub const UNKNOWN_ATTRIBUTE: u16 = 420;
-    /// 437: the request needs an allocation and there is none, or the other way round (RFC 8656).
+    /// 437: the request needs an allocation and there is none, or there is one already (RFC 8656).
     pub const ALLOCATION_MISMATCH: u16 = 437;
     /// 440: the server does not support addresses of this family (RFC 8656).
     pub const ADDRESS_FAMILY_NOT_SUPPORTED: u16 = 440;
@@ -76,7 +76,7 @@ impl<'a> ErrorCode<'a> {
     pub const WRONG_CREDENTIALS: u16 = 441;
     /// 442: the server does not relay over this transport protocol (RFC 8656).
     pub const UNSUPPORTED_TRANSPORT_PROTOCOL: u16 = 442;
-    /// 443: the peer's address is of another family than the relayed address (RFC 8656).
+    /// 443: the peer's address and the relayed address are of different families (RFC 8656).
     pub const PEER_ADDRESS_FAMILY_MISMATCH: u16 = 443;
     /// 446: the client has a connection to this peer already (RFC 6062).
     pub const CONNECTION_ALREADY_EXISTS: u16 = 446;
@@ -95,7 +95,7 @@ impl<'a> ErrorCode<'a> {
     ///
     /// # Errors
     ///
-    /// The first of these that applies:
+    /// Returns the first of these errors that applies:
     ///
     /// - [`StunWriteError::NotAllowed`]: the code is not from 300 to 699.
     /// - [`StunWriteError::TooLarge`]: the reason has more than 763 bytes.
@@ -147,7 +147,7 @@ impl PasswordAlgorithms<'_> {
     }
 }
 
-/// Lists are equal if they have the same algorithms in the same order.
+/// Returns whether two lists have the same algorithms in the same order.
 impl PartialEq for PasswordAlgorithms<'_> {
     fn eq(&self, other: &Self) -> bool {
         self.len() == other.len() && (0..self.len()).all(|i| self.get(i) == other.get(i))
@@ -162,7 +162,7 @@ pub trait AttributeExt<'a>: AttributeFromRaw<'a> {
     ///
     /// # Errors
     ///
-    /// The errors of `from_raw`.
+    /// Returns the errors of `from_raw`.
     ///
     /// # Examples
     ///

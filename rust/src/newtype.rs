@@ -1,7 +1,8 @@
-//! Types of this crate's front around attributes of the core.
+//! The macro for types of this crate that contain an attribute of the core.
 
-/// Implements the traits of attributes for a tuple struct around an attribute of the core. For
-/// another struct, it takes how to make the attribute of the core from the struct, and the reverse.
+/// Implements the traits of attributes for a tuple struct around an attribute of the core. For any
+/// other struct, also pass an expression for the attribute of the core in a value of the struct,
+/// and a function that makes the struct from such an attribute.
 macro_rules! forward_attribute {
     ($name:ident, $proved:ty) => {
         forward_attribute!($name, $proved, $name, 'a);

@@ -1,5 +1,5 @@
-//! Names of the crate `stun-types` beside those of the core: conversions, lists of types, and calls
-//! that its users know by another name.
+//! Names of the crate `stun-types` that the core does not have: conversions, lists of types, and
+//! calls that users of that crate know under another name.
 
 use crate::exported::stun_types::attribute::{
     ATTRIBUTE_HEADER_LENGTH, Attribute, AttributeFromRaw, AttributeStaticType, AttributeType,
@@ -85,14 +85,14 @@ pub const ICE: &[AttributeType] = &joined::<13>(
 /// asks for, because a request with one of them no longer gets a 420. These three ask for something
 /// that not every server does:
 ///
-/// - DONT-FRAGMENT (section 18.9): the DF bit is set in what the server relays.
-/// - EVEN-PORT (section 18.7): the relayed address has an even port, and the next port is reserved if
-///   the attribute says so.
+/// - DONT-FRAGMENT (section 18.9): the server sets the DF bit in the datagrams that it relays.
+/// - EVEN-PORT (section 18.7): the relayed address has an even port, and the server reserves the
+///   next port if the R bit of the attribute is set.
 /// - RESERVATION-TOKEN (section 18.10): the relayed address is the one that was reserved under this
 ///   token.
 ///
-/// Leave those out that yours does not do, by
-/// [`does_not_understand`](crate::endpoint::ServerBuilder::does_not_understand).
+/// Use [`does_not_understand`](crate::endpoint::ServerBuilder::does_not_understand) to leave out
+/// those that your server does not implement.
 ///
 /// # Examples
 ///
@@ -122,7 +122,7 @@ pub const TURN: &[AttributeType] = &joined::<21>(
     ],
 );
 
-/// Two lists as one, of `N` types.
+/// Joins two lists into one list of `N` types.
 const fn joined<const N: usize>(
     first: &[AttributeType],
     more: &[AttributeType],
@@ -141,7 +141,7 @@ const fn joined<const N: usize>(
     all
 }
 
-/// Types are in the order of their numbers.
+/// Orders types by their numbers.
 impl Ord for AttributeType {
     fn cmp(&self, other: &Self) -> Ordering {
         self.value().cmp(&other.value())
@@ -166,8 +166,8 @@ impl From<AttributeType> for u16 {
     }
 }
 
-/// Takes the low 96 bits of the number. [`from_u128`](TransactionId::from_u128) refuses a number that
-/// has more.
+/// Takes the low 96 bits of the number. [`from_u128`](TransactionId::from_u128) refuses a number
+/// that has more bits.
 impl From<u128> for TransactionId {
     fn from(number: u128) -> TransactionId {
         let [_, _, _, _, id @ ..] = number.to_be_bytes();
@@ -194,7 +194,7 @@ impl MessageType {
     ///
     /// # Errors
     ///
-    /// The first of these that applies:
+    /// Returns the first of these errors that applies:
     ///
     /// - [`StunParseError::Truncated`]: there are fewer than 2 bytes.
     /// - [`StunParseError::NotStun`]: the first two bits are not zero.
@@ -213,7 +213,7 @@ impl MessageType {
         MessageType::from_number(u16::from_be_bytes(*first)).ok_or(StunParseError::NotStun)
     }
 
-    /// Returns the bytes of the type, as a message starts with them.
+    /// Returns the two bytes of the type, with which a message starts.
     #[must_use]
     pub fn to_bytes(self) -> [u8; 2] {
         self.value().to_be_bytes()
@@ -251,12 +251,12 @@ impl<'a> TryFrom<&'a [u8]> for Message<'a> {
 }
 
 impl<'a> RawAttribute<'a> {
-    /// Parses the attribute at the start of `bytes`: its header, its value and its padding. The bytes
-    /// after them are ignored.
+    /// Parses the attribute at the start of `bytes`: its header, its value and its padding. The
+    /// bytes after them are ignored.
     ///
     /// # Errors
     ///
-    /// [`StunParseError::Truncated`]: the attribute or its padding is not whole.
+    /// [`StunParseError::Truncated`]: the attribute or its padding is incomplete.
     ///
     /// # Examples
     ///
@@ -276,7 +276,7 @@ impl<'a> RawAttribute<'a> {
     ///
     /// # Panics
     ///
-    /// If the value has more than 65535 bytes, which no attribute can have.
+    /// Panics if the value has more than 65535 bytes, which no attribute can have.
     #[must_use]
     pub fn to_bytes(&self) -> Vec<u8> {
         let length = u16::try_from(self.length()).expect("a value of at most 65535 bytes");
@@ -298,8 +298,8 @@ impl<'a> TryFrom<&'a [u8]> for RawAttribute<'a> {
 }
 
 impl<'a> Message<'a> {
-    /// Returns the first visible attribute of this type and its offset in the message, without
-    /// parsing its value.
+    /// Returns the first visible attribute of this type and its offset in the message, or `None` if
+    /// there is none. Its value is not parsed.
     #[must_use]
     pub fn raw_attribute_and_offset(
         &self,
@@ -309,14 +309,16 @@ impl<'a> Message<'a> {
         attributes.find(|(_, found)| found.get_type() == kind)
     }
 
-    /// Parses the first visible attribute of type `A`, and returns its offset in the message with it.
+    /// Parses the first visible attribute of type `A`, and returns its offset in the message with
+    /// it.
     ///
-    /// Like [`attribute`](Message::attribute), this call must not decide who signed a message.
+    /// As with [`attribute`](Message::attribute), do not use this call to find out who signed a
+    /// message.
     ///
     /// # Errors
     ///
     /// - [`StunParseError::MissingAttribute`]: no attribute of this type is visible.
-    /// - [`StunParseError::InvalidAttributeData`]: the first one is malformed.
+    /// - [`StunParseError::InvalidAttributeData`]: the first of these attributes is malformed.
     ///
     /// # Examples
     ///
@@ -339,16 +341,17 @@ impl<'a> Message<'a> {
         Ok((offset, A::from_raw(raw)?))
     }
 
-    /// Checks the attributes of a request, and writes the error response into `writer`, which must be
-    /// empty, if the request is to be refused.
+    /// Checks the attributes of a request. If the request has to be refused, this call writes the
+    /// error response into `writer`, which must be empty.
     ///
-    /// It is refused with the code 420 if it has a visible attribute below 0x8000 whose type is not
-    /// in `supported` (RFC 8489, section 6.3.1), and else with the code 400 if it has no visible
-    /// attribute of some type in `required`. Otherwise the result is `None`.
+    /// The request is refused with the code 420 if it has a visible attribute whose type is below
+    /// 0x8000 and not in `supported` (RFC 8489, section 6.3.1). Otherwise it is refused with the
+    /// code 400 if it lacks a visible attribute of one of the types in `required`. Returns `None`
+    /// if the request need not be refused.
     ///
     /// # Panics
     ///
-    /// If the message is not a request, or if [`builder`](Message::builder) would panic.
+    /// Panics if the message is not a request, or if [`builder`](Message::builder) would panic.
     ///
     /// # Examples
     ///
@@ -386,17 +389,17 @@ impl<'a> Message<'a> {
         }
     }
 
-    /// Starts the error response with the code 420 to a request: it has ERROR-CODE, and
-    /// UNKNOWN-ATTRIBUTES with these types (RFC 8489, section 14.13). You can add attributes to it and
-    /// sign it.
+    /// Starts the error response with the code 420 to a request. The response has ERROR-CODE, and
+    /// UNKNOWN-ATTRIBUTES with these types (RFC 8489, section 14.13). You can add attributes to it
+    /// and sign it.
     ///
-    /// [`answer_unknown`](crate::extra::answer_unknown) finds the types in the request, and does not
-    /// panic.
+    /// [`answer_unknown`](crate::extra::answer_unknown) finds the types in the request, and does
+    /// not panic.
     ///
     /// # Panics
     ///
-    /// If the message is not a request, if there are so many types that they do not fit in a message,
-    /// or if [`builder`](Message::builder) would panic.
+    /// Panics if the message is not a request, if there are so many types that they do not fit in a
+    /// message, or if [`builder`](Message::builder) would panic.
     pub fn unknown_attributes<W: MessageWrite>(
         request: &Message<'_>,
         types: &[AttributeType],
@@ -416,12 +419,12 @@ impl<'a> Message<'a> {
         response
     }
 
-    /// Starts the error response with the code 400 to a request. You can add attributes to it and sign
-    /// it.
+    /// Starts the error response with the code 400 to a request. You can add attributes to it and
+    /// sign it.
     ///
     /// # Panics
     ///
-    /// If the message is not a request, or if [`builder`](Message::builder) would panic.
+    /// Panics if the message is not a request, or if [`builder`](Message::builder) would panic.
     pub fn bad_request<W: MessageWrite>(request: &Message<'_>, writer: W) -> W {
         refusal(request, 400, "Bad Request", writer)
     }
@@ -437,8 +440,9 @@ fn refusal<W: MessageWrite>(request: &Message<'_>, code: u16, reason: &str, writ
     response
 }
 
-/// An attribute of any type, for lists of different attributes: `Box<dyn DynAttribute>` and
-/// `&dyn DynAttribute` are attributes that writers take. Every [`Attribute`] is one.
+/// An attribute of any type, for lists of different attributes: `Box<dyn DynAttribute>` and `&dyn
+/// DynAttribute` are attributes that you can pass to writers. Every [`Attribute`] implements this
+/// trait.
 ///
 /// # Examples
 ///
@@ -478,7 +482,7 @@ impl<A: Attribute> DynAttribute for A {
 
     fn dyn_value(&self) -> Vec<u8> {
         let mut writer = crate::write::MessageWriteVec::new();
-        // (a writer of a `Vec` takes bytes that were not reserved)
+        // A writer of a `Vec` accepts bytes that were not reserved.
         self.write_into(&mut writer);
         let end = ATTRIBUTE_HEADER_LENGTH + self.length();
         writer.data()[ATTRIBUTE_HEADER_LENGTH..end].to_vec()
@@ -506,11 +510,11 @@ macro_rules! dyn_attribute {
 dyn_attribute!(Box<dyn DynAttribute + '_>);
 dyn_attribute!(&(dyn DynAttribute + '_));
 
-/// The bytes of a TCP connection on which each packet has its length in front, as ICE sends STUN and
-/// other packets over TCP (RFC 4571, section 2; RFC 6544).
+/// The bytes of a TCP connection on which each packet comes after 2 bytes with its length, as ICE
+/// sends STUN and other packets over TCP (RFC 4571, section 2; RFC 6544).
 ///
-/// STUN and TURN over TCP have no such lengths: use [`next_frame`](crate::extra::next_frame) and
-/// [`next_turn_frame`](crate::extra::next_turn_frame) there.
+/// STUN and TURN do not send such lengths over TCP: use [`next_frame`](crate::extra::next_frame)
+/// and [`next_turn_frame`](crate::extra::next_turn_frame) there.
 ///
 /// # Examples
 ///
@@ -528,8 +532,8 @@ dyn_attribute!(&(dyn DynAttribute + '_));
 #[derive(Debug, Clone, Default, PartialEq, Eq)]
 pub struct TcpBuffer {
     bytes: Vec<u8>,
-    /// How many of the bytes were returned. They are removed with the next bytes that arrive, so that
-    /// no packet moves the bytes behind it.
+    /// The number of bytes that were returned. They are removed when more bytes arrive, so that
+    /// removing a packet does not move the bytes after it.
     returned: usize,
 }
 
@@ -547,8 +551,8 @@ impl TcpBuffer {
         self.bytes.extend(data);
     }
 
-    /// Removes the next packet and returns it without its length, or returns `None` if it is not whole
-    /// yet.
+    /// Removes the next packet and returns it without its length, or returns `None` if it is not
+    /// complete yet.
     #[must_use = "the data is returned once"]
     pub fn pull_data(&mut self) -> Option<Vec<u8>> {
         let rest = &self.bytes[self.returned..];
@@ -560,7 +564,7 @@ impl TcpBuffer {
         Some(packet)
     }
 
-    /// Returns the bytes that no packet has been made of yet.
+    /// Returns the bytes that have not been returned as a packet yet.
     #[must_use]
     pub fn into_inner(mut self) -> Vec<u8> {
         self.bytes.drain(..self.returned);
@@ -580,8 +584,8 @@ impl From<TcpBuffer> for Vec<u8> {
     }
 }
 
-/// Fails with `AttributeExists` if the message ends with a FINGERPRINT, after which nothing may
-/// follow.
+/// Fails with `AttributeExists` if the message ends with a FINGERPRINT, because nothing may follow
+/// it.
 pub(crate) fn not_after_fingerprint<W: MessageWrite>(writer: &W) -> Result<(), StunWriteError> {
     let message = writer.data();
     let has_its_head = message

@@ -1,25 +1,25 @@
-//! Random numbers: those of the operating system, and those of a generator of the caller.
+//! Random numbers from the operating system, and from a generator of the caller.
 
 use crate::kit::random::Rng;
 
 /// Random numbers from a function that fills a slice with random bytes.
 ///
-/// A read of such a function can be costly, as one of the operating system is. So the first number
-/// that is needed reads as many bytes as one call of the core can need, `LENGTH`, and a call that
+/// Calling this function can be costly, for example if it asks the operating system. So the first
+/// random number reads as many bytes as one call of the core can need, `LENGTH`, and a call that
 /// needs no random number reads nothing.
 pub(crate) struct Once<F: FnMut(&mut [u8]), const LENGTH: usize> {
     fill: F,
     bytes: [u8; LENGTH],
-    /// How many of the bytes have been used.
+    /// The number of bytes that have been used.
     used: usize,
 }
 
-/// The random numbers for one nonce: 16 of 32 bits.
+/// Returns a source of random numbers for one nonce, which takes 16 numbers of 32 bits.
 pub(crate) fn for_a_nonce<F: FnMut(&mut [u8])>(fill: F) -> Once<F, 64> {
     Once::new(fill)
 }
 
-/// The random numbers for one transaction ID: 3 of 32 bits.
+/// Returns a source of random numbers for one transaction ID, which takes 3 numbers of 32 bits.
 pub(crate) fn for_an_id<F: FnMut(&mut [u8])>(fill: F) -> Once<F, 12> {
     Once::new(fill)
 }
@@ -60,7 +60,7 @@ impl<F: FnMut(&mut [u8]), const LENGTH: usize> Rng for Once<F, LENGTH> {
     }
 }
 
-/// Fills a slice with random bytes of the operating system, and panics if it has none.
+/// Fills a slice with random bytes of the operating system, and panics if the system provides none.
 #[cfg(feature = "rand")]
 pub(crate) fn system(bytes: &mut [u8]) {
     getrandom::getrandom(bytes).expect("the operating system provides no random numbers");
@@ -77,7 +77,7 @@ mod tests {
     use crate::kit::prelude::String;
     use alloc::vec::Vec;
 
-    /// Notes how many bytes each read asks for, and fills them with 1, 2, 3 and so on.
+    /// Records how many bytes each read asks for, and fills them with 1, 2, 3 and so on.
     #[derive(Default)]
     struct Reads {
         lengths: Vec<usize>,

@@ -25,7 +25,7 @@ macro_rules! text_attribute {
         pub struct $name<'a>($proved::$name<'a>);
 
         impl<'a> $name<'a> {
-            /// Creates the attribute from a text, which is used as it is.
+            /// Creates the attribute from a string, without preparing it.
             ///
             /// # Errors
             ///
@@ -46,7 +46,7 @@ macro_rules! text_attribute {
             }
         }
 
-        /// Writes the text as it is.
+        /// Writes the text unchanged.
         impl fmt::Display for $name<'_> {
             fn fmt(&self, f: &mut fmt::Formatter<'_>) -> fmt::Result {
                 f.write_str(self.$text())
@@ -81,7 +81,7 @@ macro_rules! text_attribute {
 pub(crate) use text_attribute;
 
 text_attribute!(
-    /// USERNAME (RFC 8489, section 14.3): the name of a user, UTF-8 of at most 513 bytes.
+    /// USERNAME (RFC 8489, section 14.3): the name of a user, in UTF-8 of at most 513 bytes.
     ///
     /// # Examples
     ///
@@ -106,7 +106,7 @@ text_attribute!(
 );
 
 text_attribute!(
-    /// REALM (RFC 8489, section 14.9): the realm of a server, UTF-8 of at most 763 bytes.
+    /// REALM (RFC 8489, section 14.9): the realm of a server, in UTF-8 of at most 763 bytes.
     ///
     /// # Examples
     ///
@@ -125,10 +125,10 @@ text_attribute!(
 );
 
 text_attribute!(
-    /// NONCE (RFC 8489, section 14.10): the nonce of a server, UTF-8 of at most 763 bytes.
+    /// NONCE (RFC 8489, section 14.10): the nonce of a server, in UTF-8 of at most 763 bytes.
     ///
-    /// The security bits that it may begin with are
-    /// [`NonceSecurityBits`](crate::auth::NonceSecurityBits).
+    /// A nonce may begin with security bits, which
+    /// [`NonceSecurityBits`](crate::auth::NonceSecurityBits) parses.
     ///
     /// # Examples
     ///

@@ -18,8 +18,8 @@ macro_rules! event {
 }
 pub(crate) use event;
 
-/// Records what a datagram from an address came to, as `received` says; `cause` returns why a server
-/// refused it.
+/// Records the outcome of a datagram that came from an address. `received` is the outcome, and
+/// `cause` returns why a server refused the datagram.
 macro_rules! record {
     ($bytes:expr, $from:expr, $received:expr, $cause:expr) => {
         #[cfg(feature = "tracing")]
@@ -28,7 +28,7 @@ macro_rules! record {
 }
 pub(crate) use record;
 
-/// Records how an authenticator judged a message, and returns that.
+/// Records the verdict of an authenticator on a message, and returns the verdict.
 #[cfg_attr(not(feature = "tracing"), allow(unused_variables))]
 pub(crate) fn judged<V: Debug, E: Debug>(
     message: &Message<'_>,
@@ -38,7 +38,8 @@ pub(crate) fn judged<V: Debug, E: Debug>(
     verdict
 }
 
-/// Returns the transaction ID of a message, to be recorded.
+/// Returns the transaction ID of a message in the form in which events record it, or `None` if the
+/// bytes do not begin with a STUN header.
 #[cfg(feature = "tracing")]
 pub(crate) fn id_in(bytes: &[u8]) -> Option<DisplayValue<TransactionId>> {
     let header = MessageHeader::from_bytes(bytes).ok()?;

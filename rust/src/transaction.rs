@@ -32,7 +32,7 @@ impl TransactionId {
     ///
     /// # Panics
     ///
-    /// If the operating system provides no random numbers.
+    /// Panics if the operating system provides no random numbers.
     #[cfg(feature = "rand")]
     #[cfg_attr(docsrs, doc(cfg(feature = "rand")))]
     pub fn generate() -> TransactionId {

@@ -47,10 +47,10 @@ pub enum TurnMethod {
     ChannelBind,
     /// A client asks the server to connect to a peer over TCP (RFC 6062).
     Connect,
-    /// A client takes over a connection to a peer, on a connection of its own to the server (RFC
-    /// 6062).
+    /// A client asks the server to relay a connection to a peer over the connection on which this
+    /// request arrives (RFC 6062).
     ConnectionBind,
-    /// A server tells that a peer has connected (RFC 6062). Only indications have this method.
+    /// A server reports that a peer has connected (RFC 6062). Only indications have this method.
     ConnectionAttempt,
 }
 
@@ -84,14 +84,15 @@ impl TurnMethod {
         }
     }
 
-    /// Returns the method, as a message has it.
+    /// Converts to the [`Method`] that messages have.
     #[expect(clippy::missing_panics_doc, reason = "each number has 12 bits")]
     #[must_use]
     pub fn method(self) -> Method {
         Method::new(self.number()).expect("a number of 12 bits")
     }
 
-    /// Returns the method of TURN that a message's method is, or `None` if it is not one of TURN.
+    /// Converts the method of a message to a method of TURN. Returns `None` if TURN has no such
+    /// method.
     #[must_use]
     pub fn of(method: Method) -> Option<TurnMethod> {
         let number = method.value();
@@ -106,16 +107,16 @@ impl fmt::Display for TurnMethod {
     }
 }
 
-/// Like [`TurnMethod::method`], so that [`Client::request`](crate::endpoint::Client::request) takes a
-/// method of TURN.
+/// Converts like [`TurnMethod::method`], so that
+/// [`Client::request`](crate::endpoint::Client::request) accepts a method of TURN.
 impl From<TurnMethod> for Method {
     fn from(method: TurnMethod) -> Method {
         method.method()
     }
 }
 
-/// The methods of TURN (RFC 8656, section 17) and of TURN with TCP to the peers (RFC 6062, section 6.1).
-/// [`TurnMethod`] has them as an enum, to match on.
+/// The methods of TURN (RFC 8656, section 17) and of TURN with TCP to the peers (RFC 6062, section
+/// 6.1). [`TurnMethod`] has them as an enum, to match on.
 ///
 /// # Examples
 ///
@@ -141,13 +142,14 @@ impl Method {
     pub const CHANNEL_BIND: Method = method(0x009);
     /// A client asks the server to connect to a peer over TCP (RFC 6062).
     pub const CONNECT: Method = method(0x00A);
-    /// A client takes over a connection to a peer (RFC 6062).
+    /// A client asks the server to relay a connection to a peer over the connection on which this
+    /// request arrives (RFC 6062).
     pub const CONNECTION_BIND: Method = method(0x00B);
-    /// A server tells that a peer has connected (RFC 6062). Only indications have this method.
+    /// A server reports that a peer has connected (RFC 6062). Only indications have this method.
     pub const CONNECTION_ATTEMPT: Method = method(0x00C);
 }
 
-/// The method of a number that has 12 bits.
+/// Returns the method with a number that has 12 bits.
 const fn method(number: u16) -> Method {
     match Method::new(number) {
         Some(method) => method,
@@ -155,7 +157,7 @@ const fn method(number: u16) -> Method {
     }
 }
 
-/// What a datagram at a socket of a TURN client or server is.
+/// The kind of a datagram at a socket of a TURN client or server.
 ///
 /// # Examples
 ///
@@ -174,17 +176,17 @@ const fn method(number: u16) -> Method {
 #[derive(Clone, Copy, Debug, PartialEq, Eq, Hash)]
 #[non_exhaustive]
 pub enum Packet<'a> {
-    /// It begins with the header of a STUN message. Pass it to the endpoint, which says whether the
-    /// rest of it is well-formed.
+    /// The datagram begins with the header of a STUN message. Pass it to the endpoint, which checks
+    /// whether the rest of it is well-formed.
     Message,
-    /// It is data on a channel.
+    /// The datagram is a ChannelData message.
     ChannelData(ChannelData<'a>),
-    /// It is neither, or ChannelData that is not whole.
+    /// The datagram is neither a message nor ChannelData, or it is incomplete ChannelData.
     Other,
 }
 
 impl<'a> Packet<'a> {
-    /// Tells messages from ChannelData by the first byte (RFC 8656, section 12; RFC 7983).
+    /// Distinguishes messages from ChannelData by the first byte (RFC 8656, section 12; RFC 7983).
     pub fn of(bytes: &'a [u8]) -> Packet<'a> {
         if is_stun(bytes) {
             return Packet::Message;
@@ -193,17 +195,17 @@ impl<'a> Packet<'a> {
     }
 }
 
-/// Writes a Data indication into a buffer that you keep, in place of what it has: the data that came
-/// from a peer, for the client (RFC 8656, section 11.3). An IPv4 address is written as IPv4 in either
-/// spelling.
+/// Writes a Data indication into a buffer that you keep, replacing its contents. The indication
+/// carries data that came from a peer to the client (RFC 8656, section 11.3). An address
+/// `::ffff:a.b.c.d` is written as the IPv4 address `a.b.c.d`.
 ///
-/// Nobody answers an indication, so its transaction ID need not be unpredictable, and a counter will
-/// do. [`Message::builder_indication`](crate::types::message::Message::builder_indication) asks the
-/// operating system for random numbers, which takes longer than the rest.
+/// An indication is not answered, so its transaction ID need not be unpredictable, and may be a
+/// counter. [`Message::builder_indication`](crate::types::message::Message::builder_indication)
+/// asks the operating system for random numbers, which takes longer than writing the indication.
 ///
 /// # Errors
 ///
-/// The first of these that applies. The buffer is then empty.
+/// Returns the first of these errors that applies. The buffer is then empty.
 ///
 /// - [`StunWriteError::TooLarge`]: the data does not fit in a message.
 /// - [`StunWriteError::OutOfMemory`]: an allocation failed.
@@ -239,16 +241,16 @@ pub fn data_indication(
     indication(Method::DATA, id, peer, data, buffer)
 }
 
-/// Writes a Send indication into a buffer that you keep, in place of what it has: data for a peer, for
-/// the server to relay (RFC 8656, section 11.1). It is not signed, so it needs no [`Client`], and its
-/// transaction ID may be a counter, as that of [`data_indication`]. An IPv4 address is written as
-/// IPv4 in either spelling.
+/// Writes a Send indication into a buffer that you keep, replacing its contents. The indication
+/// carries data that the server relays to a peer (RFC 8656, section 11.1). It is not signed, so it
+/// needs no [`Client`], and its transaction ID may be a counter, as in [`data_indication`]. An
+/// address `::ffff:a.b.c.d` is written as the IPv4 address `a.b.c.d`.
 ///
 /// [`Client`]: crate::endpoint::Client
 ///
 /// # Errors
 ///
-/// The first of these that applies. The buffer is then empty.
+/// Returns the first of these errors that applies. The buffer is then empty.
 ///
 /// - [`StunWriteError::TooLarge`]: the data does not fit in a message.
 /// - [`StunWriteError::OutOfMemory`]: an allocation failed.
@@ -325,7 +327,7 @@ pub struct ChannelData<'a> {
     data: &'a [u8],
 }
 
-/// It shows how many bytes there are, and none of them.
+/// Shows how many bytes there are, and none of the bytes.
 impl fmt::Debug for ChannelData<'_> {
     fn fmt(&self, f: &mut fmt::Formatter<'_>) -> fmt::Result {
         let (channel, length) = (self.channel, self.length);
@@ -334,11 +336,11 @@ impl fmt::Debug for ChannelData<'_> {
 }
 
 impl<'a> ChannelData<'a> {
-    /// Returns the data on a channel, or `None` if the channel is not from 0x4000 to 0x7FFF, or if
-    /// there are more than 65535 bytes.
+    /// Creates a ChannelData message. Returns `None` if the channel is not from 0x4000 to 0x7FFF,
+    /// or if there are more than 65535 bytes of data.
     ///
-    /// RFC 8656 has the channels 0x4000 to 0x4FFF alone. A server sends on others only to a client
-    /// of RFC 5766 that has bound one.
+    /// RFC 8656 has only the channels 0x4000 to 0x4FFF. A server uses the other channels only with
+    /// a client that implements RFC 5766 and has bound such a channel.
     #[must_use]
     pub fn new(channel: u16, data: &'a [u8]) -> Option<ChannelData<'a>> {
         let length = u16::try_from(data.len()).ok()?;
@@ -351,9 +353,11 @@ impl<'a> ChannelData<'a> {
 
     /// Reads a datagram, or a frame of a stream that
     /// [`FrameBuffer::for_turn`](crate::endpoint::FrameBuffer::for_turn) has cut. Returns `None` if
-    /// it is none, because its first byte is not from 0x40 to 0x7F, or if its data is not whole.
+    /// it is not ChannelData, because its first byte is not from 0x40 to 0x7F, or if the data is
+    /// incomplete.
     ///
-    /// What follows the data is ignored, because a sender may pad it (RFC 8656, section 12.5).
+    /// Bytes after the data are ignored, because a sender may pad the data (RFC 8656, section
+    /// 12.5).
     pub fn from_bytes(bytes: &'a [u8]) -> Option<ChannelData<'a>> {
         let (header, rest) = bytes.split_first_chunk::<CHANNEL_HEADER_LENGTH>()?;
         let [channel, length] =
@@ -373,15 +377,15 @@ impl<'a> ChannelData<'a> {
         self.data
     }
 
-    /// Appends the bytes of a datagram.
+    /// Appends the header and the data to `bytes`, as a datagram has them.
     pub fn write(&self, bytes: &mut Vec<u8>) {
         bytes.extend_from_slice(&self.channel.to_be_bytes());
         bytes.extend_from_slice(&self.length.to_be_bytes());
         bytes.extend_from_slice(self.data);
     }
 
-    /// Appends the bytes for a stream, such as TCP, in which zero bytes follow up to a multiple of 4
-    /// (RFC 8656, section 12.5).
+    /// Appends the header and the data to `bytes`, as a stream such as TCP has them: padded with
+    /// zero bytes to a multiple of 4 (RFC 8656, section 12.5).
     pub fn write_padded(&self, bytes: &mut Vec<u8>) {
         self.write(bytes);
         let padding = self.data.len().next_multiple_of(4) - self.data.len();

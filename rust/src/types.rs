@@ -1,10 +1,11 @@
-//! Messages and what they are made of: attributes, writers and credentials.
+//! Messages, with their attributes, writers and credentials.
 //!
 //! - [`message`] parses, verifies, builds and signs messages.
 //! - [`attribute`] has the attributes of STUN, ICE and TURN.
-//! - [`STUN`], [`ICE`] and [`TURN`] list the attribute types that each of them must understand.
-//! - [`prelude`] has the traits whose methods you call on messages and attributes. Import all of
-//!   it.
+//! - [`STUN`], [`ICE`] and [`TURN`] list the attribute types that implementations of STUN, ICE and
+//!   TURN must understand.
+//! - [`prelude`] has the traits whose methods you call on messages and attributes. Import the whole
+//!   module.
 
 pub use crate::exported::stun_base::transport::TransportType;
 pub use crate::ported::{ICE, STUN, TURN};
@@ -18,7 +19,8 @@ pub mod attribute {
         ErrorCode, ErrorCodeBuilder, MessageIntegrity, MessageIntegritySha256, PasswordAlgorithm,
         PasswordAlgorithmValue, PasswordAlgorithms, RawAttribute, Userhash,
     };
-    // The crate `stun-types` has all of them here. Their pages are those of `extra::attribute`.
+    // The crate `stun-types` exports all attributes here. The pages of `extra::attribute` document
+    // them.
     #[doc(no_inline)]
     pub use crate::extra::attribute::*;
     pub use crate::names::AttributeExt;
@@ -42,7 +44,7 @@ pub mod message {
     pub use crate::ported::MAGIC_COOKIE;
     pub use crate::transaction::TransactionId;
     pub use crate::write::MessageWriteVec;
-    // The crate `stun-proto` has them here too.
+    // The crate `stun-proto` exports these types here too.
     pub use crate::types::attribute::{AttributeType, RawAttribute};
 }
 

@@ -32,10 +32,10 @@ use core::ops::Deref;
 /// [`add_fingerprint`](MessageWriteExt::add_fingerprint): after it, every call that adds something
 /// fails with [`StunWriteError::AttributeExists`].
 ///
-/// On an empty writer these calls panic, with two exceptions:
-/// [`has_attribute`](MessageWriteExt::has_attribute) returns `false`, and an error that is tested
-/// before the length is returned as usual. In a build without overflow checks, such as a release
-/// build, [`add_attribute`](MessageWriteExt::add_attribute),
+/// On an empty writer these calls panic, with two exceptions.
+/// [`has_attribute`](MessageWriteExt::has_attribute) returns `false`, and a call still returns an
+/// error whose condition is tested before the length. In a build without overflow checks, such as a
+/// release build, [`add_attribute`](MessageWriteExt::add_attribute),
 /// [`add_another_attribute`](MessageWriteExt::add_another_attribute),
 /// [`add_error_code`](MessageWriteExt::add_error_code) and the calls that sign fail with
 /// [`StunWriteError::TooLarge`] instead of panicking.
@@ -103,12 +103,12 @@ pub trait MessageWriteExt: MessageWrite + Sized {
     ///
     /// # Errors
     ///
-    /// The first of these that applies:
+    /// Returns the first of these errors that applies:
     ///
     /// - [`StunWriteError::AttributeExists`]: the message has a FINGERPRINT, which comes last.
-    /// - [`StunWriteError::NotAllowed`]: it is an integrity attribute, for which there is
-    ///   [`add_message_integrity`](MessageWriteExt::add_message_integrity), or FINGERPRINT, for
-    ///   which there is [`add_fingerprint`](MessageWriteExt::add_fingerprint).
+    /// - [`StunWriteError::NotAllowed`]: the attribute is an integrity attribute or FINGERPRINT.
+    ///   Add these with [`add_message_integrity`](MessageWriteExt::add_message_integrity) and
+    ///   [`add_fingerprint`](MessageWriteExt::add_fingerprint).
     /// - [`StunWriteError::MessageIntegrityExists`]: the message has an integrity attribute.
     /// - [`StunWriteError::AttributeExists`]: the message has an attribute of this type.
     /// - [`StunWriteError::TooLarge`]: the message would have more than 65532 bytes after its
@@ -118,9 +118,9 @@ pub trait MessageWriteExt: MessageWrite + Sized {
     ///
     /// # Panics
     ///
-    /// If [`Attribute::write_into`] of an attribute type of your own appends something else than
-    /// the attribute that `get_type` and `length` describe. The message in the writer is damaged
-    /// then.
+    /// Panics if [`Attribute::write_into`] of an attribute type of your own appends anything other
+    /// than the attribute that `get_type` and `length` describe. The message in the writer is
+    /// damaged then.
     ///
     /// # Examples
     ///
@@ -153,17 +153,18 @@ pub trait MessageWriteExt: MessageWrite + Sized {
     /// type already.
     ///
     /// A request with several attributes of one type needs this, such as CreatePermission for
-    /// several peers (RFC 8656, section 9.1). Where the type may occur once, use
-    /// [`add_attribute`](MessageWriteExt::add_attribute), which makes sure of that.
+    /// several peers (RFC 8656, section 9.1). If the type may occur only once, use
+    /// [`add_attribute`](MessageWriteExt::add_attribute), which fails if the message has an
+    /// attribute of this type already.
     ///
     /// # Errors
     ///
-    /// The first of these that applies:
+    /// Returns the first of these errors that applies:
     ///
     /// - [`StunWriteError::AttributeExists`]: the message has a FINGERPRINT, which comes last.
-    /// - [`StunWriteError::NotAllowed`]: it is an integrity attribute, for which there is
-    ///   [`add_message_integrity`](MessageWriteExt::add_message_integrity), or FINGERPRINT, for
-    ///   which there is [`add_fingerprint`](MessageWriteExt::add_fingerprint).
+    /// - [`StunWriteError::NotAllowed`]: the attribute is an integrity attribute or FINGERPRINT.
+    ///   Add these with [`add_message_integrity`](MessageWriteExt::add_message_integrity) and
+    ///   [`add_fingerprint`](MessageWriteExt::add_fingerprint).
     /// - [`StunWriteError::MessageIntegrityExists`]: the message has an integrity attribute.
     /// - [`StunWriteError::TooLarge`]: the message would have more than 65532 bytes after its
     ///   header.
@@ -172,7 +173,7 @@ pub trait MessageWriteExt: MessageWrite + Sized {
     ///
     /// # Panics
     ///
-    /// Like [`add_attribute`](MessageWriteExt::add_attribute).
+    /// Panics in the same case as [`add_attribute`](MessageWriteExt::add_attribute).
     ///
     /// # Examples
     ///
@@ -207,12 +208,12 @@ pub trait MessageWriteExt: MessageWrite + Sized {
     /// Signs the message: adds MESSAGE-INTEGRITY or MESSAGE-INTEGRITY-SHA256, depending on the
     /// algorithm.
     ///
-    /// The key is the one that the credentials have for this algorithm: the bytes of the password,
-    /// or a long-term key.
+    /// The key comes from the credentials: it is the bytes of the password, or the long-term key
+    /// for this algorithm.
     ///
     /// # Errors
     ///
-    /// The first of these that applies:
+    /// Returns the first of these errors that applies:
     ///
     /// - [`StunWriteError::AttributeExists`]: the message has a FINGERPRINT, which comes last.
     /// - [`StunWriteError::MessageIntegrityExists`]: the message has an integrity attribute.
@@ -251,12 +252,12 @@ pub trait MessageWriteExt: MessageWrite + Sized {
         Proved::add_message_integrity(self, credentials.proved(), algorithm)
     }
 
-    /// Like [`add_message_integrity`](MessageWriteExt::add_message_integrity), with a key: an
+    /// Like [`add_message_integrity`](MessageWriteExt::add_message_integrity), but takes a key: an
     /// [`IntegrityKey`](crate::types::message::IntegrityKey), or bytes of any length.
     ///
     /// # Errors
     ///
-    /// The first of these that applies:
+    /// Returns the first of these errors that applies:
     ///
     /// - [`StunWriteError::AttributeExists`]: the message has a FINGERPRINT, which comes last.
     /// - [`StunWriteError::MessageIntegrityExists`]: the message has an integrity attribute.
@@ -279,7 +280,8 @@ pub trait MessageWriteExt: MessageWrite + Sized {
     ///
     /// # Errors
     ///
-    /// Like [`add_message_integrity_with_key`](Self::add_message_integrity_with_key).
+    /// Returns the errors of
+    /// [`add_message_integrity_with_key`](Self::add_message_integrity_with_key), in the same order.
     fn add_message_integrity_with_prepared_key(
         &mut self,
         key: &PreparedKey,
@@ -294,7 +296,7 @@ pub trait MessageWriteExt: MessageWrite + Sized {
     ///
     /// # Errors
     ///
-    /// The errors of [`add_attribute`](MessageWriteExt::add_attribute).
+    /// Returns the errors of [`add_attribute`](MessageWriteExt::add_attribute).
     fn add_xor_mapped_address(&mut self, address: SocketAddr) -> Result<(), StunWriteError> {
         not_after_fingerprint(self)?;
         let id = MessageWriteExt::transaction_id(self);
@@ -305,7 +307,7 @@ pub trait MessageWriteExt: MessageWrite + Sized {
     ///
     /// # Errors
     ///
-    /// The first of these that applies:
+    /// Returns the first of these errors that applies:
     ///
     /// - [`StunWriteError::NotAllowed`]: the code is not from 300 to 699.
     /// - [`StunWriteError::TooLarge`]: the reason has more than 763 bytes.
@@ -316,12 +318,12 @@ pub trait MessageWriteExt: MessageWrite + Sized {
         Proved::add_attribute(self, &error)
     }
 
-    /// Adds FINGERPRINT (RFC 8489, section 14.7), after which nothing can be added. Sign the message
-    /// first if you want to sign it. Its signature stays valid.
+    /// Adds FINGERPRINT (RFC 8489, section 14.7), after which nothing can be added. If you want to
+    /// sign the message, do so first. Its signature stays valid.
     ///
     /// # Errors
     ///
-    /// The first of these that applies:
+    /// Returns the first of these errors that applies:
     ///
     /// - [`StunWriteError::NotAllowed`]: the writer holds no message.
     /// - [`StunWriteError::AttributeExists`]: the message has a FINGERPRINT already.
@@ -360,7 +362,8 @@ pub trait MessageWriteExt: MessageWrite + Sized {
 
 impl<W: MessageWrite> MessageWriteExt for W {}
 
-/// A writer that a call of the core may finish, while the writer that it borrows can go on.
+/// A wrapper that passes a borrowed writer to a call of the core that may finish its writer. The
+/// borrowed writer can be used again afterwards.
 struct Lent<'w, W>(&'w mut W);
 
 impl<'w, W: MessageWrite> MessageWrite for Lent<'w, W> {
@@ -391,10 +394,11 @@ impl<'w, W: MessageWrite> MessageWrite for Lent<'w, W> {
     }
 }
 
-/// Panics unless the message ends with this attribute, whole, from the offset `at` on.
+/// Panics unless the message ends with this attribute, which must begin at the offset `at` and be
+/// complete.
 ///
-/// The attributes of this crate are proved to append themselves. One of a type of the user's own
-/// could append other bytes, and would change how a reader takes what follows it.
+/// The attributes of this crate are proved to append exactly their own bytes. An attribute of a
+/// user's own type could append other bytes, so that a receiver would misread what follows it.
 pub(crate) fn check_appended<A: Attribute>(message: &[u8], at: usize, attribute: &A) {
     let length = attribute.length();
     let [k0, k1] = attribute.get_type().value().to_be_bytes();
@@ -452,7 +456,7 @@ impl MessageWriteVec {
         MessageWriteVec(writer)
     }
 
-    /// Goes on with a writer of the core.
+    /// Creates a writer that continues the message in a writer of the core.
     pub(crate) fn of_core(writer: proved::MessageWriteVec<Global>) -> MessageWriteVec {
         MessageWriteVec(writer)
     }
@@ -514,7 +518,7 @@ impl MessageWrite for MessageWriteVec {
     ///
     /// # Panics
     ///
-    /// If bytes that were not reserved do not fit, or if they cannot be allocated.
+    /// Panics if bytes that were not reserved do not fit, or if they cannot be allocated.
     fn append(&mut self, tail: &[u8]) {
         self.0
             .reserve(tail.len())

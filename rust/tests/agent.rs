@@ -1,4 +1,5 @@
-//! An agent: when requests are sent again and end, whose responses are taken, and what is counted.
+//! Tests of an agent: when requests are sent again and when they end, whose responses are accepted,
+//! and what is counted.
 use seatcrane_stun::Instant;
 use seatcrane_stun::agent::{StunAgent, StunAgentPollRet, StunError};
 use seatcrane_stun::stats::StunAgentStats;
@@ -28,7 +29,7 @@ fn agent_of(transport: TransportType) -> StunAgent {
         .build()
 }
 
-/// A request whose id begins with a number.
+/// Returns a request whose ID begins with a number, and that ID.
 fn request(number: u8) -> (Vec<u8>, TransactionId) {
     let mut id = [0x55; 12];
     id[0] = number;

@@ -1,4 +1,5 @@
-//! Attributes: what they refuse, and the values of RFC 5769 and RFC 8489, appendix B.
+//! Tests of attributes: which values they refuse, and the values of RFC 5769 and RFC 8489, appendix
+//! B.
 use IntegrityAlgorithm::{Sha1, Sha256};
 use seatcrane_stun::types::attribute::*;
 use seatcrane_stun::types::message::*;
@@ -31,7 +32,8 @@ fn read<'a, A: AttributeFromRaw<'a> + AttributeStaticType>(
     A::from_raw(RawAttribute::new(A::TYPE, value))
 }
 
-/// What is written is read again, under its type, and takes the bytes that it says.
+/// Checks that an attribute is written as `value`, that `value` is parsed as the attribute under
+/// its type, and that the attribute has the length that it states.
 fn is_read_back<'a, A>(attribute: &A, value: &'a [u8])
 where
     A: AttributeFromRaw<'a> + AttributeStaticType + PartialEq + std::fmt::Debug,
@@ -308,7 +310,7 @@ fn addresses_have_the_octets_of_their_family() {
             address.is_ipv6()
         );
     }
-    // The first byte says nothing.
+    // The first byte is ignored.
     let plain = read::<XorMappedAddress>(&[0, 1, 2, 3, 4, 5, 6, 7]);
     assert!(plain.is_ok());
     assert_eq!(read::<XorMappedAddress>(&[9, 1, 2, 3, 4, 5, 6, 7]), plain);
@@ -393,7 +395,7 @@ fn digests_have_lengths() {
     is_read_back(&Userhash::new([9; 32]), &[9; 32]);
 }
 
-/// A message of attributes of these types, whose values have from 0 bytes on.
+/// Returns a message with attributes of these types, whose values have 0, 1, 2 and so on bytes.
 fn of_types(kinds: &[u16]) -> Vec<u8> {
     let mut bytes = vec![0, 1, 0, 0, 0x21, 0x12, 0xa4, 0x42];
     bytes.extend([7; 12]);
@@ -496,7 +498,7 @@ fn a_digest_counts_under_the_key_of_its_own_algorithm() {
     }
 }
 
-/// An attribute of a program's own.
+/// An attribute that a program defines.
 #[derive(Debug, PartialEq)]
 struct Priority(u32);
 

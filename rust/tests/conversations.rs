@@ -1,5 +1,5 @@
-//! Whole conversations, written as a program for the Rust crate writes them: by its paths, builders
-//! and attributes.
+//! Whole conversations, written as a program for the crate `stun-proto` would write them: with the
+//! paths, builders and attributes of that crate.
 use IntegrityAlgorithm::{Sha1, Sha256};
 use seatcrane_stun as stun_proto;
 use std::net::SocketAddr;
@@ -114,7 +114,7 @@ fn short_term_signing() {
             )))
         );
 
-        // The password counts, and not the algorithm that this side signs by.
+        // Only the password matters, not the algorithm that this side signs with.
         let other = if algorithm == Sha1 { Sha256 } else { Sha1 };
         auth.set_credentials(credentials, other);
         assert_eq!(auth.validate_incoming_message(&signed), Ok(Some(algorithm)));
@@ -354,7 +354,7 @@ fn a_signed_request_is_sent_again() {
         );
     }
 
-    // One ends by a response while it is borrowed, one is cancelled, and the others time out.
+    // One request is answered while it is borrowed, one is cancelled, and the others time out.
     let asked = request(9);
     let response = success(
         &Message::from_bytes(&asked).unwrap(),
@@ -386,7 +386,7 @@ fn a_signed_request_is_sent_again() {
     ended.sort();
     assert_eq!(ended, [id(3), id(7)]);
 
-    // The ids are free again, and nothing of the requests before is left.
+    // The IDs can be used again, and nothing is left of the earlier requests.
     for (id, _) in &ids {
         assert!(agent.request_transaction(*id).is_none());
         let msg = Message::builder_request_with_id(BINDING, *id, MessageWriteVec::new());
@@ -399,7 +399,7 @@ fn a_signed_request_is_sent_again() {
 
 #[test]
 fn the_integrity_of_a_request_is_that_of_its_last_digest() {
-    // HMAC-SHA1 before HMAC-SHA256, as other programs write them: the digests are not looked at.
+    // HMAC-SHA1 before HMAC-SHA256, as other programs write them. The digests are not checked.
     let mut bytes = vec![0, 1, 0, 60, 0x21, 0x12, 0xa4, 0x42];
     bytes.extend([1; 12]);
     bytes.extend([0, 8, 0, 20]);
@@ -438,7 +438,7 @@ fn indications_are_sent_and_counted() {
     );
 }
 
-/// Answers a request by the question mark alone.
+/// Answers a request, using only the operator `?` for errors.
 fn answered(agent: &mut StunAgent, bytes: &[u8], software: &str) -> Result<SocketAddr, StunError> {
     let asked = Message::from_bytes(bytes)?;
     let from = asked

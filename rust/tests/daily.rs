@@ -1,5 +1,5 @@
-//! What servers and clients of TURN call every day: Binding without credentials, methods, users of
-//! a table beside look-ups, answers in a buffer, and indications.
+//! Calls that TURN servers and clients make every day: Binding without credentials, methods, users
+//! in a table next to look-ups, answers in a buffer, and indications.
 
 use seatcrane_stun::Instant;
 use seatcrane_stun::auth::NamedUser::{ByHash, ByName};
@@ -38,7 +38,7 @@ fn unsigned(method: Method) -> Vec<u8> {
     Message::builder_request_with_id(method, id, MessageWriteVec::new()).finish()
 }
 
-/// A request that the server challenged once, signed by its user.
+/// Returns a request that its user has signed after a challenge of the server.
 fn signed(server: &Server, users: &Users, name: &str, method: Method) -> Vec<u8> {
     let password = if name == "alice" {
         "wonderland"
@@ -113,7 +113,7 @@ fn binding_is_answered_for_everybody() {
     };
     let message = Message::from_bytes(answer.bytes()).unwrap();
     assert!(message.has_attribute(AttributeType::MESSAGE_INTEGRITY_SHA256));
-    // What must be understood and is not, and bytes that are no message.
+    // An attribute that must be understood but is not, and bytes that are not a message.
     let mut unknown =
         Message::builder_request_with_id(BINDING, [1; 12].into(), MessageWriteVec::new());
     unknown
@@ -207,7 +207,8 @@ fn methods_that_are_not_served_are_dropped() {
     );
 }
 
-/// A look-up comes to the same by a table, by the user that the table finds, and in a buffer.
+/// A look-up has the same outcome with a table, with the user that the table finds, and in a
+/// buffer.
 #[test]
 fn look_ups_in_a_table() {
     let server = builder().answer_binding(true).build().unwrap();
@@ -264,7 +265,7 @@ fn look_ups_in_a_table() {
             assert_eq!(buffer, asked.0.unwrap_or_default());
         }
     }
-    // What needs no user is written into the buffer.
+    // A response that needs no user is written into the buffer.
     let (mut buffer, binding) = (Vec::new(), unsigned(BINDING));
     let Identified::Done(Received::Answer(answer)) =
         server.identify_into(&binding, from(), now(), &mut buffer)
@@ -473,7 +474,7 @@ fn a_client_writes_indications() {
     assert_eq!(message.xor_peer_addresses().next(), Some(Ok(peer)));
     assert_eq!(client.outstanding(), 1);
 
-    // Short-term credentials sign it, and their server accepts it.
+    // Short-term credentials sign the indication, and a server for them accepts it.
     let short = Credentials::short_term("alice", "wonderland", IntegrityAlgorithm::Sha1);
     let mut client = Client::builder(server)
         .credentials(short)

@@ -11,7 +11,7 @@ use seatcrane_stun::types::prelude::*;
 mod common;
 use common::{Conversation, WORDS};
 
-/// An error response that an attacker sends in the place of the server.
+/// Returns an error response that an attacker sends in place of the server's.
 fn forged(request: &[u8], code: u16, nonce: &str) -> Vec<u8> {
     let request = Message::from_bytes(request).unwrap();
     let mut error = Message::builder_error(&request, MessageWriteVec::new());
@@ -21,7 +21,7 @@ fn forged(request: &[u8], code: u16, nonce: &str) -> Vec<u8> {
     error.finish()
 }
 
-/// The client's request reaches the server unaltered, and the client reads the server's response.
+/// Delivers the client's request to the server unaltered, and the server's response to the client.
 fn exchanges(
     both: &mut Conversation,
 ) -> (
@@ -38,7 +38,7 @@ fn exchanges(
 fn one_forged_401_downgrades_a_client_of_both() {
     let mut both = Conversation::with_both("pass");
     let first = both.request();
-    let (_, _true_401) = both.answer(&first, Instant::ZERO, &WORDS); // it comes too late
+    let (_, _true_401) = both.answer(&first, Instant::ZERO, &WORDS); // it arrives too late
 
     let challenged = both.read(&forged(&first, 401, "x"));
     assert_eq!(challenged, Ok(LongTermClientValidation::ResendRequest(None)));

@@ -1,4 +1,4 @@
-//! A server as one value: what datagrams come to.
+//! Tests of a server as one value: the outcomes of datagrams.
 
 use seatcrane_stun::auth::{LongTermClientAuth, LongTermClientValidation, NamedUser, StoredKeys};
 use seatcrane_stun::endpoint::*;
@@ -28,7 +28,7 @@ fn settings(secret: u8, algorithms: &[IntegrityAlgorithm]) -> LongTerm {
     LongTerm::new("example.org", [secret; 32]).algorithms(algorithms)
 }
 
-/// A server that answers Binding, with its table of one user.
+/// Returns a server that answers Binding requests, and its table of one user.
 fn server(secret: u8, algorithms: &[IntegrityAlgorithm]) -> (Server, Users) {
     with_users(Server::builder(settings(secret, algorithms)).answer_binding(true))
 }
@@ -205,7 +205,7 @@ fn a_nonce_is_accepted_for_one_to_two_lifetimes() {
         assert_eq!(ask(1199, from), [200]);
         assert_eq!(ask(1200, from), [438, 200]);
         assert_eq!(ask(1201, from), [200]);
-        // Another address has another nonce.
+        // A different address has a different nonce.
         assert_eq!(ask(1202, at("192.0.2.1:4243")), [438, 200]);
     }
 }
@@ -478,7 +478,8 @@ fn one_user_who_was_looked_up_is_enough() {
     );
 }
 
-/// Forged sources and invented nonces cause no look-up, and a look-up is judged when it came.
+/// Forged sources and invented nonces cause no look-up, and a look-up is judged at the time at
+/// which its request arrived.
 #[test]
 fn only_requests_with_a_nonce_of_their_source_are_looked_up() {
     let from = at("192.0.2.1:4242");

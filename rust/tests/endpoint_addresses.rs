@@ -1,5 +1,6 @@
-//! One address has one spelling at the endpoints, and attributes keep theirs (RFC 4291, section
-//! 2.5.5.2). What a server promises that understands the attributes of TURN.
+//! Tests that both forms of an IPv4 address are one address at the endpoints, that attributes keep
+//! the form that was written (RFC 4291, section 2.5.5.2), and what a server promises if it
+//! understands the attributes of TURN.
 
 use seatcrane_stun::endpoint::*;
 use seatcrane_stun::extra::attribute::{XorPeerAddress, XorRelayedAddress};
@@ -25,7 +26,7 @@ fn allocate() -> MessageWriteVec {
     Message::builder_request_with_id(method, id(), MessageWriteVec::new())
 }
 
-/// A request from a client over IPv4, at a socket of IPv6.
+/// Returns the reply to a request that a client sent over IPv4 to an IPv6 socket.
 fn reply(server: &OpenServer) -> Reply {
     let bytes = allocate().finish();
     let OpenReceived::Request(request) = server.receive(&bytes, at(MAPPED)) else {
@@ -38,7 +39,7 @@ fn reply(server: &OpenServer) -> Reply {
     request.reply().clone()
 }
 
-/// The addresses in the attributes of a type, as they are spelled.
+/// Returns the addresses in the attributes of a type, in the form in which they were written.
 fn addresses(response: &[u8], kind: AttributeType) -> Vec<SocketAddr> {
     let message = Message::from_bytes(response).unwrap();
     let found = message.iter_attributes();

@@ -1,4 +1,5 @@
-//! Why a server as one value refuses a request: each cause, with the code of the answer.
+//! Tests of the causes for which a server as one value refuses a request: each cause, with the code
+//! of the answer.
 
 use PasswordAlgorithmValue::{MD5, SHA256};
 use seatcrane_stun::auth::StoredKeys;
@@ -11,7 +12,7 @@ use std::net::SocketAddr;
 
 const NOW: u64 = 1_700_000_000 / 3600 * 3600;
 
-/// What a signed request has, and the key that signs it.
+/// The contents of a signed request, and the key that signs it.
 struct Asked<'a> {
     user: Option<&'a str>,
     realm: Option<&'a str>,
@@ -86,8 +87,8 @@ fn server_of(secret: u8) -> (Server, Users) {
     (server, users)
 }
 
-/// The cause, which has the code of the answer. The calls that judge a datagram once return it with
-/// the answer of the others.
+/// Returns the cause of a refusal. Checks that it has the code of the answer, and that the calls
+/// that return the cause with the answer agree with the other calls.
 fn cause_at((server, users): &(Server, Users), bytes: &[u8], seconds: u64) -> Option<Cause> {
     let (from, now) = (at("192.0.2.1:4242"), UnixTime::from_secs(NOW + seconds));
     let cause = server.cause(bytes, from, now, users);
@@ -108,7 +109,7 @@ fn cause_at((server, users): &(Server, Users), bytes: &[u8], seconds: u64) -> Op
     cause
 }
 
-/// The bytes of the answer, if there is one.
+/// Returns the bytes of the answer, if there is one.
 fn answered<'a>(received: &'a Received<'_>) -> Option<&'a [u8]> {
     match received {
         Received::Answer(answer) => Some(answer.bytes()),
@@ -186,7 +187,7 @@ fn each_cause_is_named() {
     for asked in other_algorithms {
         assert_eq!(cause(asked), Some(Cause::OtherAlgorithms));
     }
-    // A list that came with another nonce is as stale as that.
+    // A list that came with another nonce is as stale as that nonce.
     let old = Asked {
         list: Some(&[MD5]),
         chosen: Some(MD5),
@@ -194,7 +195,7 @@ fn each_cause_is_named() {
     };
     assert_eq!(cause(old), Some(Cause::StaleNonce));
 
-    // The bits after the cookie: 0x80 asks for algorithms, and 0x40 allows hashed names.
+    // The bits after the cookie: 0x80 announces algorithms, and 0x40 allows hashed names.
     let changed = nonce.replacen("obMatJos2wAAA", "obMatJos2gAAA", 1);
     assert_ne!(changed, nonce);
     assert_eq!(cause(Asked::new(&changed)), Some(Cause::OtherFeatures));

@@ -1,4 +1,4 @@
-//! A client as one value.
+//! Tests of a client as one value.
 
 mod pair;
 
@@ -14,7 +14,7 @@ use std::time::Duration;
 
 const HERE: &str = "10.0.0.1:1000";
 
-/// What `poll` returns, if it is bytes to send.
+/// Returns the bytes of a transmission, if `poll` returns one.
 fn sent(client: &mut Client, now: u64) -> Option<Vec<u8>> {
     match client.poll(ms(now)) {
         Output::Transmit { bytes, .. } => Some(bytes.to_vec()),
@@ -50,7 +50,7 @@ fn a_client_is_challenged_once_and_served() {
     }
 }
 
-/// 20 and 1,000 requests at once, before the first challenge: all of them are served.
+/// 20 and 1,000 requests are started at once, before the first challenge, and all of them succeed.
 #[test]
 fn all_of_many_first_requests_are_served() {
     for many in [20, 1000] {
@@ -143,7 +143,8 @@ fn requests_are_sent_again_and_time_out() {
     assert_eq!(client.poll(ms(39500)), Output::Wait(None));
 }
 
-/// What is damaged, forged or foreign ends nothing, and a timeout says what was dropped.
+/// Damaged, forged and foreign datagrams end no request, and the error of a timeout says what was
+/// dropped.
 #[test]
 fn what_is_not_to_be_believed_is_dropped_and_counted() {
     let service = Service::new(1, &BOTH);
@@ -205,7 +206,7 @@ fn what_is_not_to_be_believed_is_dropped_and_counted() {
         text,
         "no answer in time; 6 dropped, the last because it is not signed as its request is (error 420)"
     );
-    // The answer itself is accepted, once.
+    // The genuine answer is accepted, once.
     assert!(matches!(
         client.receive(&answer, at(SERVER), ms(3)),
         Input::Consumed
@@ -386,7 +387,7 @@ fn a_body_is_written_again_under_each_id() {
     }
 }
 
-/// Under each transaction ID that a request has, until it ends.
+/// Each transaction ID of a request leads to the request, until it ends.
 #[test]
 fn the_bytes_to_send_name_their_request() {
     let service = Service::new(1, &BOTH);
@@ -407,7 +408,7 @@ fn the_bytes_to_send_name_their_request() {
         assert_eq!(client.transaction_id(request), Some(id));
         assert_eq!(client.request_of(of_other), Some(other));
         ids.push(id);
-        // The earlier message belongs to the request, too.
+        // The earlier message belongs to the request too.
         assert!(ids.iter().all(|id| client.request_of(*id) == Some(request)));
         let received = service
             .server
@@ -485,6 +486,70 @@ fn both_spellings_of_the_server_are_one() {
     assert!(ended(&mut client, 0).unwrap().is_ok());
 }
 
+/// Returns the bytes of an unsigned success response to a request.
+fn success(request: &[u8]) -> Vec<u8> {
+    let request = Message::from_bytes(request).unwrap();
+    Message::builder_success(&request, MessageWriteVec::new()).finish()
+}
+
+/// One client of a TURN server asks for its address with an unsigned request, and sends a signed
+/// request at the same time.
+#[test]
+fn options_hold_for_one_request() {
+    let mut client = client(5, "wonderland", &BOTH);
+    let service = Service::new(1, &BOTH);
+    let unsigned = RequestOptions::new().unsigned();
+    let address = client.request_with(BINDING, Body::new(), &unsigned, ms(0)).unwrap();
+    let bytes = sent(&mut client, 0).unwrap();
+    binding(&mut client, ms(0));
+    let (codes, ended_one) = exchange(&mut client, &service, at(HERE), ms(10));
+    assert_eq!((&*codes, signed_by(&ended_one)), (&[401, 200][..], Some(SHA256)));
+
+    assert!(matches!(client.receive(&success(&bytes), at(SERVER), ms(30)), Input::Consumed));
+    let Output::Ended(request, Ok(response)) = client.poll(ms(30)) else { panic!() };
+    assert_eq!((request, response.signed_by()), (address, None));
+    assert_eq!(response.round_trip(), Some(Duration::from_millis(30)));
+
+    // A challenge is then an error like any other.
+    client.request_with(BINDING, Body::new(), &unsigned, ms(40)).unwrap();
+    let bytes = sent(&mut client, 40).unwrap();
+    let challenge = service.answer(&bytes, at(HERE), ms(47));
+    assert!(matches!(client.receive(challenge.bytes(), at(SERVER), ms(47)), Input::Consumed));
+    let Some(Err(RequestError::Refused(refused))) = ended(&mut client, 47) else { panic!() };
+    assert_eq!((refused.code(), refused.signed_by()), (401, None));
+    assert_eq!(refused.round_trip(), Some(Duration::from_millis(7)));
+}
+
+#[test]
+fn a_request_has_its_own_plan_and_its_own_address() {
+    let other = at("192.0.2.2:3479");
+    let fifth = Duration::from_millis(200);
+    let plan = Retransmission::new(fifth, Duration::MAX, 2, fifth);
+    let options = RequestOptions::new().unsigned().retransmission(plan).answered_from(other);
+    let mut client = client(6, "wonderland", &BOTH);
+    let first = client.request_with(BINDING, Body::new(), &options, ms(0)).unwrap();
+    let bytes = sent(&mut client, 0).unwrap();
+    let second = binding(&mut client, ms(0));
+    assert!(sent(&mut client, 0).is_some());
+    assert!(sent(&mut client, 199).is_none() && sent(&mut client, 200) == Some(bytes.clone()));
+    for wrong in [SERVER, "192.0.2.2:3478"] {
+        let answer = success(&bytes);
+        assert!(matches!(client.receive(&answer, at(wrong), ms(210)), Input::NotOurs));
+    }
+    assert!(matches!(client.receive(&success(&bytes), other, ms(210)), Input::Consumed));
+    let Output::Ended(request, Ok(response)) = client.poll(ms(210)) else { panic!() };
+    // The message was sent twice, and nobody knows which of the two the server has answered.
+    assert_eq!((request, response.round_trip()), (first, None));
+
+    let late = client.request_with(BINDING, Body::new(), &options, ms(1000)).unwrap();
+    // The other request is due again too.
+    assert!(sent(&mut client, 1000).is_some() && sent(&mut client, 1000).is_some());
+    assert!(sent(&mut client, 1200).is_some());
+    assert_eq!(client.poll(ms(1400)), Output::Ended(late, Err(RequestError::TimedOut(Drops::default()))));
+    assert_eq!(client.poll(ms(1400)), Output::Wait(Some(ms(2000))));
+    assert!(client.transaction_id(second).is_some());
+}
+
 #[test]
 fn a_stream_is_sent_once() {
     let mut client = Client::builder(at(SERVER))
@@ -519,6 +584,7 @@ fn everything_can_be_shared_among_threads_and_shows_no_secret() {
     kept::<ClientBuilder>();
     kept::<Credentials>();
     kept::<Body>();
+    kept::<RequestOptions>();
     kept::<Response>();
     kept::<RequestError>();
     kept::<Output<'static>>();

@@ -1,4 +1,5 @@
-//! A flood of forged source addresses and the clients beside it, alone in a process.
+//! A flood of datagrams with forged source addresses, and clients that are served meanwhile. This
+//! test is alone in its process.
 //!
 //! `FLOOD` is the number of forged datagrams, 20,000 unless set:
 //!
@@ -14,14 +15,14 @@ use std::collections::BTreeMap;
 use std::net::{IpAddr, Ipv4Addr, SocketAddr};
 
 const BOTH: [IntegrityAlgorithm; 2] = [IntegrityAlgorithm::Sha1, IntegrityAlgorithm::Sha256];
-/// How long a datagram is on its way, in milliseconds: half of a round trip.
+/// The time that a datagram travels, in milliseconds: half of a round trip.
 const WAY: u64 = 300;
-/// How many clients of each kind there are.
+/// The number of clients of each kind.
 const CLIENTS: u32 = 200;
-/// The address that is flooded itself: datagrams with forged sources come from there too.
+/// The flooded address: half of the forged datagrams have it as their source.
 const FLOODED: IpAddr = IpAddr::V4(Ipv4Addr::new(203, 0, 113, 5));
 
-/// The resident memory of this process in kB.
+/// Returns the resident memory of this process in kB.
 fn resident() -> usize {
     let status = std::fs::read_to_string("/proc/self/status").unwrap_or_default();
     let line = status.lines().find(|line| line.starts_with("VmRSS"));
@@ -30,7 +31,8 @@ fn resident() -> usize {
     })
 }
 
-/// The wall clock at a simulated time in milliseconds. An epoch of nonces begins in between.
+/// Returns the wall-clock time at a simulated time in milliseconds. A new period of nonces begins
+/// during the test.
 fn wall(milliseconds: u64) -> UnixTime {
     UnixTime::from_secs(3600 * 400_000 - 5 + milliseconds / 1000)
 }
@@ -46,7 +48,7 @@ fn answer(received: Received<'_>) -> Answer {
     }
 }
 
-/// A client, where it is, and what came of it.
+/// A client, its address, and the codes of its answers.
 struct Client {
     auth: LongTermClientAuth,
     at: SocketAddr,
@@ -71,7 +73,7 @@ impl Client {
         self.auth.sign_outgoing_message(page).unwrap().finish()
     }
 
-    /// Notes an answer. Returns whether another request is to be sent.
+    /// Reads an answer, and returns whether another request must be sent.
     fn read(&mut self, answer: &Answer) -> bool {
         assert_eq!(answer.to(), self.at);
         self.codes.push(answer.refusal().map_or(200, Refusal::code));
@@ -88,7 +90,7 @@ impl Client {
     }
 }
 
-/// What arrives at a simulated time: at the server, or back at a client.
+/// A datagram that arrives at a simulated time: at the server, or back at a client.
 enum Packet {
     Request(usize, Vec<u8>),
     Answer(usize, Answer),
@@ -113,7 +115,7 @@ impl Net {
         self.put(now + WAY, Packet::Request(client, bytes));
     }
 
-    /// Delivers what arrives until this time.
+    /// Delivers the datagrams that arrive until this time.
     fn deliver(&mut self, until: u64) {
         while let Some(first) = self.packets.first_entry() {
             let now = first.key().0;
@@ -141,17 +143,18 @@ impl Net {
     }
 }
 
-/// How many of these clients ended with a success, after these codes before it.
+/// Returns how many of these clients got these codes and then a success.
 fn served(clients: &[Client], before: &[u16]) -> usize {
     let wanted = [before, &[200]].concat();
     let is_served = |client: &&Client| client.codes == wanted;
     clients.iter().filter(is_served).count()
 }
 
-/// 10,000 forged datagrams a second: every other one is from the flooded address, from all its ports
-/// in turn, and the rest from an address each. Spread over the flood there are 200 new clients, 200
-/// new clients behind the flooded address, and as many of each that were validated before, and sign
-/// with the nonce that they were given then.
+/// 10,000 forged datagrams arrive each second: every second one is from the flooded address, from
+/// all its ports in turn, and each other one is from an address of its own. Spread over the flood,
+/// 200 new clients and 200 new clients behind the flooded address make requests. So do as many
+/// clients of each kind that were validated before, and that sign with the nonce that they got
+/// then.
 #[test]
 fn a_flood_takes_no_memory_and_shuts_nobody_out() {
     let count: u64 = std::env::var("FLOOD").map_or(20_000, |text| text.parse().unwrap());
@@ -195,7 +198,7 @@ fn a_flood_takes_no_memory_and_shuts_nobody_out() {
         };
         net.forged(&bytes, from, now);
         while asked < 4 * clients && asked as u64 * end <= now * 4 * CLIENTS as u64 {
-            // One of each kind in turn.
+            // One client of each kind in turn.
             net.ask(asked % 4 * clients + asked / 4, now);
             asked += 1;
         }

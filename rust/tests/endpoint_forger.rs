@@ -1,4 +1,4 @@
-//! An attacker who reads all, and forges challenges: nobody is bid down.
+//! An attacker reads all datagrams and forges challenges, and nobody is downgraded.
 //!
 //! `ATTACKS` is the number of attacks, 500 unless set:
 //!
@@ -15,7 +15,7 @@ use seatcrane_stun::types::attribute::*;
 use seatcrane_stun::types::message::*;
 use seatcrane_stun::types::prelude::*;
 
-/// A challenge that is made up of what is at hand.
+/// Returns a challenge that is made up of parts of the datagrams seen so far.
 fn forged(request: &[u8], rng: &mut Rng, seen: &[String]) -> Vec<u8> {
     let request = Message::from_bytes(request).unwrap();
     let mut page = Message::builder_error(&request, MessageWriteVec::new());
@@ -23,7 +23,7 @@ fn forged(request: &[u8], rng: &mut Rng, seen: &[String]) -> Vec<u8> {
         .unwrap();
     let realm = ["example.org", "example.org", "example.org", "evil"][rng.below(4) as usize];
     page.add_attribute(&Realm::new(realm).unwrap()).unwrap();
-    // Cookies of all combinations of bits (RFC 8489, section 9.2), and a nonce without one.
+    // Cookies with all combinations of bits (RFC 8489, section 9.2), and a nonce without a cookie.
     let made = [
         "x",
         "obMatJos2QAAAx",
@@ -49,7 +49,7 @@ fn forged(request: &[u8], rng: &mut Rng, seen: &[String]) -> Vec<u8> {
     page.finish()
 }
 
-/// The message without PASSWORD-ALGORITHMS.
+/// Returns the message without PASSWORD-ALGORITHMS.
 fn stripped(bytes: &[u8]) -> Vec<u8> {
     let message = Message::from_bytes(bytes).unwrap();
     let (kind, id) = (message.get_type(), message.transaction_id());
@@ -62,7 +62,7 @@ fn stripped(bytes: &[u8]) -> Vec<u8> {
     page.finish()
 }
 
-/// The bytes that `poll` returns to send.
+/// Returns the bytes that `poll` returns to send.
 fn sent(client: &mut Client, now: Instant) -> Vec<u8> {
     match client.poll(now) {
         Output::Transmit { bytes, .. } => bytes.to_vec(),
@@ -70,8 +70,8 @@ fn sent(client: &mut Client, now: Instant) -> Vec<u8> {
     }
 }
 
-/// Lets time pass until all requests of a client have ended, none of which is answered. Returns the
-/// time then.
+/// Lets time pass until all requests of a client have timed out, and returns the time at which they
+/// have.
 fn run_out(client: &mut Client, mut now: Instant) -> Instant {
     loop {
         match client.poll(now) {
@@ -82,8 +82,8 @@ fn run_out(client: &mut Client, mut now: Instant) -> Instant {
     }
 }
 
-/// Whatever a client is told, what a server accepts of its unaltered requests is signed by the
-/// strongest algorithm of both.
+/// Whatever challenges a client gets, each of its unaltered requests that a server accepts is
+/// signed with the strongest algorithm that both support.
 #[test]
 fn nobody_is_bid_down() {
     let attacks = times("ATTACKS", 500);
@@ -156,7 +156,7 @@ fn nobody_is_bid_down() {
     assert!(accepted > attacks);
 }
 
-/// Once nobody forges any more, a client is served again: at most two requests time out.
+/// Once the attacker stops, the client is served again: at most two requests time out.
 #[test]
 fn nobody_is_locked_out_by_what_was_forged() {
     let attacks = times("ATTACKS", 500).min(20_000);
@@ -200,8 +200,8 @@ fn nobody_is_locked_out_by_what_was_forged() {
     println!("{attacks} attacks: at most {slowest} requests failed after them");
 }
 
-/// A forged challenge with the server's realm and nonce, but with a part of its list, is another
-/// challenge than the server's: a success under the server's does not confirm the forged one.
+/// A forged challenge with the server's realm and nonce but only a part of its list is not the
+/// server's challenge: a success under the server's challenge does not confirm the forged one.
 #[test]
 fn a_forged_list_is_not_confirmed_by_a_success_under_the_true_one() {
     let service = Service::new(1, &BOTH);
@@ -212,7 +212,8 @@ fn a_forged_list_is_not_confirmed_by_a_success_under_the_true_one() {
     let second = binding(&mut client, now);
     let second_bytes = sent(&mut client, now);
 
-    // The attacker reads the server's answer to the first request, and sends another in its place.
+    // The attacker reads the server's answer to the first request, and sends another answer in its
+    // place.
     let answer = service.answer(&first_bytes, from, now);
     let true_answer = Message::from_bytes(answer.bytes()).unwrap();
     let request = Message::from_bytes(&first_bytes).unwrap();

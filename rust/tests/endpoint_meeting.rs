@@ -17,7 +17,7 @@ use std::collections::{BTreeMap, HashMap};
 use std::net::SocketAddr;
 use std::time::Duration;
 
-/// The network lets the fourth copy of each datagram through, in time.
+/// The network loses at most three copies of each datagram, so that the fourth arrives in time.
 const MOST_LOST: u32 = 3;
 const CLIENTS: usize = 3;
 
@@ -81,8 +81,8 @@ struct Run {
 }
 
 impl Run {
-    /// Half an hour with nonces of 600 s, which end between and within requests; with restarts of
-    /// the server and moves of the clients.
+    /// Creates a run of half an hour. Nonces last 600 s, so they expire between and within
+    /// requests. Each client changes its address, and in half of the runs the server restarts.
     fn new(seed: u64) -> Run {
         let mut rng = Rng(seed);
         let offered: &[IntegrityAlgorithm] = if rng.below(2) == 0 { &BOTH } else { &[SHA1] };
@@ -146,7 +146,7 @@ impl Run {
                 let bytes = answer.into_bytes();
                 let packet = || Packet::Answer(i, bytes.clone());
                 self.net.carry(now, false, &bytes, packet);
-                // A flood of strangers between.
+                // Unknown clients send requests in between.
                 let stranger = (self.net.rng.next() as u32).to_be_bytes();
                 let stranger = SocketAddr::from((stranger, self.net.rng.next() as u16));
                 let id = TransactionId::from([7; 12]);
@@ -175,7 +175,7 @@ impl Run {
         }
     }
 
-    /// A client does what is due.
+    /// Makes a client do what is due.
     fn acts(&mut self, i: usize, now: Instant, counts: &mut Counts) {
         loop {
             match self.clients[i].poll(now) {

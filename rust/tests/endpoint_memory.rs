@@ -1,4 +1,5 @@
-//! A server where memory ends, alone in a process: it drops the datagram, and loses nothing.
+//! A server that runs out of memory drops the datagram, and loses nothing. This test is alone in
+//! its process.
 
 mod limited;
 
@@ -23,7 +24,7 @@ fn request(client: &mut LongTermClientAuth, method: u16, kind: u16) -> Vec<u8> {
     client.sign_outgoing_message(page).unwrap().finish()
 }
 
-/// What a datagram comes to, as bytes to compare: a request is answered.
+/// Returns the outcome of a datagram as bytes to compare, after answering an accepted request.
 fn bytes_of(received: Received<'_>) -> Result<Vec<u8>, DropReason> {
     match received {
         Received::Answer(answer) => Ok(answer.into_bytes()),
@@ -99,8 +100,8 @@ fn where_memory_ends_the_users_stay_as_they_were() {
     assert!(blocks > 0 && users.contains("alice"));
 }
 
-/// The client, its request, and whether the request and its response went through with so few blocks
-/// of memory each.
+/// Starts a request of a client and passes it the response, each with at most this many blocks of
+/// memory. Returns whether each of the two calls succeeded.
 fn asked_within(blocks: usize, response: &dyn Fn(&[u8]) -> Vec<u8>) -> (bool, bool) {
     let (server, now) = (SocketAddr::from(([192, 0, 2, 1], 3478)), Instant::ZERO);
     let mut client = Client::builder(server).build([7; 32]).unwrap();

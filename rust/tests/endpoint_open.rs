@@ -1,4 +1,4 @@
-//! Servers without a realm: without credentials, and with short-term credentials.
+//! Tests of servers without a realm: without credentials, and with short-term credentials.
 
 use seatcrane_stun::auth::ShortTermAuth;
 use seatcrane_stun::endpoint::*;
@@ -39,14 +39,14 @@ fn password(text: &str) -> ShortTermCredentials {
     ShortTermCredentials::new(text.to_string())
 }
 
-/// A server with short-term credentials, and its table of one user.
+/// Returns a server with short-term credentials, and its table of one user.
 fn signed() -> (ShortTermServer, ShortTermUsers) {
     let mut users = ShortTermUsers::new();
     users.add("alice", password("wonderland")).unwrap();
     (ShortTermServer::new(settings()).unwrap(), users)
 }
 
-/// A message with a name, signed with a password.
+/// Returns a message with a name, signed with a password.
 fn signed_by(mut page: MessageWriteVec, name: &str, text: &str, by: IntegrityAlgorithm) -> Vec<u8> {
     page.add_attribute(&Username::new(name).unwrap()).unwrap();
     page.add_message_integrity(&password(text).into(), by)
@@ -68,7 +68,7 @@ fn answer(received: ShortTermReceived<'_>) -> Answer {
     }
 }
 
-/// The types of a message's attributes.
+/// Returns the types of a message's attributes.
 fn types(bytes: &[u8]) -> Vec<u16> {
     let message = Message::from_bytes(bytes).unwrap();
     message
@@ -228,8 +228,8 @@ fn a_signed_request_gets_a_signed_response() {
     }
 }
 
-/// RFC 8489, section 9.1.3: 400 without a signature or a name, 401 for another name or password, and
-/// neither is signed.
+/// RFC 8489, section 9.1.3: 400 without a signature or a name, 401 for another name or password,
+/// and neither is signed.
 #[test]
 fn refusals_are_those_of_the_rfc_and_are_not_signed() {
     let (server, users) = signed();
@@ -284,7 +284,7 @@ fn a_name_behind_the_signature_does_not_count() {
     assert_eq!(code(&answer(server.receive(&bytes, from(), &users))), 400);
 }
 
-/// The attributes of a request are looked at after its signature (RFC 8489, section 6.3.1).
+/// The attributes of a request are checked after its signature (RFC 8489, section 6.3.1).
 #[test]
 fn a_signed_420_lists_what_is_not_understood() {
     let (server, users) = signed();

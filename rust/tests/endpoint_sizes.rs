@@ -9,7 +9,7 @@ use seatcrane_stun::types::prelude::*;
 use std::fmt::Write;
 use std::net::SocketAddr;
 
-/// At most so many bytes out for each byte in.
+/// The maximum number of bytes sent for each byte received.
 const MOST: f64 = 5.4;
 
 /// A server with the realm `example.org` and both algorithms.
@@ -49,7 +49,7 @@ fn signed(mut page: MessageWriteVec) -> Vec<u8> {
     page.finish()
 }
 
-/// Requests of somebody who knows no password.
+/// Returns requests of somebody who knows no password.
 fn requests(nonce: &str) -> Vec<(&'static str, Vec<u8>)> {
     let mut with_software = begin(BINDING);
     with_software

@@ -1,5 +1,6 @@
-//! FINGERPRINT, unknown attributes and streams of messages, at the samples of RFC 5769. The values
-//! of further attributes are typed from RFC 8489, 8445, 8656, 5780, 6062, 7635, 7982 and 8016.
+//! Tests of FINGERPRINT, unknown attributes and streams of messages, with the samples of RFC 5769.
+//! The values of further attributes are typed by hand from RFC 8489, 8445, 8656, 5780, 6062, 7635,
+//! 7982 and 8016.
 use seatcrane_stun::Instant;
 use seatcrane_stun::endpoint::{Body, Client, Output};
 use seatcrane_stun::extra::attribute::*;
@@ -144,7 +145,8 @@ fn refuses_a_stream_at_the_byte_that_decides() {
     }
 }
 
-/// An attribute is of this type, is written as this value, and is read of it again.
+/// Checks that an attribute has this type, is written as this value, and is parsed from this value.
+/// Returns the parsed attribute.
 #[track_caller]
 fn stands<'a, A>(attribute: A, kind: u16, value: &'a [u8]) -> A
 where
@@ -167,7 +169,7 @@ where
     read
 }
 
-/// None of these values is read.
+/// Checks that none of these values can be parsed.
 #[track_caller]
 fn refuses<'a, A: AttributeFromRaw<'a> + AttributeStaticType>(values: &[&'a [u8]]) {
     for value in values {
@@ -357,7 +359,7 @@ fn reads_addresses_and_texts() {
     );
     refuses::<MappedAddress>(&[&[], &plain[..7], &longer[..8], &[0, 3, 0, 0, 1, 2, 3, 4]]);
 
-    // The values of RFC 5769, sections 2.2 and 2.3, under the id of its samples.
+    // The values of RFC 5769, sections 2.2 and 2.3, with the transaction ID of its samples.
     let id = TransactionId::from(<[u8; 12]>::try_from(bytes("b7e7a701bc34d686fa87dfae")).unwrap());
     let hidden = bytes("0001a147 e112a643");
     assert_eq!(
@@ -386,8 +388,8 @@ fn reads_addresses_and_texts() {
     refuses::<AlternateDomain>(&[&[b'a'; 256]]);
 }
 
-/// The values of RFC 5780, section 7, written out by hand.
-/// MD5, and two algorithms without a name, of which the last has parameters and padding.
+/// A list keeps algorithms that the crate does not know. This list has MD5, and two algorithms
+/// without a name, the last of which has parameters and padding.
 #[test]
 fn keeps_algorithms_that_are_not_known() {
     const VALUE: [u8; 16] = [0, 1, 0, 0, 0, 3, 0, 0, 0, 9, 0, 3, 0xAA, 0xBB, 0xCC, 0];
@@ -559,14 +561,15 @@ fn answers_a_request_by_420() {
     let writer = MessageWriteMutSlice::new(&mut enough);
     assert!(answer_unknown(&request, &known, writer).unwrap().is_some());
 
-    // A writer that has bytes is not written on.
+    // The call fails for a writer that has bytes.
     let begun = Message::builder_error(&request, MessageWriteVec::new());
     assert_eq!(
         answer_unknown(&request, &known, begun),
         Err(StunWriteError::NotAllowed)
     );
 
-    // What is no request is not answered, and a response that is not understood has failed.
+    // A message that is not a request is not answered, and a response that is not understood ends
+    // its request.
     assert!(
         answer_unknown(&answer, &[], MessageWriteVec::new())
             .unwrap()

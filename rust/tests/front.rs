@@ -1,5 +1,5 @@
-//! What the front is beside a core: types that move between threads, errors that are told apart,
-//! values that hide secrets, and a walk that a plain model makes too.
+//! Tests of what the public types add to the core: they move between threads, errors can be
+//! distinguished, `Debug` shows no secrets, and the visible attributes are those of a plain model.
 
 use core::error::Error;
 use seatcrane_stun::Instant;
@@ -32,7 +32,7 @@ fn whatever_is_kept_is_sent_and_shared_between_threads() {
     assert!(matches!(polled, StunAgentPollRet::WaitUntil(_)));
 }
 
-/// The errors of the crate as a program's own type has them: each kind is a type of its own.
+/// The error type of a program, with a variant for each error type of the crate.
 #[derive(Debug)]
 enum Mine {
     Parse(StunParseError),
@@ -109,7 +109,8 @@ fn no_secret_is_shown() {
     assert!(made.0 == IntegrityKey::new(b"secret") && made.0 != IntegrityKey::new(b"secreT"));
 }
 
-/// The visible attributes, by the three rules of RFC 8489, sections 14.5 to 14.7, read one by one.
+/// Returns the visible attributes by the three rules of RFC 8489, sections 14.5 to 14.7, applied
+/// one after the other.
 fn visible(kinds: &[u16]) -> Vec<u16> {
     let (mut seen, mut found) = (Vec::new(), Vec::new());
     for kind in kinds {
@@ -228,7 +229,8 @@ fn steps_of_runs_are_compared_by_each_field() {
 
 #[test]
 fn a_generator_of_ones_own_makes_ids_and_nonces() {
-    // A function that fills a slice with 1, 2, 3 and so on, and notes what it is asked for.
+    // A function that fills a slice with 1, 2, 3 and so on, and records how many bytes were
+    // requested.
     let (mut last, mut asked) = (0, Vec::new());
     let mut fill = |bytes: &mut [u8]| {
         asked.push(bytes.len());
@@ -288,7 +290,7 @@ fn texts_are_types_apart_with_constructors() {
     assert_eq!(Username::new(&long[..514]), Err(StunWriteError::TooLarge));
     assert_eq!(Realm::new(&long), Err(StunWriteError::TooLarge));
     assert_eq!(Nonce::try_from(&*long), Err(StunWriteError::TooLarge));
-    // A name that says which type it is, and not the type of a text that has such a number.
+    // The name of a type is that of the attribute, and not that of a generic text.
     for (told, wanted) in [
         (core::any::type_name::<Username>(), "Username"),
         (core::any::type_name::<Realm>(), "Realm"),
@@ -335,7 +337,7 @@ fn times_go_to_the_standard_clock_and_back() {
     assert!(Instant::from_std(start).to_std(start) >= start);
 }
 
-/// A clock that is younger than the age forgets nobody.
+/// If the clock has run for less than a nonce lifetime, `forget_expired` removes no record.
 #[test]
 fn a_young_clock_forgets_nobody() {
     let from = "192.0.2.1:1".parse().unwrap();

@@ -1,4 +1,5 @@
-//! Users who are handed in with a message, and what is asked of a registered user's key.
+//! Tests of users who are passed to the server with a message, and of calls that use the key of a
+//! registered user.
 use IntegrityAlgorithm::{Sha1, Sha256};
 use seatcrane_stun::Instant;
 use seatcrane_stun::auth::*;
@@ -10,7 +11,8 @@ use std::net::SocketAddr;
 mod common;
 use common::{Conversation, WORDS};
 
-/// What a server without users says of a request, to whom the user is handed in whom it names.
+/// Returns the verdict of a server without users on a request, when the user whom the request names
+/// is passed along.
 fn verdict_of(
     server: &mut LongTermServerAuth,
     request: &Message<'_>,
@@ -78,7 +80,7 @@ fn a_user_is_handed_in_with_a_message() {
     }
 }
 
-/// MD5 and SHA-256 of `user:realm:pass`, made by Python's hashlib.
+/// MD5 and SHA-256 of `user:realm:pass`, computed with Python's hashlib.
 const KEYS: StoredKeys = {
     let mut keys = StoredKeys::new();
     keys.sha1 = Some([

@@ -1,5 +1,5 @@
-//! Connectivity checks of ICE: what datagrams come to at an agent, and two agents that check each
-//! other over a network that loses, repeats and reorders.
+//! Tests of connectivity checks of ICE: the outcomes of datagrams at an agent, and two agents that
+//! check each other over a network that loses, repeats and reorders datagrams.
 
 use seatcrane_stun::Instant;
 use seatcrane_stun::endpoint::ice::Role::{Controlled, Controlling};
@@ -13,7 +13,7 @@ use seatcrane_stun::types::prelude::*;
 use std::net::SocketAddr;
 use std::time::Duration;
 
-#[allow(dead_code)] // One of the samples is not of a check.
+#[allow(dead_code)] // one of the samples is not used here
 mod samples;
 
 const LEFT: (&str, &str) = ("left", "left-password-of-22-chars");
@@ -36,7 +36,7 @@ fn pair(roles: (Role, Role), ties: (u64, u64)) -> (Checker, Checker) {
     )
 }
 
-/// What a check comes to, and its answer.
+/// Returns the answer to a check, and the outcome of the check.
 fn checked(received: Received<'_>) -> (Vec<u8>, Judged) {
     match received {
         Received::Check { answer, judged, .. } => (answer, judged),
@@ -58,7 +58,7 @@ fn dropped(received: Received<'_>) -> DropReason {
     }
 }
 
-/// A check of `a` at `b`, and its answer back at `a`.
+/// Delivers a check of `a` to `b`, and the answer back to `a`. Returns both outcomes.
 fn exchange(a: &mut Checker, b: &mut Checker, nominate: bool) -> (Judged, Outcome) {
     let check = a.check(id(1), at(THERE), 77, nominate).unwrap();
     let (answer, judged) = checked(b.receive(check.bytes(), at(HERE), None));
@@ -127,8 +127,9 @@ fn equal_tie_breakers() {
     assert_eq!((a.role(), b.role()), (Controlled, Controlling));
 }
 
-/// Every order in which two checks and their answers can arrive, with each of the four lost or
-/// not: with one answer the roles are opposite, and without any one more exchange makes them so.
+/// Tries every order in which two checks and their answers can arrive, with each of the four
+/// datagrams lost or not. If an answer arrives, the roles are opposite. If none does, one more
+/// exchange makes them opposite.
 #[test]
 fn roles_are_opposite_in_every_order() {
     for roles in [
@@ -137,7 +138,8 @@ fn roles_are_opposite_in_every_order() {
         (Controlling, Controlled),
     ] {
         for ties in [(1, 2), (2, 1)] {
-            // What arrives in turn: 0 the check of a, 1 its answer, 2 the check of b, 3 its answer.
+            // The order of arrival: 0 is the check of a, 1 its answer, 2 the check of b, 3 its
+            // answer.
             for order in [
                 [0, 1, 2, 3],
                 [0, 2, 1, 3],
@@ -203,7 +205,7 @@ fn a_repeated_conflict_switches_once() {
     assert_eq!((a.role(), b.role()), (Controlled, Controlling));
 }
 
-/// Parts of a request: each is written if it is there.
+/// The parts of a request, each of which is optional.
 struct Parts<'a> {
     method: Method,
     name: Option<&'a str>,
@@ -248,8 +250,8 @@ fn written(parts: &Parts<'_>) -> Vec<u8> {
     }
 }
 
-/// What checks with these parts come to, with which error code, and by which algorithm the answer
-/// is signed.
+/// Checks with different parts have the right outcome and error code, and their answers are signed
+/// with the right algorithm.
 #[test]
 fn checks_are_judged_by_their_parts() {
     let accepted = Judged::Accepted {
@@ -329,7 +331,7 @@ fn datagrams_are_dropped() {
     assert_eq!(b.role(), Controlled);
 }
 
-/// Attributes of the role of another length count as absent.
+/// A role attribute whose value has the wrong length counts as absent.
 #[test]
 fn a_malformed_role_is_no_conflict() {
     let (_, mut b) = pair((Controlling, Controlling), (1, 2));
@@ -350,7 +352,7 @@ fn a_malformed_role_is_no_conflict() {
     assert_eq!(checked(b.receive(&bytes, at(HERE), None)).1, accepted);
 }
 
-/// A response to a check, with what `add` adds.
+/// Returns a response to a check, with the attributes that `add` adds.
 fn response(
     request: &[u8],
     class: MessageClass,
@@ -413,7 +415,7 @@ fn responses_are_judged_with_their_check() {
     ] {
         let received = a.receive(&answer, at(THERE), Some(&check));
         assert_eq!(ended(received), outcome);
-        // The way back must be the way there, whatever the response says.
+        // The response must take the path of the check in reverse, whatever it contains.
         for from in ["10.0.0.2:3", "10.0.0.3:2", "[::2]:2"] {
             let received = a.receive(&answer, at(from), Some(&check));
             assert_eq!(ended(received), failed(Failure::OtherPath));
@@ -441,7 +443,7 @@ fn responses_are_judged_with_their_check() {
     assert_eq!(a.role(), Controlling);
 }
 
-/// An IPv4 address in either spelling is one address.
+/// The two forms of an IPv4 address are one address.
 #[test]
 fn addresses_are_canonical() {
     let (mut a, mut b) = pair((Controlling, Controlled), (1, 2));
@@ -517,7 +519,8 @@ fn bad_settings_are_refused() {
     );
 }
 
-/// The request and the responses of RFC 5769, sections 2.1 to 2.3, which are a check and its answer.
+/// The request and the responses of RFC 5769, sections 2.1 to 2.3, which are a check and its
+/// answer.
 #[test]
 fn reads_the_samples() {
     let password = "VOkJxbRl1RmTxUk/WvJxBt";
@@ -582,7 +585,7 @@ fn values_can_be_shared() {
     assert!(!format!("{check:?}").contains("bytes"));
 }
 
-/// Random numbers by splitmix64.
+/// Random numbers from splitmix64.
 struct Random(u64);
 
 impl Random {
@@ -626,7 +629,7 @@ impl Agent {
         }
     }
 
-    /// Sends a new check, or an old one again.
+    /// Sends a new check, or an earlier check again.
     fn send(&mut self, random: &mut Random) -> Vec<u8> {
         if self.checks.is_empty() || random.below(3) == 0 {
             let nominate = self.is_valid && random.below(2) == 0;
@@ -641,7 +644,7 @@ impl Agent {
         check.bytes().to_vec()
     }
 
-    /// Reads a datagram, and returns the answer if it gets one.
+    /// Reads a datagram, and returns the answer, if there is one.
     fn receive(&mut self, bytes: &[u8], random: &mut Random) -> Option<Vec<u8>> {
         let id = Message::from_bytes(bytes).unwrap().transaction_id();
         let check = self.checks.iter().find(|check| check.id() == id);
@@ -666,9 +669,9 @@ impl Agent {
     }
 }
 
-/// Two agents, over a network that loses a third, repeats and reorders, come to opposite roles and
-/// to a nominated pair that both know to be valid, and no datagram changes the roles then. SEEDS
-/// sets how many networks are tried.
+/// Over a network that loses a third of the datagrams, repeats and reorders them, two agents reach
+/// opposite roles and a nominated pair that both know to be valid. After that no datagram changes
+/// the roles. SEEDS sets how many networks are tried.
 #[test]
 fn agents_meet_over_a_bad_network() {
     let seeds = std::env::var("SEEDS").map_or(1000, |seeds| seeds.parse().expect("a number"));
@@ -726,7 +729,8 @@ fn agents_meet_over_a_bad_network() {
     }
 }
 
-/// An agent that does not know its peer yet answers checks as one that does (RFC 8445, section 7.3).
+/// An agent that does not know its peer's credentials yet answers checks like an agent that does
+/// (RFC 8445, section 7.3).
 #[test]
 fn checks_are_answered_before_the_answer() {
     let (mut knows, mut there) = pair((Controlling, Controlled), (1, 2));
@@ -749,7 +753,7 @@ fn checks_are_answered_before_the_answer() {
     assert_eq!(fragment, Some(RIGHT.0.as_bytes()));
     assert_eq!(message.transaction_id(), id(1));
 
-    // It writes none itself, and no response is its own.
+    // It cannot write checks yet, and drops every response.
     let none = here.check(id(2), at(THERE), 1, true).unwrap_err();
     assert_eq!(none, CheckError::NoRemote);
     assert_eq!(
@@ -792,7 +796,7 @@ fn priorities_are_ordered() {
     let ranked = ranked.concat();
     assert!(ranked.windows(2).all(|two| two[0] > two[1]), "{ranked:?}");
     assert!(priority(Host, 0, 1) > priority(Host, 0, 2));
-    // Both sides compute one number, and distinct pairs have distinct ones.
+    // Both sides compute the same number, and different pairs have different numbers.
     let mut seen = std::collections::HashSet::new();
     for one in [1, 2, 3, (1 << 31) - 2, (1 << 31) - 1] {
         for other in [1, 2, 3, (1 << 31) - 2, (1 << 31) - 1] {
@@ -825,7 +829,7 @@ fn candidates_are_read_and_written() {
         let extensions = Vec::new();
         assert_eq!(Candidate { extensions, ..read }, candidate);
     }
-    // A related address that is none is passed over, and so is a name without a value.
+    // A related address that is not an IP address is ignored, and so is a name without a value.
     let line = "candidate:1 1 udp 1 192.0.2.1 5 typ relay raddr a.local rport 9 ufrag x y";
     let read: Candidate = line.parse().unwrap();
     assert_eq!((read.related, read.extension("ufrag")), (None, Some("x")));

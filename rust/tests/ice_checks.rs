@@ -1,5 +1,5 @@
-//! Checks with their timers: each ends exactly once, whatever the network does, and an answer takes
-//! the way of its check in both directions.
+//! Tests of checks with their timers: each check ends exactly once, whatever the network does, and
+//! an answer must take the path of its check in reverse.
 
 use seatcrane_stun::Instant;
 use seatcrane_stun::endpoint::Retransmission;
@@ -48,7 +48,8 @@ fn new(number: u16) -> NewCheck {
     NewCheck::new(id(number), here(), there(), 77)
 }
 
-/// What is due at a time: the bytes to send, the checks that ended, and the time to wait for.
+/// Returns what is due at a time: the bytes to send, the checks that ended, and the time to wait
+/// for.
 fn due(checks: &mut Checks, now: Instant) -> (Vec<Vec<u8>>, Vec<TransactionId>, Option<Instant>) {
     let (mut sends, mut ends) = (Vec::new(), Vec::new());
     loop {
@@ -67,7 +68,7 @@ fn due(checks: &mut Checks, now: Instant) -> (Vec<Vec<u8>>, Vec<TransactionId>, 
     }
 }
 
-/// The answer of the peer to a check.
+/// Returns the answer of the peer to a check.
 fn answer(peer: &mut Checks, check: &[u8]) -> Vec<u8> {
     match peer.receive(check, there(), here(), Instant::ZERO) {
         ChecksInput::Check { answer, .. } => answer,
@@ -163,7 +164,7 @@ fn a_check_of_the_peer_is_answered_wherever_it_arrives() {
     let ChecksOutput::Transmit { bytes, .. } = peer.poll(ms(0)) else {
         panic!("nothing to send")
     };
-    checks.start(&new(1), ms(0)).unwrap(); // of the same ID, which is no matter
+    checks.start(&new(1), ms(0)).unwrap(); // it has the same ID, which does not matter
     let elsewhere = at("10.0.0.9:9");
     let ChecksInput::Check {
         message,
@@ -209,7 +210,7 @@ fn a_check_is_not_sent_again_or_taken_back() {
         all.1.extend(ends.iter().map(|end| (*end, now)));
         now = until.unwrap_or(now);
     }
-    // The poll at 600 ms was 100 ms late for the plan of the third.
+    // The poll at 600 ms was 100 ms too late for the plan of the third check.
     assert_eq!(all, (7, vec![(id(3), ms(39_600)), (id(2), ms(40_100))]));
 }
 
@@ -251,7 +252,7 @@ fn a_check_has_the_attributes_that_it_is_given() {
     assert_eq!(check_fingerprint(&message), Fingerprint::Right);
     let end = ended(checks.receive(&answer, here(), there(), ms(1)));
     assert_eq!(end.outcome, Outcome::Valid { mapped: here() });
-    // Without further attributes it is the check of `Checker::check`.
+    // Without further attributes, it is the same check that `Checker::check` writes.
     let checker = checks.checker();
     let plain = checker.check(id(2), there(), 77, true).unwrap();
     let same = checker.check_with(id(2), there(), 77, true, &[]).unwrap();
@@ -288,7 +289,8 @@ impl Dice {
     }
 }
 
-/// A network that loses, repeats, delays, flips and misdelivers: each check ends exactly once.
+/// Over a network that loses, repeats, delays, corrupts and misdelivers datagrams, each check ends
+/// exactly once.
 #[test]
 fn each_check_ends_exactly_once() {
     for seed in 1..=300u64 {

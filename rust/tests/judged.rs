@@ -1,5 +1,5 @@
-//! Requests judged under a nonce that the caller passes, by a server that stores nothing about its
-//! clients.
+//! Tests of requests that are judged under a nonce that the caller passes, by a server that stores
+//! nothing about its clients.
 use IntegrityAlgorithm::{Sha1, Sha256};
 use seatcrane_stun::Instant;
 use seatcrane_stun::auth::*;
@@ -10,7 +10,7 @@ use seatcrane_stun::types::prelude::*;
 mod common;
 use common::{Conversation, OTHER_WORDS, WORDS};
 
-/// The server's challenge to a request, under a nonce.
+/// Returns the server's challenge to a request, with a nonce.
 fn challenge(server: &LongTermServerAuth, request: &[u8], nonce: &str) -> Vec<u8> {
     let request = Message::from_bytes(request).unwrap();
     let mut error = Message::builder_error(&request, MessageWriteVec::new());
@@ -28,7 +28,7 @@ fn verdict(
     Ok((accepted.name().to_string(), accepted.algorithm()))
 }
 
-/// A request that is signed under this nonce.
+/// Returns a request that is signed with this nonce.
 fn signed(both: &mut Conversation, nonce: &str) -> Vec<u8> {
     let first = both.request();
     let challenge = challenge(&both.server, &first, nonce);

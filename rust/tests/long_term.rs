@@ -114,7 +114,7 @@ fn tells_by_what_a_challenge_is_signed() {
             both.answer(&request, Instant::ZERO, &WORDS).0,
             Ok(algorithm)
         );
-        // The success is lost, and the next request comes late and unsigned.
+        // The success is lost, and the next request is late and unsigned.
         let unsigned = Message::builder_request_with_id(
             BINDING,
             TransactionId::from([99; 12]),
@@ -130,7 +130,7 @@ fn tells_by_what_a_challenge_is_signed() {
                 Ok(LongTermClientValidation::ResendRequest(Some(Sha1)))
             );
         } else {
-            // The algorithms that its nonce speaks of are missing.
+            // The algorithms that its nonce announces are missing.
             assert_eq!(
                 both.read(&answer),
                 Err(LongTermClientAuthErrorReason::Unauthorized)
@@ -143,7 +143,7 @@ fn tells_by_what_a_challenge_is_signed() {
             );
         }
         both.is_validated(late, algorithm);
-        // A 438 that nobody signed is taken up at any time.
+        // An unsigned 438 is accepted at any time.
         both.from = "10.0.0.2:12345".parse().unwrap();
         assert_eq!(
             both.answer(&unsigned, late, &WORDS).0,
@@ -201,7 +201,7 @@ fn a_client_without_credentials_is_unauthorized() {
     both.client = LongTermClientAuth::new();
     let request = both.request();
     let (_, answer) = both.answer(&request, Instant::ZERO, &WORDS);
-    // A challenge that cannot be taken up.
+    // A challenge that the client cannot answer.
     assert!(both.read(&answer).is_err());
 }
 
@@ -405,7 +405,7 @@ fn a_malformed_request_of_a_known_user_is_answered_by_a_signed_400() {
             refusal.add_error_code(400, "Bad Request").unwrap();
             refusal
         };
-        // The client drops an unsigned one, so that it would ask until its timeout.
+        // The client drops an unsigned 400, so it would send the request again until it times out.
         assert_eq!(
             both.read(&refusal().finish()),
             Err(LongTermClientAuthErrorReason::IntegrityFailed)

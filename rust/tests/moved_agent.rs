@@ -1,5 +1,5 @@
-//! What the tests of the Rust crate check of an agent, written anew: by its calls, without a random
-//! id or a moment handed in where it hands none in.
+//! The tests of an agent in the crate `stun-proto`, written anew with the calls of that crate: no
+//! transaction ID and no time is passed where that crate takes none.
 #![cfg(all(feature = "std", feature = "rand"))]
 
 use core::net::SocketAddr;
@@ -48,7 +48,7 @@ fn success(request: &[u8]) -> Vec<u8> {
     response.finish()
 }
 
-/// Asks, and tells the id and the bytes.
+/// Sends a request, and returns its ID and its bytes.
 fn asked(agent: &mut StunAgent, now: Instant) -> (TransactionId, Vec<u8>) {
     let (id, bytes) = request();
     let sent = agent
@@ -74,7 +74,7 @@ fn wait(agent: &mut StunAgent, now: Instant) -> Instant {
     }
 }
 
-/// Polls until something ends, and tells what and when.
+/// Polls until a request ends, and returns how it ended, and when.
 fn end_of(agent: &mut StunAgent, mut now: Instant) -> (StunAgentPollRet, Instant) {
     loop {
         let _ = agent.poll_transmit(now);
@@ -120,7 +120,7 @@ fn stats_default() {
     );
 }
 
-/// There of private counters, here of an agent that counts.
+/// The original tests private counters; this test uses an agent that keeps statistics.
 #[test]
 fn stats_counters() {
     let mut agent = counting();
@@ -163,7 +163,7 @@ fn stats_counters() {
     assert_eq!(agent.stats(), Some(&StunAgentStats::default()));
 }
 
-/// The same.
+/// The original tests private counters; this test uses an agent that keeps statistics.
 #[test]
 fn stats_rtt() {
     let mut agent = counting();
@@ -280,7 +280,7 @@ fn request_with_credentials_and_with_incorrect_ones() {
         .request_transaction(response.transaction_id())
         .unwrap();
     assert_eq!(outstanding.integrity(), Some(IntegrityAlgorithm::Sha1));
-    // The agent checks no digest.
+    // The agent checks no signature.
     assert!(takes(&mut agent, &forged, START));
     assert!(!takes(&mut agent, &signed, START));
     assert!(is_gone(&mut agent, id) && agent.is_validated_peer(there()));
@@ -346,7 +346,8 @@ fn request_custom_timeout_and_no_retransmit() {
     );
 }
 
-/// There of a private table of waits, here of when an agent polls.
+/// The original tests a private table of timeouts; this test checks the times at which an agent
+/// polls.
 #[test]
 fn request_retransmits_and_tcp_custom_timeout() {
     let (milli, second) = (Duration::from_millis(1), Duration::from_secs(1));

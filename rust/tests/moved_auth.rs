@@ -1,5 +1,5 @@
-//! What the tests of the Rust crate check of the authenticators, written anew: by its calls,
-//! without random words handed in where it hands none in.
+//! The tests of the authenticators in the crate `stun-proto`, written anew with the calls of that
+//! crate: no random numbers are passed where that crate takes none.
 #![cfg(all(feature = "std", feature = "rand"))]
 
 use IntegrityAlgorithm::{Sha1, Sha256};
@@ -30,7 +30,7 @@ fn user(name: &str, password: &str) -> LongTermCredentials {
     LongTermCredentials::new(name.to_string(), password.to_string())
 }
 
-/// An error response to a message, or to nobody's.
+/// Begins an error response with this transaction ID, which need not be that of a request.
 fn error(id: TransactionId, code: u16) -> MessageWriteVec {
     let message_type = MessageType::from_class_method(MessageClass::Error, BINDING);
     let mut response = Message::builder(message_type, id, MessageWriteVec::new());
@@ -40,7 +40,7 @@ fn error(id: TransactionId, code: u16) -> MessageWriteVec {
     response
 }
 
-/// The message in a writer again, in one of its own.
+/// Copies the message in a writer to a new writer.
 fn again<O: OwnedBytes>(writer: &dyn MessageWrite<Output = O>) -> MessageWriteVec {
     let message = Message::from_bytes(writer.data()).unwrap();
     let (message_type, id) = (message.get_type(), message.transaction_id());
@@ -90,7 +90,7 @@ impl Both {
         both
     }
 
-    /// The client's signature, which the unchecked call makes too.
+    /// Signs a message as the client, and checks that the unchecked call makes the same signature.
     fn signs(&mut self, message: MessageWriteVec) -> Vec<u8> {
         let unchecked = self.client.sign_outgoing_message_unchecked(again(&message));
         let signed = self.client.sign_outgoing_message(message).unwrap();
@@ -98,7 +98,7 @@ impl Both {
         signed.finish()
     }
 
-    /// The server's.
+    /// Signs a message as the server, and checks that the unchecked call makes the same signature.
     fn answers(&mut self, message: MessageWriteVec) -> Vec<u8> {
         let unchecked = self
             .server
@@ -135,7 +135,7 @@ impl Both {
             })
     }
 
-    /// An unsigned request, and what comes of its 401.
+    /// Makes an unsigned request, and returns what the client answers to the 401.
     fn initial_auth(&mut self) -> ClientAnswer {
         let asked = self.signs(request());
         assert_eq!(self.judges(&asked, START), Err(ServerReason::Unauthorized));
@@ -148,7 +148,8 @@ impl Both {
         self.reads(&response)
     }
 
-    /// A signed request, which the server validates, and what comes of its success.
+    /// Makes a signed request, which the server validates, and returns what the client answers to
+    /// the success.
     fn full_auth(&mut self, now: Instant, algorithm: IntegrityAlgorithm) -> ClientAnswer {
         let asked = self.signs(request());
         assert!(!has_no_auth(&asked));
@@ -158,14 +159,14 @@ impl Both {
         self.reads(&response)
     }
 
-    /// Both in turn.
+    /// Makes an unsigned request and then a signed one.
     fn authenticate(&mut self, algorithm: IntegrityAlgorithm) {
         assert_eq!(self.initial_auth(), Ok(ResendRequest(None)));
         let answer = self.full_auth(START, algorithm);
         assert_eq!(answer, Ok(LongTermClientValidation::Validated(algorithm)));
     }
 
-    /// How many bytes the server adds to a request and to a response.
+    /// Returns how many bytes signing adds to a request and to a response of the server.
     fn server_adds(&self) -> [usize; 2] {
         [true, false].map(|is_request| {
             self.server
@@ -297,7 +298,7 @@ fn long_term_full_auth_username_sha1() {
     assert_eq!(both.server_adds(), [24, 56]);
 }
 
-/// The sizes count PASSWORD-ALGORITHM, which the Rust crate writes and leaves out of its counts.
+/// The sizes include PASSWORD-ALGORITHM, which the crate `stun-proto` writes but does not count.
 #[test]
 fn long_term_full_auth_userhash() {
     for (algorithm, added) in [(Sha1, [24, 72]), (Sha256, [44, 92])] {
@@ -407,7 +408,7 @@ fn long_term_full_auth_client_stale_nonce_missing_attributes() {
     }
 }
 
-/// Errors of other codes and successes count where they are signed.
+/// Errors with other codes, and successes, are accepted if they are signed.
 #[test]
 fn long_term_full_auth_client_responses_authed_and_unauthed() {
     let mut both = authenticated();
@@ -437,7 +438,7 @@ fn long_term_initial_auth_wrong_password_and_wrong_user() {
         assert!(!has_no_auth(&asked));
         assert_eq!(both.judges(&asked, START), Err(ServerReason::Unauthorized));
         assert_eq!(both.reads_a_401(&asked), Err(ClientReason::Unauthorized));
-        // The server learns of the user, or of the other password.
+        // The user, or the other password, is added to the server.
         let mut both = Both::new();
         both.client.set_credentials(wrong.clone());
         both.server.add_user(wrong);
@@ -467,8 +468,8 @@ fn long_term_client_request() {
     assert_eq!(both.judges(&response, START), Ok(Sha1));
 }
 
-/// What a server with both algorithms says of a request. Somebody between has changed the
-/// attributes of the 401 that the request answers.
+/// Returns the verdict of a server with both algorithms on a request that answers a 401 whose
+/// attributes an attacker has changed.
 fn bid_down(change: impl Fn(&RawAttribute<'_>, &mut MessageWriteVec)) -> ServerAnswer {
     let mut both = Both::of(&[Sha1, Sha256], &[Sha1, Sha256]);
     let asked = both.signs(request());

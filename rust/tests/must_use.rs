@@ -1,5 +1,5 @@
-//! What the compiler warns of if it is ignored. An `expect` that no warning meets is a warning, and
-//! the tests are built without any.
+//! Checks that the compiler warns if these results are ignored. If an `expect` suppresses no
+//! warning, the compiler warns about the `expect`, and the tests are built without any warnings.
 
 use seatcrane_stun::Instant;
 use seatcrane_stun::agent::StunAgent;

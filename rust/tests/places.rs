@@ -1,5 +1,5 @@
-//! The table of addresses of a server by hand, beside a plain list: the same address loses its
-//! place each time.
+//! Compares the table of addresses of a server without `endpoint` with a plain list: each time the
+//! same address loses its place in both.
 
 #[path = "../bench/endpoint_cost/places.rs"]
 mod places;
@@ -7,7 +7,8 @@ mod places;
 use places::{Places, SHARES};
 use std::net::{IpAddr, SocketAddr};
 
-/// Whoever has a place and whether it is a client's, from the one that was silent for longest on.
+/// The addresses that have a place, and whether each is a client's. The address that was silent for
+/// longest is first.
 struct List {
     number: usize,
     list: Vec<(SocketAddr, bool)>,
@@ -21,7 +22,7 @@ fn network(at: SocketAddr) -> Vec<u8> {
 }
 
 impl List {
-    /// Those of a network, or of all, that are clients or are not.
+    /// Returns the clients, or the others, among the addresses of a network or among all.
     fn those(&self, near: Option<SocketAddr>, is_client: bool) -> Vec<SocketAddr> {
         let near = near.map(network);
         let is_of = |at: SocketAddr| near.as_ref().is_none_or(|near| network(at) == *near);
@@ -29,7 +30,7 @@ impl List {
         found.map(|one| one.0).filter(|at| is_of(*at)).collect()
     }
 
-    /// Makes an address the youngest.
+    /// Moves an address to the end of the list.
     fn put(&mut self, at: SocketAddr, is_client: bool) {
         self.list.retain(|one| one.0 != at);
         self.list.push((at, is_client));
@@ -66,7 +67,7 @@ impl List {
     }
 }
 
-/// A source of numbers that are the same in each run.
+/// Pseudo-random numbers, the same in each run.
 struct Numbers(u64);
 
 impl Numbers {
@@ -78,7 +79,7 @@ impl Numbers {
         (self.0 >> 33) % bound
     }
 
-    /// One of few ports and hosts of sixty networks.
+    /// Returns one of the few ports and hosts in sixty networks.
     fn address(&mut self) -> SocketAddr {
         let (port, network, host) = (self.below(6), self.below(30), self.below(3));
         let text = match self.below(2) {

@@ -1,4 +1,4 @@
-//! Names and conversions of the crate `stun-types`.
+//! Tests of the names and conversions of the crate `stun-types`.
 use seatcrane_stun::extra::TcpBuffer;
 use seatcrane_stun::types::attribute::*;
 use seatcrane_stun::types::message::*;
@@ -43,7 +43,7 @@ fn fingerprint_is_an_attribute_of_the_writer() {
         assert_eq!(message.add_message_integrity(&key, algorithm), exists);
     }
     assert_eq!(message.data(), before);
-    // What only looks like one is none: the end of another attribute's value.
+    // The end of another attribute's value looks like a FINGERPRINT, but is none.
     let fake = RawAttribute::new(AttributeType::new(0x8022), &[0x80, 0x28, 0, 4, 1, 2, 3, 4]);
     let mut message = request();
     message.add_attribute(&fake).unwrap();
@@ -52,13 +52,13 @@ fn fingerprint_is_an_attribute_of_the_writer() {
         MessageWriteVec::new().add_fingerprint(),
         Err(StunWriteError::NotAllowed)
     );
-    // No room, and no change.
+    // There is no room, and the message does not change.
     let mut buffer = [0; 27];
     let writer = MessageWriteMutSlice::new(&mut buffer);
     let mut small = Message::builder_request_with_id(BINDING, ID.into(), writer);
     assert_eq!(small.add_fingerprint(), Err(StunWriteError::TooSmall));
     assert_eq!(small.data(), &request()[..]);
-    // 65532 bytes behind the header are the most.
+    // At most 65532 bytes can follow the header.
     let long = vec![0; 65520];
     let raw = RawAttribute::new(AttributeType::new(0x8001), &long);
     finished = request();
@@ -219,7 +219,7 @@ fn packets_with_their_length_come_back_as_they_went() {
     assert_eq!(Vec::from(buffer), b"\0\x02b");
 }
 
-/// An attribute of one's own, without `static_type`.
+/// An attribute that a program defines, without `static_type`.
 #[derive(Debug, PartialEq)]
 struct Marked;
 

@@ -1,5 +1,5 @@
-//! Responses and answers that are written into a buffer of the caller: they are those of `receive`,
-//! and need no memory beside the buffer.
+//! Tests of responses and answers that are written into a buffer of the caller: they are the same
+//! as those of `receive`, and need no memory in addition to the buffer.
 
 use seatcrane_stun::auth::LongTermClientAuth;
 use seatcrane_stun::endpoint::ice::{Checker, Role};
@@ -12,14 +12,14 @@ use std::cell::Cell;
 use std::fmt::Debug;
 use std::net::SocketAddr;
 
-/// The system's allocator, which counts the blocks that each thread asks for.
+/// The system's allocator, with a count of the blocks that each thread requests.
 struct Counting;
 
 thread_local! {
     static BLOCKS: Cell<usize> = const { Cell::new(0) };
 }
 
-// SAFETY: all is passed on to the system.
+// SAFETY: each call is passed on to the system's allocator.
 unsafe impl GlobalAlloc for Counting {
     unsafe fn alloc(&self, layout: Layout) -> *mut u8 {
         BLOCKS.set(BLOCKS.get() + 1);
@@ -39,7 +39,7 @@ unsafe impl GlobalAlloc for Counting {
 #[global_allocator]
 static MEMORY: Counting = Counting;
 
-/// How many blocks a call asks for, growth included.
+/// Returns how many blocks a call requests, including those that grow.
 fn blocks_of<T>(call: impl FnOnce() -> T) -> (usize, T) {
     let before = BLOCKS.get();
     let result = call();
@@ -71,14 +71,14 @@ fn indication(kind: u16) -> Vec<u8> {
     with(page, kind).finish()
 }
 
-/// A buffer that has seen other datagrams.
+/// Returns a buffer that was used for other datagrams.
 fn used() -> Vec<u8> {
     let mut buffer = Vec::with_capacity(512);
     buffer.extend_from_slice(&[0xaa; 100]);
     buffer
 }
 
-/// What a datagram comes to, as text to compare, with the bytes of its response.
+/// Returns the outcome of a datagram as text to compare, with the bytes of its response.
 macro_rules! seen {
     ($received:expr, $kind:ident) => {
         match $received {
@@ -91,12 +91,12 @@ macro_rules! seen {
     };
 }
 
-/// Without the answer, both have one text.
+/// Returns the text of an outcome without the answer, which is the same for both calls.
 fn described(received: &impl Debug) -> String {
     format!("{received:?}")
 }
 
-/// A server with long-term credentials, one user, and datagrams of each kind.
+/// Returns a server with long-term credentials, its table of one user, and datagrams of each kind.
 fn long_term() -> (Server, Users, Vec<Vec<u8>>) {
     let settings = ResponseSettings::new().answer_binding(true).software("tested");
     let server = Server::new(LongTerm::new("example.org", [1; 32]), settings).unwrap();
@@ -165,7 +165,7 @@ fn a_server_allocates_for_a_nonce_alone() {
     }
 }
 
-/// Numbers that look random, the same in each run.
+/// Pseudo-random numbers, the same in each run.
 struct Random(u64);
 
 impl Random {
@@ -177,7 +177,8 @@ impl Random {
     }
 }
 
-/// A batch of up to 20 of these datagrams, some of them damaged, and some from another address.
+/// Returns a batch of up to 20 of these datagrams, some of them damaged, and some from another
+/// address.
 fn batch_of(datagrams: &[Vec<u8>], random: &mut Random) -> Vec<(Vec<u8>, SocketAddr)> {
     let mut one = || {
         let mut bytes = datagrams[random.below(datagrams.len())].clone();

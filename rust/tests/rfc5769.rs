@@ -1,4 +1,4 @@
-//! The samples of RFC 5769, read and written through this crate.
+//! Tests that this crate parses and writes the samples of RFC 5769.
 use seatcrane_stun::types::message::*;
 use seatcrane_stun::types::prelude::*;
 

@@ -1,5 +1,5 @@
-//! What is recorded with the feature `tracing`: what was sent, how messages were judged, how requests
-//! ended, and no secret.
+//! Tests of the events that are recorded with the feature `tracing`: what was sent, how messages
+//! were judged, how requests ended, and no secret.
 #![cfg(feature = "tracing")]
 use seatcrane_stun::Instant;
 use seatcrane_stun::agent::{StunAgent, StunAgentPollRet};

@@ -1,6 +1,6 @@
-//! What endpoints record with the feature `tracing`: one event for each datagram that is judged,
-//! with its source, its transaction ID and the verdict, one for each end of a request, and no
-//! secret.
+//! Tests of the events that endpoints record with the feature `tracing`: one for each datagram that
+//! is judged, with its source, its transaction ID and the verdict, one for each request that ends,
+//! and no secret.
 #![cfg(feature = "tracing")]
 use seatcrane_stun::Instant;
 use seatcrane_stun::endpoint::ice::{Check, Checker, Role};
@@ -31,7 +31,7 @@ fn there() -> SocketAddr {
     THERE.parse().unwrap()
 }
 
-/// The subscriber of the process, which all tests share: so they run as one.
+/// The subscriber of the process. All tests share it, so they run as one test.
 struct Trace(Lines);
 
 impl Trace {
@@ -47,7 +47,8 @@ impl Trace {
         (returned, events)
     }
 
-    /// The call judges these bytes, which came from `from`, and records so in one event.
+    /// Checks that a call judges these bytes, which came from `from`, and records the verdict in
+    /// one event.
     fn judges<T>(&self, wanted: &str, bytes: &[u8], from: &str, call: impl FnOnce() -> T) -> T {
         let (returned, events) = self.events(call);
         let id = MessageHeader::from_bytes(bytes).map_or(String::new(), |header| {
@@ -60,12 +61,12 @@ impl Trace {
         returned
     }
 
-    /// Returns the bytes that a client sends, of which one event tells.
+    /// Returns the bytes that a client sends, and checks that one event records them.
     fn sent(&self, client: &mut Client, again: &str, request: u64) -> Vec<u8> {
         self.sent_at(client, Instant::ZERO, again, request)
     }
 
-    /// The same of what it sends at this time.
+    /// Like `sent`, but the client sends at this time.
     fn sent_at(&self, client: &mut Client, now: Instant, again: &str, request: u64) -> Vec<u8> {
         let (bytes, events) = self.events(|| match client.poll(now) {
             Output::Transmit { bytes, .. } => bytes.to_vec(),
@@ -80,7 +81,7 @@ impl Trace {
         bytes
     }
 
-    /// A request of the client ends in this way, and records so in one event.
+    /// Checks that a request of the client ends in this way, and that one event records it.
     fn ends(&self, client: &mut Client, now: Instant, request: u64, wanted: &str) {
         let (_, events) = self.events(|| match client.poll(now) {
             Output::Ended(..) => {}
@@ -121,7 +122,8 @@ fn binding() -> Vec<u8> {
     Message::builder_request_with_id(BINDING, [4; 12].into(), MessageWriteVec::new()).finish()
 }
 
-/// A Binding request with a signature, for an attribute that a server does not understand.
+/// Returns a signed request, with an attribute that the server does not understand if `unknown` is
+/// true.
 fn signed(server: &Server, method: Method, unknown: bool) -> Vec<u8> {
     let mut page = Message::builder_request_with_id(method, [5; 12].into(), MessageWriteVec::new());
     if unknown {
@@ -140,8 +142,7 @@ fn signed(server: &Server, method: Method, unknown: bool) -> Vec<u8> {
     page.finish()
 }
 
-/// Each datagram that is judged at a server is recorded once, in the same way by each call that
-/// judges.
+/// Each call of a server that judges a datagram records it once, with the same verdict.
 fn servers_record_each_datagram(trace: &Trace) {
     let (server, users) = server();
     let allocate = Method::new(3).unwrap();
@@ -248,7 +249,7 @@ fn servers_without_a_realm_record_each_datagram(trace: &Trace) {
     }
 }
 
-/// A response that somebody forges, and a challenge that cannot be answered.
+/// Returns a forged response, and a challenge that cannot be answered.
 fn forged(request: &[u8]) -> [Vec<u8>; 2] {
     let request = Message::from_bytes(request).unwrap();
     let mut success = Message::builder_success(&request, MessageWriteVec::new());
@@ -259,9 +260,9 @@ fn forged(request: &[u8]) -> [Vec<u8>; 2] {
     [success.finish(), challenge.finish()]
 }
 
-/// A client with this password asks a server, while somebody forges responses. Returns when it has
-/// no more to send. The server refuses a wrong password twice: the first refusal is dropped, and
-/// the message goes on by its timer.
+/// Makes a client with this password send a request to a server, while an attacker forges
+/// responses. Returns when the client has no more to send. The server refuses a wrong password
+/// twice: the first refusal is dropped, and the message is sent again by its timer.
 fn client_asks(trace: &Trace, client: &mut Client, request: u64) {
     let (server, users) = server();
     let (mut at, mut again, mut is_signed) = (Instant::ZERO, "", false);
@@ -306,7 +307,7 @@ fn client_asks(trace: &Trace, client: &mut Client, request: u64) {
     }
 }
 
-/// Each way in which requests end is recorded once.
+/// However a request ends, its end is recorded once.
 fn clients_record_each_end(trace: &Trace) {
     let mut alice = client("wonderland");
     client_asks(trace, &mut alice, 0);

@@ -1,4 +1,4 @@
-//! Streams of TURN, data on channels, and users of limited time.
+//! Tests of streams of TURN, data on channels, and users whose names expire.
 
 mod pair;
 
@@ -46,7 +46,7 @@ fn channel_data() {
             let read = ChannelData::from_bytes(bytes).unwrap();
             assert_eq!((read.channel(), read.data()), (0x4abc, &most[..length]));
         }
-        // Not whole.
+        // An incomplete message.
         for cut in [0, 1, 3, 3 + length]
             .into_iter()
             .filter(|cut| *cut < bytes.len())
@@ -60,7 +60,8 @@ fn channel_data() {
     assert_eq!(shown, "ChannelData(0x4001, 6 bytes)");
 }
 
-/// A stream that is cut anywhere gives the frames that it was made of.
+/// A stream that arrives in pieces is cut into the frames that it was made of, wherever the pieces
+/// end.
 #[test]
 fn streams_are_cut_where_frames_end() {
     for seed in 0..times("STREAMS", 200) {
@@ -114,7 +115,7 @@ fn streams_that_cannot_be_read() {
         4
     );
     assert_eq!(pushed(FrameBuffer::for_turn(), b"\x80"), not_stun);
-    // By the header alone, and of a whole message.
+    // A header alone, and a whole message.
     for bytes in [&MESSAGE[..20], MESSAGE] {
         assert_eq!(pushed(FrameBuffer::new().longest(27), bytes), too_long);
         assert_eq!(pushed(FrameBuffer::for_turn().longest(27), bytes), too_long);
@@ -131,7 +132,7 @@ fn streams_that_cannot_be_read() {
     );
 }
 
-/// A push between two pops moves no byte more than once in the mean.
+/// If each pop is followed by a push, each byte is moved at most once on average.
 #[test]
 fn a_full_buffer_is_emptied_in_linear_time() {
     let mut buffer = FrameBuffer::for_turn();

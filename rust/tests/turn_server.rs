@@ -1,5 +1,5 @@
-//! The core of `examples/turn_server` under a simulated clock, behind an endpoint, with ports that
-//! are only counted.
+//! Tests of the core of `examples/turn_server` with a simulated clock and an endpoint in front, and
+//! with ports that are only numbers.
 
 #[path = "../examples/turn_server/relay.rs"]
 #[allow(dead_code, reason = "some of it is for TCP clients and for the command line")]
@@ -17,7 +17,7 @@ use std::collections::HashSet;
 use std::net::SocketAddr;
 use std::time::Duration;
 
-/// Ports in their order. Those of `busy` cannot be opened.
+/// Opens ports in ascending order. Those in `busy` cannot be opened.
 #[derive(Default)]
 struct Counted {
     open: HashSet<SocketAddr>,
@@ -85,7 +85,7 @@ fn to(peer: &str) -> Body {
 }
 
 fn channel(number: u16, peer: &str) -> Body {
-    // A number that CHANNEL-NUMBER does not allow is written all the same.
+    // A number that CHANNEL-NUMBER does not allow is written too.
     let raw = [number.to_be_bytes(), [0, 0]].concat();
     to(peer)
         .add(&RawAttribute::new(AttributeType::CHANNEL_NUMBER, &raw))
@@ -97,7 +97,7 @@ impl Bench {
         Bench::with(false)
     }
 
-    /// With names that expire, or without.
+    /// Creates a bench. The names of its users expire if `has_expiry` is true.
     fn with(has_expiry: bool) -> Bench {
         let server = Server::builder(LongTerm::new("r", [1; 32])).understands(&understood());
         let server = server.build().unwrap();
@@ -149,7 +149,8 @@ impl Bench {
         }
     }
 
-    /// Makes a request by the library's client. Returns the success, or the code.
+    /// Makes a request with the library's client, and returns the success, or the code of the
+    /// error.
     fn ask(&mut self, of: (&str, u16), method: TurnMethod, body: Body) -> Result<Response, u16> {
         self.seed += 1;
         let user = Credentials::long_term(of.0, "w");
@@ -167,7 +168,7 @@ impl Bench {
                     let answer = self.receive(link(of.1), &bytes);
                     let _ = client.receive(&answer, server, now);
                 }
-                // A user who is refused is believed to be refused after a retransmission.
+                // The client believes a refusal of its user only after a retransmission.
                 Output::Wait(Some(until)) => now = until,
                 Output::Ended(_, Ok(response)) => return Ok(response),
                 Output::Ended(_, Err(RequestError::Refused(error))) => return Err(error.code()),
@@ -364,7 +365,7 @@ fn lifetimes_are_clamped_and_expire() {
         Some(Instant::ZERO + Duration::from_secs(600))
     );
     bench.pass(600);
-    assert_eq!(bench.code(("alice", 1), Refresh, body()), 437); // before it is swept
+    assert_eq!(bench.code(("alice", 1), Refresh, body()), 437); // before it is removed
     assert_eq!(bench.relay.ports.open.len(), 2);
     assert_eq!(
         lifetime(&bench.ask(("alice", 2), Refresh, body()).unwrap()),
@@ -381,7 +382,7 @@ fn lifetimes_are_clamped_and_expire() {
     bench.pass(2400);
     assert_eq!(bench.relay.expire(bench.now), None);
     assert!(bench.relay.ports.open.is_empty());
-    bench.allocate(1); // and alice's count is none
+    bench.allocate(1); // and alice's count is 0
 }
 
 #[test]
@@ -411,7 +412,9 @@ fn permissions_are_of_an_address_for_five_minutes() {
         (peer, data.attribute::<Data>().unwrap().data()),
         (at("8.8.4.4:7"), &b"data"[..])
     );
-    assert_eq!(bench.code(ALICE, CreatePermission, to("8.8.1.1:1")), 0);
+    let one = to("8.8.1.1:1"); // two ports of a host count once
+    let one = one.add_xor_peer_address(at("8.8.1.1:2")).unwrap();
+    assert_eq!(bench.code(ALICE, CreatePermission, one), 0);
     assert_eq!(bench.code(ALICE, CreatePermission, to("8.8.2.2:1")), 508);
     bench.pass(299);
     assert_eq!(bench.send(1, "8.8.8.8:1"), Some(at("8.8.8.8:1")));

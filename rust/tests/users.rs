@@ -1,4 +1,4 @@
-//! Tables of users that can be asked and copied, and look-ups that outlive their datagram.
+//! Tests of calls that read and copy tables of users, and of look-ups that outlive their datagram.
 
 mod pair;
 
@@ -24,7 +24,7 @@ fn server(algorithms: &[IntegrityAlgorithm]) -> Server {
     Server::builder(long_term).answer_binding(true).build().unwrap()
 }
 
-/// A Binding request of a user, signed by the strongest algorithm of the server.
+/// Returns a Binding request of a user, signed with the strongest algorithm of the server.
 fn request(server: &Server, credentials: &LongTermCredentials, feature: Feature) -> Vec<u8> {
     let mut client = LongTermClientAuth::new();
     client.add_supported_integrity(Sha256);
@@ -45,7 +45,7 @@ fn request(server: &Server, credentials: &LongTermCredentials, feature: Feature)
     last
 }
 
-/// The bytes of the answer to a request, and whether it is a success.
+/// Returns the bytes of the answer to a request, and whether it is a success.
 fn answered(received: Received<'_>) -> (Vec<u8>, bool) {
     let Received::Answer(answer) = received else {
         panic!("no answer: {received:?}")

@@ -1,4 +1,5 @@
-//! Writers: a message that is written again, into a slice, and into a writer of a program's own.
+//! Tests of writers: a message that is written a second time, into a slice, and into a writer that
+//! a program defines.
 use IntegrityAlgorithm::{Sha1, Sha256};
 use seatcrane_stun::auth::*;
 use seatcrane_stun::extra::attribute::XorPeerAddress;
@@ -38,7 +39,7 @@ fn bytes_are_appended_that_were_not_reserved() {
     assert_eq!(part[..], b"\x80\x22\0\x06longer\0\0"[..]);
     assert_eq!((part.len(), part.room()), (12, 65552 - 12));
 
-    // Some were reserved, and more are appended.
+    // More bytes are appended than were reserved.
     part.reserve(2).unwrap();
     part.append(b"three");
     assert_eq!(part.reserve(65552 - 17), Ok(()));
@@ -100,8 +101,8 @@ fn a_slice_is_written_to() {
     );
 }
 
-/// A writer of a program's own: what is written comes after a length of two bytes, as over TCP in
-/// other protocols.
+/// A writer that a program defines: the message comes after its length in two bytes, as in other
+/// protocols over TCP.
 #[derive(Default)]
 struct Framed {
     message: MessageWriteVec,
@@ -195,7 +196,7 @@ fn an_attribute_of_a_type_may_be_added_again() {
     for peer in &peers {
         msg.add_another_attribute(peer).unwrap();
     }
-    // The first of a type is written as by the other call.
+    // The first attribute of a type is written as `add_attribute` would write it.
     let mut alone = request(1);
     alone.add_attribute(&peers[0]).unwrap();
     assert_eq!(msg[20..32], alone[20..]);
@@ -204,7 +205,7 @@ fn an_attribute_of_a_type_may_be_added_again() {
         Err(StunWriteError::AttributeExists(XorPeerAddress::TYPE))
     );
 
-    // It refuses what the other call refuses for another reason, and in the same order.
+    // The call fails with the other errors of `add_attribute`, in the same order.
     let before = msg.clone();
     let digest = RawAttribute::new(AttributeType::MESSAGE_INTEGRITY, &[0; 20]);
     assert_eq!(
@@ -228,7 +229,7 @@ fn an_attribute_of_a_type_may_be_added_again() {
     }
     assert_eq!(msg, signed);
 
-    // All are read again, in order.
+    // All attributes are parsed again, in their order.
     let msg = Message::from_bytes(&msg).unwrap();
     assert!(msg.validate_integrity_with_key(b"key").is_ok());
     let read = msg
@@ -248,7 +249,7 @@ fn an_attribute_of_a_type_may_be_added_again() {
     assert_eq!(msg[..], alone[..]);
 }
 
-/// An attribute of a program's own, which appends these bytes whatever it says.
+/// An attribute that a program defines, which appends these bytes whatever length it states.
 struct Own {
     length: usize,
     padded: usize,
@@ -297,11 +298,11 @@ fn an_attribute_of_a_programs_own_never_shifts_what_follows() {
     };
     assert_eq!(add(4, 8, b"\x81\x23\0\x04abcd"), Some(true));
     assert_eq!(add(3, 8, b"\x81\x23\0\x03abc\0"), Some(true));
-    // Its header is forgotten, or its padding.
+    // The attribute lacks its header, or its padding.
     assert_eq!(add(4, 8, b"abcd"), None);
     assert_eq!(add(3, 8, b"\x81\x23\0\x03abc"), None);
     assert_eq!(add(3, 7, b"\x81\x23\0\x03abc"), None);
-    // It appends more, less or nothing, also where it says how many bytes those are.
+    // It appends more bytes, fewer or none, even if it states their number.
     assert_eq!(add(4, 8, b"\x81\x23\0\x04abcdefgh"), None);
     assert_eq!(add(4, 12, b"\x81\x23\0\x04abcdefgh"), None);
     assert_eq!(add(8, 12, b"\x81\x23\0\x04abcd"), None);

@@ -1,7 +1,7 @@
 /* The calls on an agent, with arguments that only C can pass: handles that are empty, full, moved
- * or freed twice; numbers, addresses and IDs that no call accepts; and buffers of exactly the
- * right size. Each error is tested before those that come after it. How the calls answer messages,
- * and refused allocations, is tested by the transcripts (tests/play.py). */
+ * or freed twice; numbers, addresses and IDs that no call accepts; and buffers of exactly the right
+ * size. The order of the errors is tested, too. How the calls answer messages, and refused
+ * allocations, is tested by the transcripts (tests/play.py). */
 #include "refusals.h"
 
 static void empty_agents(void) {
@@ -60,7 +60,7 @@ static void make_agents(void) {
     want_no_blocks("agents");
 }
 
-/* A handle may be moved by its bytes, and handles share nothing. */
+/* A handle may be moved by copying its bytes, and handles share nothing. */
 static void move_and_share(void) {
     stunp_agent one = {0}, two = {0}, moved;
     stunp_address local = address_of(1), remote = address_of(2), peer;
@@ -83,8 +83,8 @@ static void move_and_share(void) {
     want_no_blocks("move_and_share");
 }
 
-/* Addresses and ids of lengths that they cannot have, messages that are none, and rooms that are
- * too small. */
+/* Addresses and ids of lengths that they cannot have, bytes that are not messages, and buffers that
+ * are too small. */
 static void agents(void) {
     stunp_agent agent = {0};
     stunp_address local = address_of(1), remote = address_of(2), other = address_of(3),
@@ -137,8 +137,8 @@ static void agents(void) {
     want_no_blocks("agents");
 }
 
-/* The time-outs of a new agent are those that have a name. They are 500 ms, twice as long each
- * time, 7 transmissions, and 8 s at the end. */
+/* The time-outs of a new agent are the named defaults. They are 500 ms, twice as long each time, 7
+ * transmissions, and 8 s at the end. */
 static void defaults(bool are_named) {
     static const uint64_t due[] = {500, 1500, 3500, 7500, 15500, 31500, 39500};
     const stunp_timeouts timeouts = STUNP_DEFAULT_TIMEOUTS;
@@ -162,8 +162,8 @@ static void defaults(bool are_named) {
     want_no_blocks("defaults");
 }
 
-/* A poll waits an hour at most, 0 transmissions are one, and without a bound each wait doubles,
- * however long. */
+/* A poll waits an hour at most, 0 transmissions count as one, and without a bound each wait
+ * doubles, however long it is. */
 static void waits(void) {
     const uint64_t hour = 3600 * SECOND;
     const stunp_timeouts once = {SIZE, SECOND, SECOND, 3 * hour, 0}, unbounded = {SIZE, hour,
@@ -197,8 +197,8 @@ static void waits(void) {
     want_no_blocks("waits");
 }
 
-/* Time-outs with which a request would be sent again without a wait are refused, and those that
- * come next to them are not. */
+/* Time-outs with which a request would be sent again without a wait are refused. The nearest ones
+ * that have a wait are not. */
 static void no_waits(void) {
     static const stunp_timeouts refused[] = {
         {SIZE, 0, 0, 0, UINT32_MAX}, {SIZE, 0, 0, 0, 2}, {SIZE, 0, SECOND, SECOND, 7}, {SIZE,
@@ -245,8 +245,8 @@ static void no_waits(void) {
     want_no_blocks("waits");
 }
 
-/* Of time-outs and of counts of another size no other field is read or written. That is refused
- * before a wait that is missing. */
+/* If the size in a struct of time-outs or counts is wrong, no other field is read or written. This
+ * error comes before that of a missing wait. */
 static void sizes(void) {
     static const size_t others[] = {0, 1, SIZE - 1, SIZE + 1, SIZE_MAX};
     const stunp_timeouts timeouts = STUNP_DEFAULT_TIMEOUTS;
@@ -258,7 +258,7 @@ static void sizes(void) {
     want("send_request", stunp_agent_send_request(&agent, request.bytes, request.length, &remote,
          0), 0);
     for (size_t i = 0; i < sizeof others / sizeof *others; i++) {
-        /* Nothing but the size is there: a sanitizer sees each further byte that is read. */
+        /* The block holds the size alone, so a sanitizer reports each further byte that is read. */
         stunp_timeouts *cut = malloc(sizeof cut->size);
         stunp_statistics *short_counts = malloc(sizeof short_counts->size);
         if (cut == NULL || short_counts == NULL) exit(1);
@@ -283,7 +283,7 @@ static void sizes(void) {
     want_no_blocks("sizes");
 }
 
-/* Peers are counted and forgotten, without memory. */
+/* Counting and forgetting peers allocates nothing. */
 static void peers(void) {
     stunp_agent agent = {0};
     stunp_address local = address_of(1), one = address_of(2), two = address_of(3);
@@ -305,7 +305,7 @@ static void peers(void) {
     want_no_blocks("peers");
 }
 
-/* A null pointer is a handle that is freed already, and stands for what has no bytes. */
+/* A null pointer counts as a handle that is already freed, and as data without bytes. */
 static void nulls(void) {
     stunp_agent agent = {0};
     stunp_server server = {0};

@@ -49,7 +49,7 @@ static void reads(void) {
     CHECK(type == 7 && length == 7, 1);
 }
 
-/* Cursors that no walk leaves, types that no attribute has, and a header without its message. */
+/* Cursors that no walk can leave, types that no attribute has, and a header without its message. */
 static void walks(void) {
     const size_t whole = sizeof response - 1;
     stunp_cursor outside[] = {{1, 0}, {19, 0}, {whole + 1, 0}, {SIZE_MAX, 9}},
@@ -107,7 +107,8 @@ static void writes(void) {
     CHECK(stunp_add(out, 64, 64, 65536, BYTES("a")), STUNP_BAD_ARGUMENT);
 }
 
-/* The user of RFC 8489, B.1: a refusal leaves the key that was written. */
+/* The user of RFC 8489, B.1. A call that is refused does not change the key that was written
+ * before. */
 static void writes_keys(void) {
     static const char key[] = "\xdd\x29\x5a\x61\x3b\x90\x58\xc3\xc2\x3d\x6d\xc7\x16\x5b\xda\x07"
                               "\x23\x04\xd9\x89\xc9\xd0\xaf\x3a\x8c\x7e\x18\x4b\x4f\x9b\xb4\xa1";
@@ -129,8 +130,8 @@ static void writes_keys(void) {
     CHECK(out[32], 0xa5);
 }
 
-/* The call that writes a whole request: its longest one, and each refusal before those that come
- * after it. */
+/* The call that writes a whole request: the longest one that it writes, and each refusal, which
+ * comes before the later ones. */
 static void builds(void) {
     static uint8_t bytes[514], out[STUNP_LONGEST_SIGNED];
     const uint8_t *id = response_id;
@@ -153,7 +154,7 @@ static void builds(void) {
     CHECK(stunp_verify(out, 48, bytes, 0), STUNP_SHA1);
 }
 
-/* Numbers that are none of their enum, which C++ does not let pass. */
+/* Numbers that are not in their enum, which C++ does not accept. */
 static void refuses_numbers(void) {
 #ifndef __cplusplus
     uint8_t out[64];
@@ -171,7 +172,7 @@ static void refuses_numbers(void) {
 #endif
 }
 
-/* A null pointer whose length is 0 is nothing to read, or no room. */
+/* A null pointer with the length 0 stands for nothing to read, or for no room. */
 static void reads_nothing(void) {
     stunp_header header;
     stunp_cursor cursor = {0, 0};
@@ -241,7 +242,7 @@ static void writes_nothing(void) {
     CHECK(stunp_error_text(0, NULL, 0), STUNP_BUFFER_TOO_SMALL);
 }
 
-/* The text of the archive is that of the header, in any buffer that has room for it. */
+/* The archive tells the same text as the header, in any buffer that has room for it. */
 static void tells_the_same(int64_t answer) {
     uint8_t text[STUNP_LONGEST_ERROR_TEXT + 1];
     const char *wanted = stunp_strerror(answer);
@@ -256,7 +257,7 @@ static void tells_the_same(int64_t answer) {
     CHECK(stunp_error_text(answer, text, whole), (int64_t)whole);
 }
 
-/* Each refusal has a text of its own, and no other number has one of these. */
+/* Each refusal has a text of its own, and no other number has one of these texts. */
 static void tells(void) {
     const int64_t last = STUNP_WRONG_HANDLE;
     for (int64_t i = last; i < 0; i++) {
@@ -281,7 +282,7 @@ static void tells(void) {
 
 int main(void) {
     CHECK(stunp_version(), STUNP_VERSION);
-    CHECK(stunp_release_0_2(), STUNP_VERSION);
+    CHECK(stunp_release_0_3(), STUNP_VERSION);
     reads();
     walks();
     writes();

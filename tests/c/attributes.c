@@ -9,8 +9,7 @@ static const uint8_t peer_6[16] = {0x20, 0x01, 0x0d, 0xb8, 0x12, 0x34, 0x56, 0x7
                                    0x33, 0x44, 0x55, 0x66, 0x77};
 static const uint8_t peer_4[4] = {192, 0, 2, 1};
 
-/* Two peers and a relayed address in one message, of which the walk comes to the second peer
- * too. */
+/* Two peers and a relayed address in one message. The walk returns the second peer too. */
 static void hides_addresses(void) {
     uint8_t message[128], octets[17] = {0};
     uint16_t port = 7, type = 0;
@@ -24,7 +23,7 @@ static void hides_addresses(void) {
     CHECK(stunp_add_xor_address(message, 128, 44, STUNP_XOR_RELAYED_ADDRESS, peer_4, 4, 32853), 56);
     CHECK(memcmp(message + 44, "\x00\x16\x00\x08", 4), 0);
     CHECK(memcmp(message + 48, response + 40, 8), 0);
-    /* A second of a type is not added by the library, but may be read. */
+    /* The library adds no second attribute of a type, but may read one. */
     CHECK(stunp_add_xor_address(message, 128, 56, STUNP_XOR_PEER_ADDRESS, peer_4, 4, 32853),
           STUNP_ATTRIBUTE_EXISTS);
     CHECK(stunp_add_xor_address(message, 128, 56, STUNP_XOR_MAPPED_ADDRESS, peer_4, 4, 32853), 68);
@@ -77,7 +76,7 @@ static void refuses_addresses(void) {
     CHECK(port, 7);
 }
 
-/* The same addresses not hidden, under two types of one form. */
+/* The same addresses, not hidden, in two types of attributes that have the same form. */
 static void shows_addresses(void) {
     uint8_t message[128], octets[17] = {0};
     uint16_t port = 7;
@@ -147,8 +146,8 @@ static void reads_samples(void) {
     CHECK(number == 7, 1);
 }
 
-/* The least and the greatest number of each size, the first that is too great, and the sizes that
- * are none. */
+/* The least and the greatest number of each size, the first number that is too great, and sizes
+ * that no number has. */
 static void sizes(void) {
     for (size_t size = 0; size <= 20; size++) {
         const bool is_size = size == 1 || size == 2 || size == 4 || size == 8;
@@ -181,7 +180,7 @@ static void sizes(void) {
     CHECK(stunp_add_number(out, 64, 20, STUNP_PRIORITY, 1, SIZE_MAX), STUNP_BAD_ARGUMENT);
 }
 
-/* Each refusal of stunp_add, after those of the number. */
+/* Each refusal of stunp_add, which comes after those of the number. */
 static void refuses_numbers(void) {
     CHECK(stunp_begin(STUNP_REQUEST, STUNP_BINDING, id, 12, out, 20), 20);
     CHECK(stunp_add_number(out, 64, 65, STUNP_PRIORITY, (uint64_t)1 << 32, 4), STUNP_BAD_ARGUMENT);
@@ -196,7 +195,7 @@ static void refuses_numbers(void) {
     CHECK(stunp_add_number(out, 64, 36, STUNP_LIFETIME, 1, 4), STUNP_CLOSED);
 }
 
-/* ---- Texts and types, and each read by its type. */
+/* ---- Texts and types, each of which is read by its type. */
 
 static void reads_texts(void) {
     static const char name[] =
@@ -241,7 +240,7 @@ static void reads_types(void) {
     CHECK(types[0] == STUNP_PRIORITY && types[1] == STUNP_USERNAME && types[2] == 7, 1);
     CHECK(stunp_read_types(out, length, 52, NULL, 0), 3);
     CHECK(stunp_find_types(out, length, STUNP_USERNAME, types, 4), STUNP_MISSING_ATTRIBUTE);
-    /* Any type; an odd number of bytes; none; as many as an attribute holds. */
+    /* Any type, with an odd number of bytes, with none, and with as many as an attribute holds. */
     CHECK(stunp_find_types(BYTES(request), STUNP_PRIORITY, types, 4), 2);
     CHECK(types[0] == 0x6e00 && types[1] == 0x01ff, 1);
     CHECK(stunp_find_types(BYTES(request), STUNP_USERNAME, types, 4), STUNP_MALFORMED_ATTRIBUTE);
@@ -285,7 +284,7 @@ static void reads_by_type(void) {
 
 /* ---- A writer: what the single calls write, and the first refusal. */
 
-/* The samples again, but for the bytes that pad theirs. */
+/* The samples again. Only the bytes of the padding differ. */
 static void writes_samples(void) {
     stunp_writer writer = stunp_write(STUNP_REQUEST, STUNP_BINDING, id, out, 108);
     stunp_write_text(&writer, STUNP_SOFTWARE, "STUN test client");
@@ -340,7 +339,7 @@ static void keeps_the_first_refusal(void) {
     CHECK(memcmp(out, before, 32), 0);
 }
 
-/* It goes on with what another call wrote, or keeps why that failed. */
+/* A writer continues a message that another call wrote, or keeps the error of that call. */
 static void writes_on(void) {
     static const uint16_t known[257] = {STUNP_USERNAME};
     stunp_writer writer = stunp_write_on(

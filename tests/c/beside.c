@@ -1,6 +1,6 @@
-/* Includes the headers in one file with those of other STUN libraries: of libnice and coturn
- * (LIBNICE, COTURN), or of libre (LIBRE), which cannot be combined with libnice's own. Each
- * library reads a request that the other one wrote. check.sh builds it if they are installed. */
+/* Includes the headers in one file with those of other STUN libraries: libnice and coturn (LIBNICE,
+ * COTURN), or libre (LIBRE), whose headers cannot be combined with libnice's. Each library reads a
+ * request that the other one wrote. check.sh builds it if they are installed. */
 #ifdef LIBNICE
 #include <stun/stunagent.h>
 #include <stun/usages/bind.h>
@@ -12,7 +12,7 @@
 #include <turn/ns_turn_msg.h>
 #endif
 #ifdef LIBRE
-#include <stdint.h> /* which re.h wants */
+#include <stdint.h> /* re.h needs it */
 
 #include <re.h>
 #endif
@@ -21,7 +21,7 @@
 
 static const uint8_t some_id[STUNP_ID_LENGTH] = {1, 2, 3};
 
-/* What another library wrote is a request of ours. */
+/* Our library reads what another library wrote as a request. */
 static void reads(const char *whose, const uint8_t *bytes, size_t length) {
     stunp_header header;
     want(whose, stunp_parse(bytes, length), 0);

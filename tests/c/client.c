@@ -3,7 +3,7 @@
  * that is refused. */
 #include "fixture.h"
 #include "samples.h"
-#include "serve.h" /* the worked examples of stunp_endpoint.h, which check.sh takes out of it */
+#include "serve.h" /* the worked examples, which check.sh copies from stunp_endpoint.h */
 #include <sys/socket.h>
 #include <unistd.h>
 
@@ -65,7 +65,7 @@ static stunp_writer answer(uint32_t code, uint8_t *bytes) {
     return told;
 }
 
-/* Nothing is outstanding, and nothing is to be told. */
+/* No request is outstanding, and there is no event. */
 static void is_idle(stunp_endpoint_client *client, uint64_t now) {
     want("idle", polled(client, now), STUNP_WAIT);
     want("for ever", event.until == UINT64_MAX, true);
@@ -82,7 +82,8 @@ static void settings_in_order(void) {
     want("seed", stunp_endpoint_client_new(&full, &settings), STUNP_BAD_ARGUMENT);
     settings = good, settings.password = NULL;
     want("password", stunp_endpoint_client_new(&full, &settings), STUNP_BAD_ARGUMENT);
-    /* A name or a password that was never filled is no sign that there is no user. */
+    /* A name or a password that was never filled in is refused, and does not mean that there is no
+     * user. */
     settings = good, settings.name = "";
     want("empty name", stunp_endpoint_client_new(&full, &settings), STUNP_BAD_ARGUMENT);
     settings.password = "";
@@ -132,7 +133,7 @@ static void settings_in_order(void) {
     stunp_endpoint_client_free(&full);
     stunp_endpoint_client_free(&full);
     stunp_endpoint_client_free(NULL);
-    /* What counts for a user alone. */
+    /* A field that counts only if there is a user. */
     settings = settings_of(NULL, NULL), settings.credentials = (stunp_credentials)9;
     client = client_with(&settings);
     stunp_endpoint_client_free(&client);
@@ -268,7 +269,7 @@ static void ends(void) {
     want_no_blocks("ends");
 }
 
-/* What is not for a client, and what it drops. */
+/* Datagrams that are not for a client, and those that it drops. */
 static void strangers(void) {
     stunp_endpoint_client client = client_of(NULL, NULL);
     uint8_t bytes[512];
@@ -291,7 +292,7 @@ static void strangers(void) {
     bytes[8] ^= 1;
     stunp_writer indication = stunp_write(STUNP_INDICATION, STUNP_BINDING, id, bytes + 256, 256);
     want("indication", heard(&client, &indication, 0, NULL), STUNP_IS_INDICATION);
-    /* One whose FINGERPRINT is wrong is dropped, and the request goes on. */
+    /* An answer whose FINGERPRINT is wrong is dropped, and the request stays outstanding. */
     want("none yet", stunp_endpoint_client_dropped(&client, number, &dropped), 1);
     want("count", dropped.count, 0);
     stunp_write_fingerprint(&told);
@@ -324,7 +325,8 @@ static void strangers(void) {
     want_no_blocks("strangers");
 }
 
-/* Signed by a key that both have: what is not signed so is dropped, and tells its code. */
+/* Messages are signed by a key that both sides have. One that is not signed by it is dropped, and
+ * its code is told. */
 static void short_term(void) {
     uint8_t bytes[512];
     const stunp_algorithm algorithms[] = {STUNP_SHA1, STUNP_SHA256};
@@ -421,7 +423,8 @@ static void user(void) {
     want("result", event.result, STUNP_RESULT_SUCCESS);
     want("which", (int64_t)event.request, (int64_t)number);
     want("signed", event.signed_by != 0, true);
-    /* The next request is signed from the start, and its body is what was added, in its order. */
+    /* The next request is signed from the start, and its body is what was added, in the same
+     * order. */
     ask(&client, STUNP_ALLOCATE, &body, 0);
     want("transmit", polled(&client, 0), STUNP_TRANSMIT);
     want("peer", stunp_find_xor_address(out, event.length, STUNP_XOR_PEER_ADDRESS, found.octets, 16,
@@ -433,7 +436,7 @@ static void user(void) {
     want("in order", out[20] << 8 | out[21], STUNP_XOR_PEER_ADDRESS);
     want_same("in order", out + 44, "\0\x0d\0\4\0\0\2\x58\xc0\xde\0\3abc\0", 16);
     stunp_endpoint_client_free(&client);
-    /* A wrong password: an unsigned request, and a signed one that is sent twice. */
+    /* With a wrong password an unsigned request is sent, and then a signed one, twice. */
     client = client_of("name", "another");
     ask(&client, STUNP_ALLOCATE, NULL, 0);
     want("datagrams", exchange(&client, &server, &users), 3);
@@ -507,7 +510,7 @@ static void bodies(void) {
     want_no_blocks("bodies");
 }
 
-/* Bytes that have no room are lost as a datagram is, and sent again. */
+/* If there is no room for the bytes, they are lost like a datagram, and are sent again. */
 static void room(void) {
     stunp_endpoint_client client = client_of(NULL, NULL);
     ask(&client, STUNP_BINDING, NULL, 0);
@@ -524,7 +527,7 @@ static void room(void) {
     want("it had room", (int64_t)event.needed, 0);
     const uint64_t sent = event.until;
     want("no event", stunp_endpoint_client_poll(&client, sent, NULL, 0, NULL), STUNP_WAIT);
-    /* Of a response that is lost the request and the result are told. */
+    /* If there is no room for a response, its request and its result are still told. */
     uint8_t bytes[512];
     stunp_writer told = answer(0, bytes);
     want("read", heard(&client, &told, sent, NULL), STUNP_IS_RESPONSE);
@@ -535,7 +538,7 @@ static void room(void) {
     want("needed", (int64_t)event.needed, (int64_t)told.length);
     want("request", (int64_t)event.request, 0);
     want("result", event.result, STUNP_RESULT_SUCCESS);
-    /* After each other error too there is no event of before. */
+    /* After each other error, too, the event of an earlier call is gone. */
     event.kind = STUNP_TRANSMIT, event.length = 9;
     stunp_endpoint_client none = {0};
     want("empty", stunp_endpoint_client_poll(&none, 0, out, 9, &event), STUNP_EMPTY_HANDLE);
@@ -551,7 +554,8 @@ static void room(void) {
     want_no_blocks("room");
 }
 
-/* Many requests are due at once. An answer that is read between two of them ends its own. */
+/* Many requests are due at once. An answer that is read between two of them ends the request that
+ * it answers. */
 static void many(void) {
     enum { REQUESTS = 300 };
     stunp_endpoint_client client = client_of(NULL, NULL);
@@ -574,7 +578,8 @@ static void many(void) {
     want_no_blocks("many");
 }
 
-/* Each allocation of a request with a user is refused once: nothing breaks, and the client goes on. */
+/* Each allocation of a request with a user is refused once. Nothing breaks, and the client can
+ * still be used. */
 static void memory(void) {
     for (size_t n = 1, failed = 1; failed > 0; n++) {
         uint8_t bytes[512];
@@ -606,7 +611,8 @@ static void memory(void) {
     }
 }
 
-/* The attributes of TURN whose numbers are not in all of their four bytes (RFC 8656, section 18). */
+/* The attributes of TURN whose number takes up only some of their four bytes (RFC 8656, section
+ * 18). */
 static void turn_bodies(void) {
     static const uint8_t wanted[] = {0x00, 0x19, 0, 4, 17, 0, 0, 0, 0x00, 0x0c, 0, 4,
                                      0x4f, 0xff, 0, 0, 0x00, 0x17, 0, 4, 2, 0, 0, 0,
@@ -630,7 +636,8 @@ static void turn_bodies(void) {
     want("small", stunp_body_add_channel_number(&body, 0x4000), STUNP_BUFFER_TOO_SMALL);
 }
 
-/* A keepalive is due at its time, once however late it is asked, and never if it is none. */
+/* A keepalive is due at its time, only once however late the call comes, and never if none was
+ * set. */
 static void keepalives(void) {
     const uint64_t second = 1000 * MILLISECOND;
     stunp_keepalive every = stunp_keepalive_every(15 * second, 100);
@@ -669,7 +676,7 @@ static void keepalives(void) {
     want_same("id", bytes + 8, seed, 12);
 }
 
-/* The worked example of the header, against a peer at the other end of a pair of sockets. */
+/* The worked example of the header, run against a peer at the other end of a pair of sockets. */
 static void worked(void) {
     int ends_of[2];
     stunp_address found = {{0}, 0, 0};

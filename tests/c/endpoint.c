@@ -1,7 +1,7 @@
-/* The calls of the endpoint: what only C can pass, each refusal in its order, what a datagram comes
- * to, replies, and memory that is refused. */
+/* The calls of the endpoint: what only C can pass, each refusal in its order, the result for each
+ * kind of datagram, replies, and memory that is refused. */
 #include "fixture.h"
-#include "serve.h" /* the worked example of stunp_endpoint.h, which check.sh takes out of it */
+#include "serve.h" /* the worked example, which check.sh copies from stunp_endpoint.h */
 
 static const uint64_t NOW = 1700000000, LAST = 1099511627776;
 
@@ -49,7 +49,7 @@ static int64_t judge(const struct realm *realm, const struct message *message, u
                                          message->length, &from, now, out, room, received);
 }
 
-/* A request of the client, with an attribute or none, signed where it can be. */
+/* A request of the client, with an attribute or none, signed if the client can sign it. */
 static struct message request(struct realm *realm, uint32_t number, uint32_t type,
                               bool has_fingerprint) {
     struct message message = message_of(STUNP_REQUEST, number);
@@ -63,7 +63,8 @@ static struct message request(struct realm *realm, uint32_t number, uint32_t typ
     return message;
 }
 
-/* What a call that failed leaves: no kind of before, no length, and what the answer needed. */
+/* What a failed call leaves: no kind of an earlier call, no length, and the number of bytes that
+ * the answer needed. */
 static void want_failed(const char *name, const stunp_received *received, size_t needed) {
     want(name, received->kind, STUNP_FAILED);
     want("no length", (int64_t)received->length, 0);
@@ -72,7 +73,7 @@ static void want_failed(const char *name, const stunp_received *received, size_t
          | received->name_length | received->is_hash, 0);
 }
 
-/* The first request draws a 401, by which the client is challenged. */
+/* The first request is answered by a 401, which challenges the client. */
 static void take_challenge(struct realm *realm, uint64_t now) {
     stunp_received received = STUNP_INIT(stunp_received);
     struct message plain = message_of(STUNP_REQUEST, 1);
@@ -109,7 +110,7 @@ static void settings_in_order(void) {
     want("31 days", stunp_endpoint_server_new(&full, &settings), STUNP_FULL_HANDLE);
     settings.nonce_seconds = 2592000;
     want("30 days", stunp_endpoint_server_new(&server, &settings), STUNP_NOT_TEXT);
-    /* Secrets that nobody has filled, and one that is given twice. */
+    /* Secrets that nobody has filled in, and one that is passed twice. */
     uint8_t repeated[32], almost[32];
     for (int byte = 0; byte < 256; byte++) {
         memset(repeated, byte, 32), memcpy(almost, repeated, 32), almost[31] ^= 1;
@@ -213,7 +214,7 @@ static void receiving_in_order(void) {
     before = received, before.size--, before.length = 9, before.name_length = 9;
     none.users.is_full = false;
     want("no users", judge(&none, &plain, LAST + 1, 0, &before), STUNP_EMPTY_HANDLE);
-    /* A struct of another size may have other fields behind these two. */
+    /* A struct with another size may have other fields after these two. */
     want("failed", before.kind, STUNP_FAILED);
     want("no length", (int64_t)before.length, 0);
     want("left", (int64_t)before.name_length, 9);
@@ -234,7 +235,7 @@ static void receiving_in_order(void) {
     before.kind = 1;
     want("size", judge(&realm, &plain, NOW, sizeof out, &before), STUNP_BAD_ARGUMENT);
     want("failed", before.kind, STUNP_FAILED);
-    /* After an answer each error leaves no kind, no code and no length of it. */
+    /* Each error leaves no kind, no code and no length of the answer before. */
     none.server.is_full = false;
     for (int i = 0; i < 4; i++) {
         want("an answer", judge(&realm, &plain, NOW, sizeof out, &received), STUNP_ANSWER);
@@ -307,7 +308,7 @@ static void kinds(void) {
     free_realm(&realm);
 }
 
-/* Two results that are the same, whatever the padding between their fields is. */
+/* Compares two results without the padding between their fields. */
 static void want_same_result(const stunp_received *one, const stunp_received *other) {
     const stunp_reply *reply = &one->reply, *same = &other->reply;
     want("kind", one->kind, other->kind), want("why", one->why, other->why);
@@ -326,7 +327,8 @@ static void want_same_result(const stunp_received *one, const stunp_received *ot
     want("fingerprint", reply->has_fingerprint, same->has_fingerprint);
 }
 
-/* The cause of a message, whose code is the one of the answer. One call for both says the same. */
+/* The cause of a message, whose code is that of the answer. The call that judges and tells the
+ * cause at once says the same. */
 static int64_t cause_of(const struct realm *realm, const struct message *message,
                         const stunp_address *source, uint64_t now, uint32_t code) {
     static uint8_t bytes[STUNP_ANSWER_MAX];
@@ -347,7 +349,7 @@ static int64_t cause_of(const struct realm *realm, const struct message *message
     return cause;
 }
 
-/* What the call for both writes where it fails, and where it is not asked for both. */
+/* What the call for both writes if it fails, and if it is not asked for both. */
 static void causes_beside_errors(void) {
     stunp_endpoint_server_settings settings = settings_of(NULL, 0);
     struct realm realm = realm_of(&settings);
@@ -452,7 +454,7 @@ static void causes(void) {
 
 enum { BATCH = 12 };
 
-/* Random numbers that are the same in each run. */
+/* Random numbers, the same in each run. */
 static uint32_t drawn(uint32_t below) {
     static uint64_t state = 1;
     state = state * 6364136223846793005 + 1442695040888963407;
@@ -468,7 +470,7 @@ static struct message spoiled(const struct message *messages, uint32_t count) {
     return message;
 }
 
-/* Datagrams of a batch, with what each comes to by a call of its own. */
+/* Datagrams of a batch, with the result that a call of its own gives for each. */
 struct batch {
     struct message messages[BATCH];
     stunp_received received[BATCH], alone[BATCH];
@@ -477,7 +479,7 @@ struct batch {
     size_t count;
 };
 
-/* Draws a batch. One datagram in three has no place for its result. */
+/* Makes a random batch. One datagram in three has no place for its result. */
 static void draw(struct batch *batch, const struct message *messages, uint32_t count) {
     const stunp_address sources[] = {from, {{192, 0, 2, 1}, 3479, 4}, from, nowhere, from};
     batch->count = drawn(BATCH + 1);
@@ -485,7 +487,7 @@ static void draw(struct batch *batch, const struct message *messages, uint32_t c
         batch->messages[i] = spoiled(messages, count);
         memset(&batch->received[i], 0, sizeof batch->received[i]);
         batch->received[i].size = sizeof batch->received[i];
-        batch->received[i].kind = STUNP_LOOKUP; /* which no call here returns */
+        batch->received[i].kind = STUNP_LOOKUP; /* no call here returns it */
         batch->alone[i] = batch->received[i];
         batch->datagrams[i] = (stunp_datagram){batch->messages[i].bytes, batch->messages[i].length,
                                                sources[drawn(5)],
@@ -493,8 +495,8 @@ static void draw(struct batch *batch, const struct message *messages, uint32_t c
     }
 }
 
-/* Judges a batch in room for some bytes, and then its datagrams one by one in the same room. The
- * kinds of these are added to `seen`. */
+/* Judges a batch with room for some bytes, and then its datagrams one by one with the same room.
+ * Their kinds are added to `seen`. */
 static void want_batch(struct batch *batch, const struct realm *realm, size_t room,
                        uint32_t seen[9]) {
     static uint8_t bytes[BATCH * 512], single[BATCH * 512];
@@ -525,7 +527,7 @@ static void want_batch(struct batch *batch, const struct realm *realm, size_t ro
     }
     want("done", (int64_t)done, (int64_t)i);
     want("the answers", memcmp(bytes, single, sizeof bytes), 0);
-    /* What is left is as it was. */
+    /* The rest is unchanged. */
     for (i++; i < batch->count; i++) {
         stunp_judged unwritten;
         memset(&unwritten, 0x55, sizeof unwritten);
@@ -559,7 +561,7 @@ static void batches(void) {
     free_realm(&realm);
 }
 
-/* A request that the caller answers, and what the answer has. */
+/* A request that the caller answers, and what the answer contains. */
 static void replies(uint32_t algorithms, bool has_fingerprint) {
     const uint16_t understood[] = {STUNP_LIFETIME};
     stunp_endpoint_server_settings settings = settings_of(understood, 1);
@@ -574,7 +576,7 @@ static void replies(uint32_t algorithms, bool has_fingerprint) {
     want("algorithm", received.algorithm, wanted);
     want("name", (int64_t)received.name_length, 4);
     want_same("name", received.name, "name", 5);
-    /* Later: the server is gone. */
+    /* The same, after the server is freed. */
     stunp_reply reply = received.reply;
     stunp_reply_wipe(&received.reply);
     for (size_t i = 0; i < sizeof reply; i++)
@@ -636,7 +638,7 @@ static void whole_server(void) {
     want("added", stunp_endpoint_users_add_keys(&realm.users, "name", 4, NULL, 0, key, 32), 0);
     want("by a key", judge(&realm, &message, NOW, sizeof out, &received), STUNP_ANSWER);
     want("success", received.code, 0);
-    /* A new secret, with the one before and without. */
+    /* A new secret, with and without the one before. */
     stunp_endpoint_server_free(&realm.server);
     settings.secret = other_secret;
     want("another", stunp_endpoint_server_new(&realm.server, &settings), 0);
@@ -650,7 +652,8 @@ static void whole_server(void) {
     free_realm(&realm);
 }
 
-/* A datagram in two steps, with a user of a password, of keys, of another name, or nobody. */
+/* Judges a datagram in two steps, with a user who has a password, stored keys or another name, or
+ * with nobody. */
 static int64_t identify(const struct realm *realm, const struct message *message, uint64_t now,
                         size_t room, stunp_received *received) {
     return stunp_endpoint_server_identify(&realm->server, message->bytes, message->length, &from,
@@ -722,7 +725,7 @@ static void look_ups(bool is_hashed) {
     want("by another key", resume(&realm, &found, &message, &received), STUNP_ANSWER);
     want("401", received.code, 401);
     want("no such key", cause_for(&realm, &found, &message, NOW), STUNP_CAUSE_WRONG_CREDENTIALS);
-    /* Without a nonce that was sent to the address nobody is looked up. */
+    /* If the request has no nonce that was sent to its address, nobody is looked up. */
     want("later", identify(&realm, &message, NOW + 7200, sizeof out, &received), STUNP_ANSWER);
     want("438", received.code, 438);
     /* Each refusal in its order. */
@@ -785,7 +788,8 @@ static bool find_alice(const stunp_received *named, stunp_found_user *found) {
                           : named->name_length == 5 && memcmp(named->name, "alice", 5) == 0;
 }
 
-/* Each allocation in turn is refused: the call fails, and then gives what it gave. */
+/* Each allocation in turn is refused: the call fails, and the next call gives what it gave
+ * before. */
 static void each_allocation(void) {
     stunp_endpoint_server_settings settings = settings_of(NULL, 0);
     settings.answers_binding = true;
@@ -824,7 +828,7 @@ static stunp_endpoint_server_settings settings_alone(stunp_credentials credentia
     return settings;
 }
 
-/* Fields of a realm are refused there, and so are credentials that there are not. */
+/* Such settings may not have fields that need a realm, nor credentials that do not exist. */
 static void settings_without_realm(stunp_credentials credentials) {
     stunp_endpoint_server server = {0}, full = {0};
     stunp_endpoint_server_settings good = settings_alone(credentials), settings = good;
@@ -907,7 +911,7 @@ static void open_server(void) {
     want("a response", stunp_endpoint_server_receive(&server, NULL, message_of(STUNP_SUCCESS,
          3).bytes, 20, &from, 0, out, sizeof out, &received), STUNP_IS_RESPONSE);
     stunp_endpoint_server_free(&server);
-    /* Any table may be passed, and is not looked at. */
+    /* Any table may be passed, and it is not looked at. */
     want("worked", set_up_openly(&server), 0);
     stunp_endpoint_server_settings of_realm = settings_of(NULL, 0);
     struct realm realm = realm_of(&of_realm);
@@ -931,8 +935,8 @@ static struct message signed_by(stunp_message_class class, uint32_t number, cons
     return message;
 }
 
-/* A key of any length signs: one that is longer than a block of HMAC is hashed (RFC 2104, section
- * 2). The user is in a table, or is looked up. */
+/* A key of any length can sign. One that is longer than a block of HMAC is hashed (RFC 2104,
+ * section 2). The user is in a table, or is looked up. */
 static void password_of(size_t length, stunp_algorithm algorithm, bool is_looked_up) {
     static char password[300];
     stunp_endpoint_server_settings settings = settings_alone(STUNP_SHORT_TERM);
@@ -971,7 +975,7 @@ static void long_passwords(void) {
         }
 }
 
-/* A server with short-term credentials, and the tables that it takes. */
+/* A server with short-term credentials, and the tables that it accepts. */
 static void short_term_server(stunp_algorithm algorithm) {
     stunp_endpoint_server_settings settings = settings_alone(STUNP_SHORT_TERM);
     stunp_endpoint_server_settings of_realm = settings_of(NULL, 0);
@@ -1052,7 +1056,7 @@ static void short_term_server(stunp_algorithm algorithm) {
     free_realm(&realm);
 }
 
-/* The worked example: its one user is answered, and a method that it does not know is refused. */
+/* The worked example answers its one user, and refuses a method that it does not know. */
 static void worked(void) {
     stunp_endpoint_server server = {0};
     stunp_endpoint_users users = {0};
@@ -1083,7 +1087,7 @@ static void worked(void) {
 
 int main(void) {
     want("version", stunp_endpoint_version(), STUNP_VERSION);
-    want("release", stunp_endpoint_release_0_2(), STUNP_VERSION);
+    want("release", stunp_endpoint_release_0_3(), STUNP_VERSION);
     settings_in_order();
     users_in_order();
     receiving_in_order();

@@ -1,7 +1,7 @@
 /* FINGERPRINT, unknown attribute types, streams of messages, and channels of TURN. The calls are
- * tested with the samples of RFC 5769, with each of their bits flipped, with messages of many
- * types, and with streams that arrive in any pieces. The expected values are counted or spelled
- * here, and do not come from the library. */
+ * tested with the samples of RFC 5769, with each bit of the samples flipped, with messages of many
+ * types, and with streams that arrive in pieces of any size. The expected values are counted or
+ * spelled here, and do not come from the library. */
 #include "samples.h"
 
 /* ---- FINGERPRINT */
@@ -16,7 +16,7 @@ static void checks_samples(void) {
     CHECK(stunp_check_fingerprint(BYTES(long_term)), STUNP_NO_FINGERPRINT);
 }
 
-/* One bit changed, wherever it is: the message is refused, or has no right FINGERPRINT. */
+/* Whichever bit is changed, the message is refused, or its FINGERPRINT is not right. */
 static void notices_each_bit(void) {
     size_t wrong = 0;
     for (size_t i = 0; i < 3; i++)
@@ -28,7 +28,7 @@ static void notices_each_bit(void) {
                 answer = stunp_check_fingerprint(out, length);
             if (parsed < 0) CHECK(answer, parsed);
             CHECK(answer == STUNP_RIGHT_FINGERPRINT, 0);
-            /* Its own value, or the id that it covers. */
+            /* The value of FINGERPRINT is changed, or the id that it covers. */
             if (bit / 8 >= length - 4 || (bit / 8 >= 8 && bit / 8 < 20))
                 CHECK(answer, STUNP_WRONG_FINGERPRINT);
             wrong += answer == STUNP_WRONG_FINGERPRINT;
@@ -36,8 +36,8 @@ static void notices_each_bit(void) {
     CHECK(wrong > 1500, 1);
 }
 
-/* What it does not end, and what has another length, is misplaced; what follows the first is not
- * looked at. */
+/* A FINGERPRINT that does not end the message, or that has another length, is misplaced. What
+ * follows the first one is not looked at. */
 static void tells_misplaced(void) {
     static const struct { const char *bytes; size_t length; int64_t wanted; } attributes[] = {
         {"\x80\x28\x00\x04\0\0\0\0", 8, STUNP_WRONG_FINGERPRINT},
@@ -57,7 +57,7 @@ static void tells_misplaced(void) {
     }
 }
 
-/* The samples without it have it again, and verify as before. */
+/* The samples without their FINGERPRINT get it again, and verify as before. */
 static void adds_to_samples(void) {
     for (size_t i = 0; i < 3; i++) {
         const size_t length = samples[i].length;
@@ -77,7 +77,7 @@ static void adds_to_samples(void) {
     }
 }
 
-/* Each refusal before those that come after it, and the longest message. */
+/* Each refusal, which comes before the later ones, and the longest message. */
 static void refuses_fingerprints(void) {
     CHECK(stunp_begin(STUNP_INDICATION, STUNP_BINDING, id, 12, out, 28), 20);
     CHECK(stunp_add_fingerprint(out, 19, 20), STUNP_BAD_ARGUMENT);
@@ -98,9 +98,9 @@ static void refuses_fingerprints(void) {
     CHECK(stunp_check_fingerprint(out, 65552), STUNP_RIGHT_FINGERPRINT);
 }
 
-/* ---- Types that are not known. */
+/* ---- Unknown types */
 
-/* A request with an attribute of each of these types, and its length. */
+/* Writes a request with an attribute of each of these types, and returns its length. */
 static size_t request_of(const uint16_t *types, size_t count, uint8_t *message) {
     CHECK(stunp_begin(STUNP_REQUEST, STUNP_BINDING, id, 12, message, 20), 20);
     for (size_t i = 0; i < count; i++) {
@@ -122,14 +122,14 @@ static void tells_types(void) {
     CHECK(memcmp(told, wanted, sizeof wanted) == 0 && told[3] == 7, 1);
     CHECK(stunp_unknown_types(large, length, known, 0, told, 4), 5);
     CHECK(told[0] == 0x7fff && told[1] == 0x0006 && told[2] == 0x0024 && told[3] == 0x0001, 1);
-    /* More than have room. */
+    /* There are more types than there is room for. */
     memset(told, 0, sizeof told);
     CHECK(stunp_unknown_types(large, length, known, COUNT(known), told, 2), 3);
     CHECK(told[0] == 0x7fff && told[1] == 0x0024 && told[2] == 0, 1);
     CHECK(stunp_unknown_types(large, length, known, COUNT(known), told, 0), 3);
     CHECK(stunp_unknown_types(large, length, types, COUNT(types), told, 0), 0);
-    /* What follows an integrity attribute is not visible; PRIORITY is, and USERNAME and
-     * MESSAGE-INTEGRITY. */
+    /* What follows an integrity attribute is not visible. PRIORITY, USERNAME and MESSAGE-INTEGRITY
+     * are. */
     CHECK(stunp_unknown_types(BYTES(request), known, 0, told, 4), 3);
     CHECK(told[0] == STUNP_PRIORITY && told[1] == STUNP_USERNAME
           && told[2] == STUNP_MESSAGE_INTEGRITY, 1);
@@ -152,7 +152,8 @@ static void refuses_types(void) {
     }
 }
 
-/* The answer is what the single calls write, and a buffer that lacks one byte is left. */
+/* The answer is what the single calls write, and a buffer that is one byte too small is not
+ * changed. */
 static void writes_answer(const uint8_t *message, size_t length, const uint16_t *known,
                           size_t known_length, const uint8_t *types, size_t types_length) {
     static uint8_t wanted[40000];
@@ -202,8 +203,8 @@ static void answers_420(void) {
 
 /* ---- Streams */
 
-/* The messages of a stream that comes in pieces of so many bytes are those that are wanted, one
- * after the other. */
+/* A stream that arrives in pieces of `size` bytes gives the wanted messages, one after the
+ * other. */
 static void cuts(int64_t (*next)(const uint8_t *, size_t), const uint8_t *stream, size_t length,
                  size_t piece, const size_t *wanted, size_t count) {
     size_t came = 0, begin = 0, cut = 0;
@@ -318,7 +319,8 @@ static void tells_packets(void) {
 
 /* ---- Channels of TURN (RFC 8656, sections 12.4, 12.5, 18.1 and 18.8) */
 
-/* The bytes are spelled as section 12.4 draws them, and a buffer that lacks one is left. */
+/* The bytes are spelled as section 12.4 shows them, and a buffer that is one byte too small is not
+ * changed. */
 static void builds_channel_data(void) {
     static const struct { uint32_t channel; const char *data; bool is_padded; const char *bytes;
                           size_t length; } rows[] = {
@@ -349,7 +351,7 @@ static void builds_channel_data(void) {
     CHECK(stunp_build_channel_data(0x4000, large, 65535, true, out, sizeof out), 65540);
 }
 
-/* What is written is read again, also if bytes follow; one byte less is refused. */
+/* What is written can be read again, even if bytes follow it. With one byte less it is refused. */
 static void reads_channel_data(void) {
     uint16_t channel = 7;
     size_t length = 7;
@@ -375,7 +377,7 @@ static void reads_channel_data(void) {
     }
 }
 
-/* A request with one attribute of TURN, as its value is drawn in the RFC. */
+/* A request with one attribute of TURN, whose value is as the RFC shows it. */
 static int64_t numbered(uint32_t type, const char *value, size_t value_length,
                         int64_t (*number)(const uint8_t *, size_t)) {
     CHECK(stunp_begin(STUNP_REQUEST, STUNP_CHANNEL_BIND, id, 12, out, sizeof out), 20);

@@ -16,7 +16,7 @@ struct message { uint8_t bytes[2048]; size_t length; };
 
 static const uint32_t some_words[16] = {3, 1, 4, 1, 5, 9, 2, 6, 5, 3, 5, 8, 9, 7, 9, 3};
 
-/* Ends the program where an answer is another one than wanted. */
+/* Ends the program if an answer is not the wanted one. */
 static inline void want(const char *what, int64_t answer, int64_t wanted) {
     if (answer == wanted) return;
     fprintf(stderr, "%s: %lld (%s), not %lld (%s)\n", what, (long long)answer,
@@ -29,7 +29,7 @@ static inline void want_same(const char *what, const void *bytes, const void *wa
     want(what, memcmp(bytes, wanted, length) == 0, 1);
 }
 
-/* All blocks are given back. */
+/* Every block has been freed. */
 static inline void want_no_blocks(const char *what) {
     want(what, (int64_t)stunp_heap_blocks(), 0);
     want(what, (int64_t)stunp_heap_bytes(), 0);
@@ -37,7 +37,7 @@ static inline void want_no_blocks(const char *what) {
 
 static inline const char *text(const char *letters) { return letters; }
 
-/* The IPv4 address of a number. */
+/* The IPv4 address whose octets are a number. */
 static inline stunp_address address_of(uint32_t number) {
     stunp_address address = {{0}, 3478, 4};
     for (int i = 0; i < 4; i++) address.octets[i] = (uint8_t)(number >> (24 - 8 * i));
@@ -63,8 +63,8 @@ static inline void add_error(struct message *message, uint32_t code) {
     message->length = (size_t)length;
 }
 
-/* A server with the user `name` of the password `password`, and a client of that user: of
- * HMAC-SHA1, or of both. */
+/* A server with the user `name` and the password `password`, and a client of that user. Both use
+ * the same algorithms: HMAC-SHA1, or both. */
 struct pair { stunp_server server; stunp_client client; };
 
 static inline struct pair pair_of(uint32_t algorithms) {
@@ -85,7 +85,7 @@ static inline void free_pair(struct pair *pair) {
     stunp_client_free(&pair->client);
 }
 
-/* A request of the client, signed where it can be. */
+/* A request of the client, signed if the client can sign it. */
 static inline struct message request_of(struct pair *pair, uint32_t number) {
     struct message request = message_of(STUNP_REQUEST, number);
     int64_t length = stunp_client_sign(&pair->client, request.bytes, sizeof request.bytes,
@@ -95,7 +95,7 @@ static inline struct message request_of(struct pair *pair, uint32_t number) {
     return request;
 }
 
-/* The server's answer to a request of this number: a success, or an error of a code. */
+/* The server's answer to the request with this number: a success, or an error with a code. */
 static inline struct message answer_of(struct pair *pair, uint32_t number, uint32_t code,
                                        const stunp_address *to) {
     struct message answer = message_of(code == 0 ? STUNP_SUCCESS : STUNP_ERROR, number);
@@ -107,7 +107,7 @@ static inline struct message answer_of(struct pair *pair, uint32_t number, uint3
     return answer;
 }
 
-/* The first request draws a 401, which the client takes up. */
+/* The first request is answered by a 401, which challenges the client. */
 static inline void challenge(struct pair *pair, const stunp_address *from, uint64_t now) {
     struct message request = message_of(STUNP_REQUEST, 1);
     int64_t verdict = stunp_server_validate(&pair->server, request.bytes, request.length, from, now,
@@ -117,7 +117,7 @@ static inline void challenge(struct pair *pair, const stunp_address *from, uint6
     want("a 401", stunp_client_validate(&pair->client, answer.bytes, answer.length), STUNP_RESEND);
 }
 
-/* The next one is validated, and so is its answer. */
+/* The next request is validated, and so is its answer. */
 static inline void validate(struct pair *pair, const stunp_address *from, uint64_t now,
                             int64_t algorithm) {
     struct message request = request_of(pair, 2);

@@ -1,9 +1,9 @@
-/* The library without an operating system and without a C library: the functions that such a
- * program must have itself, and a server that judges a request. tests/rust_c.sh links it with the
- * archive alone. It ends with status 0 by a system call, which is its only one. */
+/* The library without an operating system and without a C library: the functions that a program
+ * must then define itself, and a server that judges a request. tests/rust_c.sh links this program
+ * with the archive alone. Its only system call ends it with status 0. */
 #include "stunp_state.h"
 
-/* The memory of the library: blocks of one array, of which none comes back. */
+/* The memory of the library: blocks of one array. None of them is used again. */
 static uint8_t memory[1 << 16];
 static size_t taken;
 
@@ -22,7 +22,8 @@ rattle_allocation rattle_realloc(void *at, size_t kept, size_t length, size_t al
 
 void rattle_dealloc(void *at) { (void)at; }
 
-/* What the library has of a C library. malloc is not called where the three are there. */
+/* The functions of a C library that the library uses. malloc is not called, since this program
+ * defines the three functions of stunp_state.h. */
 void *malloc(size_t length) { return (void)length, (void *)0; }
 void *realloc(void *at, size_t length) { return (void)at, (void)length, (void *)0; }
 void free(void *at) { (void)at; }
@@ -88,7 +89,7 @@ static long judged(void) {
     return taken > 0 ? 0 : 4;
 }
 
-/* The first instructions: a function may expect a stack as a call leaves it. */
+/* The first instructions. A function may expect the stack to be aligned as a call leaves it. */
 #if defined __x86_64__
 __asm__(".globl _start\n_start: xor %ebp, %ebp\n and $-16, %rsp\n call begun");
 #else

@@ -1,8 +1,8 @@
 /* The calls on a server and on a client, with arguments that only C can pass: handles that are
- * empty, full, moved or freed twice; numbers and addresses that no call accepts; bytes that are
- * not texts; and buffers of exactly the right size. Each error is tested before those that come
- * after it. How the calls answer messages, and refused allocations, is tested by the transcripts
- * (tests/play.py). The calls on an agent are in agents.c. */
+ * empty, full, moved or freed twice; numbers and addresses that no call accepts; bytes that are not
+ * texts; and buffers of exactly the right size. The order of the errors is tested, too. How the
+ * calls answer messages, and refused allocations, is tested by the transcripts (tests/play.py). The
+ * calls on an agent are in agents.c. */
 #include "refusals.h"
 
 /* ---- The server */
@@ -121,9 +121,9 @@ static void servers(void) {
     want_no_blocks("servers");
 }
 
-/* Where as many addresses are kept as may be, a message from another is refused, after what is no
- * message, and
- * changes nothing; those that are kept go on. */
+/* If as many addresses are kept as the limit allows, a message from another address is refused and
+ * changes nothing. Bytes that are not a message are refused first. Messages from the addresses that
+ * are kept are still judged. */
 static void most_addresses(void) {
     struct pair pair = pair_of(STUNP_SHA1);
     stunp_server *server = &pair.server;
@@ -162,7 +162,8 @@ static void most_addresses(void) {
     want_no_blocks("most_addresses");
 }
 
-/* Signing by a writer is signing, and comes to nothing where something was refused before. */
+/* Signing by a writer does what the plain call does, and does nothing if something was refused
+ * before. */
 static void writers(void) {
     struct pair pair = pair_of(STUNP_SHA1);
     stunp_address from = address_of(7);
@@ -188,8 +189,8 @@ static void writers(void) {
     want_no_blocks("writers");
 }
 
-/* Signing in each room up to what is enough: too little leaves the message. A realm that no
- * attribute can hold. */
+/* Signing with each size of the buffer up to one that is enough. If the buffer is too small, the
+ * message is not changed. A realm that no attribute can hold. */
 static void sign(void) {
     struct pair pair = pair_of(STUNP_SHA1);
     stunp_address from = address_of(7);
@@ -240,8 +241,8 @@ static void sign(void) {
     want_no_blocks("sign");
 }
 
-/* Signing takes no memory: where each allocation is refused, it answers the same, also of a message
- * as long as can be. */
+/* Signing allocates nothing: if every allocation is refused, it answers the same, even for the
+ * longest message. */
 static void sign_without_memory(void) {
     enum { MORE = 1024, MOST = STUNP_LONGEST_MESSAGE - STUNP_HEADER_LENGTH
            - STUNP_ATTRIBUTE_HEADER_LENGTH, LONG = MOST - MORE };
@@ -301,7 +302,7 @@ static void sign_without_memory(void) {
     want_no_blocks("sign_without_memory");
 }
 
-/* A forgotten address is met as a new one, and its blocks are given back, whoever was known
+/* A forgotten address is treated as a new one, and its blocks are freed, whoever was known
  * there. */
 static void forget(void) {
     struct pair pair = pair_of(STUNP_SHA1 | STUNP_SHA256);
@@ -334,7 +335,8 @@ static void forget(void) {
     want_no_blocks("forget");
 }
 
-/* Forgetting in steps: at two of five addresses each time, and from where the last step ended. */
+/* Forgetting in steps: each step looks at two of five addresses, and begins where the last step
+ * ended. */
 static void forget_in_steps(void) {
     enum { ADDRESSES = 5 };
     struct pair pair = pair_of(STUNP_SHA1);
@@ -366,7 +368,7 @@ static void forget_in_steps(void) {
     want_no_blocks("forget_in_steps");
 }
 
-/* An age is taken off the time, and a clock that is younger than the age forgets nobody. */
+/* The age is subtracted from the time. If the clock is less than the age, nobody is forgotten. */
 static void forget_by_age(void) {
     struct pair pair = pair_of(STUNP_SHA1);
     struct message request = message_of(STUNP_REQUEST, 9);
@@ -397,7 +399,7 @@ static void forget_by_age(void) {
     want_no_blocks("forget_by_age");
 }
 
-/* No signing adds more than with the longest realm, name and nonce, and both algorithms. */
+/* Signing adds the most with the longest realm, name and nonce, and both algorithms. */
 static void most_room(void) {
     enum { CHALLENGE = 816, BY_SERVER = 848, BY_CLIENT = 2104, EACH_ALGORITHM = 4,
            ERROR_LENGTH = 28 };
@@ -488,7 +490,7 @@ static void clients(void) {
     want("is_resend", stunp_is_resend(INT64_MIN) || stunp_is_resend(INT64_MAX), 0);
 }
 
-/* A handle that has an object of another type is refused by each call, and left as it was. */
+/* Each call refuses a handle that has an object of another type, and does not change it. */
 static void other_objects(void) {
     union handle {
         stunp_agent agent;
@@ -522,7 +524,7 @@ static void other_objects(void) {
             refuse_clients(&one->client, STUNP_WRONG_HANDLE);
             want("full", stunp_client_new(&one->client), STUNP_FULL_HANDLE);
         }
-        // (a call on two handles takes two)
+        // (a call on two handles has two)
         if (one != &user && one != &server) {
             want("no user", stunp_server_validate_user(&server.server, &byte, 1, &nowhere, 0,
                  some_words, &one->user), STUNP_WRONG_HANDLE);
@@ -545,11 +547,11 @@ static void other_objects(void) {
 
 static void versions(void) {
     want("the version", stunp_state_version(), STUNP_VERSION);
-    want("by its name", stunp_state_release_0_2(), STUNP_VERSION);
+    want("by its name", stunp_state_release_0_3(), STUNP_VERSION);
     want("of both archives", stunp_version(), stunp_state_version());
 }
 
-/* What is set once a challenge was taken up is for the next one. */
+/* What is set after a challenge was accepted applies to the next challenge. */
 static void late_settings(void) {
     struct pair pair = pair_of(STUNP_SHA1 | STUNP_SHA256);
     stunp_address from = address_of(7);

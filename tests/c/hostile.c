@@ -1,9 +1,9 @@
 /* What strangers may send, through each call that reads it. First come the messages of
  * bench/hostile.h. Then come mutations of the request of RFC 5769, section 2.1, whose attributes
- * are compared with a walk of this file's own. Last come mutations of requests and answers that are
- * rightly signed. Each is flush against memory that may not be touched, at its end and then at its
- * front. Nothing with a changed covered byte may be validated. check.sh builds this with an address
- * sanitizer where the compiler has one. */
+ * are compared with a walk of this file's own. Last come mutations of requests and answers whose
+ * signatures are right. Each message ends where memory that may not be touched begins, and then
+ * begins where such memory ends. No message may be validated if a byte that its signature covers
+ * was changed. check.sh builds this with an address sanitizer if the compiler has one. */
 #include "../../bench/hostile.h"
 #include "fixture.h"
 
@@ -48,7 +48,7 @@ static size_t mutate_attributes(uint8_t *message) {
     return length;
 }
 
-/* The visible attributes of a message, by this file's own walk: where their values are. */
+/* Where the values of the visible attributes of a message are, by this file's own walk. */
 struct found {
     size_t place, length;
     uint16_t type;
@@ -71,8 +71,8 @@ static size_t find_visible(const uint8_t *message, size_t length, struct found *
     return count;
 }
 
-/* A walk comes to the same attributes, and so does a search for each of their types to the first of
- * it. */
+/* A walk returns the same attributes, and a search for each of their types finds the first of that
+ * type. */
 static void walk_over(const uint8_t *message, size_t length, const struct found *found,
                       size_t count, long number) {
     stunp_cursor cursor = {0, 0};
@@ -96,7 +96,8 @@ static void walk_over(const uint8_t *message, size_t length, const struct found 
         fail("none is found", number);
 }
 
-/* A cursor of no walk: what it comes to is within the message, wherever it is. */
+/* A cursor that no walk has left. Wherever it is, each attribute that a walk from it returns lies
+ * within the message. */
 static void walk_anywhere(const uint8_t *message, size_t length, long number) {
     stunp_cursor cursor = {draw(2) == 0 ? draw(256) : SIZE_MAX - draw(4), draw(5)}, before = cursor;
     uint16_t type = 0;
@@ -116,7 +117,8 @@ static void walk_anywhere(const uint8_t *message, size_t length, long number) {
     }
 }
 
-/* The header by one call is that of three, whether or not what follows it stands. */
+/* One call reads the same header as three calls, whether or not what follows the header is well
+ * formed. */
 static void read_header(const uint8_t *message, size_t length, long number) {
     stunp_header header = {7, 7, 7, {0}};
     uint8_t id[12];
@@ -133,7 +135,8 @@ static void read_header(const uint8_t *message, size_t length, long number) {
         fail("another header than by three calls", number);
 }
 
-/* What the first visible FINGERPRINT of a message is, by this file's own sum. */
+/* Whether a message has a visible FINGERPRINT, and whether the first one is right, by this file's
+ * own checksum. */
 static int64_t find_fingerprint(const uint8_t *message, size_t length, const struct found *found,
                                 size_t count) {
     while (count > 0 && found->type != STUNP_FINGERPRINT) found++, count--;
@@ -146,8 +149,8 @@ static int64_t find_fingerprint(const uint8_t *message, size_t length, const str
     return (~sum ^ 0x5354554e) == stated ? STUNP_RIGHT_FINGERPRINT : STUNP_WRONG_FINGERPRINT;
 }
 
-/* The types that must be understood and are not, told in full, told in part, and refused in a
- * buffer that ends where memory does. */
+/* The types that must be understood and are unknown. They are told in full and in part, and the
+ * call refuses a buffer that is too small and that ends where memory does. */
 static void find_unknown(const uint8_t *message, size_t length, const struct found *found,
                          size_t count, long number) {
     static const uint16_t known[] = {STUNP_USERNAME, STUNP_MESSAGE_INTEGRITY, 0x0000};
@@ -180,7 +183,7 @@ static void find_unknown(const uint8_t *message, size_t length, const struct fou
             fail("another type is refused", number);
 }
 
-/* The value at a place as an address that is not hidden, and as a number. */
+/* The value at an offset, read as an address that is not hidden, and as a number. */
 static void read_plainly(const uint8_t *message, size_t length, size_t place, long number) {
     uint8_t octets[16], hidden[16];
     uint16_t port = 0, hidden_port = 0;
@@ -222,7 +225,8 @@ static void read_address(const uint8_t *message, size_t length, size_t place, bo
             fail("another address under the id", number);
 }
 
-/* A message may begin so: its first two bits, the last two of its length and its cookie are fixed. */
+/* Whether a message may begin with these bytes: its first two bits, the last two bits of its length
+ * and its cookie are fixed. */
 static bool may_begin(const uint8_t *message, size_t length) {
     static const uint8_t cookie[4] = {0x21, 0x12, 0xa4, 0x42};
     for (size_t i = 4; i < 8 && i < length; i++)
@@ -230,7 +234,7 @@ static bool may_begin(const uint8_t *message, size_t length) {
     return (length < 1 || message[0] < 64) && (length < 4 || message[3] % 4 == 0);
 }
 
-/* What a stream would have of the bytes hangs on the first 20 of them. */
+/* The next frame of a stream depends only on the first 20 of the bytes. */
 static void frame(const uint8_t *message, size_t length, long number) {
     stunp_header header = {0, 0, 0, {0}};
     int64_t answer = stunp_read_header(message, length, &header),
@@ -300,7 +304,7 @@ static void read_values(const uint8_t *message, size_t length, long number) {
         fail("another address", number);
 }
 
-/* An attribute and a digest more, in a buffer that ends where memory does. */
+/* Adds an attribute and a signature, in a buffer that ends where memory does. */
 static long write_more(const uint8_t *message, size_t length, long number) {
     struct found found[32];
     bool closed = false, named = false;
@@ -334,7 +338,7 @@ static long write_more(const uint8_t *message, size_t length, long number) {
     if (room < length + 32 ? signed_length != STUNP_BUFFER_TOO_SMALL
         : stunp_verify(buffer, (size_t)signed_length, (const uint8_t *)"key", 3) != STUNP_SHA1)
         fail("not signed", number);
-    /* FINGERPRINT ends it, signed or not. */
+    /* FINGERPRINT can end the message, whether or not it is signed. */
     size_t end = signed_length < 0 ? length + 8 : (size_t)signed_length;
     memcpy(before, buffer, room);
     int64_t ended = stunp_add_fingerprint(buffer, room, end);
@@ -377,7 +381,7 @@ static long walk(const uint8_t *message, size_t length, int64_t parsed) {
     return count;
 }
 
-/* Shows the message to an agent that asked by its id, and to one that did not. */
+/* Passes the message to an agent that sent a request with its id, and to one that did not. */
 static void handle(const uint8_t *message, size_t length, int64_t parsed) {
     uint8_t id[STUNP_ID_LENGTH];
     uint64_t until;
@@ -405,7 +409,8 @@ static void handle(const uint8_t *message, size_t length, int64_t parsed) {
          is_response ? 0 : STUNP_CANCELLED);
 }
 
-/* Through each call that reads without validating: the answers at both places are the same. */
+/* Passes the message through each call that reads without validating. The answers at both ends of
+ * memory are the same. */
 static int64_t read_all(const uint8_t *message, size_t length) {
     int64_t parsed = stunp_parse(placed(message, length, true), length);
     long count = walk(placed(message, length, true), length, parsed);
@@ -443,7 +448,8 @@ static void run_table(struct pair *pair) {
     }
 }
 
-/* Whether anything else was changed than the length in the header and what follows the digest. */
+/* Whether anything was changed other than the length in the header and what follows the
+ * signature. */
 static bool is_covered_changed(const uint8_t *message, size_t length, const struct message *of) {
     return length < of->length || memcmp(message, of->bytes, 2) != 0
         || memcmp(message + 4, of->bytes + 4, of->length - 4) != 0;

@@ -1,12 +1,12 @@
-/* An agent of ICE: what only C can pass, each refusal in its order, what a datagram comes to, two
- * agents that check each other, and memory that is refused. The samples are those of RFC 5769, where
- * the agent `h6vY` checks the agent `evtj`. */
+/* An ICE agent: what only C can pass, each refusal in its order, the result for each kind of
+ * datagram, two agents that check each other, and memory that is refused. The samples are those of
+ * RFC 5769, where the agent `h6vY` checks the agent `evtj`. */
 #include "fixture.h"
 #include "samples.h"
-#include "serve.h" /* the worked examples of stunp_endpoint.h, which check.sh takes out of it */
+#include "serve.h" /* the worked examples, which check.sh copies from stunp_endpoint.h */
 
 /* What the sample request says: the priority of RFC 8445, section 5.1.2.1, of a peer-reflexive
- * candidate, and the tie-breaker of an agent that is controlled. */
+ * candidate, and the tie-breaker of a controlled agent. */
 static const uint32_t PRIORITY = 0x6e0001ff;
 static const uint64_t THEIRS = 0x932ff9b151263b36;
 
@@ -39,7 +39,7 @@ static stunp_ice_checker h6vy(uint64_t tie_breaker, bool is_controlling) {
     return agent_of(&settings);
 }
 
-/* A text of so many letters. */
+/* A text with this number of letters. */
 static const char *letters(char *text, size_t count) {
     memset(text, 'x', count);
     text[count] = 0;
@@ -87,7 +87,7 @@ static void settings_in_order(void) {
     stunp_ice_checker_free(NULL);
 }
 
-/* The calls that look at nothing but the agent. */
+/* The calls that use nothing but the agent. */
 static void plain_calls(void) {
     stunp_ice_checker empty = {0}, agent = evtj(1, true);
     want("controls", stunp_ice_checker_is_controlling(&agent), 1);
@@ -108,7 +108,7 @@ static void plain_calls(void) {
     want("no agent", stunp_ice_checker_set_tie_breaker(&empty, 2), STUNP_EMPTY_HANDLE);
     want("no agent", stunp_ice_checker_set_role(&empty, true), STUNP_EMPTY_HANDLE);
     want("still none", empty.is_full, false);
-    /* A handle of another kind has no agent, and that of an agent no server. */
+    /* A handle of another kind has no agent, and the handle of an agent has no server. */
     stunp_endpoint_server as_server = {agent.is_full, agent.state};
     stunp_endpoint_users users = {0};
     want("of an agent", stunp_endpoint_users_new(&users, &as_server), STUNP_WRONG_HANDLE);
@@ -129,14 +129,14 @@ static void plain_calls(void) {
     stunp_ice_checker_free(&agent);
 }
 
-/* The sample request at `evtj`, and what its answer is. */
+/* The sample request arrives at `evtj`, and its answer is compared. */
 static void sample_request(void) {
     stunp_ice_received got = STUNP_INIT(stunp_ice_received);
     got.priority = 1, got = STUNP_ANEW(stunp_ice_received);
     want("anew", got.size == sizeof got && got.priority == 0, true);
     uint8_t octets[16];
     uint16_t port;
-    /* They control, and the sample says that its sender is controlled. */
+    /* This agent is controlling, and the sample says that its sender is controlled. */
     stunp_ice_checker agent = evtj(1, true);
     want("sample", stunp_ice_checker_receive(&agent, BYTES(request), &from, NULL, out, sizeof out,
          &got), STUNP_ANSWER);
@@ -153,7 +153,8 @@ static void sample_request(void) {
     want("seen", port, from.port);
     want("id", memcmp(out + 8, id, STUNP_ID_LENGTH), 0);
     stunp_ice_checker_free(&agent);
-    /* Both are controlled: the larger tie-breaker controls, and one that is equal counts as such. */
+    /* Both agents are controlled: the one with the larger tie-breaker becomes controlling. A
+     * tie-breaker that is equal counts as the larger one. */
     const struct { uint64_t ours; uint32_t outcome; } conflicts[] = {
         {THEIRS + 1, STUNP_ICE_ACCEPTED}, {THEIRS, STUNP_ICE_ACCEPTED},
         {THEIRS - 1, STUNP_ICE_PEER_SWITCHES},
@@ -175,7 +176,7 @@ static void sample_request(void) {
     }
 }
 
-/* The sample responses at `h6vY`. */
+/* The sample responses arrive at `h6vY`. */
 static void sample_responses(void) {
     stunp_ice_received got = STUNP_INIT(stunp_ice_received);
     stunp_ice_checker agent = h6vy(THEIRS, false);
@@ -201,7 +202,8 @@ static void sample_responses(void) {
                                    0x33, 0x44, 0x55, 0x66, 0x77}, 32853, 16};
     want("valid", got.outcome, STUNP_ICE_VALID);
     want_same("seen", &got.mapped, &seen_6, sizeof seen_6);
-    /* From elsewhere; the same address in its other spelling; to another check, and to none. */
+    /* A response from another address, one from the same address in its other spelling, one to
+     * another check, and one to no check. */
     stunp_address elsewhere = from;
     elsewhere.port++;
     want("elsewhere", stunp_ice_checker_receive(&agent, BYTES(response), &elsewhere, &check, NULL, 0,
@@ -269,8 +271,8 @@ static void refusals_in_order(void) {
          STUNP_OUT_OF_MEMORY);
     stunp_heap_bound(SIZE_MAX);
     want_same("it has failed", &got, &as_it_was, sizeof got);
-    /* The answer is 64 bytes: header, address, signature and FINGERPRINT. The check that has no room
-     * would switch the role. */
+    /* The answer is 64 bytes: header, address, signature and FINGERPRINT. The check would switch
+     * the role, but its answer has no room. */
     memset(out, 0xaa, sizeof out);
     want("no room", stunp_ice_checker_receive(&agent, BYTES(request), &from, NULL, out, 63, &got),
          STUNP_BUFFER_TOO_SMALL);
@@ -285,7 +287,7 @@ static void refusals_in_order(void) {
     stunp_ice_checker_free(&agent);
 }
 
-/* A check to `evtj` with what is changed of it. */
+/* A check to `evtj`, of which some attributes are changed. */
 static size_t check_with(uint8_t *bytes, const char *name, bool has_priority, uint32_t unknown,
                          const char *signs, stunp_algorithm algorithm) {
     stunp_writer check = stunp_write(STUNP_REQUEST, STUNP_BINDING, id, bytes, 512);
@@ -342,7 +344,7 @@ static void checks_of_the_peer(void) {
     stunp_ice_checker_free(&agent);
 }
 
-/* An agent that makes an offer, and is checked before the answer to it arrives. */
+/* An agent that makes an offer, and that receives a check before the answer to the offer. */
 static void before_the_answer(void) {
     uint8_t bytes[512], answer[512];
     stunp_ice_settings settings = settings_of("evtj", "h6vY", 1, true);
@@ -394,7 +396,7 @@ static void before_the_answer(void) {
     stunp_ice_checker_free(&knowing);
 }
 
-/* A check with attributes of the caller. */
+/* A check with attributes that the caller adds. */
 static void further_attributes(void) {
     enum { PLAIN = 88, NETWORK_COST = 0xc057 };
     uint8_t plain[PLAIN], room[64];
@@ -435,7 +437,7 @@ static void further_attributes(void) {
     stunp_ice_checker_free(&right);
 }
 
-/* Which attributes a check cannot have, and in which order it is refused. */
+/* Which attributes a check cannot have, and the order of the refusals. */
 static void refused_attributes(void) {
     static const struct { uint32_t type; int64_t refusal; } rows[] = {
         {STUNP_USERNAME, STUNP_ATTRIBUTE_EXISTS}, {STUNP_PRIORITY, STUNP_ATTRIBUTE_EXISTS},
@@ -484,7 +486,7 @@ static void refused_attributes(void) {
     want("not whole", stunp_ice_checker_check_body_with(&agent, id, &from, 1, false, room, 7, out, 0,
          &check), STUNP_BAD_ARGUMENT);
     /* The longest message has 65552 bytes: 56 before the attribute, and 32 of the signature and
-     * FINGERPRINT after it. The last one does not fit itself. */
+     * FINGERPRINT after it. The last attribute is too long by itself. */
     const struct { uint16_t value; int64_t answer; } lengths[] = {
         {65460, STUNP_BUFFER_TOO_SMALL}, {65464, STUNP_MESSAGE_TOO_LONG},
         {65532, STUNP_MESSAGE_TOO_LONG},
@@ -502,7 +504,7 @@ static void refused_attributes(void) {
     stunp_ice_checker_free(&alone);
 }
 
-/* What is neither a check nor its answer. */
+/* Datagrams that are neither a check nor an answer to one. */
 static void drops(void) {
     stunp_ice_received got = STUNP_INIT(stunp_ice_received);
     stunp_ice_checker agent = evtj(1, true);
@@ -540,7 +542,7 @@ static void drops(void) {
     stunp_ice_checker_free(&agent);
 }
 
-/* The response of `evtj` with these attributes, at `h6vY` that checked it in a role. */
+/* The response of `evtj` with these attributes, read by `h6vY`, which sent the check in a role. */
 static stunp_ice_received response_to(stunp_ice_checker *agent, const stunp_ice_check *check,
                                       uint32_t code, uint32_t unknown) {
     uint8_t bytes[512];
@@ -607,7 +609,7 @@ static void longest(void) {
     stunp_ice_checker_free(&agent);
 }
 
-/* Two agents that begin in one role, by the worked example. */
+/* Two agents that begin in the same role, run by the worked example. */
 static void worked(bool both_control) {
     stunp_ice_checker left = evtj(1, both_control), right = h6vy(2, both_control);
     const stunp_address left_at = {{192, 0, 2, 1}, 1, 4}, right_at = {{192, 0, 2, 2}, 2, 4};
@@ -640,7 +642,8 @@ static void worked(bool both_control) {
     stunp_ice_checker_free(&right);
 }
 
-/* Each allocation in turn is refused: the call fails, and then gives what it gave. */
+/* Each allocation in turn is refused: the call fails, and the next call gives what it gave
+ * before. */
 static void each_allocation(void) {
     const stunp_ice_settings settings = settings_of("evtj", "h6vY", THEIRS, false);
     stunp_ice_received got = STUNP_INIT(stunp_ice_received);

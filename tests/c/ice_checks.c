@@ -1,5 +1,5 @@
-/* Checks of ICE with their timers, and lines of candidates. Addresses in lines are compared with those
- * of the C library. */
+/* Checks of ICE with their timers, and lines of candidates. Addresses in lines are compared with
+ * those of the C library. */
 #include "fixture.h"
 #include "stunp_endpoint.h"
 #include <arpa/inet.h>
@@ -93,7 +93,8 @@ static void timers(void) {
     stunp_ice_event event;
     int64_t length = stunp_ice_checker_check(&agent, some_id, &right_at, PRIORITY, false, bytes,
                                              sizeof bytes, NULL);
-    /* Sent on until the end; not sent again after the third time, and with the same end. */
+    /* A check that is sent until its end, and one that is not sent again after the third time but
+     * has the same end. */
     for (size_t sent = 3; sent <= 7; sent += 4) {
         stunp_ice_new_check check = check_of(7);
         want("start", stunp_ice_checks_start(&checks, &check, 5), 0);
@@ -116,7 +117,7 @@ static void timers(void) {
         want("over", stunp_ice_checks_poll(&checks, UINT64_MAX, &event), STUNP_WAIT);
         want("ended", stunp_ice_checks_cancel(&checks, some_id), false);
     }
-    /* With further attributes, which need not outlive the call. */
+    /* A check with further attributes, which need not outlive the call. */
     uint8_t room[16], further[STUNP_ICE_CHECK_MAX];
     stunp_body body = stunp_body_on(room, sizeof room);
     want("cost", stunp_body_add_number(&body, 0xc057, 0x00010032, 4), 0);
@@ -148,7 +149,8 @@ static void timers(void) {
     stunp_ice_checker_free(&agent);
 }
 
-/* An answer ends its check once; by another path it fails, and what is not signed ends nothing. */
+/* An answer ends its check once. An answer on another path makes the check fail, and one that is
+ * not signed ends nothing. */
 static void answers(void) {
     static stunp_ice_outstanding stored[STORED];
     uint8_t answer[STUNP_ANSWER_MAX], out[STUNP_ANSWER_MAX];
@@ -196,7 +198,7 @@ static void answers(void) {
         want("cancel", stunp_ice_checks_cancel(&checks, other.id), true);
         want("none", (int64_t)stunp_ice_checks_outstanding(&checks), 0);
     }
-    /* A check of the peer with the ID of one of ours is answered, and ends nothing. */
+    /* A check of the peer that has the ID of one of our checks is answered, and ends nothing. */
     stunp_ice_new_check check = check_of(1);
     want("start", stunp_ice_checks_start(&checks, &check, 0), 0);
     int64_t length = stunp_ice_checker_check(&right, check.id, &left_at, PRIORITY, false, answer,
@@ -220,13 +222,14 @@ static struct datagram { bool is_there, is_to_left; uint8_t bytes[256]; size_t l
 static int ends[256];
 
 static void put_on_net(bool is_to_left, const uint8_t *bytes, size_t length) {
-    struct datagram *one = &net[random_below(COUNT(net))]; /* one that is there is lost */
+    struct datagram *one = &net[random_below(COUNT(net))]; /* a datagram that is already there is
+                                                            * lost */
     one->is_there = true, one->is_to_left = is_to_left, one->length = length;
     memcpy(one->bytes, bytes, length);
 }
 
-/* Two agents that both begin as the controlling one, over a net that loses, repeats and reorders:
- * each check that was started ends once, whatever is done with it. */
+/* Two agents that both begin as the controlling one, over a network that loses, repeats and
+ * reorders datagrams. Each check that was started ends once, whatever happens to its datagrams. */
 static void each_ends_once(uint64_t seed) {
     static stunp_ice_outstanding stored[2][STORED];
     stunp_ice_checker agents[2] = {agent_of(true, true), agent_of(false, true)};
@@ -261,7 +264,7 @@ static void each_ends_once(uint64_t seed) {
             else if (random_below(3) > 0) put_on_net(side == 1, event.bytes, event.length);
         }
         if (!one->is_there || one->is_to_left != (side == 0)) continue;
-        if (random_below(4) > 0) one->is_there = false; /* else it is repeated */
+        if (random_below(4) > 0) one->is_there = false; /* otherwise it is repeated */
         int64_t kind = stunp_ice_checks_receive(checks, one->bytes, one->length,
                                                 random_below(9) > 0 ? at : &elsewhere, from, now, out,
                                                 sizeof out, &got, &ended);
@@ -308,7 +311,7 @@ static void candidates(void) {
     want("line", strcmp(line, "candidate:2 1 udp 1694498815 192.0.2.3 45664 typ srflx raddr "
                               "203.0.113.141 rport 8998"), 0);
     want("length", written, (int64_t)strlen(line));
-    /* As a browser has it. */
+    /* As a browser writes it. */
     const char *const browser = "candidate:842163049 1 udp 1677729535 203.0.113.9 4242 typ srflx "
                                 "raddr 0.0.0.0 rport 0 generation 0 ufrag h6vY network-cost 999";
     want("browser", read_line(&candidate, browser), STUNP_ICE_LINE_READ);
@@ -325,6 +328,12 @@ static void candidates(void) {
     want("again", read_line(&again, line), STUNP_ICE_LINE_READ);
     is_word("extensions", again.extensions, again.extensions_length,
             "generation 0 ufrag h6vY network-cost 999");
+    /* Whatever separates two words, even a line break, is written as a space. */
+    want("break", read_line(&candidate, "candidate:1 1 udp 1 192.0.2.1 5 typ host ufrag  x\r\n"
+                                        "a=candidate:2\t1"), STUNP_ICE_LINE_READ);
+    want("one line", stunp_ice_candidate_write(&candidate, line, sizeof line), 64);
+    want("line", strcmp(line, "candidate:1 1 udp 1 192.0.2.1 5 typ host ufrag x a=candidate:2 1"),
+         0);
     want("without a value", read_line(&candidate,
          "candidate:1 1 udp 1 192.0.2.1 5 typ host ufrag"), STUNP_ICE_LINE_READ);
     want("none", stunp_ice_candidate_extension(&candidate, "ufrag", &length) == NULL, true);
@@ -332,7 +341,7 @@ static void candidates(void) {
          "rport 9 ufrag x"), STUNP_ICE_LINE_READ);
     want("no related", candidate.has_related, false);
     is_word("extensions", candidate.extensions, candidate.extensions_length, "ufrag x");
-    /* Each refusal, the first that applies. */
+    /* Each refusal. The first that applies is returned. */
     const struct { const char *line; stunp_ice_line why; } rows[] = {
         {"", STUNP_ICE_LINE_NO_CANDIDATE}, {"candidate", STUNP_ICE_LINE_NO_CANDIDATE},
         {"candidate:1 1 udp 1 192.0.2.1 5 typ", STUNP_ICE_LINE_NO_CANDIDATE},
@@ -383,7 +392,7 @@ static void candidates(void) {
     want("foundation", stunp_ice_candidate_write(&candidate, line, 99), STUNP_BAD_ARGUMENT);
 }
 
-/* Reads an address in a line, and compares it with what the C library reads; and writes it. */
+/* Reads an address in a line, compares it with what the C library reads, and writes it. */
 static void address_in_line(const char *text) {
     char line[256], wanted[INET6_ADDRSTRLEN];
     stunp_ice_candidate candidate;
@@ -396,7 +405,7 @@ static void address_in_line(const char *text) {
     want(text, candidate.address.length, family == AF_INET ? 4 : 16);
     want_same(text, candidate.address.octets, octets, sizeof octets);
     want("writes", stunp_ice_candidate_write(&candidate, line, sizeof line) > 0, true);
-    /* The C library also writes the obsolete IPv4-compatible addresses with points. */
+    /* The C library also writes the obsolete IPv4-compatible addresses with dots. */
     if (inet_ntop(family, octets, wanted, sizeof wanted) == NULL
         || (strchr(wanted, '.') != NULL && family == AF_INET6 && octets[11] != 0xff)) return;
     want(line, strncmp(line + 20, wanted, strlen(wanted)) == 0 && line[20 + strlen(wanted)] == ' ',

@@ -1,6 +1,7 @@
-/* Tests that what is installed is enough to build with: a message by the first archive, an agent
- * by the second or (ENDPOINT) a server by the third, and its memory, by libstunp_heap.a, by heap.c
- * (HEAP_SOURCE) or by this file (OWN_MEMORY). tests/install.sh builds it. Prints the version of the header. */
+/* Tests that the installed files are enough to build a program. It uses a message from the first
+ * archive, and an agent from the second or (ENDPOINT) a server from the third. Its memory comes
+ * from libstunp_heap.a, from heap.c (HEAP_SOURCE) or from this file (OWN_MEMORY). tests/install.sh
+ * builds it. Prints the version of the header. */
 #include <stdio.h>
 #include <stdlib.h>
 #ifdef ENDPOINT

@@ -1,5 +1,6 @@
-/* A datagram in a line (stunp_log.h): the samples of RFC 5769, what is no message, each byte that a
- * sender may choose, and each room. The lines are spelled here. */
+/* A datagram in a line (stunp_log.h): the samples of RFC 5769, bytes that are not a message, each
+ * byte that a sender may choose, and each size of the buffer. The expected lines are spelled
+ * here. */
 #include "samples.h"
 #include "stunp_log.h"
 
@@ -11,7 +12,7 @@ static void describes(const uint8_t *bytes, size_t length, const char *wanted) {
         fprintf(stderr, "log.c: '%s', not '%s'\n", told, wanted);
         exit(1);
     }
-    /* Any smaller room has the front of it, and the byte behind is left. */
+    /* A smaller buffer gets the front of the line, and the byte after the buffer is not changed. */
     for (size_t room = 1; room <= strlen(wanted) + 1; room++) {
         memset(cut, 7, sizeof cut);
         CHECK(stunp_describe(bytes, length, cut, room) == cut, 1);
@@ -41,7 +42,8 @@ static void describes_samples(void) {
               "107 bytes, no message: bytes are missing at the end");
 }
 
-/* An error response with what a TURN server reports, types without a name, and a method without. */
+/* An error response with what a TURN server reports, types without a name, and a method without a
+ * name. */
 static void describes_others(void) {
     stunp_writer writer = stunp_write(STUNP_ERROR, STUNP_ALLOCATE, (const uint8_t *)"abcdefghijkl",
                                       out, sizeof out);
@@ -66,7 +68,7 @@ static void describes_others(void) {
 }
 
 /* Each value of each length of each type is told, without a byte that a terminal would act on, and
- * the message is left as it was. */
+ * the message is not changed. */
 static void tells_nothing_else(void) {
     for (uint32_t type = 0; type < 65536; type += stunp_attribute_name(type) == NULL ? 7 : 1)
         for (size_t length = 0; length < 24; length++) {

@@ -1,5 +1,6 @@
 /* 100,000 addresses ask a server and are forgotten, and 100,000 requests are sent and end, each
- * twice. The second time takes no more memory than the first, and at the end no block is left. */
+ * twice. The second time uses no more memory than the first, and at the end every block has been
+ * freed. */
 #include "fixture.h"
 
 enum { MANY = 100000, ROUNDS = 2 };
@@ -86,7 +87,7 @@ static void requests(void) {
     want_no_blocks("requests");
 }
 
-/* An address that is named again takes no more memory. */
+/* An address that is named again uses no further memory. */
 static void peers(void) {
     enum { FEW = 100 };
     stunp_agent agent = {0};

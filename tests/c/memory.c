@@ -1,7 +1,7 @@
-/* Prints whose memory the library uses. tests/memory.sh links it in several ways, with FUNCTIONS
- * as its second part: the three functions of stunp_state.h, which print that they are called when
- * the first block is allocated, or with PART two of them. The program itself refers to none of
- * them. With PASSED it passes functions of its own. */
+/* Prints whose memory the library uses. tests/memory.sh links it in several ways. FUNCTIONS makes a
+ * second part of it: the three functions of stunp_state.h, or only two of them with PART, which
+ * print that they are called when the first block is allocated. The program itself does not refer
+ * to them. With PASSED it passes functions of its own. */
 #include "stunp_state.h"
 #include <stdio.h>
 #include <stdlib.h>
@@ -44,7 +44,7 @@ static void release(void *at) {
     free(at);
 }
 
-/* Functions are passed once, all three, and before the library allocates. */
+/* Functions can be passed only once, all three together, and before the library allocates. */
 static int pass(void) {
     if (stunp_set_memory(allocate, NULL, release) != STUNP_BAD_ARGUMENT) return 10;
     if (stunp_set_memory(allocate, realloc, release) != 0) return 11;

@@ -1,11 +1,11 @@
 /* A program that tests/next.sh builds with one library and runs with the next: a server, a client
- * and two agents of ICE, with structs that have grown meanwhile. What lies behind them must not
- * change. Prints a text of the library, and how many answers were right. */
+ * and two ICE agents, with structs that have grown meanwhile. What lies after them in memory must
+ * not change. Prints a text of the library, and how many answers were right. */
 #include "stunp_endpoint.h"
 #include <stdio.h>
 #include <stdlib.h>
 
-/* A result, and what lies behind it. */
+/* A result, and what lies after it. */
 static struct { stunp_received result; uint8_t behind[64]; } received;
 static struct { stunp_ice_received result; uint8_t behind[64]; } heard;
 static struct { stunp_event result; uint8_t behind[64]; } event;

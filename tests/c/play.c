@@ -3,18 +3,19 @@
  *
  * A line is the name of a call without `stun_`, with `-` for `_`, and its words in the order of its
  * arguments. A word is a number, bytes as hexadecimal digits, or `-` for none. An address is its
- * octets, `:` and its port. Of a buffer and of an output the word is its room, and of a buffer then
- * the message. A handle has no word, since there is one of each kind. The answer is that of the
- * call, how many allocations it asked for, and the outputs that it wrote, byte by byte.
+ * octets, `:` and its port. The word of a buffer or of an output is its size, and for a buffer the
+ * next word is the message. A handle has no word, since there is one of each kind. The line of the
+ * answer has what the call returned, how many allocations it asked for, and the outputs that it
+ * wrote, byte by byte.
  *
  *     reset      frees the handles, and answers how many blocks and bytes are held
  *     blocks     answers the same, and frees nothing
  *     refuse N   the n-th allocation from here on is refused; 0 for none
  *
- * What is passed stands in a block of its own length, what is written to in one of its own room. So
- * an address sanitizer sees each byte outside. After each call this program looks itself that
- * nothing was changed but what was written: nothing where the call refuses. A line that it cannot
- * read, or a byte that was changed, ends it. */
+ * Each input is in a block of its own length, and each output in a block of its own size, so that
+ * an address sanitizer reports each access outside. After each call this program itself checks that
+ * nothing was changed except what the call wrote, and nothing at all if the call refused. A line
+ * that it cannot read, or a byte that was changed, ends it. */
 #include "heap.h"
 #include "stunp_endpoint.h"
 #include "stunp_state.h"
@@ -31,7 +32,7 @@ static void fail(const char *why) {
     exit(1);
 }
 
-/* ---- What is passed: blocks, each with a copy of what was in it before the call. */
+/* ---- The arguments: blocks, each with a copy of what was in it before the call. */
 
 typedef struct {
     uint8_t *at, *before;
@@ -131,13 +132,13 @@ static const stunp_timeouts *timeouts(void) {
     return copied(&timeouts, sizeof timeouts);
 }
 
-/* Of a call that answers how many bytes it wrote. */
+/* For a call that returns how many bytes it wrote. */
 static int64_t wrote(block *out, int64_t answer) {
     out->written = answer > 0 ? (size_t)answer : 0;
     return answer;
 }
 
-/* Of a call that writes a value of its own, if it does. */
+/* For a call that writes a single value, if it writes it. */
 static void wrote_all(block *out, bool is_written) { out->written = is_written ? out->length : 0; }
 
 /* A call of its words, in the order of its arguments. */
@@ -193,7 +194,7 @@ CALL(long_term_key, uint32_t algorithm = short_number(); block *name = bytes();
 CALL(userhash, block *name = bytes(); block *realm = bytes(); block *out = output(),
      wrote(out, stunp_userhash(LETTERS(name), LETTERS(realm), ALL(out))))
 
-/* ---- The calls with state. What is made takes the place of the one before. */
+/* ---- The calls with state. A new object takes the place of the one before. */
 
 static stunp_agent agent;
 static stunp_server server;
@@ -329,13 +330,14 @@ CALL(client_sign, block *message = buffer(),
      wrote(message, stunp_client_sign(&client, USED(message))))
 CALL(client_validate, block *message = bytes(), stunp_client_validate(&client, ALL(message)))
 
-/* ---- The calls of the endpoint. The reply is that to the last request that was handed out. */
+/* ---- The calls of the endpoint. The reply answers the last request that was passed to the
+ * caller. */
 
 static stunp_endpoint_server endpoint_server;
 static stunp_endpoint_users endpoint_users;
 static stunp_reply reply;
 
-/* A number of 16 bits of each two bytes. */
+/* Makes a number of 16 bits from each two bytes. */
 static block *numbers(block *pairs) {
     block *made = block_of(pairs->length);
     for (size_t i = 0; i + 1 < pairs->length; i += 2) {
@@ -377,7 +379,7 @@ CALL(endpoint_users_add_keys, block *name = bytes(); block *sha1 = bytes(); bloc
 CALL(endpoint_users_remove, block *name = bytes(),
      stunp_endpoint_users_remove(&endpoint_users, LETTERS(name)))
 
-/* After an error a result says so, and has no length. Then it gets back what it had. */
+/* After an error a result says so, and has no length. Then its old contents are restored. */
 #define LEFT(result)                                                                       \
     if (kind < 0) {                                                                        \
         if ((uint32_t)(result)->kind != STUNP_FAILED || (result)->length != 0)             \
@@ -404,7 +406,7 @@ static int64_t endpoint_server_receive(void) {
     return kind;
 }
 
-/* The same in two steps, for a user who is looked up in between. */
+/* The same in two steps. The user is looked up between them. */
 static int64_t endpoint_server_identify(void) {
     static const stunp_received fresh = STUNP_INIT(stunp_received);
     block *message = bytes();
@@ -456,7 +458,7 @@ static int64_t reply_begin(void) {
     stunp_writer writer = code == 0 ? stunp_reply_success(&reply, ALL(out))
                                     : stunp_reply_error(&reply, code, reason, ALL(out));
     int64_t refusal = stunp_written(&writer);
-    if (refusal < 0) { /* the front of a message that is not wanted */
+    if (refusal < 0) { /* the front of a message that is not needed */
         memcpy(out->before, out->at, out->length);
         return refusal;
     }
@@ -471,7 +473,7 @@ static int64_t reply_finish(void) {
     return wrote(message, answer);
 }
 
-/* ---- An agent of ICE. */
+/* ---- An ICE agent. */
 
 static stunp_ice_checker ice_checker;
 
@@ -500,7 +502,7 @@ CALL(ice_is_controlling, (void)0, stunp_ice_checker_is_controlling(&ice_checker)
 CALL(ice_set_role, (void)0, stunp_ice_checker_set_role(&ice_checker, number() != 0))
 CALL(ice_set_tie_breaker, (void)0, stunp_ice_checker_set_tie_breaker(&ice_checker, number()))
 
-/* Answers the check and what is to be stored of it. */
+/* Answers the check, and what the caller must store about it. */
 static int64_t ice_check(void) {
     block *id = bytes();
     const stunp_address *to = address();
@@ -529,7 +531,7 @@ static int64_t ice_check_body(void) {
     return wrote(out, answer);
 }
 
-/* The check is what was stored of it, or nothing. */
+/* The check is given by what was stored about it, or by nothing. */
 static int64_t ice_receive(void) {
     static const stunp_ice_received fresh = STUNP_INIT(stunp_ice_received);
     block *message = bytes();
@@ -569,14 +571,27 @@ static int64_t endpoint_client_new(void) {
                                VALUE(uint16_t, types), types->length / 2, &options));
 }
 
-/* Answers the number of the request. */
+/* Answers the number of the request. Without options it is started by the call that has no
+ * parameter for them. */
 static int64_t endpoint_client_request(void) {
     uint32_t method = short_number();
     block *body = bytes();
+    stunp_request_options options = STUNP_INIT(stunp_request_options);
+    options.from = *address();
+    options.initial = number();
+    options.longest = number();
+    options.transmissions = short_number();
+    options.last = number();
+    options.is_unsigned = number() != 0;
     uint64_t now = number();
     block *request = block_of(sizeof(uint64_t));
-    int64_t answer = stunp_endpoint_client_request_with(&endpoint_client, method, ALL(body), now,
-                                                        VALUE(uint64_t, request));
+    bool is_plain = options.from.length == 0 && options.initial == 0 && !options.is_unsigned;
+    int64_t answer =
+        is_plain ? stunp_endpoint_client_request_with(&endpoint_client, method, ALL(body), now,
+                                                      VALUE(uint64_t, request))
+                 : stunp_endpoint_client_request_as_with(&endpoint_client, method, ALL(body),
+                                                         &options, now,
+                                                         VALUE(uint64_t, request));
     wrote_all(request, answer >= 0);
     return answer;
 }
@@ -673,7 +688,7 @@ static void print_bytes(const uint8_t *at, size_t length) {
     }
 }
 
-/* Looks at each block, prints what was written, and gives the blocks back. */
+/* Checks each block, prints what was written, and frees the blocks. */
 static void finish(int64_t answer) {
     for (block *one = blocks; one < blocks + block_count; one++) {
         size_t written = answer < 0 ? 0 : one->written;

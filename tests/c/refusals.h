@@ -1,5 +1,5 @@
-/* What only C can pass to a call with state, for its tests: an address and a transport that are
- * none, and messages that each call refuses. */
+/* What only C can pass to a call with state, for the tests of these calls: an address and a
+ * transport that are not valid, and messages that each call refuses. */
 #ifndef STUN_REFUSALS_H
 #define STUN_REFUSALS_H
 
@@ -7,11 +7,12 @@
 
 enum { CUT = 19, ID = STUNP_ID_LENGTH, ID_AT = 8, SIZE = sizeof(stunp_timeouts) };
 
-static const stunp_address nowhere = {{1, 2, 3, 4}, 5, 6}; /* of no length that an address has */
+static const stunp_address nowhere = {{1, 2, 3, 4}, 5, 6}; /* no address has this length */
 static const stunp_address none = {{0}, 0, 0};
 static const stunp_transport OTHER = (stunp_transport)2;
 
-/* The refusals of a message in their order: cut, no STUN, and with bytes after its end. */
+/* The refusals of a message in their order: one that is cut, one that is not STUN, and one with
+ * bytes after its end. */
 #define REFUSES_MESSAGES(what, call)                                                \
     do {                                                                            \
         struct message sound = message_of(STUNP_REQUEST, 77);                       \

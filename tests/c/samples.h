@@ -1,5 +1,5 @@
-/* The samples of RFC 5769, typed from it, for the tests of the calls on messages. How these tests
- * tell an answer that is not wanted. */
+/* The samples of RFC 5769, typed from it, for the tests of the calls on messages. CHECK reports an
+ * answer that is not the wanted one. */
 #ifndef STUN_SAMPLES_H
 #define STUN_SAMPLES_H
 

@@ -1,4 +1,5 @@
-/* Addresses of sockets as those of the library, and back. What inet_pton reads is expected. */
+/* Converts addresses of sockets to those of the library, and back. The expected bytes are those
+ * that inet_pton reads. */
 #include "stunp_sockaddr.h"
 #include <arpa/inet.h>
 #include <stdio.h>
@@ -12,7 +13,8 @@ static void check(bool is_right, const char *wanted, int line) {
     exit(1);
 }
 
-/* A socket address of a text, with a port; of IPv6 with a flow label and a scope. */
+/* Makes a socket address from a text and a port. An address of IPv6 gets a flow label and a scope,
+ * too. */
 static struct sockaddr_storage name_of(const char *text, uint16_t port) {
     struct sockaddr_storage name;
     struct sockaddr_in four;

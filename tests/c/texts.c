@@ -1,7 +1,8 @@
 /* The words of the headers: the names of attributes and methods, by the numbers that IANA has
  * registered, typed from its page "Session Traversal Utilities for NAT (STUN) Parameters", and the
  * texts of what is dropped, of causes and of results. Each value has a text, and no two have the
- * same. The two short calls of stunp.h that only name what another call does are here, too. */
+ * same. The two short calls of stunp.h that only give another call a shorter name are tested here,
+ * too. */
 #include "stunp_endpoint.h"
 #include "stunp_log.h"
 #include <stdio.h>
@@ -42,7 +43,7 @@ static const struct named methods[] = {
     {0x001, "Binding"}, {0x003, "Allocate"}, {0x004, "Refresh"}, {0x006, "Send"}, {0x007, "Data"},
     {0x008, "CreatePermission"}, {0x009, "ChannelBind"}};
 
-/* Each number below `end` has the name that the table has for it, or none. */
+/* Each number below `end` has the name from the table, or no name if the table has none. */
 static void names(const char *(*name_of)(uint32_t), const struct named *table, size_t count,
                   uint32_t end) {
     size_t at = 0;
@@ -61,7 +62,8 @@ static void names(const char *(*name_of)(uint32_t), const struct named *table, s
 static const char *drop(int64_t why) { return stunp_drop_text((stunp_drop)why); }
 static const char *result(int64_t value) { return stunp_result_text((stunp_result)value); }
 
-/* The values from 1 to `last` have texts of their own; 0 and what is behind have another one. */
+/* The values from 1 to `last` have texts of their own; 0 and the values after `last` have another
+ * one. */
 static void texts(const char *(*text_of)(int64_t), int64_t last) {
     for (int64_t value = 0; value <= last; value++) {
         const char *text = text_of(value);

@@ -1,7 +1,7 @@
-/* Handles that move from thread to thread. They are created in main, and passed to threads by a
- * queue with a mutex. One set of them goes through four threads in turn. One server of the
+/* Handles that move from thread to thread. They are created in main, and passed to threads through
+ * a queue with a mutex. Each set of handles passes through four threads in turn. One server of the
  * endpoint is used by four threads at the same time, while its users are replaced. Four threads
- * allocate from heap.c at the same time. check.sh runs it plain, and under ThreadSanitizer and
+ * allocate from heap.c at the same time. check.sh runs it alone, and under ThreadSanitizer and
  * helgrind if they are installed.
  *
  *     threads [ROUNDS] */
@@ -13,8 +13,8 @@ enum { THREADS = 4, SETS = 6, LONGEST = 200 };
 
 static uint32_t rounds = 200;
 
-/* Handles of each kind, which go together. Their bytes are copied, and the copy before is
- * forgotten. */
+/* Handles of each kind, which are passed on together. Their bytes are copied, and the older copy is
+ * not used again. */
 struct set {
     struct pair pair;
     stunp_agent agent;
@@ -47,7 +47,7 @@ static void use_agent(stunp_agent *agent, uint32_t number, uint64_t now) {
     want("ended", stunp_agent_handle(agent, answer.bytes, answer.length, &peer, now), 1);
 }
 
-/* The server challenges the client the first time, and validates it from then on. */
+/* The server challenges the client the first time, and validates its requests from then on. */
 static void use(struct set *set) {
     stunp_address from = address_of(100 + set->number);
     uint64_t now = set->uses * SECOND;
@@ -71,7 +71,7 @@ static void run_all(void *(*work)(void *)) {
     for (int i = 0; i < THREADS; i++) want("pthread_join", pthread_join(threads[i], NULL), 0);
 }
 
-/* ---- A queue, from which each thread takes the next set, and to whose end it gives it back. */
+/* ---- A queue. Each thread takes the next set from its front, and puts it back at its end. */
 
 static struct {
     pthread_mutex_t mutex;
@@ -88,7 +88,7 @@ static void put(const struct set *set) {
     pthread_mutex_unlock(&queue.mutex);
 }
 
-/* Takes the next set. False once all are done. */
+/* Takes the next set. Returns false once all sets are done. */
 static bool take(struct set *set) {
     pthread_mutex_lock(&queue.mutex);
     while (queue.number == 0 && queue.done_number < SETS)
@@ -152,12 +152,13 @@ static void in_turn(void) {
     want_no_blocks("in turn");
 }
 
-/* ---- One server that all threads share, and users that main replaces while they judge by them. */
+/* ---- One server that all threads share, and users that main replaces while the threads judge
+ * requests by them. */
 
 static struct {
     stunp_endpoint_server server;
     stunp_endpoint_users tables[2];
-    pthread_mutex_t mutex; /* of which table is used */
+    pthread_mutex_t mutex; /* the index of the table that is used */
     const stunp_endpoint_users *users;
 } shared = {.mutex = PTHREAD_MUTEX_INITIALIZER};
 
@@ -237,7 +238,8 @@ static void look_at(rattle_allocation block, size_t to, int own) {
         want("a byte", ((uint8_t *)block.at)[i], (uint8_t)(own + (int)i));
 }
 
-/* Takes a block, has it grow and shrink, and gives it back; refused or not. */
+/* Allocates a block, makes it grow and shrink, and frees it, even if some of these calls are
+ * refused. */
 static void *work_memory(void *number) {
     int own = *(int *)number;
     for (size_t i = 0; i < 10 * rounds; i++) {
@@ -258,7 +260,7 @@ static void *work_memory(void *number) {
     return number;
 }
 
-/* How many are refused of all that are asked for, with so much room. */
+/* Returns how many calls are refused if there is this much room. */
 static size_t refused_within(size_t bytes) {
     size_t before = stunp_heap_asked(), asked = 0, refused = 0;
     memset(counts, 0, sizeof counts);
@@ -271,8 +273,8 @@ static size_t refused_within(size_t bytes) {
     return refused;
 }
 
-/* With room for all, none is refused but the one that is to be; and with less, no bound is
- * passed. */
+/* If there is room for all, only the call that is chosen is refused. If there is less, the bound is
+ * never exceeded. */
 static void memory(void) {
     want("none is refused", (int64_t)refused_within(THREADS * 3 * LONGEST), 0);
     stunp_heap_refuse(THREADS * rounds);

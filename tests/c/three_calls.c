@@ -1,5 +1,5 @@
 /* A program of three calls: it writes a request to standard output, and reports whether standard
- * input has a success with an address. tests/rust_c.sh measures its size. */
+ * input is a success response with an address. tests/rust_c.sh measures its size. */
 #include "stunp.h"
 #include <stdio.h>
 

@@ -1,9 +1,9 @@
-/* A server to which each user is passed, with a password, with keys, or prepared: whom a message
- * names, how the server then answers, and arguments that only C can pass. */
+/* A server whose caller passes it each user, with a password, with keys, or prepared: whom a
+ * message names, how the server then answers, and arguments that only C can pass. */
 #include "refusals.h"
 
-/* A server without users, to which its caller hands the user in whom a message names: as one that
- * has the user. */
+/* A server without users, whose caller passes it the user that a message names. It answers like a
+ * server that has the user. */
 static void users_elsewhere(bool is_hidden) {
     const uint32_t both = STUNP_SHA1 | STUNP_SHA256;
     struct pair pair = pair_of(both);
@@ -119,7 +119,7 @@ static int64_t signs_by(stunp_server *server, struct message *message, size_t ro
                                      keys->sha256_length);
 }
 
-/* What is refused of stored keys, in its order; it changes nothing. */
+/* The refusals of stored keys, in their order. They change nothing. */
 static void refuses_keys(struct pair *pair, const struct message *request,
                          const stunp_address *from, const struct keys *right) {
     stunp_server *server = &pair->server;
@@ -170,7 +170,8 @@ static void refuses_keys(struct pair *pair, const struct message *request,
     want("no other address", stunp_server_address_count(server), 1);
 }
 
-/* The same by the keys that a data base stores: as by the password that they were made of. */
+/* The same with the keys that a database stores: the answers are those with the password that the
+ * keys were made from. */
 static void users_by_keys(uint32_t algorithms) {
     const uint32_t algorithm = algorithms == STUNP_SHA1 ? STUNP_SHA1 : STUNP_SHA256;
     struct pair pair = pair_of(algorithms);
@@ -212,7 +213,7 @@ static void users_by_keys(uint32_t algorithms) {
     want_no_blocks("users_by_keys");
 }
 
-/* What is refused of the handle of a user, in its order; it changes nothing. */
+/* The refusals of the handle of a user, in their order. They change nothing. */
 static void refuses_users(struct pair *pair, const stunp_address *from) {
     stunp_server *server = &pair->server, empty = {0};
     stunp_user user = {0}, nobody = {0};
@@ -283,8 +284,8 @@ static void refuses_users(struct pair *pair, const stunp_address *from) {
     free_pair(&other);
 }
 
-/* The verdict and the answer with a prepared user: those with the password, as often as the user is
- * passed. */
+/* The verdict and the answer with a prepared user are those with the password, however often the
+ * user is passed. */
 static void prepared_users(bool is_by_keys) {
     struct pair pair = pair_of(STUNP_SHA1 | STUNP_SHA256);
     stunp_server *server = &pair.server;

@@ -6,7 +6,7 @@
 #include <stdlib.h>
 #include <string.h>
 
-/* What the loop of stunp_state.h leaves to its user. */
+/* What the loop of stunp_state.h leaves to the program. */
 static uint64_t moment(void);
 static void fill_randomly(uint8_t *out, size_t length);
 static void send_to(const stunp_address *to, const uint8_t *bytes, size_t length);
@@ -102,8 +102,8 @@ static void reply(const uint8_t *request, int64_t code, const stunp_address *fro
     waiting[after_waiting++].length = (size_t)length;
 }
 
-/* The first transmission of each run is lost. Before an answer come two forged ones, from elsewhere
- * and unsigned, and a damaged one. */
+/* The first transmission of each run is lost. Before each answer come two forged ones, one from
+ * another address and one unsigned, and a damaged one. */
 static void send_to(const stunp_address *to, const uint8_t *bytes, size_t length) {
     want("the server's address", memcmp(to, &server_address, sizeof *to), 0);
     if (transmissions++ == 0 || peer == SILENT) return;
@@ -115,7 +115,8 @@ static void send_to(const stunp_address *to, const uint8_t *bytes, size_t length
     reply(bytes, 401, &stranger_address);
     reply(bytes, 0, &server_address);
     reply(bytes, 0, &server_address);
-    waiting[after_waiting - 1].bytes[STUNP_HEADER_LENGTH + 3] = 12; /* 4 more than there are */
+    waiting[after_waiting - 1].bytes[STUNP_HEADER_LENGTH + 3] = 12; /* 4 more bytes than there
+                                                                     * are */
     waiting[after_waiting].from = &server_address;
     waiting[after_waiting].length = serve(&server, bytes, length, &client_address,
                                           waiting[after_waiting].bytes, sizeof waiting[0].bytes);
@@ -168,7 +169,8 @@ static void asks(stunp_agent *agent, const char *password, enum peer with, int64
     stunp_client_free(&client);
 }
 
-/* The server's answer to a request of a method. The agent of the client has the request. */
+/* The server's answer to a request with this method. The agent of the client has the request
+ * outstanding. */
 static size_t served(stunp_agent *agent, stunp_client *client, uint32_t method, bool is_whole,
                      uint8_t *bytes, size_t room) {
     uint8_t id[STUNP_ID_LENGTH], out[512];
@@ -182,7 +184,7 @@ static size_t served(stunp_agent *agent, stunp_client *client, uint32_t method, 
     return serve(&server, out, request.length, &client_address, bytes, room);
 }
 
-/* What the client says of an answer, and whether its agent takes it. */
+/* What the client says about an answer, and whether its agent accepts it. */
 static void hears(stunp_agent *agent, stunp_client *client, const uint8_t *bytes, size_t length,
                   int64_t code, int64_t verdict) {
     want("the code", stunp_error_code(bytes, length), code);
@@ -193,8 +195,8 @@ static void hears(stunp_agent *agent, stunp_client *client, const uint8_t *bytes
          stunp_agent_handle(agent, bytes, length, &server_address, moment()), 1);
 }
 
-/* A request of a known user that is malformed is answered by a signed 400, which ends the request
- * at its client. An unsigned one, as it answers a failed authentication, the client drops. */
+/* A malformed request of a known user is answered by a signed 400, which ends the request at its
+ * client. The client drops an unsigned 400, as it would be sent after a failed authentication. */
 static void malformed(uint32_t algorithms, int64_t algorithm) {
     static stunp_client client;
     static stunp_agent agent;
@@ -226,8 +228,8 @@ static void malformed(uint32_t algorithms, int64_t algorithm) {
     stunp_agent_free(&agent);
 }
 
-/* What a loop without stunp_agent_poll_transmit comes to: it does not wait, nothing is sent again,
- * and nothing ends. */
+/* A loop without stunp_agent_poll_transmit does not wait, sends nothing again, and ends no
+ * request. */
 static void polls_alone(void) {
     uint8_t bytes[64], id[STUNP_ID_LENGTH] = {1};
     uint64_t until = 0;
@@ -262,12 +264,12 @@ int main(void) {
     want("a server", stunp_server_new(&server, TEXT("realm")), 0);
     want("algorithms", stunp_server_set_algorithms(&server, STUNP_SHA1 | STUNP_SHA256), 0);
     want("a user", stunp_server_add_user(&server, TEXT("name"), TEXT("password")), 0);
-    /* One agent asks them all: none leaves a request behind. */
+    /* One agent sends all requests, and none of them stays outstanding. */
     asks(&agent, "wrong", HONEST, STUNP_UNAUTHORIZED, 3);
     asks(&agent, "password", SILENT, STUNP_TIMED_OUT, 7);
     asks(&agent, "password", HONEST, 4, 3);
-    /* A new client at the same address, and one whose address is forgotten between the challenge
-     * and its answer. */
+    /* A new client at the same address, and one whose address the server forgets between the
+     * challenge and the signed request. */
     asks(&agent, "password", HONEST, 4, 3);
     asks(&agent, "password", FORGETFUL, 4, 4);
     asks(&agent, "password", CHALLENGING, STUNP_UNAUTHORIZED, 5);

@@ -318,6 +318,11 @@ static void client_with_a_user() {
     auto moved = std::move(*client);
     show("what is left", client->request(STUNP_BINDING, 0).text());
     show("its own", moved.request(STUNP_BINDING, body.add(STUNP_REALM, "realm"), 0).text());
+    auto options = STUNP_INIT(stunp_request_options);
+    options.is_unsigned = true, options.from.length = 3;
+    show("from nowhere", moved.request(STUNP_BINDING, nullptr, options, 0).text());
+    options.from.length = 0;
+    show("its own", moved.request(STUNP_BINDING, body, options, 0).text());
     auto number = moved.request(STUNP_BINDING, 0);
     auto dropped = moved.dropped(*number);
     std::printf("%u dropped, cancelled: %d\n", (*dropped)->count, *moved.cancel(*number));
@@ -337,6 +342,9 @@ static void data_on_a_channel() {
                 read->data.text().data(), int(item->size()));
     show("no channel", stunp::build_channel_data(0x3fff, "").text());
     show("no data", stunp::read_channel_data("@").text());
+    uint8_t out[8]; // an array of bytes of C may be written to
+    auto length = stunp::ask(stunp_build_channel_data, 0x4001u, "hello", false, out, sizeof out);
+    show("no room", length.text());
     auto body = stunp::endpoint::body().add_requested_transport(17).add_channel_number(0x4001);
     stunp::bytes bytes(20);
     int64_t begun = stunp_begin(STUNP_REQUEST, STUNP_CHANNEL_BIND, item->data(), 12, bytes.data(),
@@ -391,6 +399,31 @@ static void move_handles() {
     show("an empty realm", stunp::server::make(std::string_view{}).text());
 }
 
+// A value that was moved has nothing of the other one.
+static void move_values() {
+    static const uint8_t secret[32] = {1};
+    auto body = stunp::endpoint::body().add_number(STUNP_LIFETIME, 600, 4);
+    auto of_body = std::move(body);
+    body.add_number(STUNP_LIFETIME, 600, 4);
+    std::printf("a body: %zu bytes, what is left: %zu, %s\n", of_body.get()->length,
+                body.get()->length, stunp_strerror(body.get()->refusal));
+    stunp::writer request(STUNP_REQUEST, STUNP_BINDING, first_id);
+    auto of_request = std::move(request);
+    request.fingerprint();
+    auto bytes = of_request.finish();
+    std::printf("a request: %zu bytes, what is left: %s\n", bytes->size(), request.finish().text());
+    auto settings = STUNP_INIT(stunp::endpoint::settings);
+    settings.realm = "realm", settings.secret = secret, settings.answers_binding = true;
+    auto server = stunp::endpoint::server::make(settings);
+    if (!server) return show("no", server.text());
+    auto users = stunp::endpoint::users::make(*server);
+    stunp::endpoint::received got;
+    if (!users || !server->receive(got, *users, *bytes, home, 0)) return show("not", "judged");
+    auto of_received = std::move(got);
+    std::printf("an answer: %d, what is left: %d\n", of_received.answer() != nullptr,
+                got.answer() != nullptr);
+}
+
 int main() {
     write_and_read();
     meet("password");
@@ -403,4 +436,5 @@ int main() {
     data_on_a_channel();
     check_a_pair();
     move_handles();
+    move_values();
 }

@@ -5,8 +5,9 @@ and tells which are found.
 usage: tests/export/export_plants.py [--look | --exporter | --turn | NUMBER ..]
 
 First it says which plants, of all, cannot be made in the files as they are, and ends with status 1
-if there are any. With --look it exports the copy as it is, too, and does no more than that. Nor does it plant anything if the files as
-they are cannot be exported and compiled, because then each plant would seem to be found.
+if there are any. With --look it exports the copy as it is, too, and does no more than that. Nor
+does it plant anything if the files as they are cannot be exported and compiled, because then each
+plant would seem to be found.
 
 Each is planted in a copy in a scratch folder, which is exported, compiled and tested. (`rt ci`
 refuses a second crates.txt in the repository, under target/ too.) It is found where the export, the
@@ -52,6 +53,34 @@ PLANTS = [
      r'r"^[ \t]*(?:\w+::)*laws::\w+\(\);"', r'r"^[ \t]*(?:\w+[:.]+)+\w+\(\);"'),
     ("compares what is derived by its first field", DERIVES,
      'for field, _ in variant[2]) or "true"', 'for field, _ in variant[2][:1]) or "true"'),
+    ("drops a trait that is derived", DERIVES,
+     '                kept.append(trait)\n            elif trait == "Debug":',
+     '                kept += [trait] * (trait != "Hash")\n            elif trait == "Debug":'),
+    ("derives one trait more", DERIVES,
+     '                kept.append(trait)\n            elif trait == "Debug":',
+     '                kept += [trait] + ["PartialOrd"] * (trait == traits[-1] == "Hash")\n'
+     '            elif trait == "Debug":'),
+    ("derives a trait at the next type", EXPORT, RULE,
+     '    one = r"(#\\[derive\\(.*), Hash(\\)\\]"\n'
+     '    two = r"(?:.|\\n)*?#\\[derive\\(.*)(?=\\)\\])"\n'
+     '    text = in_code(text, one + two, r"\\1\\2, Hash")\n' + RULE),
+    ("takes another variant for the default", EXPORT, RULE,
+     '    one = r"#\\[default\\]\\n( +\\w+,\\n\\s+)"\n'
+     '    text = in_code(text, one, "\\\\1#[default]\\n    ")\n' + RULE),
+    ("writes no impl of an error", DERIVES,
+     'FMT, answer=told) + add("core::error::Error")', "FMT, answer=told)"),
+    ("leaves out the fields of a variant after the third in what is shown", DERIVES,
+     "    for field, is_shown in fields:\n", "    for field, is_shown in fields[:3]:\n"),
+    ("does not say that a field is skipped", DERIVES,
+     '".finish()" if all(s for _, s in fields) else ".finish_non_exhaustive()"', '".finish()"'),
+    ("takes different variants for equal", DERIVES,
+     'rest = "_ => false,\\n"', 'rest = "_ => true,\\n"'),
+    ("writes only the first word of a message", DERIVES,
+     "    message = re.findall(MESSAGE, variant[3])[-1]\n",
+     "    message = re.findall(MESSAGE, variant[3])[-1]\n"
+     "    message = re.sub(r' [a-z].*(?=\"$)', '', message)\n"),
+    ("copies by a new value", DERIVES, "Ok(Clone::clone(self))", "Ok(Self::default())"),
+    ("copies for ever", DERIVES, "Ok(Clone::clone(self))", "TryClone::try_clone(self)"),
     ("hashes by another function", EXPORT,
      'return in_code(text, rf"(?<![\\w:.])(?!crate',
      'text = in_code(text, r"OUTER_PAD\\);", "INNER_PAD);")\n'
@@ -118,8 +147,8 @@ PLANTS = [
      "        let is_found = node.entries.get(at)?.row == row;",
      "        let is_found = node.entries.get(at)?.row <= row;"),
     ("a recent entry with another key", KIT + "map.rs",
-     "        (recent.0.borrow() == key).then_some(recent)",
-     "        (recent.0.borrow() <= key).then_some(recent)"),
+     "        (entry.0.borrow() == key).then_some((row, entry))",
+     "        (entry.0.borrow() <= key).then_some((row, entry))"),
     ("a range that begins one entry later", KIT + "map/node.rs",
      "                Bound::Included(key) => node.search(key).unwrap_or_else(|at| at),",
      "                Bound::Included(key) => node.search(key).unwrap_or_else(|at| at + 1),"),

@@ -9,10 +9,7 @@ too. Each place that differs must be one of KNOWN, in that file, and each source
 unless BY_HAND names it. The last line counts; the status is 1 if anything else differs.
 """
 import collections
-import difflib
 import re
-import shutil
-import subprocess
 import sys
 from pathlib import Path
 
@@ -27,17 +24,12 @@ KNOWN = {
     # The greatest size, on any target.
     ("stun_handles/answers.rt", "9_223_372_036_854_775_807", "isize :: MAX as usize"),
     # The sizes of structs of this target: stunp.h says the same to the compiler.
-    ("stun_c_endpoint/client/event.rt", "72", "size_of :: < Event > ( )"),
+    ("stun_c_endpoint/client/event.rt", "80", "size_of :: < Event > ( )"),
+    ("stun_c_endpoint/client/options.rt", "64", "size_of :: < RequestOptions > ( )"),
     ("stun_c_endpoint/ice/told.rt", "72", "size_of :: < IceReceived > ( )"),
     ("stun_c_endpoint/received.rt", "648", "size_of :: < Received > ( )"),
     # `stunp_is_proved`.
     ("stun_c/lib.rt", "true", "false"),
-}
-# An arm's braces, by rustfmt. Without it the export has them as the sources do.
-BY_RUSTFMT = {
-    ("stun_state/answers.rt", "", "{"), ("stun_state/answers.rt", ",", "}"),
-    ("stun_c_endpoint/server.rt", "{", ""), ("stun_c_endpoint/server.rt", "}", ","),
-    ("stun_c_endpoint/caused.rt", "{", ""), ("stun_c_endpoint/caused.rt", "}", ","),
 }
 # Sources whose place in the export is taken by rust/capi/src, which is written by hand: handles are
 # pointers there. Laws are no code.
@@ -45,15 +37,10 @@ BY_HAND = re.compile(r"stun_(?:handles|state|c_endpoint)/(?:handle(?:/\w+)?|slot
                      r".*/(?:derives|tests)\.rt")
 
 
-def has_rustfmt():
-    """As export.py asks, which lays out what it wrote if so."""
-    asks = ["cargo", "fmt", "--version"]
-    return bool(shutil.which("cargo")) and subprocess.run(asks, capture_output=True).returncode == 0
-
-
 def bare(tokens):
-    """The tokens as same_tokens.py compares them, without what says that a function is for C."""
-    return " ".join(same_tokens.plain(tokens)).replace('extern "C" fn', "fn").split()
+    """The tokens without what says that a function is for C."""
+    text = " ".join(tokens).replace("# [ unsafe ( no_mangle ) ]", "")
+    return text.replace('extern "C" fn', "fn").split()
 
 
 def compared(export):
@@ -79,9 +66,8 @@ def compared(export):
             if not other.exists():
                 yield name, ["a", "source"], ["no", "file"]
                 continue
-            found = same_tokens.without_derived(same_tokens.tokens_of(other),
-                                                same_tokens.derived(tokens))
-            yield name, bare(same_tokens.without_laws(tokens, laws)), bare(found)
+            yield (name, bare(same_tokens.expected(tokens, laws)),
+                   bare(same_tokens.plain(same_tokens.tokens_of(other))))
         for path in sorted({*folder.rglob("*.rs")} - wanted):
             yield f"{crate}/{path.relative_to(folder)}", ["no", "source"], ["a", "file"]
 
@@ -90,19 +76,16 @@ def main():
     if len(sys.argv) != 2:
         sys.exit(__doc__)
     same_tokens.NAMES.insert(0, ("crate :: calls :: ", ""))
-    expected = KNOWN | BY_RUSTFMT if has_rustfmt() else KNOWN
     count, known, wrong = 0, collections.Counter(), 0
     for name, one, two in compared(Path(sys.argv[1])):
         count += len(one)
-        for kind, start, end, start_2, end_2 in difflib.SequenceMatcher(
-                None, one, two, autojunk=False).get_opcodes():
-            place = name, " ".join(one[start:end]), " ".join(two[start_2:end_2])
-            if kind != "equal" and place in expected:
-                known[place] += 1
-            elif kind != "equal":
+        for old, new in same_tokens.places(one, two):
+            if (name, old, new) in KNOWN:
+                known[name, old, new] += 1
+            else:
                 wrong += 1
-                print(f"crates/{name}: `{place[1][:300]}` is exported as `{place[2][:300]}`")
-    unseen = sorted(expected - set(known))
+                print(f"crates/{name}: `{old[:300]}` is exported as `{new[:300]}`")
+    unseen = sorted(KNOWN - set(known))
     for name, old, new in unseen:
         print(f"crates/{name}: `{old}` is no longer exported as `{new}`: remove it from KNOWN")
     print(f"same tokens for C: of {count} tokens {wrong} places differ, and {sum(known.values())} "

@@ -5,9 +5,10 @@ what is left, token by token, with what the exporter wrote.
 usage: tests/export/same_tokens.py EXPORT
 
 EXPORT is what export.py wrote (target/export). No code is shared with the exporter, so that a wrong
-rule there is seen here. Comments, attributes and imports are not compared, and an impl that the
-source derives is passed over where the export writes it. Each other place must be of a kind that
-KNOWN lists. The last line counts; the status is 1 where a place is of no such kind.
+rule there is seen here. What a type derives is compared too: same_derives.py says what each trait
+becomes. Comments, imports and the attributes of PASSED_OVER are not compared. Each other place must
+be of a kind that KNOWN lists. The last line counts; the status is 1 where a place is of no such
+kind, or if nothing was compared.
 """
 import collections
 import difflib
@@ -15,9 +16,9 @@ import re
 import sys
 from pathlib import Path
 
+from same_derives import TOKEN, closing, expanded
+
 CRATES = Path(__file__).resolve().parents[2] / "crates"
-TOKEN = re.compile(r"""//[^\n]*|/\*.*?\*/|b?"(?:\\.|[^"\\])*"|b?'(?:\\[^\n']+|[^'\\\n])'"""
-                   r"""|'[a-z_]\w*|\w+|::|->|=>|&&|\|\||<<|>>|\.\.=?|[-<>=!+*/%&|^]=|\S""", re.S)
 # A kind of difference, what the source has, and what the export has in its place.
 KNOWN = [
     ("hashes of the kit", "md5", "crate :: kit :: hashes"),
@@ -30,25 +31,19 @@ KNOWN = [
     ("an allocator grants bytes, no pointer", ", _ptr : * mut u8", ""),
     ("a body of `static_type`", ";", "{ Self :: TYPE }"),
     ("a function of constants", "", "const"),
-    ("an arm's braces, by rustfmt", "{", ""),
-    ("an arm's braces, by rustfmt", "}", ","),
+    ("a key of a map of the kit", "Ord", "crate :: kit :: collections :: Key"),
 ]
+# A value that goes away by hand, part by part, as Rust drops each.
+DROPPED = re.compile(r"\{ fn drop \( self \) \{ let \w+ \{ [\w :,]*\} = self ; \} \}")
 # Names that the export has otherwise everywhere.
 NAMES = [("crate :: exported :: ", ""), ("crate :: kit :: alloc ::", "std :: alloc ::"),
-         ("core ::", "std ::"), ("std :: str ::", "str ::"), ("try_clone", "clone"),
-         ("TryClone", "Clone"), ("final fn", "fn"), (" + Drop", ""), (" : Drop", ""),
+         ("core ::", "std ::"), ("std :: str ::", "str ::"),
+         ("final fn", "fn"), (" + Drop", ""), (" : Drop", ""),
          ("fn fmt < W : fmt :: Write > ( & self , f : & mut fmt :: Formatter < W > )",
           "fn fmt ( & self , f : & mut fmt :: Formatter < '_ > )")]
-
-
-def closing(tokens, at):
-    """The place of the bracket that closes the next one that opens."""
-    depth = 0
-    while True:
-        depth += (tokens[at] in "{([") - (tokens[at] in "})]")
-        if depth == 0 and tokens[at] in "})]":
-            return at
-        at += 1
+# Attributes that change no value: lints, pages, layout, and what only a proof or `expanded` reads.
+PASSED_OVER = {"allow", "cycle", "deny", "doc", "error", "must_use", "non_exhaustive", "rattlefmt",
+               "rustfmt", "tactic"}
 
 
 def end_of_ghost(tokens, at):
@@ -72,9 +67,12 @@ def without_proofs(tokens):
         elif word == "ghost" or tokens[at:at + 2] == ["pub", "ghost"]:
             end = end_of_ghost(tokens, at)
         elif word == "impl":
-            head = tokens[at:tokens.index("{", at)]
-            if {("Model", "for"), ("Drop", "for")} & {*zip(head, head[1:])}:
-                end = closing(tokens, at + len(head))
+            body = tokens.index("{", at)
+            last = closing(tokens, body)
+            trait = tokens[tokens.index("for", at, body) - 1] if "for" in tokens[at:body] else ""
+            is_dropped = DROPPED.fullmatch(" ".join(tokens[body:last + 1]))
+            if trait == "Model" or trait == "Drop" and is_dropped:
+                end = last
         if end is None:
             kept.append(word)
         at = at + 1 if end is None else end + 1
@@ -125,42 +123,51 @@ def without_laws(tokens, laws):
     return kept
 
 
-def derived(tokens):
-    """The traits that types derive, each with the type."""
-    found = set()
+def with_copies(tokens):
+    """The tokens of a source with `TryClone`, which is what Rattle's `Clone` is in the export."""
+    kept = list(tokens)
     for at, word in enumerate(tokens):
-        if word in ("derive", "derive_where") and "skip" not in tokens[at:at + 3]:
-            end = closing(tokens, at)
-            names = [one for one in tokens[at:end] if one.isidentifier()]
-            while tokens[end] not in ("struct", "enum"):
-                end += 1
-            # thiserror's Error is three impls.
-            found |= {(name, tokens[end + 1]) for name in names}
-            found |= {("Display", tokens[end + 1])} if "Error" in names else set()
-    return found
-
-
-def without_derived(tokens, pairs):
-    """The tokens without the impls of these traits."""
-    kept, at = [], 0
-    while at < len(tokens):
-        if tokens[at] == "impl":
-            head = tokens[at:tokens.index("{", at)]
-            ends = [end for end, word in enumerate(head) if word == "for" and head[end + 1] != "<"]
-            trait = head[ends[0] - 1].replace("TryClone", "Clone") if ends else ""
-            if ends and (trait, head[ends[0] + 1]) in pairs:
-                at = closing(tokens, at + len(head)) + 1
-                continue
-        kept.append(tokens[at])
-        at += 1
+        if word == "clone" and tokens[at - 1] in ("fn", "."):
+            kept[at] = "try_clone"
+        elif word == "Clone" and tokens[at + 1] == "for":
+            kept[at] = "TryClone"
     return kept
 
 
+def without_arm_braces(tokens):
+    """The tokens without braces around an arm of one expression, which rustfmt writes or leaves out
+    as the line has room, and with a comma after each such arm."""
+    kept = list(tokens)
+    for at in (at for at in range(len(tokens) - 1, 0, -1) if tokens[at - 1:at + 1] == ["=>", "{"]):
+        end = closing(kept, at)
+        inside = kept[at + 1:end]
+        is_followed = kept[end + 1] == ","
+        if inside and not any(piece == ";" for piece in outermost(inside)):
+            kept[at:end + 1 + is_followed] = [*inside, ","]
+    return kept
+
+
+def outermost(tokens):
+    """The tokens outside any brackets among these."""
+    depth = 0
+    for token in tokens:
+        depth += (token in "{([") - (token in "})]")
+        if depth == 0:
+            yield token
+
+
+def expected(tokens, laws):
+    """What the export must have for the tokens of a source."""
+    return plain(expanded(with_copies(without_laws(tokens, laws))))
+
+
 def plain(tokens):
-    """The tokens without attributes, imports and commas before a closing bracket; names alike."""
-    kept, at = [], 0
+    """The tokens without imports, attributes that are passed over, an arm's braces, and commas
+    before a closing bracket; names alike."""
+    tokens, kept, at = without_arm_braces(tokens), [], 0
     while at < len(tokens):
-        if tokens[at] == "#" and tokens[at + 1] in ("[", "!"):
+        if tokens[at] == "#" and tokens[at + 1] in ("[", "!") \
+                and PASSED_OVER & {*tokens[at + 2:at + 4]}:
             at = closing(tokens, at) + 1
         elif tokens[at] == "use" or tokens[at] == "mod" and tokens[at + 2] == ";":
             if kept[-4:-2] == ["pub", "("]:
@@ -184,7 +191,7 @@ def tokens_of(path):
 
 
 def compared(export):
-    """Of each place that differs: its file, what the source has there, and the export."""
+    """Of each source: its file, and the tokens that the export must have and those it has."""
     folder = export / "src" / "exported"
     crates = sorted(path.name for path in folder.iterdir() if path.is_dir())
     sources = {path: without_proofs(tokens_of(path)) for crate in crates
@@ -198,31 +205,40 @@ def compared(export):
             name = re.sub(r"^lib\.rt$", "mod.rt", str(path.relative_to(source)))
             other = (folder / crate / name).with_suffix(".rs")
             wanted.add(other)
-            one = plain(without_laws(tokens, laws))
-            two = plain(without_derived(tokens_of(other), derived(tokens)))
-            for kind, start, end, start_2, end_2 in difflib.SequenceMatcher(
-                    None, one, two, autojunk=False).get_opcodes():
-                if kind != "equal":
-                    yield path, " ".join(one[start:end]), " ".join(two[start_2:end_2])
+            yield path, expected(tokens, laws), plain(tokens_of(other))
         for path in sorted({*(folder / crate).rglob("*.rs")} - wanted):
             if path.name != "tests.rs":
-                yield path, "no file", "a file"
+                yield path, ["no", "source"], ["a", "file"]
+    # It names the crates, and has nothing else.
+    yield folder / "mod.rs", [], plain(tokens_of(folder / "mod.rs"))
+
+
+def places(one, two):
+    """The places at which the tokens differ: what each has there."""
+    matcher = difflib.SequenceMatcher(None, one, two, autojunk=False)
+    for kind, start, end, start_2, end_2 in matcher.get_opcodes():
+        if kind != "equal":
+            yield " ".join(one[start:end]), " ".join(two[start_2:end_2])
 
 
 def main():
     if len(sys.argv) != 2:
         sys.exit(__doc__)
     kinds = {(old, new): kind for kind, old, new in KNOWN}
-    counts, wrong = collections.Counter(), 0
-    for path, old, new in compared(Path(sys.argv[1])):
-        kind = kinds.get((old, new))
-        counts[kind] += 1
-        if kind is None:
-            wrong += 1
-            print(f"{path}: `{old[:300]}` is exported as `{new[:300]}`")
-    told = ", ".join(f"{count} {kind}" for kind, count in counts.items() if kind)
-    print(f"same tokens: {wrong} places differ, and of known kinds: {told}")
-    return 1 if wrong else 0
+    counts, wrong, count, derives = collections.Counter(), 0, 0, 0
+    for path, one, two in compared(Path(sys.argv[1])):
+        count += len(one)
+        derives += one.count("derive")
+        for old, new in places(one, two):
+            kind = kinds.get((old, new))
+            counts[kind] += 1
+            if kind is None:
+                wrong += 1
+                print(f"{path}: `{old[:300]}` is exported as `{new[:300]}`")
+    told = ", ".join(f"{number} {kind}" for kind, number in counts.items() if kind)
+    print(f"same tokens: of {count} tokens, {derives} derives among them, {wrong} places differ, "
+          f"and of known kinds: {told}")
+    return 1 if wrong or not derives else 0
 
 
 if __name__ == "__main__":

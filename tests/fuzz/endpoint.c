@@ -1,5 +1,5 @@
 /* A driver for libFuzzer over all calls of stunp_endpoint.h, stunp_sockaddr.h and stunp_log.h. Its
- * first byte chooses a part: a server (servers.h), clients at a server (clients.h), agents of ICE
+ * first byte chooses a part: a server (servers.h), clients at a server (clients.h), ICE agents
  * (agents.h), or addresses. The rest are the choices of that part. What must hold:
  *
  * - A server judges alike each time, by a table and by a look-up, into its own room and any larger

@@ -256,6 +256,22 @@ def burst(server):
         assert len(answered) == number, f"{number - len(answered)} of {number} were lost"
 
 
+def both_families(server):
+    """What waits at the socket of one family does not keep that of the other one waiting."""
+    with Server(server, *USER) as running, socket.socket(socket.AF_INET6, socket.SOCK_DGRAM) as peer:
+        peer.setsockopt(socket.IPPROTO_IPV6, socket.IPV6_V6ONLY, 0)
+        peer.settimeout(scaled(10))
+        for many, one in ("::1", "::ffff:127.0.0.1"), ("::ffff:127.0.0.1", "::1"):
+            running.process.send_signal(signal.SIGSTOP)
+            for _ in range(150):
+                peer.sendto(stun.message(stun.REQUEST), (many, running.port))
+            last = stun.message(stun.REQUEST)
+            peer.sendto(last, (one, running.port))
+            running.process.send_signal(signal.SIGCONT)
+            answers = [peer.recv(4096)[8:20] for _ in range(151)]
+            assert answers.index(last[8:20]) < 149, "it is answered after all others"
+
+
 def stopped_reader(server):
     """A server whose lines nobody reads, nobody can read, or without a terminal serves on."""
     with Server(server, "-v", is_read=False) as running, Peer(running.port) as peer:

@@ -68,7 +68,8 @@ def of_server(server, first):
     else:
         yield from of_others(server, str(pathlib.Path(first).parent / "exhausted.so"))
     for what in (endpoint.tells, endpoint.counters, endpoint.metrics, endpoint.bad_lines,
-                 endpoint.many_users, endpoint.addresses, endpoint.one_port, endpoint.no_streams):
+                 endpoint.many_users, endpoint.addresses, endpoint.one_port, endpoint.no_streams,
+                 endpoint.stopped_streams):
         yield one(what)
     for words in BOTH:
         for what in (endpoint.streams, endpoint.restarted, endpoint.rotated,
@@ -81,6 +82,7 @@ def of_others(server, exhausted):
     for what in (endpoint.reloaded, endpoint.written_slowly, endpoint.too_many_users):
         yield one(what)
     yield one(endpoint.no_memory, exhausted)
+    yield one(endpoint.after_the_last_port)
     yield from (one(endpoint.four_sockets, words) for words in ((), USER))
 
 
@@ -125,6 +127,9 @@ def cases(servers, clients, tokio, hosts):
             for words in BOTH:
                 yield named(label(client), pairs.many, servers[0], beside, words)
     yield named(label(clients[0]), pairs.password_of_a_file, servers[0], clients[0])
+    if harness.has_ipv6():
+        small = str(pathlib.Path(servers[0]).parent / "endpoint_server")
+        yield named(label(small), alone.both_families, small)
 
 
 def tried(case):

@@ -205,6 +205,20 @@ def metrics(server):
             assert running.told().startswith(told) and running.told().count("\n") == 1
         run = subprocess.run([server, "0", "--metrics", str(file)], capture_output=True, text=True)
         assert run.returncode == 1 and "stun.prom: No such file" in run.stderr, run
+        does_not_follow(server, pathlib.Path(folder))
+
+
+def does_not_follow(server, folder):
+    """A link in the place of the file that becomes the one for Prometheus is not followed."""
+    other, link = folder / "other", folder / "stun.prom.new"
+    other.write_text("as it was")
+    link.symlink_to(other)
+    words = [server, "0", "--metrics", str(link.with_suffix(""))]
+    pipes = dict(stdout=subprocess.PIPE, stderr=subprocess.DEVNULL)
+    with subprocess.Popen(words, **pipes) as running:
+        running.stdout.readline()  # it serves, or it has ended
+        running.terminate()
+    assert other.read_text() == "as it was", "the link is followed"
 
 
 def counters_of(text):
@@ -337,6 +351,19 @@ def no_streams(server):
                 assert stun.code_of(asked_over(good, stun.message(stun.REQUEST))) == 200
 
 
+def stopped_streams(server):
+    """A server that was stopped and goes on still has its connections."""
+    with Server(server, "--tcp") as running, connected(running) as stream:
+        for _ in range(2):
+            assert stun.code_of(asked_over(stream, stun.message(stun.REQUEST))) == 200
+            time.sleep(0.2)  # so that it waits in a read
+            os.kill(running.process.pid, signal.SIGSTOP)
+            time.sleep(0.2)
+            os.kill(running.process.pid, signal.SIGCONT)
+            time.sleep(0.2)
+        assert stun.code_of(asked_over(stream, stun.message(stun.REQUEST))) == 200
+
+
 def many_streams(server):
     """One connection more than there is room for ends the one that has been silent for longest; and a
     client that does not read its answers is cut off."""
@@ -362,6 +389,17 @@ def many_streams(server):
 
 CHANGE_REQUEST, PADDING, RESPONSE_PORT = 0x0003, 0x0026, 0x0027
 RESPONSE_ORIGIN, OTHER_ADDRESS = 0x802B, 0x802C
+
+
+def after_the_last_port(server):
+    """The other port is one for both addresses, also where there is none after the first."""
+    words = ("--at", "127.0.0.2", "--other", "127.0.0.3")
+    with Server(server, *words, port=65535) as running, Peer(running.port, "127.0.0.2") as peer:
+        other = stun.value_of(peer.ask(stun.message(stun.REQUEST)), OTHER_ADDRESS)
+        change_port = stun.message(stun.REQUEST, [(CHANGE_REQUEST, bytes([0, 0, 0, 2]))])
+        peer.socket.sendto(change_port, peer.target)
+        source = peer.socket.recvfrom(4096)[1]
+        assert source[0] == "127.0.0.2" and source[1].to_bytes(2, "big") == other[2:4], source
 
 
 def four_sockets(server, words):

@@ -340,6 +340,24 @@ def relayed(program, server, host, peer, rule=everything, wanted=(401, 200, 200,
         return f"data came back each way; codes {codes}"
 
 
+def with_address(program, server, peer):
+    """One client asks for its address by requests that are not signed, and neither are their
+    responses, before and after the allocation."""
+    with harness.Relay(server, everything) as relay:
+        status, lines, err = session(program, ("127.0.0.1", relay.port), peer, "--address")
+        kinds = [stun.read(one)[0] for one in filter(is_message, relay.responses)]
+        unsigned = [one for one in relay.requests + relay.responses
+                    if is_message(one) and stun.read(one)[0] in (0x0001, 0x0101)]
+        assert len(unsigned) == 4 and kinds[0] == 0x0101, kinds
+        signatures = stun.INTEGRITY, stun.INTEGRITY_SHA256, stun.USERNAME
+        for one in unsigned:
+            assert all(stun.value_of(one, kind) is None for kind in signatures), one
+    words = [line.split()[0] for line in lines]
+    assert (status, words, err) == (0, ["address", "relayed", "address", "came", "came", "ended"], "")
+    assert lines[0] == lines[2], lines
+    return "Binding, Allocate, Binding and a session by one client"
+
+
 def with_fingerprints(program, server, peer):
     """The server ends each message with FINGERPRINT, and one that is wrong is dropped."""
 
@@ -468,6 +486,7 @@ def of_coturn(name, turn_client, folder, start):
            run(relayed, server, "127.0.0.1", peer, loses))
     yield (name, "before each signed answer 40 with a bit turned",
            run(relayed, server, "127.0.0.1", peer, forges))
+    yield name, "`--address`", run(with_address, server, peer)
     yield (name, "answers of another port",
            run(is_refused_at, server, peer, "Allocate: no answer"))
     yield (name, "`--stale-nonce=1`, the third request held back",

@@ -139,12 +139,14 @@ def through(name, rules, has_coturn):
 
 
 def without_nat():
-    """The server sees the client's own address, and any of its sockets reaches the client."""
+    """The server sees the client's own address, and any of its sockets reaches the client, however
+    the server's address is spelled."""
     translate("")
     route_back("add")
-    lines = discovered(FIRST)
-    expects(lines, "none", "endpoint-independent")
-    assert lines["socket"] == lines["mapped"], lines
+    for host in FIRST, f"::ffff:{FIRST}":
+        lines = discovered(host)
+        expects(lines, "none", "endpoint-independent")
+        assert lines["socket"] == lines["mapped"], lines
     route_back("del")
 
 

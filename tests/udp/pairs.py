@@ -309,6 +309,12 @@ def closed_port(client):
 def nobody_in_the_file(client):
     """A file without a user is no leave to take an unsigned answer."""
     fails(ask(client, "127.0.0.1", 9, "--user", "/dev/null"), "failed: nobody in the file")
+    # A line that is cut off would be another password.
+    with tempfile.NamedTemporaryFile("w") as file:
+        file.write(f"{NAME} {'p' * 3000} x\n")
+        file.flush()
+        asked = ask(client, "127.0.0.1", 9, "--user", file.name, within="1")
+        assert asked.status != 0 and not asked.out, asked
 
 
 def many(server, program, words):

@@ -20,7 +20,9 @@ import json
 import os
 import pathlib
 import re
+import resource
 import shutil
+import signal
 import socket
 import struct
 import subprocess
@@ -472,7 +474,7 @@ def over_tcp_inside():
     print(f"idle {time.monotonic() - before:.0f}", flush=True)
 
 
-def over_tcp():
+def over_tcp(running):
     with contextlib.ExitStack() as stack:
         before = relays()
         program = subprocess.Popen([*INSIDE, sys.executable, __file__, "--tcp"], text=True,
@@ -480,6 +482,10 @@ def over_tcp():
         stack.callback(program.kill)
         assert program.stdout.readline() == "open\n"
         assert relays() == before + 1
+        for number in signal.SIGSTOP, signal.SIGCONT:
+            running.send_signal(number)
+            time.sleep(0.5)
+        assert relays() == before + 1, "the connection has ended with the stop"
         program.stdin.write("\n")
         program.stdin.flush()
         assert program.stdout.readline() == "closed\n"
@@ -487,7 +493,8 @@ def over_tcp():
         assert relays() == before, relays()
         idle = program.stdout.readline().split()
         assert idle[0] == "idle" and 30 <= int(idle[1]) <= 40, idle
-    return f"cut and joined messages; ends with TLS; idle ends after {idle[1]} s; relay closed"
+    return ("cut and joined messages; goes on after a stop; ends with TLS; idle ends after "
+            f"{idle[1]} s; relay closed")
 
 
 def udp_inside():
@@ -537,10 +544,85 @@ def udp():
     return text.strip()
 
 
+def many_connections_inside():
+    """As many silent connections as there may be keep nobody out, over TCP or UDP."""
+    hard = resource.getrlimit(resource.RLIMIT_NOFILE)[1]
+    resource.setrlimit(resource.RLIMIT_NOFILE, (min(2000, hard), hard))
+    held = [socket.create_connection((SERVER, PORT)) for _ in range(1000)]
+    time.sleep(1)
+    transport = attribute(0x0019, bytes([17, 0, 0, 0]))
+    with socket.create_connection((SERVER, PORT)) as stream:
+        stream.settimeout(5)
+        for kind, body in ((0x0001, b""), (0x0003, transport)):
+            stream.sendall(message(kind, body))
+            answer = stream.recv(2048)
+            assert answer[:2] == struct.pack("!H", kind | (0x0110 if body else 0x0100)), answer
+        stream.sendall(signed(0x0003, transport, answer))
+        assert stream.recv(2048)[:2] == b"\x01\x03"
+    for stream in held:
+        stream.close()
+    print("one more is served")
+
+
+def many_connections():
+    status, text = run(sys.executable, __file__, "--many")
+    assert status == 0, text[-600:]
+    return text.strip()
+
+
+def no_port(running):
+    """The server does not start with ports that are none."""
+    server = running.args[INSIDE.index("tncli") + 1]
+    for ports in "0-0", "0-9", "9-8", "9":
+        words = [server, "0", REALM, NAME, PASSWORD, "--relay", "127.0.0.1", "--ports", ports]
+        ended = subprocess.run(words, capture_output=True, text=True, timeout=10, check=False)
+        assert ended.returncode == 2 and ended.stderr.startswith("usage:"), (ports, ended)
+    return "wrong arguments"
+
+
+def absent_peers_inside():
+    """Data for peers that are not there, at addresses of the server's own network: the system keeps
+    it for seconds, until the buffer of the relayed socket is full. Others are served meanwhile."""
+    client, other = (socket.socket(socket.AF_INET, socket.SOCK_DGRAM) for _ in range(2))
+    client.settimeout(2)
+    other.settimeout(10)
+
+    def ask(bytes_, by=client):
+        by.sendto(bytes_, (SERVER, PORT))
+        return by.recv(2048)
+
+    transport = attribute(0x0019, bytes([17, 0, 0, 0]))
+    challenge = ask(message(0x0003, transport))
+    assert ask(signed(0x0003, transport, challenge))[:2] == b"\x01\x03"
+    peers = [attribute(0x0012, b"\0\1\0\0" + bytes(a ^ b for a, b in zip(
+        socket.inet_aton(f"10.78.0.{last}"), b"\x21\x12\xa4\x42"))) for last in (77, 78)]
+    assert ask(signed(0x0008, b"".join(peers), challenge))[:2] == b"\x01\x08"
+    worst = 0.0
+    for number in range(600):
+        body = peers[number % 2] + attribute(0x0013, bytes(1200))
+        client.sendto(message(0x0016, body), (SERVER, PORT))
+        if number % 20 == 19:
+            begun = time.monotonic()
+            assert ask(message(0x0001), other)[:2] == b"\x01\x01"
+            worst = max(worst, time.monotonic() - begun)
+    ended = ask(signed(0x0004, attribute(0x000D, bytes(4)), challenge))
+    assert ended[:2] == b"\x01\x04" and worst < 1, f"others wait {worst:.1f} s"
+    print("others wait less than a second")
+
+
+def absent_peers():
+    before = relays()
+    status, text = run(sys.executable, __file__, "--absent")
+    assert status == 0, text[-600:]
+    time.sleep(1)
+    assert relays() == before, "the relayed socket is still open"
+    return text.strip()
+
+
 # ---- The table
 
 
-def rows(client, folder):
+def rows(client, folder, running):
     for family, server, peer in ("IPv4", SERVER, CLIENT), ("IPv6", SERVER6, CLIENT6):
         yield f"turn_client over {family}", lambda s=server, p=peer: own_client(client, s, p)
     yield "turn_client, server at `::` and translated", lambda: own_client(
@@ -548,7 +630,10 @@ def rows(client, folder):
     yield "turn_client, wrong password", lambda: own_refused(client)
     yield f"turn_client, {PACKETS} packets", lambda: own_thousand(client)
     yield "bytes over UDP", udp
-    yield "bytes over TCP", over_tcp
+    yield "bytes over TCP", lambda: over_tcp(running)
+    yield "ports from 0 on", lambda: no_port(running)
+    yield "1,000 silent connections", many_connections
+    yield "data for absent peers", absent_peers
     peer = "-e", CLIENT
     for what, options in (
             ("UDP, channels", ("-y",)), ("UDP, indications", ("-y", "-s")),
@@ -596,7 +681,8 @@ def namespaces():
 
 def main():
     inside = {"--chromium": chromium_inside, "--firefox": firefox_inside, "--tcp": over_tcp_inside,
-              "--udp": udp_inside, "--peers": peers_inside}
+              "--udp": udp_inside, "--peers": peers_inside, "--absent": absent_peers_inside,
+              "--many": many_connections_inside}
     if sys.argv[1] == "--aioice":
         return asyncio.run(aioice_inside(*sys.argv[2:]))
     if sys.argv[1] in inside:
@@ -607,7 +693,8 @@ def main():
         folder = pathlib.Path(stack.enter_context(tempfile.TemporaryDirectory()))
         common = ["--relay", SERVER, "--relay", SERVER6, "--allow", "10.78.0.0/24", "--allow",
                   "fd78::/64", "--of-a-user", 500, "--old-channels"]
-        started(stack, "tnsrv", server, PORT, REALM, NAME, PASSWORD, *common).stdout.readline()
+        first = started(stack, "tnsrv", server, PORT, REALM, NAME, PASSWORD, *common)
+        first.stdout.readline()
         started(stack, "tnsrv", server, SECRET_PORT, REALM, "--shared-secret", SECRET,
                 *common).stdout.readline()
         (folder / "users").write_text(f"# a user\n{NAME} {PASSWORD}\n")
@@ -615,7 +702,7 @@ def main():
                 "--relay", f"{SERVER}/{PUBLIC}", *common[4:], "--workers", 4).stdout.readline()
         started(stack, "tncli", "turnutils_peer", "-L", CLIENT, "-L", CLIENT6, "-p", PEER_PORT)
         print("| Client | Result |\n|---|---|")
-        for name, row in rows(client, folder):
+        for name, row in rows(client, folder, first):
             if wanted and not any(name.startswith(word) for word in wanted):
                 continue
             try:

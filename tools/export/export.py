@@ -221,7 +221,8 @@ def rewrite_clone(text):
 
 
 def rewrite_memory(text):
-    """An allocator here grants bytes, and hands out no pointer."""
+    """An allocator here grants bytes, and hands out no pointer. A key has a number."""
+    text = in_code(text, r"<K: Ord(?: \+ Drop)?(, V)?>", r"<K: crate::kit::collections::Key\1>")
     text = in_code(text, r"\bunsafe impl\b(?=[^{]*\bAllocator for\b)", "impl")
     text = in_code(text, r"(fn allocate\(.*\) -> )Result<\*mut u8, AllocError>",
                    r"\1Result<(), AllocError>")

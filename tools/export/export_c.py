@@ -19,7 +19,9 @@ SIZES = [("IS_PROVED: bool = true;", "IS_PROVED: bool = false;"),
          ("usize = 9_223_372_036_854_775_807;", "usize = isize::MAX as usize;"),
          (" RECEIVED_SIZE: usize = 648;", " RECEIVED_SIZE: usize = size_of::<Received>();"),
          ("ICE_RECEIVED_SIZE: usize = 72;", "ICE_RECEIVED_SIZE: usize = size_of::<IceReceived>();"),
-         (" EVENT_SIZE: usize = 72;", " EVENT_SIZE: usize = size_of::<Event>();")]
+         (" EVENT_SIZE: usize = 80;", " EVENT_SIZE: usize = size_of::<Event>();"),
+         (" OPTIONS_SIZE: usize = 64;",
+          " OPTIONS_SIZE: usize = size_of::<RequestOptions>();")]
 SLICES = {"&[u8]": ("*const u8", "read"), "&mut [u8]": ("*mut u8", "written"),
           "&[u16]": ("*const u16", "read"), "&mut [u16]": ("*mut u16", "written")}
 
@@ -56,6 +58,7 @@ def write(out, exported, places, root):
               "//! `include/stunp_endpoint.h` declare.\n\n"
               "use super::stun_c::header::Header;\nuse super::stun_c::walk::Cursor;\n"
               "use super::stun_c_endpoint::client::event::{Dropped, Event};\n"
+              "use super::stun_c_endpoint::client::options::RequestOptions;\n"
               "use super::stun_c_endpoint::client::settings::ClientOptions;\n"
               "use super::stun_c_endpoint::ice::told::{IceCheck, IceReceived};\n"
               "use super::stun_c_endpoint::received::Received;\n"
@@ -69,7 +72,7 @@ def write(out, exported, places, root):
         source = root / "crates" / crate / "src"
         for path in sorted(source.rglob("*.rt")):
             name = path.relative_to(source).with_suffix(".rs")
-            if name.parts[0] in ("laws.rs", "handle.rs", "handle"):
+            if name.name == "laws.rs" or name.parts[0] in ("handle.rs", "handle"):
                 continue
             text = exported(path.read_text(), crate, {**places, **PLACES})
             for old, new in SIZES:

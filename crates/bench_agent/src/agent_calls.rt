@@ -8,32 +8,32 @@ use stun_proto::agent::{StunAgent, StunAgentPollRet};
 use stun_types::TransportType;
 use stun_types::message::{Message, MessageClass};
 
-/// When the first transmissions are due, in microseconds after the requests were sent.
+/// The time from sending a request to its first retransmission, in microseconds.
 const FIRST_TIMEOUT: u32 = 500_000;
 
-/// When requests end that are sent once, in microseconds after they were sent.
+/// The time from sending a request to its timeout, in microseconds, if it is sent only once.
 const LAST_WAIT: u32 = 8_000_000;
 
-/// The bytes of room when a request is sent again.
+/// The room in bytes that is passed for a request that is sent again.
 const ROOM: usize = 2048;
 
-/// A call, and the state that it meets.
+/// A call, and the state in which it is made.
 #[derive(Clone, Copy, Debug, PartialEq, Eq)]
 pub enum Call {
-    /// `poll`, when nothing is due.
+    /// `poll`, while nothing is due.
     Poll,
-    /// `poll_transmit`, when nothing is due.
+    /// `poll_transmit`, while nothing is due.
     PollTransmit,
     /// `next_awaited`.
     NextAwaited,
-    /// `poll_transmit`, when one request more is due each time.
+    /// `poll_transmit`, when one more request is due each time.
     TransmitsOne,
-    /// `poll_transmit_within` of an agent that counts, where one request more is due each time: the
+    /// `poll_transmit_within` of an agent that counts, when one more request is due each time: the
     /// call that the export for C makes.
     TransmitsOneWithin,
     /// `poll_transmit`, when all requests are due.
     TransmitsOfAll,
-    /// `poll`, when one request more has ended each time.
+    /// `poll`, when one more request has ended each time.
     EndsOne,
     /// `poll`, when all requests have ended.
     EndsOfAll,
@@ -41,14 +41,14 @@ pub enum Call {
     SendsLast,
     /// `send_request` at a time before the others.
     SendsFirst,
-    /// A response to an outstanding request.
+    /// The agent receives a response to an outstanding request.
     Responds,
     /// `handle_stun_message_with_time` of an agent that keeps statistics: the call behind the
     /// export for C.
     RespondsWithTime,
-    /// A response to no request.
+    /// The agent receives a response that answers no request.
     RespondsToNone,
-    /// A request from a new peer.
+    /// The agent receives a request from a new peer.
     Receives,
     /// `cancel`.
     Cancels,
@@ -85,8 +85,8 @@ pub fn call_named(name: &str) -> Option<Call> {
     }
 }
 
-/// Returns how many of `times` calls did what they should, at an agent with `size` outstanding
-/// requests.
+/// Makes `times` calls on an agent with `size` outstanding requests, and returns how many of them
+/// had the expected result.
 pub fn count_of(alloc: Global, call: Call, size: u32, times: u32) -> Option<u32> {
     let mut agent = agent_of(alloc, call, size)?;
     let (class, first) = match call {
@@ -108,7 +108,7 @@ pub fn count_of(alloc: Global, call: Call, size: u32, times: u32) -> Option<u32>
     Some(done)
 }
 
-/// An agent that has sent a request in each microsecond.
+/// Returns an agent that has sent a request in each microsecond.
 fn agent_of(alloc: Global, call: Call, size: u32) -> Option<StunAgent> {
     let counts = matches!(call, Call::TransmitsOneWithin | Call::RespondsWithTime);
     let mut builder = StunAgent::builder(alloc, TransportType::Udp, address(1)).stats(counts);
@@ -126,7 +126,7 @@ fn agent_of(alloc: Global, call: Call, size: u32) -> Option<StunAgent> {
     Some(agent)
 }
 
-/// Makes the call, and tells whether it did what it was to do.
+/// Makes the call, and returns whether it had the expected result.
 fn is_done(agent: &mut StunAgent, call: Call, size: u32, turn: u32, bytes: &[u8]) -> bool {
     let after = |wait: u32, number: u32| moment(number.saturating_add(1).saturating_add(wait));
     match call {
@@ -155,7 +155,7 @@ fn is_waiting(answer: StunAgentPollRet) -> bool {
     matches!(answer, StunAgentPollRet::WaitUntil(_))
 }
 
-/// Shows the agent a message from an address.
+/// Passes a message from an address to the agent.
 fn receives(agent: &mut StunAgent, bytes: &[u8], from: u32) -> bool {
     match Message::from_bytes(bytes) {
         Ok(message) => agent.handle_stun_message(&message, address(from)) == Ok(true),
@@ -163,7 +163,7 @@ fn receives(agent: &mut StunAgent, bytes: &[u8], from: u32) -> bool {
     }
 }
 
-/// Shows the agent a message of its server, at a moment.
+/// Passes a message from the server to the agent, at a time.
 fn receives_at(agent: &mut StunAgent, bytes: &[u8], now: Instant) -> bool {
     match Message::from_bytes(bytes) {
         Ok(message) => agent.handle_stun_message_with_time(&message, address(0), now) == Ok(true),
@@ -171,7 +171,7 @@ fn receives_at(agent: &mut StunAgent, bytes: &[u8], now: Instant) -> bool {
     }
 }
 
-/// Finds a request, and changes it if the call does.
+/// Finds a request and, if the call changes it, makes that change.
 fn changes(agent: &mut StunAgent, call: Call, number: u32) -> bool {
     let Some(id) = id_of(number) else {
         return false;

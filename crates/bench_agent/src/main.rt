@@ -1,5 +1,5 @@
-//! Makes one call of an agent or a server many times: the program whose instructions bench/agent.py
-//! counts.
+//! Makes one call of an agent or a server many times. The script bench/agent.py counts the
+//! instructions of this program.
 #![tactic(auto)]
 
 mod agent_calls;
@@ -10,8 +10,9 @@ use std::alloc::Global;
 use std::env;
 use std::process::ExitCode;
 
-/// Runs `CALL SIZE TIMES` and prints how many of the calls did what the row says: the call, how
-/// many requests are outstanding (or addresses known), and how often it is made.
+/// Runs `CALL SIZE TIMES`, and prints how many of the calls had the expected result. The arguments
+/// are the call, the number of outstanding requests (or of known addresses), and the number of
+/// times to make the call.
 fn main(rt: HostRuntime) -> ExitCode {
     let Some(done) = count_of(&rt, rt.alloc()) else {
         return ExitCode::FAILURE;
@@ -22,7 +23,8 @@ fn main(rt: HostRuntime) -> ExitCode {
     }
 }
 
-/// How many calls did what they were to do, if the words name a call and memory suffices.
+/// Makes the calls, and returns how many of them had the expected result. Returns `None` if the
+/// arguments do not name a call, or an allocation fails.
 fn count_of(rt: &(impl std::rt::Env + AllocGlobal), alloc: Global) -> Option<u32> {
     let mut words = env::args(rt).ok()?;
     let (_, call, size, times) = (words.next()?, words.next()?, words.next()?, words.next()?);

@@ -8,7 +8,8 @@ use stun_types::message::{
 };
 use stun_types::prelude::MessageWrite;
 
-/// Returns the transaction ID of a request. Those of successive requests are far apart.
+/// Returns the transaction ID of the request with this number. The IDs of successive requests are
+/// far apart.
 pub fn id_of(number: u32) -> Option<TransactionId> {
     let scattered = u64::from(number).wrapping_mul(0x9e37_79b9_7f4a_7c15);
     TransactionId::from_u128(u128::from(scattered))

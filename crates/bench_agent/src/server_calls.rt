@@ -12,14 +12,14 @@ use stun_types::message::{
 };
 use stun_types::prelude::*;
 
-/// Returns how many of `times` calls did what they should, at a server with `size` users and
-/// addresses.
+/// Makes `times` calls on a server with `size` users and addresses, and returns how many of them
+/// had the expected result. `call` is one of these:
 ///
 /// - `validates_sha1`: a request of one user, whose address has been validated.
 /// - `validates_sha256`: like `validates_sha1`, with HMAC-SHA256 and USERHASH.
-/// - `verifies`: a message of 44 bytes under a key of four.
+/// - `verifies`: a message of 44 bytes under a key of 4 bytes.
 /// - `forgets_all`: `forget_expired`, when the nonce of each address has expired.
-/// - `forgets_none`: `forget_expired`, when none has.
+/// - `forgets_none`: `forget_expired`, when no nonce has expired.
 pub fn count_of(alloc: Global, call: &str, size: u32, times: u32) -> Option<u32> {
     match call {
         "validates_sha1" => validations(alloc, false, size, times),
@@ -87,7 +87,7 @@ fn forgettings(alloc: Global, now: Instant, size: u32, times: u32) -> Option<u32
     Some(done)
 }
 
-/// A server that knows so many users.
+/// Returns a server with `size` registered users.
 fn server_of(alloc: Global, is_strong: bool, size: u32) -> Option<LongTermServerAuth> {
     let mut server = LongTermServerAuth::new(alloc, String::from_str(alloc, "realm").ok()?);
     if is_strong {
@@ -104,7 +104,7 @@ fn credentials(alloc: Global, number: u32) -> Option<LongTermCredentials> {
     Some(LongTermCredentials::new(name, String::from_str(alloc, "pass").ok()?))
 }
 
-/// The signed 401 to a request without a signature.
+/// Returns the 401 with which the server answers an unsigned request.
 fn challenge(
     alloc: Global,
     server: &mut LongTermServerAuth,
@@ -119,7 +119,7 @@ fn challenge(
     Some(server.sign_outgoing_message(error, from).ok()?.finish())
 }
 
-/// The request with which the first user answers it.
+/// Returns the request with which the first user answers the challenge.
 fn signed_request(alloc: Global, is_strong: bool, challenge: &[u8]) -> Option<Vec<u8>> {
     let mut client = LongTermClientAuth::new(alloc);
     if is_strong {
@@ -132,7 +132,7 @@ fn signed_request(alloc: Global, is_strong: bool, challenge: &[u8]) -> Option<Ve
     Some(client.sign_outgoing_message(writer).ok()?.finish())
 }
 
-/// Shows the server a message from an address.
+/// Passes a message from an address to the server, and returns whether it is validated.
 fn is_validated(server: &mut LongTermServerAuth, message: &Message<'_>, from: SocketAddr) -> bool {
     let mut words = WordSource::new([0; 16]);
     let answer = server.validate_incoming_message(message, from, Instant::ZERO, &mut words);

@@ -7,7 +7,7 @@ use Rattle.captures.specs.Numbers.{number_in}
 abbrev pub RECORD_LENGTH : ℕ
 RECORD_LENGTH = 16
 
--- the least number of bytes of a block
+-- the smallest number of bytes of a block
 abbrev pub BLOCK_LENGTH : ℕ
 BLOCK_LENGTH = 12
 

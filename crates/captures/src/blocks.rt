@@ -7,7 +7,7 @@ use crate::clock::Moment;
 use crate::damage::Fault;
 use crate::numbers::{Order, count_32, number_16, number_32};
 
-/// The type of a block that begins a section. It reads the same in both byte orders.
+/// The type of a block that begins a section. Its bytes are the same in both byte orders.
 pub const SECTION: u32 = 0x0A0D_0D0A;
 
 /// The byte-order magic after the type and the length of a section.
@@ -16,16 +16,16 @@ const MARK: u32 = 0x1A2B_3C4D;
 /// The byte-order magic in the other byte order.
 const TURNED_MARK: u32 = 0x4D3C_2B1A;
 
-/// The least number of bytes of a block.
+/// The smallest number of bytes of a block.
 pub const BLOCK_LENGTH: usize = 12;
 
 /// An interface of a section.
 #[derive(Clone, Copy)]
 pub struct Interface {
     pub link: u32,
-    /// The most bytes that are captured of a packet, or 0 for all.
+    /// The largest number of bytes that are captured from a packet, or 0 if there is no limit.
     pub most: usize,
-    /// The clock ticks in a second, or 0 if they are not known.
+    /// The number of clock ticks in a second, or 0 if it is not known.
     pub in_second: u64,
     /// The seconds to add to each time.
     pub offset: u64,
@@ -48,14 +48,15 @@ pub struct Captured<'a> {
 #[derive(Clone, Copy)]
 pub struct Block<'a> {
     pub kind: u32,
-    /// The bytes between the length and the length at the end.
+    /// The bytes between the length at the front of the block and the length at its end.
     pub body: &'a [u8],
     /// The bytes that follow the block.
     pub rest: &'a [u8],
 }
 
-/// Returns the byte order of the block at the front: its own if it begins a section, and otherwise
-/// that of the section. Fails if the byte-order magic of a section is cut short or unknown.
+/// Returns the byte order of the block at the front: its own byte order if it begins a section, and
+/// otherwise `order`, the byte order of the current section. Fails if the byte-order magic of a
+/// section is cut short or unknown.
 pub fn order_of(order: Order, bytes: &[u8]) -> Result<Order, Fault> {
     if number_32(order, bytes, 0) != Some(SECTION) {
         return Ok(order);
@@ -68,8 +69,8 @@ pub fn order_of(order: Order, bytes: &[u8]) -> Result<Order, Fault> {
     }
 }
 
-/// Returns the block at the front of these bytes. Fails if it is not whole, or does not have its
-/// length at both ends.
+/// Returns the block at the front of these bytes. Fails if the block is not whole, or does not have
+/// the same length at both ends.
 pub fn block_of<'a>(order: Order, bytes: &'a [u8]) -> Result<Block<'a>, Fault>
     ensures body { IfOk result (λ block.
         block.body.now ≡ block_body (number_in order 4 (drop 4 bytes.now)) bytes.now) }
@@ -98,7 +99,7 @@ pub fn block_of<'a>(order: Order, bytes: &'a [u8]) -> Result<Block<'a>, Fault>
     }
 }
 
-/// Parses the interface that a block describes.
+/// Parses the interface that a block describes. Returns `None` if the block is too short.
 pub fn interface_of(order: Order, body: &[u8]) -> Option<Interface> {
     let link = u32::from(number_16(order, body, 0)?);
     let most = count_32(order, body, 4)?;
@@ -113,7 +114,8 @@ pub fn interface_of(order: Order, body: &[u8]) -> Option<Interface> {
     Some(interface)
 }
 
-/// Reads the options of an interface up to their end or the first one that is cut short.
+/// Reads the options of an interface, up to the end of the options or to an option that is cut
+/// short.
 fn read_options(order: Order, options: &[u8], interface: &mut Interface) {
     let mut rest = options;
     for _turn in 0..options.len() {
@@ -131,7 +133,7 @@ fn read_options(order: Order, options: &[u8], interface: &mut Interface) {
 }
 
 /// Returns the option at the front of these bytes: its number, its value, and the bytes after its
-/// padding.
+/// padding. Returns `None` if the option is cut short.
 fn option_of<'a>(order: Order, options: &'a [u8]) -> Option<(u16, &'a [u8], &'a [u8])> {
     let kind = number_16(order, options, 0)?;
     let length = usize::from(number_16(order, options, 2)?);
@@ -141,8 +143,8 @@ fn option_of<'a>(order: Order, options: &'a [u8]) -> Option<(u16, &'a [u8], &'a 
     Some((kind, value, after))
 }
 
-/// Parses the number of 64 bits at the front. In one byte order its upper half comes first, and in
-/// the other its lower half.
+/// Parses the number of 64 bits at the front. Its upper half comes first in `Big` byte order, and
+/// its lower half in `Little`.
 fn number_64(order: Order, bytes: &[u8]) -> Option<u64> {
     let first = u64::from(number_32(order, bytes, 0)?);
     let second = u64::from(number_32(order, bytes, 4)?);
@@ -157,8 +159,9 @@ fn joined(high: u64, low: u64) -> u64 {
     (high << 32) | low
 }
 
-/// Returns the ticks in a second for the resolution of an interface: a power of ten, or of two if
-/// the first bit is set. Returns 0, for unknown, if they are more than 1000000000.
+/// Returns the number of ticks in a second for the resolution of an interface: a power of ten, or
+/// of two if the first bit is set. Returns 0, which means unknown, if the number is greater than
+/// 1000000000.
 fn ticks_of(resolution: u8) -> u64 {
     if resolution & 0x80 != 0 {
         return match resolution & 0x7F {
@@ -186,7 +189,7 @@ pub fn obsolete_of<'a>(order: Order, body: &'a [u8]) -> Option<Captured<'a>> {
     stamped_of(order, interface, body)
 }
 
-/// Parses the packet of a block that has a time.
+/// Parses the packet of a block in which a time, two lengths and the bytes follow the interface.
 fn stamped_of<'a>(order: Order, interface: usize, body: &'a [u8]) -> Option<Captured<'a>> {
     let high = number_32(order, body, 4)?;
     let low = number_32(order, body, 8)?;
@@ -215,7 +218,8 @@ pub fn simple_of<'a>(order: Order, most: usize, body: &'a [u8]) -> Option<Captur
     })
 }
 
-/// Returns the time of a packet of an interface.
+/// Returns the time of a packet from an interface, if the packet has a time and the ticks of the
+/// interface are known.
 pub fn moment_of(interface: Interface, ticks: Option<u64>) -> Option<Moment> {
     let moment = Moment::after(ticks?, interface.in_second)?;
     Some(Moment {

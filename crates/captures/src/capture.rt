@@ -1,5 +1,5 @@
-//! A capture that is read one record after another. Its caller reads each record, and a `Capture`
-//! holds none, so a capture of any size takes no more memory than its longest record.
+//! A capture that is read one record after another. The caller reads each record, and a `Capture`
+//! stores no records, so a capture of any size needs no more memory than its longest record.
 ghost use Rattle.std.specs.Prelude.{◌≡◌, ◌≤◌, IfOk, MatchResult, length};
 ghost use Rattle.captures.specs.Records.{BLOCK_LENGTH};
 
@@ -15,11 +15,11 @@ use std::alloc::Allocator;
 pub struct Packet<'a> {
     /// The number of the packet in the capture, counted from 1.
     pub number: usize,
-    /// The offset of its record in the file.
+    /// The offset of the packet's record in the file.
     pub place: usize,
-    /// When it was captured, if that is known.
+    /// The time at which the packet was captured, if it is known.
     pub moment: Option<Moment>,
-    /// The type of its link layer, as tcpdump.org numbers them.
+    /// The type of the packet's link layer, by the numbers of tcpdump.org.
     pub link: u32,
     /// The length of the packet on the wire.
     pub whole: usize,
@@ -31,7 +31,7 @@ pub struct Packet<'a> {
 #[derive(Clone, Copy)]
 pub enum Step<'a> {
     Packet(Packet<'a>),
-    /// A block without a packet.
+    /// The record is a block without a packet.
     Other,
 }
 
@@ -45,10 +45,10 @@ enum Format {
 /// The number of bytes at the front of a file that show whether it is a capture.
 pub const FRONT_LENGTH: usize = 12;
 
-/// The most bytes of a record that can be read.
+/// The largest number of bytes of a record that can be read.
 pub const RECORD_LIMIT: usize = 4_194_304;
 
-/// A capture of which a part has been read.
+/// The state of reading a capture.
 #[derive(Drop)]
 pub struct Capture<A: Allocator> {
     /// The offset of the next record in the file.
@@ -56,11 +56,11 @@ pub struct Capture<A: Allocator> {
     /// The number of packets that were read.
     packets: usize,
     format: Format,
-    /// The interfaces of the section.
+    /// The interfaces of the current section.
     interfaces: Vec<Interface, A>,
 }
 
-/// Returns the length of the file header, of a file that begins with these bytes. Returns `None` if
+/// Returns the length of the file header of a file that begins with these bytes. Returns `None` if
 /// the file is not a capture.
 pub fn header_length_of(front: &[u8]) -> Option<usize> {
     if classic::magic_of(front).is_some() {
@@ -70,7 +70,7 @@ pub fn header_length_of(front: &[u8]) -> Option<usize> {
 }
 
 impl<A: Allocator> Capture<A> {
-    /// Creates the capture that has this file header. Fails if the header is cut short.
+    /// Creates a capture from the header of its file. Fails if the header is cut short.
     pub fn open(alloc: A, header: &[u8]) -> Result<Capture<A>, Failure> {
         let format = match classic::header_of(header) {
             Some(header) => Format::Classic(header),
@@ -91,7 +91,7 @@ impl<A: Allocator> Capture<A> {
         })
     }
 
-    /// Returns the number of bytes at the front of a record that `record_length` needs.
+    /// Returns the number of bytes from the front of a record that `record_length` needs.
     pub fn front_length(&self) -> usize {
         match self.format {
             Format::Classic(_) => classic::RECORD_LENGTH,
@@ -99,8 +99,9 @@ impl<A: Allocator> Capture<A> {
         }
     }
 
-    /// Returns the length of the record that begins with these bytes. If they are cut short, or
-    /// give no length, they are the whole record. Fails if the record has more than 4194304 bytes.
+    /// Returns the length of the record that begins with these bytes. If the bytes are cut short,
+    /// or contain no valid length, returns their own number. Fails if the record has more than
+    /// 4194304 bytes.
     pub fn record_length(&self, front: &[u8]) -> Result<usize, Failure> {
         let length = match self.format {
             Format::Classic(header) => match count_32(header.order, front, 8) {
@@ -152,7 +153,7 @@ impl<A: Allocator> Capture<A> {
         Ok(step)
     }
 
-    /// Moves the offset past a record of this many bytes.
+    /// Moves the offset past a record of `length` bytes.
     fn pass(&mut self, length: usize) {
         self.place = self.place.saturating_add(length);
     }
@@ -192,7 +193,7 @@ impl<A: Allocator> Capture<A> {
         Ok(step)
     }
 
-    /// Reads what a block of this kind contains.
+    /// Reads the contents of a block of this kind.
     fn take_block<'a>(
         &mut self,
         order: Order,

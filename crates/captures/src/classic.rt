@@ -34,7 +34,8 @@ pub struct Record<'a> {
     pub rest: &'a [u8],
 }
 
-/// Returns the byte order of a file and the ticks in a second, by its first four bytes.
+/// Returns the byte order and the number of ticks in a second of a file, by its first four bytes.
+/// Returns `None` if these bytes are not the magic number of a pcap file.
 pub fn magic_of(bytes: &[u8]) -> Option<(Order, u64)> {
     match number_32(Order::Big, bytes, 0)? {
         0xA1B2_C3D4 => Some((Order::Big, 1_000_000)),
@@ -45,8 +46,9 @@ pub fn magic_of(bytes: &[u8]) -> Option<(Order, u64)> {
     }
 }
 
-/// Parses the file header, if it is whole. The upper half of its link type, which counts bytes at
-/// the end of a packet, is left out.
+/// Parses the file header. Returns `None` if the header is not whole, or if its magic number is
+/// unknown. Only the lower half of the link type is used, because the upper half counts bytes at
+/// the end of a packet.
 pub fn header_of(bytes: &[u8]) -> Option<Header> {
     let magic = magic_of(bytes)?;
     let (order, in_second) = magic;
@@ -58,7 +60,7 @@ pub fn header_of(bytes: &[u8]) -> Option<Header> {
     })
 }
 
-/// Parses the record at the front of these bytes, if it is whole.
+/// Parses the record at the front of these bytes. Returns `None` if it is not whole.
 pub fn record_of<'a>(order: Order, bytes: &'a [u8]) -> Option<Record<'a>>
     ensures none { IfNone result (length bytes.now < record_length order bytes.now) }
     ensures packet { IfSome result (λ found. found.bytes.now ≡ packet_bytes order bytes.now) }

@@ -1,4 +1,4 @@
-//! When a packet was captured.
+//! The time at which a packet was captured.
 
 use std::fmt;
 
@@ -16,8 +16,8 @@ const SECOND: u64 = 1_000_000_000;
 const LAST: u64 = 253_402_300_800;
 
 impl Moment {
-    /// Returns the time after `ticks`, with `in_second` ticks in a second. Returns `None` if
-    /// `in_second` is 0 or more than 1000000000.
+    /// Returns the time after this number of ticks, with `in_second` ticks in a second. Returns
+    /// `None` if `in_second` is 0 or more than 1000000000.
     pub fn after(ticks: u64, in_second: u64) -> Option<Moment> {
         if in_second == 0 || in_second > SECOND {
             return None;
@@ -40,8 +40,8 @@ struct Date {
     day: u64,
 }
 
-/// Returns the date of a day, counted from the beginning of 1970. The days are counted from a first
-/// of March, in spans of 400 years, so that a leap day is the last day of its year.
+/// Returns the date of a day, counted from the beginning of 1970. The calculation counts days from
+/// March 1, in spans of 400 years, so that a leap day is the last day of its year.
 fn date_of(days: u64) -> Date {
     let days = days.saturating_add(719_468);
     let (era, day_of_era) = (days / 146_097, days % 146_097);

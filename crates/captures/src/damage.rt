@@ -3,33 +3,33 @@
 use std::alloc::AllocError;
 use std::fmt;
 
-/// What is wrong with a record or a block of a capture.
+/// A fault of a record or a block of a capture.
 #[derive(Clone, Copy)]
 pub enum Fault {
-    /// The file ends within its header.
+    /// The file ends within the file header.
     HeaderCut,
     /// The file ends within a record or a block.
     RecordCut,
     /// A record or a block has this length, which is longer than can be read.
     RecordLength(usize),
-    /// A block states this length, which no block can have, or a different one at its end.
+    /// A block states this length, which no block can have, or it states another length at its end.
     BlockLength(usize),
     /// The byte-order magic of a section is unknown.
     Order,
     /// A packet belongs to an interface with this number, which its section does not describe.
     Interface(usize),
-    /// A packet has this length, and its block is shorter.
+    /// A packet has this length, but its block is shorter.
     PacketLength(usize),
 }
 
-/// Where a capture cannot be read further, and why.
+/// The record at which a capture cannot be read further, and the reason.
 #[derive(Clone, Copy)]
 pub struct Damage {
-    /// The number of packets that were read before it.
+    /// The number of packets that were read before the record.
     pub packets: usize,
     /// The offset of the record in the file.
     pub place: usize,
-    /// What is wrong there.
+    /// The fault of the record.
     pub fault: Fault,
 }
 

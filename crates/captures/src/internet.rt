@@ -20,11 +20,11 @@ pub struct Datagram<'a> {
 pub enum Carried<'a> {
     Udp(Datagram<'a>),
     Tcp(Datagram<'a>),
-    /// A fragment of a packet.
+    /// The packet is a fragment of an IP packet.
     Fragment,
-    /// Something else.
+    /// The packet carries another protocol.
     Other,
-    /// The capture has cut its headers short.
+    /// The capture has cut the headers of the packet short.
     Cut,
 }
 
@@ -40,10 +40,10 @@ const IPV6_LENGTH: usize = 40;
 /// The length of the header of UDP.
 const UDP_LENGTH: usize = 8;
 
-/// The least length of the header of TCP.
+/// The smallest length of the header of TCP.
 const TCP_LENGTH: usize = 20;
 
-/// Returns the content of an IPv4 or IPv6 packet, by its version. This and the functions below
+/// Returns the content of an IPv4 or IPv6 packet, by its version. This function and those below
 /// return `None` if the headers are not whole.
 pub fn internet(bytes: &[u8]) -> Option<Carried<'_>> {
     match *bytes.first()? >> 4 {
@@ -87,8 +87,8 @@ fn ipv4_at(bytes: &[u8], place: usize) -> Option<IpAddr> {
     Some(IpAddr::V4(Ipv4Addr::new(*a, *b, *c, *d)))
 }
 
-/// Returns the first `length` bytes. Returns all of them if `length` is 0, as in packets that a
-/// network card is to split up, or if there are fewer.
+/// Returns the first `length` bytes. Returns all bytes if there are fewer, or if `length` is 0, as
+/// in packets that a network card will split.
 fn up_to(bytes: &[u8], length: usize) -> &[u8] {
     if length == 0 {
         return bytes;
@@ -123,7 +123,7 @@ fn address_at(bytes: &[u8], place: usize) -> Option<IpAddr> {
 }
 
 /// Returns the content after the extension headers (RFC 8200, section 4), the first of which has
-/// this type. `is_cut` says whether the capture cut the packet short.
+/// the type `next`. `is_cut` is true if the capture cut the packet short.
 fn behind_extensions<'a>(
     from: IpAddr,
     to: IpAddr,
@@ -137,7 +137,7 @@ fn behind_extensions<'a>(
         let length = match kind {
             UDP => return udp(from, to, rest),
             TCP => return tcp(from, to, rest, is_cut),
-            // Options from hop to hop, routing, options of the destination, mobility, HIP, Shim6.
+            // Hop-by-hop options, routing, destination options, mobility, HIP, Shim6.
             0 | 43 | 60 | 135 | 139 | 140 => (usize::from(*rest.get(1)?) + 1) * 8,
             // Authentication (RFC 4302, section 2.2).
             51 => (usize::from(*rest.get(1)?) + 2) * 4,
@@ -151,13 +151,14 @@ fn behind_extensions<'a>(
     None
 }
 
-/// Returns `true` if a fragment header is that of a fragment with the whole packet (RFC 6946).
+/// Returns whether a fragment header belongs to a fragment that contains the whole packet (RFC
+/// 6946).
 fn is_whole(bytes: &[u8]) -> Option<bool> {
     Some(number_16(Order::Big, bytes, 2)? & 0xFFF9 == 0)
 }
 
-/// Parses the UDP datagram at the front of these bytes (RFC 768). A length of 0 means all of them.
-/// A length that is less than that of the header is malformed.
+/// Parses the UDP datagram at the front of these bytes (RFC 768). A length of 0 stands for all of
+/// the bytes. A length that is less than the length of the header is malformed.
 fn udp(from: IpAddr, to: IpAddr, bytes: &[u8]) -> Option<Carried<'_>> {
     let from = SocketAddr::new(from, number_16(Order::Big, bytes, 0)?);
     let to = SocketAddr::new(to, number_16(Order::Big, bytes, 2)?);
@@ -174,8 +175,8 @@ fn udp(from: IpAddr, to: IpAddr, bytes: &[u8]) -> Option<Carried<'_>> {
     }))
 }
 
-/// Parses a segment of TCP (RFC 9293, section 3.1). A header length that is less than that of the
-/// fixed header is malformed.
+/// Parses a segment of TCP (RFC 9293, section 3.1). A header length that is less than the length of
+/// the fixed header is malformed.
 fn tcp(from: IpAddr, to: IpAddr, bytes: &[u8], is_cut: bool) -> Option<Carried<'_>> {
     if bytes.len() < TCP_LENGTH && !is_cut {
         return Some(Carried::Other);

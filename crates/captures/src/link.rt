@@ -50,8 +50,8 @@ fn of_type(kind: u16, bytes: &[u8]) -> Option<Carried<'_>> {
     }
 }
 
-/// Returns the content of Linux cooked, version 2: the EtherType comes first, and the packet after
-/// 20 bytes.
+/// Returns the content of a Linux cooked frame, version 2, which begins with the EtherType. The
+/// packet follows after 20 bytes.
 fn cooked_2(bytes: &[u8]) -> Option<Carried<'_>> {
     let kind = number_16(Order::Big, bytes, 0)?;
     let rest = bytes.get(20..)?;

@@ -11,7 +11,7 @@ pub enum Order {
     Little,
 }
 
-/// Parses the number of 16 bits at an offset, if it is whole.
+/// Parses the number of 16 bits at an offset. Returns `None` if it is not whole.
 pub fn number_16(order: Order, bytes: &[u8], place: usize) -> Option<u16>
     ensures none { IfNone result (length bytes.now < place + 2) }
     ensures some { IfSome result (λ number. number ≡ number_in order 2 (drop place bytes.now)) }
@@ -26,7 +26,7 @@ pub fn number_16(order: Order, bytes: &[u8], place: usize) -> Option<u16>
     })
 }
 
-/// Parses the number of 32 bits at an offset, if it is whole.
+/// Parses the number of 32 bits at an offset. Returns `None` if it is not whole.
 pub fn number_32(order: Order, bytes: &[u8], place: usize) -> Option<u32>
     ensures none { IfNone result (length bytes.now < place + 4) }
     ensures some { IfSome result (λ number. number ≡ number_in order 4 (drop place bytes.now)) }

@@ -1,6 +1,6 @@
-//! Signs messages by calls that leave their conditions to the caller: it looks at what they need,
-//! and it is proved that they may be called then. (That a message which the checking calls of a
-//! server or a client sign may be signed unchecked is a law of `stun_auth`.)
+//! Signs messages by calls that leave their conditions to the caller: the program checks what they
+//! require, and it is proved that they may be called then. (That a message which the checking calls
+//! of a server or a client sign may be signed unchecked is a law of `stun_auth`.)
 //!
 //! It prints each signed message in hexadecimal digits, a line each.
 #![tactic(auto)]
@@ -65,7 +65,7 @@ fn request(alloc: Global) -> Signed {
     Message::builder(kind, id, MessageWriteVec::new(alloc))
 }
 
-/// Signs a request with a key, after a look at what the call needs.
+/// Signs a request with a key, after checking what the call requires.
 fn signed_by_key(alloc: Global, algorithm: IntegrityAlgorithm) -> Signed {
     let key = IntegrityKey::from_bytes(alloc, b"key")?;
     let mut writer = request(alloc)?;
@@ -80,7 +80,7 @@ fn signed_by_key(alloc: Global, algorithm: IntegrityAlgorithm) -> Signed {
     Ok(writer)
 }
 
-/// Signs a request with a password (RFC 8489, section 9.1), after a look at what the call needs.
+/// Signs a request with a password (RFC 8489, section 9.1), after checking what the call requires.
 fn signed_by_password(alloc: Global) -> Signed {
     let mut auth = ShortTermAuth::new(alloc);
     let password = String::from_str(alloc, "password")?;

@@ -1,8 +1,10 @@
 -- An address that is there stays there, and no other comes; one that is forgotten goes, no other.
 use Rattle.std.proofs.Common.{◌≡◌, Bool, true, false, [], ◌∷◌, refl, sym, ap, subst, ◌∙◌}
 use Rattle.std.specs.Prelude.{cond, not, ◌&&◌, ◌||◌, ◌↔◌, IsTrue}
-use Rattle.std.specs.Bool.{OnFalse}
 use Rattle.std.specs.List.{filter, list_any}
+use Rattle.std.specs.List.{AllByRecursion}
+use Rattle.std.specs.List.Sorted.{IsStrictlySortedBy}
+use Rattle.std.specs.BTreeSet.{insert_key}
 use Rattle.std.specs.Set.{remove_key}
 use Rattle.std.proofs.lemmas.Map.Views.{any-filter_same}
 use Rattle.std.specs.Ordering.{is_eq, match_ordering, ordering_reverse}
@@ -15,13 +17,6 @@ use Rattle.stun_base.specs.Address.{address_cmp, same_address}
 use Rattle.stun_agent.specs.Agent.{Agent}
 use Rattle.stun_agent.specs.Peers.{Peers, is_peer, with_peer, without_peer}
 use Rattle.stun_base.proofs.Addresses.{address_total, address_exact}
-
--- what `insert` answers where the address was there
-pub same_peers : (was added : Bool) (peers new : Peers) → added ≡ not was
-    → OnFalse added (new ≡ peers) → IsTrue was → new ≡ peers
-same_peers true true peers new is stays there = cc
-same_peers true false peers new is stays there = stays
-same_peers false added peers new is stays there = cc
 
 -- an agent of which the peers alone have become others
 pub changed_peers : {inside now : Agent} (f : Peers → Peers) (new : Peers) → inside ≡ now
@@ -159,3 +154,36 @@ without_peer-removed a old new removed none =
     (ap (list_any (λ x. is_eq (derived a x))) (sym removed) ∙ none)
     ∙ ap (λ (R : SocketAddr → SocketAddr → Ordering). filter (λ x. not (is_eq (R a x))) old)
     (λ i a b. by_cases a b i)
+
+-- ---- adding again
+-- an address below another is none of those above that one
+none_above : (a x : SocketAddr) (xs : Peers) → address_cmp a x ≡ Less
+    → AllByRecursion (λ y. address_cmp x y ≡ Less) xs → is_peer a xs ≡ false
+none_above a x [] below above = refl
+none_above a x (y ∷ ys) below above =
+    ap (λ r. is_eq r || is_peer a ys) (address_total.trans a x y below above.0)
+    ∙ none_above a x ys below above.1
+
+-- an address that is there is not put in again
+there_already : (a : SocketAddr) (peers : Peers) → IsStrictlySortedBy address_cmp peers
+    → is_peer a peers ≡ true → with_peer a peers ≡ peers
+unfolding IsStrictlySortedBy
+there_already a [] sorted there = cc
+there_already a (x ∷ xs) sorted there =
+    by (address_cmp a x) refl (there_already a xs sorted.1) there
+  where
+    by : (r : Ordering) → address_cmp a x ≡ r → (is_peer a xs ≡ true → with_peer a xs ≡ xs)
+        → (is_eq r || is_peer a xs) ≡ true
+        → match_ordering r (a ∷ x ∷ xs) (x ∷ xs) (x ∷ with_peer a xs) ≡ (x ∷ xs)
+    by Less is rest there = let none = none_above a x xs is sorted.0 in cc
+    by Equal is rest there = refl
+    by Greater is rest there = ap (λ l. x ∷ l) (rest there)
+
+-- a set of addresses stays as it is if one of them is put in again
+pub with_peer-there : (a : SocketAddr) (old new : Peers) → IsStrictlySortedBy derived old
+    → new ≡ insert_key derived old a → IsTrue (is_peer a old) → new ≡ old
+with_peer-there a old new sorted put there =
+    put
+    ∙ subst (λ (R : SocketAddr → SocketAddr → Ordering).
+    IsStrictlySortedBy R old → insert_key R old a ≡ old)
+    (λ i a b. sym (by_cases a b) i) (λ in_order. there_already a old in_order there) sorted

@@ -1,4 +1,4 @@
--- An agent, and what each call makes of it (RFC 8489, sections 6.2 and 6.3).
+-- An agent, and how each call changes it (RFC 8489, sections 6.2 and 6.3).
 use Rattle.std.specs.Prelude.{ℕ, Bool, true, false, not, List, []}
 use Rattle.std.specs.Prelude.{length, if◌then◌else◌, Option, Some, None}
 use Rattle.std.specs.Option.{option_map_or, option_map, option_or, is_some}
@@ -31,7 +31,7 @@ use Rattle.stun_agent.specs.Transactions.{Transaction, Transactions, repeats}
 use Rattle.stun_agent.specs.Transactions.{new_transaction, at, with, without, first_over}
 use Rattle.stun_agent.specs.Transactions.{wake_up, next_sent, after_slots, round_trip}
 
--- an agent. It counts where it has statistics
+-- an agent. It counts if it has statistics
 pub record Agent : Type 0 where
   pub transport : TransportType
   pub local_addr : SocketAddr
@@ -53,7 +53,7 @@ new_agent transport local_addr = record {
   statistics = None;
 }
 
--- the statistics that are kept from the start, or none
+-- the statistics, if they are kept from the start
 abbrev pub statistics_if : Bool → Option Statistics
 statistics_if wanted = if wanted then Some new_statistics else None
 
@@ -61,15 +61,15 @@ statistics_if wanted = if wanted then Some new_statistics else None
 abbrev pub with_transactions : Agent → Transactions → Agent
 with_transactions agent all = record agent { transactions = all }
 
--- the agent once an address is validated
+-- the agent after an address is validated
 abbrev pub with_validated : SocketAddr → Agent → Agent
 with_validated address agent = record agent { peers = with_peer address agent.peers }
 
--- the agent once an address is validated no more
+-- the agent after an address is forgotten
 abbrev pub without_validated : SocketAddr → Agent → Agent
 without_validated address agent = record agent { peers = without_peer address agent.peers }
 
--- the agent once a tally is counted
+-- the agent after a tally is counted
 abbrev pub with_tally : Tally → Agent → Agent
 with_tally tally agent =
     record agent { statistics = option_map (statistics_after tally) agent.statistics }
@@ -87,17 +87,17 @@ sending_tally Error count = response_sent count
 abbrev pub is_elsewhere : Agent → SocketAddr → Bool
 is_elsewhere agent to = option_map_or (λ peer. not (same_address to peer)) agent.remote_addr false
 
--- why nothing is sent to an address
+-- why nothing is sent to an address, if nothing is
 abbrev pub address_refusal : Agent → SocketAddr → Option StunError
 address_refusal agent to = if is_elsewhere agent to then Some ProtocolViolation else None
 
--- why bytes are neither an indication nor a response, the first reason that holds
+-- why bytes are neither an indication nor a response: the first reason that applies
 abbrev pub class_refusal : List ℕ → Option StunError
 class_refusal bytes =
     option_map_or (λ error. Some (ParseError error)) (header_refusal bytes)
     (if is_request (class_in bytes) then Some ProtocolViolation else None)
 
--- why bytes are not sent as an indication or a response, the first reason that holds
+-- why bytes are not sent as an indication or a response: the first reason that applies
 abbrev pub sending_refusal : Agent → List ℕ → SocketAddr → Option StunError
 sending_refusal agent bytes to = option_or (class_refusal bytes) (address_refusal agent to)
 
@@ -105,7 +105,7 @@ sending_refusal agent bytes to = option_or (class_refusal bytes) (address_refusa
 abbrev pub after_send : List ℕ → Agent → Agent
 after_send bytes agent = with_tally (sending_tally (class_in bytes) (length bytes)) agent
 
--- why bytes are not sent as a request, the first reason that holds
+-- why bytes are not sent as a request: the first reason that applies
 abbrev pub request_refusal : Agent → List ℕ → SocketAddr → Option StunError
 request_refusal agent bytes to =
     option_map_or (λ error. Some (ParseError error)) (header_refusal bytes)
@@ -127,18 +127,18 @@ after_send_request agent bytes to now =
     (with_transactions agent
     (with (transaction_id_field bytes) (request_of agent bytes to now) agent.transactions))
 
--- what is sent of a transaction: bytes, transport, sender and receiver
+-- the datagram of a transaction: bytes, transport, sender and receiver
 abbrev pub datagram_of : Agent → Transaction → Datagram
 datagram_of agent t = (t.bytes, agent.transport, agent.local_addr, t.to)
 
 -- ---- receiving
--- the one that was found, if its request was sent to this address
+-- the transaction that was found, if its request was sent to this address
 abbrev pub went_to : SocketAddr → Option Transaction → Option Transaction
 went_to address None = None
 went_to address (Some t) = if same_address address t.to then Some t else None
 
 -- the outstanding request that a response answers: that of its transaction, if it was sent to the
--- response's sender
+-- sender of the response
 abbrev pub answered_request : List ℕ → SocketAddr → Agent → Option Transaction
 answered_request bytes from agent =
     went_to from (at (transaction_id_field bytes) agent.transactions)
@@ -188,7 +188,7 @@ end_of e = if repeats e.1.sending then TransactionTimedOut e.0 else TransactionC
 abbrev pub tally_of_end : Transaction → Tally
 tally_of_end t = if repeats t.sending then one_timed_out else one_cancelled
 
--- the one that ends at a poll: of the least id among those that are over
+-- the transaction that ends at a poll: the one with the least ID among those that are over
 abbrev pub ended_by_poll : ℕ → Agent → Option (ℕ × Transaction)
 ended_by_poll now agent = first_over agent.transport now agent.transactions
 
@@ -206,11 +206,11 @@ after_poll now agent =
     (ended_by_poll now agent) agent
 
 -- ---- retransmission
--- the one that is sent again: of the least id among those that are due and repeat
+-- the transaction that is sent again: the one with the least ID among those that are due and repeat
 abbrev pub sent_by_poll : ℕ → Agent → Option (ℕ × Transaction)
 sent_by_poll now agent = next_sent agent.transport now agent.transactions
 
--- what sending again counts
+-- the agent after a transmission is counted, if there was one
 abbrev pub tally_of_sent : Option (ℕ × Transaction) → Agent → Agent
 tally_of_sent sent agent =
     option_map_or (λ e. with_tally (request_sent_again (length e.1.bytes)) agent) sent agent

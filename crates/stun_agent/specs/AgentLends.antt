@@ -1,4 +1,4 @@
--- What an agent is once the loans of a call have ended.
+-- What an agent is after the borrows of a call have ended.
 use Rattle.std.specs.Prelude.{◌≡◌, ⊤, Result, MatchResult, Option, Some}
 use Rattle.std.specs.Borrow.{Fml, RattleType, MutBor, LendsIf, follows_so}
 use Rattle.std.specs.declared.alloc.Allocator as alloc
@@ -8,19 +8,19 @@ use Rattle.stun_agent.specs.Statistics.{Statistics}
 use Rattle.stun_agent.specs.contracts.agent.StunAgent.{the_row}
 use Rattle.stun_agent.specs.contracts.stats.StunAgentStats.{the_row as stats_row}
 
--- the agent that was lent ends as `after`
+-- the agent that was borrowed is `after` in the end
 abbrev pub ends_as : (A : RattleType) → alloc.Ghosts A.Denot → MutBor Agent → Agent → Fml
 ends_as A heap agent after =
     follows_so (the_row A heap) (the_row A heap) agent.ghost_name none (λ _ _. ⊤) (λ n. n ≡ after)
 
--- the same after an `Ok`, and as before after an `Err`
+-- the same after an `Ok`, and unchanged after an `Err`
 abbrev pub ends_if_ok_as : {T E : Type 0} → (A : RattleType) → alloc.Ghosts A.Denot → MutBor Agent
     → Result T E → Agent → Fml
 ends_if_ok_as A heap agent answer after =
     follows_so (the_row A heap) (the_row A heap) agent.ghost_name none (λ _ _. ⊤)
     (λ n. MatchResult answer (λ _. n ≡ after) (λ _. n ≡ agent.now))
 
--- the agent ends with the statistics that the loan leaves, and as it was if it has none
+-- the agent has the statistics that the borrow leaves, and is unchanged if it has none
 abbrev pub lends_statistics : (A : RattleType) → alloc.Ghosts A.Denot → MutBor Agent
     → Option (MutBor Statistics) → Fml
 lends_statistics A heap agent lent =

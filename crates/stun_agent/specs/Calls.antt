@@ -1,5 +1,5 @@
--- What is done to an agent, call by call. A call that is refused, or whose allocation fails, leaves
--- the agent as it was.
+-- Calls of an agent, one by one. A call that is refused, or whose allocation fails, leaves the
+-- agent unchanged.
 use Rattle.std.specs.Prelude.{ℕ, ◌+◌, Bool, false, ◌&&◌, max, if◌then◌else◌, List, [], ◌∷◌, Option}
 use Rattle.std.specs.Option.{option_map_or, is_some, is_none}
 use Rattle.std.specs.declared.net.socket_addr.SocketAddr.{SocketAddr}
@@ -19,8 +19,8 @@ use Rattle.stun_agent.specs.Timing.{Settings}
 use Rattle.stun_agent.specs.Transactions.{at, with_change_at, without_retransmissions}
 use Rattle.stun_agent.specs.Transactions.{with_cancellation, with_settings}
 
--- a call. A message or a request is sent, a message comes, an address is validated or forgotten;
--- both polls; and what the user of a request does to it
+-- a call. A message or a request is sent, a message arrives, an address is validated or forgotten;
+-- one of the two polls; or a change of a request by its user
 pub data AgentCall : Type 0 where
   send : List ℕ → SocketAddr → AgentCall
   send_request : List ℕ → SocketAddr → ℕ → AgentCall
@@ -80,7 +80,7 @@ begins id (cancel_retransmissions other) agent = false
 begins id (cancel other) agent = false
 begins id (configure other settings) agent = false
 
--- a message of a class ends the request of the transaction, as its response
+-- a message of a class ends the request of the transaction, because it is its response
 abbrev pub takes_request : MessageClass → ℕ → List ℕ → SocketAddr → Agent → Bool
 takes_request Request id bytes from agent = false
 takes_request Indication id bytes from agent = false
@@ -89,7 +89,7 @@ takes_request Success id bytes from agent =
 takes_request Error id bytes from agent =
     is_id id (transaction_id_field bytes) && is_some (answered_request bytes from agent)
 
--- a call ends the transaction: by a response that comes, or by a poll, as timed out or canceled
+-- a call ends the transaction: by a response that arrives, or by a poll, as timed out or canceled
 abbrev pub ends : ℕ → AgentCall → Agent → Bool
 ends id (receive moment bytes from) agent = takes_request (class_in bytes) id bytes from agent
 ends id (poll now) agent = option_map_or (λ e. is_id id e.0) (ended_by_poll now agent) false
@@ -116,7 +116,7 @@ repeats_request id (cancel_retransmissions other) agent = false
 repeats_request id (cancel other) agent = false
 repeats_request id (configure other settings) agent = false
 
--- 1 where it is so
+-- 1 if this is true, and otherwise 0
 abbrev pub one_if : Bool → ℕ
 one_if b = if b then 1 else 0
 

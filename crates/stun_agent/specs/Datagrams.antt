@@ -1,4 +1,4 @@
--- What is sent: bytes, and the transport and addresses for them.
+-- What is sent: bytes, their transport and their addresses.
 use Rattle.std.specs.Prelude.{ℕ, List, ◌++◌, codes}
 use Rattle.std.specs.Borrow.{Bor}
 use Rattle.std.specs.Fmt.{decimal}
@@ -26,7 +26,7 @@ lent_datagram t = (t.«data».now, t.transport, t.from, t.to)
 abbrev pub datagram : {A : Type 0} → Transmit (Data A) → Datagram
 datagram t = (data_bytes t.«data», t.transport, t.from, t.to)
 
--- the text of so many bytes that a transport carries between two addresses
+-- the text of this many bytes that a transport carries between two addresses
 abbrev pub text_of_datagram : TransportType → SocketAddr → SocketAddr → ℕ → List ℕ
 text_of_datagram transport from to count =
     codes "Transmit(" ++ transport_name transport ++ codes ": " ++ socket_text from ++ codes " -> "

@@ -4,7 +4,7 @@ use Rattle.std.specs.Prelude.{ℕ, ◌≡◌, ◌+◌, ◌*◌, ◌<◌, Bool, �
 use Rattle.stun_base.specs.declared.wire.transport.TransportType.{TransportType}
 use Rattle.stun_agent.specs.Transactions.{Transaction, Transactions, awaited_moment, is_cancelled}
 
--- a transaction that is canceled, or awaits at most this moment
+-- a transaction that is canceled, or awaits at most this time
 abbrev pub is_early : TransportType → ℕ → Transaction → Bool
 is_early transport now t = is_cancelled t.sending || nat_le (awaited_moment transport t) now
 
@@ -12,27 +12,27 @@ is_early transport now t = is_cancelled t.sending || nat_le (awaited_moment tran
 abbrev pub early_requests : TransportType → ℕ → Transactions → ℕ
 early_requests transport now all = count_by (λ e. is_early transport now e.1) all
 
--- what a poll does: how many requests it reads, each with its id, and at how many links of the tree
--- of requests it looks, each with the earliest moments of the requests below it
+-- what a poll does: how many requests it reads, each with its ID, and at how many links of the tree
+-- of requests it looks, each with the earliest times of the requests below it
 pub record Work : Type 0 where
   pub entries : ℕ
   pub looks : ℕ
 
--- how many requests a poll reads at most, however many there are: the one that it ends
+-- the largest number of requests that a poll reads, however many there are: the one that it ends
 abbrev pub most_reads : ℕ
 most_reads = 1
 
--- how many forks of a tree are one below another at most: each has a quarter of the ids of the one
--- above it, and there are as many ids as 4 to the 48
+-- the largest number of forks that are below one another in a tree: each has a quarter of the IDs
+-- of the one above it, and there are 4 to the 48 IDs
 abbrev pub most_levels : ℕ
 most_levels = 48
 
--- at how many links a poll looks at most, if it reads so many requests: twice at the root, and for
--- each request at the four links of each fork above it
+-- the largest number of links at which a poll looks, if it reads this many requests: twice at the
+-- root, and for each request at the four links of each fork above it
 abbrev pub most_looks : ℕ → ℕ
 most_looks entries = 2 + entries * (4 * most_levels)
 
--- a blank of a ledger that nobody has used, and that has a part for each count
+-- a blank of a ledger that is unused, and that has a part for each count
 pub record IsUnused (name parts ledger_name ledger_parts : ℕ) : Type 0 where
   pub same_name : name ≡ ledger_name
   pub same_parts : parts ≡ ledger_parts

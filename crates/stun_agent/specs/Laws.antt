@@ -1,4 +1,4 @@
--- Laws of an agent over any calls. Their moments may go back (RFC 8489, section 6.2).
+-- Laws of an agent over any calls. Their times may go back (RFC 8489, section 6.2).
 use Rattle.std.specs.Prelude.{◌≡◌, ◌≢◌, ◌≤◌, ◌<◌, ◌+◌, ℕ, false, max, List}
 use Rattle.std.specs.Prelude.{[], Option, Some, None, IfSome, length}
 use Rattle.std.specs.declared.net.socket_addr.SocketAddr.{SocketAddr}
@@ -22,18 +22,18 @@ IsNeverEarly =
     (now : ℕ) (agent : Agent) (e : ℕ × Transaction) → sent_by_poll now agent ≡ Some e
     → moment_after e.1.last (timeout e.1.settings e.1.slot) ≤ now
 
--- at a moment nothing is sent again and nothing ends
+-- nothing is sent again at this time, and nothing ends
 pub record IsQuiet (moment : ℕ) (agent : Agent) : Type 0 where
   pub sends_nothing : sent_by_poll moment agent ≡ None
   pub ends_nothing : ended_by_poll moment agent ≡ None
 
--- a moment to wait until: it lies in the next hour, and until then all is quiet
+-- a time to wait until: it is in the next hour, and until then all is quiet
 pub record IsWait (now until : ℕ) (agent : Agent) : Type 0 where
   pub not_past : now ≤ until
   pub within_an_hour : until ≤ now + an_hour
   pub quiet : (moment : ℕ) → now ≤ moment → moment < until → IsQuiet moment agent
 
--- if a poll says to wait, it changes nothing, and all is quiet until the moment that it returns
+-- if a poll says to wait, it changes nothing, and all is quiet until the time that it returns
 abbrev pub WaitsAsTold : Type 0
 WaitsAsTold =
     (now until : ℕ) (agent : Agent) → poll_answer now agent ≡ WaitUntil until
@@ -54,7 +54,7 @@ IgnoresElsewhere =
     → from ≢ t.to
     → (takes_message bytes from agent ≡ false) × (after_message moment bytes from agent ≡ agent)
 
--- a request ends over UDP and over TCP at the same moment
+-- a request ends at the same time over UDP and over TCP
 abbrev pub EndsAlike : Type 0
 EndsAlike = (settings : Settings) (start : ℕ)
     → planned_end Udp settings start ≡ planned_end Tcp settings start
@@ -66,8 +66,8 @@ EndsOnce =
     → count begins id calls start
     ≡ count ends id calls start + one_if (is_outstanding id (after_agent_calls calls start))
 
--- a request is transmitted at most as often as its settings ever allow, and over TCP once: from
--- when it is sent, over any calls, until it ends
+-- a request is transmitted at most as often as its settings ever allow, and once over TCP: from
+-- when it is sent until it ends, over any calls
 abbrev pub IsTransmittedAtMost : Type 0
 IsTransmittedAtMost =
     (earlier later : List AgentCall) (start : Agent) (bytes : List ℕ) (to : SocketAddr) (now : ℕ)

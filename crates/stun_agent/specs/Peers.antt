@@ -1,4 +1,4 @@
--- The addresses that an agent has validated: a set, as its addresses in their order.
+-- The addresses that an agent has validated: a set, as its addresses in ascending order.
 use Rattle.std.specs.Prelude.{Bool, not, List}
 use Rattle.std.specs.List.{filter, list_any}
 use Rattle.std.specs.declared.net.socket_addr.SocketAddr.{SocketAddr}
@@ -12,10 +12,10 @@ Peers = List SocketAddr
 abbrev pub is_peer : SocketAddr → Peers → Bool
 is_peer address peers = list_any (same_address address) peers
 
--- with an address, at its place, if it is not there yet
+-- the addresses with another one, in its position, unless they have it already
 abbrev pub with_peer : SocketAddr → Peers → Peers
 with_peer address peers = insert_key address_cmp peers address
 
--- without an address, if it is there
+-- the addresses without this one
 abbrev pub without_peer : SocketAddr → Peers → Peers
 without_peer address peers = filter (λ peer. not (same_address address peer)) peers

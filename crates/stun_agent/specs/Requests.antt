@@ -1,4 +1,4 @@
--- Outstanding requests that are lent with their agent.
+-- Outstanding requests that are borrowed with their agent.
 use Rattle.std.specs.Prelude.{◌≡◌, Option, []}
 use Rattle.std.specs.Borrow.{Fml, RattleType, MutBor, Lends, RestsIfNone}
 use mir.Syntax.{named}
@@ -23,13 +23,13 @@ pub record StaysWith {A : Type 0} (old new : StunRequestMut A) (all : Transactio
   pub peer_address : new.peer_address ≡ old.peer_address
   pub integrity : new.integrity ≡ old.integrity
 
--- the agent ends as the request leaves it, and as it was if there is none
+-- the agent is as the request leaves it, and unchanged if there is none
 abbrev pub rests : (A : RattleType) → alloc.Ghosts A.Denot → MutBor Agent
     → Option (StunRequestMut A.Denot) → Fml
 rests A heap agent request =
     RestsIfNone (the_row A heap) agent (λ r. r.agent.ghost_name) request (λ n. n ≡ agent.now)
 
--- the request ends with the agent that is left after the one that it lent
+-- the request has the agent that is left after the one that it lent
 abbrev pub lends_agent : (A : RattleType) → alloc.Ghosts A.Denot → MutBor (StunRequestMut A.Denot)
     → MutBor Agent → Fml
 lends_agent A heap request lent =

@@ -22,7 +22,7 @@ pub record Statistics : Type 0 where
   pub rtt_max : Option ℕ
   pub rtt_total : ℕ
 
--- before anything is counted
+-- the statistics before anything is counted
 abbrev pub new_statistics : Statistics
 new_statistics =
     record {
@@ -73,11 +73,11 @@ no_tally =
       round_trips = [];
     }
 
--- a request of so many bytes was sent for the first time
+-- a request of this many bytes was sent for the first time
 abbrev pub request_sent : ℕ → Tally
 request_sent bytes = record no_tally { requests_sent = 1; bytes_sent = bytes }
 
--- it was sent again, which counts its bytes alone
+-- the request was sent again, which only counts its bytes
 abbrev pub request_sent_again : ℕ → Tally
 request_sent_again bytes = record no_tally { bytes_sent = bytes }
 
@@ -102,7 +102,7 @@ response_received bytes round_trip =
 abbrev pub indication_received : ℕ → Tally
 indication_received bytes = record no_tally { indications_received = 1; bytes_received = bytes }
 
--- a request ended because no response came in time
+-- a request ended because no response arrived in time
 abbrev pub request_timed_out : Tally
 request_timed_out = record no_tally { timed_out = 1 }
 
@@ -139,26 +139,26 @@ last_total = 2 ^ 128 - 1
 abbrev pub saturating_sum : ℕ → ℕ → ℕ
 saturating_sum counter more = min (counter + more) last_count
 
--- the least among a number that may be absent and these
+-- the least of these numbers and one that may be absent
 abbrev pub least : Option ℕ → List ℕ → Option ℕ
 least first others = fold (λ found other. Some (option_map_or (min other) found other)) first others
 
--- the greatest among them
+-- the greatest of these numbers and one that may be absent
 abbrev pub greatest : Option ℕ → List ℕ → Option ℕ
 greatest first others =
     fold (λ found other. Some (option_map_or (max other) found other)) first others
 
--- the least of these, and nothing if there are none
+-- the least of these, or nothing if there are none
 abbrev pub IsLeast : List ℕ → Option ℕ → Type 0
 IsLeast numbers found =
     MatchOption found (numbers ≡ []) (λ m. Contains numbers m × All (λ n. m ≤ n) numbers)
 
--- the greatest of these, and nothing if there are none
+-- the greatest of these, or nothing if there are none
 abbrev pub IsGreatest : List ℕ → Option ℕ → Type 0
 IsGreatest numbers found =
     MatchOption found (numbers ≡ []) (λ m. Contains numbers m × All (λ n. n ≤ m) numbers)
 
--- the statistics once this is counted too
+-- the statistics after this is counted too
 abbrev pub statistics_after : Tally → Statistics → Statistics
 statistics_after tally old =
     record {
@@ -183,21 +183,22 @@ abbrev pub average : Statistics → Option ℕ
 average statistics =
     if statistics.rtt_count == 0 then None else Some (statistics.rtt_total / statistics.rtt_count)
 
--- the requests that had neither a response nor another end, and 0 if more have ended than were sent
+-- the number of requests that had neither a response nor another end, or 0 if more have ended than
+-- were sent
 abbrev pub outstanding_requests : Statistics → ℕ
 outstanding_requests statistics =
     statistics.requests_sent
     - (statistics.responses_received + statistics.transactions_timed_out
     + statistics.transactions_cancelled)
 
--- of the requests sent, n had neither a response, nor a time-out, nor a cancellation
+-- of the requests sent, n had neither a response, nor a timeout, nor a cancellation
 abbrev pub LeavesOutstanding : Statistics → ℕ → Type 0
 LeavesOutstanding statistics n =
     statistics.requests_sent
     ≡ statistics.responses_received + statistics.transactions_timed_out
     + statistics.transactions_cancelled + n
 
--- none of the counters of requests and their ends is at its greatest
+-- none of the counters of requests and their ends is full
 pub record IsNotFull (statistics : Statistics) : Type 0 where
   pub requests_sent : statistics.requests_sent < last_count
   pub responses_received : statistics.responses_received < last_count
@@ -221,7 +222,7 @@ total tallies =
       round_trips = flat_map (λ t. t.round_trips) tallies;
     }
 
--- the statistics once each of these was counted in its turn
+-- the statistics after each of these was counted in its turn
 abbrev pub counted_in_turn : List Tally → Statistics → Statistics
 counted_in_turn tallies old =
     fold (λ statistics tally. statistics_after tally statistics) old tallies

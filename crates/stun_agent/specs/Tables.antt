@@ -1,4 +1,4 @@
--- A table of outstanding requests, each with a datum of its owner, and what each call makes of it
+-- A table of outstanding requests, each with a datum of its owner, and how each call changes it
 -- (RFC 8489, sections 6.2 and 6.3).
 use Rattle.std.specs.Prelude.{ℕ, ◌≡◌, Bool, List, [], length, Option, None}
 use Rattle.std.specs.Map.{lookup, keys_of, set_value, remove_entry}
@@ -21,24 +21,25 @@ use Rattle.stun_agent.specs.Transactions.{after_slots, round_trip}
 abbrev pub Attached : Type 0 → Type 0
 Attached D = List (ℕ × D)
 
--- the datum at an id, if there is one
+-- the datum at an ID, if there is one
 abbrev pub datum_at : {D : Type 0} → ℕ → Attached D → Option D
 datum_at id all = lookup (is_at (nat_cmp id)) all
 
--- with one more, or another one, at an id
+-- the data with one more, or another one, at an ID
 abbrev pub with_datum : {D : Type 0} → ℕ → D → Attached D → Attached D
 with_datum id datum all = insert_entry nat_cmp all id datum
 
--- without the one at an id
+-- the data without the one at an ID
 abbrev pub without_datum : {D : Type 0} → ℕ → Attached D → Attached D
 without_datum id all = remove_entry (is_at (nat_cmp id)) all
 
--- the datum at an id is another one, if there is one
+-- the datum at an ID is replaced, if there is one
 abbrev pub set_datum : {D : Type 0} → ℕ → D → Attached D → Attached D
 set_datum id datum all = set_value (is_at (nat_cmp id)) all datum
 
 -- ---- a table
--- the requests of a table go to one address over one transport. It counts where it has statistics
+-- the requests of a table go to one address over one transport. The table counts if it has
+-- statistics
 pub record TableSeen (D : Type 0) : Type 0 where
   pub transport : TransportType
   pub to : SocketAddr
@@ -46,7 +47,7 @@ pub record TableSeen (D : Type 0) : Type 0 where
   pub requests : Transactions
   pub attached : Attached D
 
--- the ids ascend, each is that of its request, and has one datum
+-- the IDs ascend, each is that of its request, and has one datum
 pub record IsTable {D : Type 0} (table : TableSeen D) : Type 0 where
   pub kept : AreKept table.requests
   pub same : keys_of table.attached ≡ keys_of table.requests
@@ -61,13 +62,13 @@ new_table transport to counts = record {
   attached = [];
 }
 
--- the table once a tally is counted
+-- the table after a tally is counted
 abbrev pub counted : {D : Type 0} → Tally → TableSeen D → TableSeen D
 counted tally table =
     record table { statistics = option_map (statistics_after tally) table.statistics }
 
 -- ---- requests that begin and end
--- the transaction of a request. Nothing is read of its bytes, so it has no integrity
+-- the transaction of a request. Its bytes are not read, so it has no integrity
 abbrev pub request_in : {D : Type 0} → TableSeen D → List ℕ → Settings → ℕ → Transaction
 request_in table bytes settings now = new_transaction bytes table.to None settings now
 
@@ -86,7 +87,7 @@ without_request id table = record table {
   attached = without_datum id table.attached;
 }
 
--- a response of so many bytes ends a request
+-- a response of this many bytes ends a request
 abbrev pub after_answer : {D : Type 0} → ℕ → ℕ → Option ℕ → TableSeen D → TableSeen D
 after_answer id count moment table =
     option_map_or
@@ -99,17 +100,17 @@ after_cancel id table =
     option_map_or (λ t. counted one_cancelled (without_request id table)) (at id table.requests)
     table
 
--- a request has another datum
+-- a request gets another datum
 abbrev pub with_other_datum : {D : Type 0} → ℕ → D → TableSeen D → TableSeen D
 with_other_datum id datum table =
     record table { attached = set_datum id datum table.attached }
 
 -- ---- polls
--- the one that is sent again: of the least id among those that are due
+-- the request that is sent again: the one with the least ID among those that are due
 abbrev pub sent_in : {D : Type 0} → ℕ → TableSeen D → Option (ℕ × Transaction)
 sent_in now table = next_sent table.transport now table.requests
 
--- what sending again counts
+-- the table after a transmission is counted, if there was one
 abbrev pub counted_sent : {D : Type 0} → Option (ℕ × Transaction) → TableSeen D → TableSeen D
 counted_sent sent table =
     option_map_or (λ e. counted (request_sent_again (length e.1.bytes)) table) sent table
@@ -122,7 +123,7 @@ after_transmission now table =
           table.requests;
     })
 
--- the one that ends at a poll: of the least id among those that are over
+-- the request that ends at a poll: the one with the least ID among those that are over
 abbrev pub over_in : {D : Type 0} → ℕ → TableSeen D → Option (ℕ × Transaction)
 over_in now table = first_over table.transport now table.requests
 

@@ -54,14 +54,15 @@ abbrev pub slots : TransportType → Settings → ℕ
 slots Udp settings = repetitions settings
 slots Tcp settings = 0
 
--- the wait after the last transmission. A reliable transport sends once, and waits as long in all
+-- the wait after the last transmission. Over a reliable transport a request is sent once, and the
+-- whole wait is as long
 abbrev pub final_wait : TransportType → Settings → ℕ
 final_wait Udp settings = settings.last_wait
 final_wait Tcp settings =
     min (settings.last_wait + sum_of_timeouts settings (repetitions settings)) max_nanos
 
--- the end of a request that is sent at a moment and never answered, and whose agent is polled at
--- each moment that it awaits: all timeouts have passed, and the final wait
+-- the end of a request that is sent at a time and never answered, and whose agent is polled at each
+-- time that it awaits: all timeouts have passed, and the final wait
 abbrev pub planned_end : TransportType → Settings → ℕ → ℕ
 planned_end transport settings start =
     moment_after start
@@ -72,7 +73,7 @@ planned_end transport settings start =
 abbrev pub plan_length : Settings → ℕ
 plan_length settings = sum_of_timeouts settings (repetitions settings) + settings.last_wait
 
--- the most timeouts, k at most, that together are shorter than a time
+-- the largest number of timeouts, at most k, that together are shorter than a time
 unfoldable pub timeouts_before : ℕ → Settings → ℕ → ℕ
 timeouts_before time settings zero = 0
 timeouts_before time settings (suc k) =
@@ -80,7 +81,7 @@ timeouts_before time settings (suc k) =
     else timeouts_before time settings k
 
 -- the settings whose plan is the beginning of this one, and ends at a time if this one ends later:
--- the transmissions that come before, and after the last of them the rest of the time
+-- the transmissions before that time, and after the last of them the rest of the time
 abbrev pub cut : ℕ → Settings → Settings
 cut time settings =
     if nat_le (plan_length settings) time then settings

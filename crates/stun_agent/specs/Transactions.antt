@@ -19,7 +19,7 @@ use Rattle.stun_agent.specs.declared.state.transaction.Sending.TheVariants.{Canc
 use Rattle.stun_agent.specs.Timing.{Settings, timeout, slots, final_wait}
 
 -- an outstanding request. `slot` counts the timeouts that have passed: each is the slot of one
--- retransmission. `last` is the moment of the last one, at first that of sending. `sending` says
+-- retransmission. `last` is the time of the last one, at first that of sending. `sending` says
 -- whether the request is still sent again
 pub record Transaction : Type 0 where
   pub bytes : List ℕ
@@ -43,7 +43,7 @@ is_cancelled Repeats = false
 is_cancelled Silent = false
 is_cancelled Cancelled = true
 
--- it is sent no more, and what was canceled stays so
+-- it is no longer sent, and what was canceled stays canceled
 abbrev pub after_silence : Sending → Sending
 after_silence Repeats = Silent
 after_silence Silent = Silent
@@ -68,11 +68,11 @@ new_transaction bytes to integrity settings now =
 abbrev pub without_retransmissions : Transaction → Transaction
 without_retransmissions t = record t { sending = after_silence t.sending }
 
--- it is to end
+-- it ends at the next poll that reaches it
 abbrev pub with_cancellation : Transaction → Transaction
 with_cancellation t = record t { sending = Cancelled }
 
--- it has other settings
+-- it gets other settings
 abbrev pub with_settings : Settings → Transaction → Transaction
 with_settings settings t = record t { settings = settings }
 
@@ -84,7 +84,7 @@ after_slot now t = record t { slot = t.slot + 1; last = now }
 abbrev pub has_slots : TransportType → Transaction → Bool
 has_slots transport t = nat_lt t.slot (slots transport t.settings)
 
--- the moment at which it is sent again, or ends
+-- the time at which it is sent again, or ends
 abbrev pub awaited_moment : TransportType → Transaction → ℕ
 awaited_moment transport t =
     moment_after t.last
@@ -102,7 +102,7 @@ is_over transport now t =
     is_cancelled t.sending
     || (not (has_slots transport t) && nat_le (awaited_moment transport t) now)
 
--- the round trip of a response that is accepted at a moment: only before any timeout has passed
+-- the round trip of a response that is accepted at a time: only before any timeout has passed
 abbrev pub round_trip : Option ℕ → Transaction → Option ℕ
 round_trip moment t = if t.slot == 0 then option_map (λ now. now - t.last) moment else None
 
@@ -111,7 +111,7 @@ round_trip moment t = if t.slot == 0 then option_map (λ now. now - t.last) mome
 abbrev pub Transactions : Type 0
 Transactions = List (ℕ × Transaction)
 
--- the ids ascend
+-- the IDs ascend
 abbrev pub IsAscending : Transactions → Type 0
 IsAscending all = IsStrictlySortedBy nat_cmp (keys_of all)
 
@@ -120,34 +120,34 @@ pub record IsRequestOf (id : ℕ) (bytes : List ℕ) : Type 0 where
   pub header : BeginsWithHeader bytes
   pub id_is : transaction_id_field bytes ≡ id
 
--- the request at an id is one of that transaction
+-- the request at an ID is one of that transaction
 abbrev pub IsNamed : ℕ × Transaction → Type 0
 IsNamed e = IsRequestOf e.0 e.1.bytes
 
--- the ids ascend, and each is that of its request
+-- the IDs ascend, and each is that of its request
 pub record AreKept (all : Transactions) : Type 0 where
   pub ascending : IsAscending all
   pub named : AllByRecursion IsNamed all
 
--- the one at an id, if there is one
+-- the transaction at an ID, if there is one
 abbrev pub at : ℕ → Transactions → Option Transaction
 at id all = lookup (is_at (nat_cmp id)) all
 
--- with one more, or another one, at an id
+-- the transactions with one more, or another one, at an ID
 abbrev pub with : ℕ → Transaction → Transactions → Transactions
 with id t all = insert_entry nat_cmp all id t
 
--- without the one at an id
+-- the transactions without the one at an ID
 abbrev pub without : ℕ → Transactions → Transactions
 without id all = remove_entry (is_at (nat_cmp id)) all
 
--- the one at an id is changed, if there is one
+-- the transaction at an ID is changed, if there is one
 abbrev pub with_change_at : (Transaction → Transaction) → ℕ → Transactions → Transactions
 with_change_at f id all =
     option_map_or (λ t. set_value (is_at (nat_cmp id)) all (f t)) (at id all) all
 
 -- ---- ends
--- the one of the least id among those that are over
+-- the one with the least ID among those that are over
 abbrev pub first_over : TransportType → ℕ → Transactions → Option (ℕ × Transaction)
 first_over transport now all = find (λ e. is_over transport now e.1) all
 
@@ -155,39 +155,39 @@ first_over transport now all = find (λ e. is_over transport now e.1) all
 abbrev pub an_hour : ℕ
 an_hour = 3600 * 1_000_000_000
 
--- the least awaited moment, or in an hour, and never before `now`
+-- the least awaited time, or an hour from now, and never before `now`
 abbrev pub wake_up : TransportType → ℕ → Transactions → ℕ
 wake_up transport now all =
     max now (fold min (moment_after now an_hour) (map (λ e. awaited_moment transport e.1) all))
 
--- the moments that those which are not canceled await
+-- the times that are awaited, except those of canceled requests
 abbrev pub awaited_moments : TransportType → Transactions → List ℕ
 awaited_moments transport all =
     map (λ e. awaited_moment transport e.1) (filter (λ e. not (is_cancelled e.1.sending)) all)
 
--- the earlier of two moments, of which the first one may be absent
+-- the earlier of two times, the first of which may be absent
 abbrev pub sooner : Option ℕ → ℕ → Option ℕ
 sooner None moment = Some moment
 sooner (Some least) moment = Some (min least moment)
 
--- the least of these moments, if there are any
+-- the least of these times, if there are any
 abbrev pub next_awaited : TransportType → Transactions → Option ℕ
 next_awaited transport all = fold sooner None (awaited_moments transport all)
 
 -- ---- retransmission
--- the one of the least id among those that are due and repeat
+-- the one with the least ID among those that are due and repeat
 abbrev pub next_sent : TransportType → ℕ → Transactions → Option (ℕ × Transaction)
 next_sent transport now all = find (λ e. is_due transport now e.1 && repeats e.1.sending) all
 
--- an id up to the one that is sent, and any id if none is
+-- whether an ID is up to the one that is sent; if none is sent, every ID is
 abbrev pub is_reached : Option ℕ → ℕ → Bool
 is_reached sent id = option_map_or (λ last. nat_le id last) sent true
 
--- the timeout (slot) of a due one passes, up to the one that is sent
+-- the timeout (slot) of a transaction that is due passes, up to the one that is sent
 abbrev pub slot_passed : TransportType → ℕ → Option ℕ → ℕ × Transaction → Transaction
 slot_passed transport now sent e =
     if is_reached sent e.0 && is_due transport now e.1 then after_slot now e.1 else e.1
 
--- all of them once the due timeouts have passed
+-- all transactions after the due timeouts have passed
 abbrev pub after_slots : TransportType → ℕ → Option ℕ → Transactions → Transactions
 after_slots transport now sent all = map (λ e. (e.0, slot_passed transport now sent e)) all

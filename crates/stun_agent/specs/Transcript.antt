@@ -1,5 +1,5 @@
--- What calls add to the statistics of an agent: one tally for each call, by what the agent was
--- before it (RFC 8489, section 6.2).
+-- What calls add to the statistics of an agent: one tally for each call, which depends on what the
+-- agent was before it (RFC 8489, section 6.2).
 use Rattle.std.specs.Prelude.{ℕ, ◌≡◌, if◌then◌else◌, List, [], ◌∷◌, length, Option, Some, None}
 use Rattle.std.specs.Option.{option_map_or, is_some}
 use Rattle.std.specs.declared.net.socket_addr.SocketAddr.{SocketAddr}
@@ -24,7 +24,7 @@ tally_of_response moment bytes from agent =
     option_map_or (λ t. response_received (length bytes) (round_trip moment t))
     (answered_request bytes from agent) no_tally
 
--- a message that comes, by its class
+-- what a message that arrives adds, by its class
 abbrev pub tally_of_message : MessageClass → Option ℕ → List ℕ → SocketAddr → Agent → Tally
 tally_of_message Request moment bytes from agent = request_received (length bytes)
 tally_of_message Indication moment bytes from agent = indication_received (length bytes)
@@ -49,7 +49,7 @@ tally_of (cancel_retransmissions id) agent = no_tally
 tally_of (cancel id) agent = no_tally
 tally_of (configure id settings) agent = no_tally
 
--- calls, one after the other
+-- the tallies of calls, one after the other
 abbrev pub tallies : List AgentCall → Agent → List Tally
 tallies [] agent = []
 tallies (call ∷ calls) agent = tally_of call agent ∷ tallies calls (after_agent_call call agent)
@@ -62,7 +62,7 @@ CountsCalls =
     → (after_agent_calls calls agent).statistics
     ≡ Some (statistics_after (total (tallies calls agent)) new_statistics)
 
--- an agent that does not count never begins to
+-- an agent that does not count never starts to
 abbrev pub CountsNothing : Type 0
 CountsNothing = (calls : List AgentCall) (agent : Agent) → agent.statistics ≡ None
     → (after_agent_calls calls agent).statistics ≡ None

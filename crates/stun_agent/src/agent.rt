@@ -2,9 +2,9 @@
 //! section 6.2). It also remembers the addresses that messages came from.
 //!
 //! You own the socket, the clock and the source of random numbers. After every call that can change
-//! the agent, call both polls again: `poll_transmit` until it returns `None`, and then `poll`,
-//! because only the former advances the timers. `rust/checks/src/api/client_loop.rs` is a whole
-//! loop, and docs/PARTS.md gives its steps.
+//! the agent, call `poll_transmit` until it returns `None`, and then `poll`. The order matters,
+//! because only `poll_transmit` advances the timers. `rust/checks/src/api/client_loop.rs` is a
+//! whole loop, and docs/PARTS.md gives its steps.
 ghost use Rattle.std.specs.Prelude.{◌≡◌};
 ghost use Rattle.std.specs.Borrow.{sem};
 ghost use Rattle.std.specs.Option.{option_copied, option_copied_mut};
@@ -32,8 +32,8 @@ use stun_base::transport::TransportType;
 pub enum StunAgentPollRet {
     /// The request with this transaction ID has ended: no response arrived in time.
     TransactionTimedOut(TransactionId),
-    /// The request with this transaction ID has ended, after `StunRequestMut::cancel` or
-    /// `StunRequestMut::cancel_retransmissions`.
+    /// The request with this transaction ID has ended because you canceled it or its
+    /// retransmissions (`StunRequestMut::cancel`, `StunRequestMut::cancel_retransmissions`).
     TransactionCancelled(TransactionId),
     /// No request has ended. Poll again at this time, or earlier if you make another call first.
     WaitUntil(Instant),

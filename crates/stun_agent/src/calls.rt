@@ -1,5 +1,5 @@
-//! The calls of an agent that have an ID, or look for a request to send again: sending, receiving,
-//! retransmissions, and the handles of requests. Their searches are not counted (`uncounted`).
+//! The calls of an agent, except `poll`: sending, receiving, retransmissions, and the handles to
+//! requests. Their searches of the requests are not counted (`uncounted`).
 
 pub(crate) mod builder;
 pub(crate) mod receive;

@@ -1,4 +1,5 @@
-//! The derived impls of an agent: comparisons, copies and default values.
+//! The derived impls of an agent, each behind a function whose contract states what it does:
+//! comparisons, copies and default values.
 ghost use Rattle.std.specs.Prelude.{◌≡◌, ◌↔◌, IsTrue, Ok};
 ghost use Rattle.stun_agent.specs.Statistics.{new_statistics};
 ghost use Rattle.stun_agent.specs.Timing.{settings_of, default_settings};
@@ -17,21 +18,21 @@ pub fn default_retransmissions() -> RequestRto
     RequestRto::default()
 }
 
-/// Returns the default statistics, in which nothing is counted.
+/// Returns the default statistics, in which every counter is 0.
 pub fn default_statistics() -> StunAgentStats
     ensures { result ≡ new_statistics }
 {
     StunAgentStats::default()
 }
 
-/// Copies statistics. The copy is the same value, and does not allocate.
+/// Copies statistics. Does not allocate.
 pub fn copied_statistics(statistics: &StunAgentStats) -> Result<StunAgentStats, AllocError>
     ensures { result ≡ Ok statistics.now }
 {
     statistics.clone()
 }
 
-/// Copies settings, results of polls and errors. The copies are the same values.
+/// Copies one value each of the timeouts, the results of polls and the two errors.
 pub fn copied_parts(
     settings: &RequestRto,
     answer: &StunAgentPollRet,
@@ -48,7 +49,7 @@ pub fn copied_parts(
     ))
 }
 
-/// Copies a `StunRequest`. The copy is of the same agent and request.
+/// Copies a `StunRequest`. The copy is a handle to the same request of the same agent.
 pub fn copied_request<'a, A: Allocator>(
     request: &StunRequest<'a, A>,
 ) -> Result<StunRequest<'a, A>, AllocError>
@@ -57,35 +58,38 @@ pub fn copied_request<'a, A: Allocator>(
     request.clone()
 }
 
-/// Compares statistics, which are equal if and only if all counters and round trips are.
+/// Returns whether two `StunAgentStats` are equal: the same counters and the same round trips.
 pub fn are_same_statistics(one: &StunAgentStats, other: &StunAgentStats) -> bool
     ensures { IsTrue result ↔ (one.now ≡ other.now) }
 {
     one == other
 }
 
-/// Compares settings of retransmissions, which are equal if and only if all their fields are.
+/// Returns whether two `RequestRto`s are equal: the same waits and the same number of
+/// transmissions.
 pub fn are_same_settings(one: RequestRto, other: RequestRto) -> bool
     ensures { IsTrue result ↔ (one ≡ other) }
 {
     one == other
 }
 
-/// Compares results of polls, which are equal if and only if their values are.
+/// Returns whether two `StunAgentPollRet`s are equal: the same variant with the same transaction ID
+/// or the same time.
 pub fn is_same_poll(one: StunAgentPollRet, other: StunAgentPollRet) -> bool
     ensures { IsTrue result ↔ (one ≡ other) }
 {
     one == other
 }
 
-/// Compares errors of an agent, which are equal if and only if their values are.
+/// Returns whether two `StunError`s are equal: the same variant and, for `ParseError` and
+/// `WriteError`, equal inner errors.
 pub fn is_same_error(one: StunError, other: StunError) -> bool
     ensures { IsTrue result ↔ (one ≡ other) }
 {
     one == other
 }
 
-/// Compares values of `NoRoom`, which are all equal.
+/// Returns whether two `NoRoom`s are equal, which they always are.
 pub fn is_same_want_of_room(one: NoRoom, other: NoRoom) -> bool
     ensures { IsTrue result ↔ (one ≡ other) }
 {

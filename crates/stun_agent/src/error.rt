@@ -9,23 +9,23 @@ pub enum StunError {
     /// A request with this transaction ID is already outstanding.
     #[error("The operation is already in progress")]
     AlreadyInProgress,
-    /// No call of an agent returns this. It exists because the Rust crate has it.
+    /// No call of an agent returns this. It exists because the crate `stun-proto` has it.
     #[error("A required resource could not be found")]
     ResourceNotFound,
-    /// No call of an agent returns this. It exists because the Rust crate has it.
+    /// No call of an agent returns this. It exists because the crate `stun-proto` has it.
     #[error("An operation timed out")]
     TimedOut,
     /// The call does not send messages of this class, or the agent has a fixed remote address and
-    /// the message was to be sent to a different one.
+    /// you passed a different one.
     #[error("Unexpected data was received")]
     ProtocolViolation,
-    /// No call of an agent returns this. It exists because the Rust crate has it.
+    /// No call of an agent returns this. It exists because the crate `stun-proto` has it.
     #[error("Operation was aborted")]
     Aborted,
     /// The bytes do not start with a STUN header.
     #[error(transparent)]
     ParseError(StunParseError),
-    /// No call of an agent returns this. It exists because the Rust crate has it.
+    /// No call of an agent returns this. It exists because the crate `stun-proto` has it.
     #[error(transparent)]
     WriteError(StunWriteError),
     /// An allocation failed.
@@ -33,7 +33,7 @@ pub enum StunError {
     OutOfMemory,
 }
 
-/// The bytes to send do not fit into the room that the caller has.
+/// The request to send has more bytes than the caller allowed (`StunAgent::poll_transmit_within`).
 #[derive(Clone, Copy, Debug, PartialEq, Eq, Error)]
 #[error("No room for what is to be sent")]
 pub struct NoRoom;

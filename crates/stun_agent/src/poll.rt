@@ -1,8 +1,8 @@
-//! Polling: which request ends. Each request that is read for this, and each link of the tree that
-//! is looked at, is counted (`reads`).
+//! Polls an agent: finds the request that ends. Each request that the search reads, and each link
+//! of the tree that it looks at, is counted (`reads`).
 //!
-//! The calls of this module and of `reads` know nothing of `A: Copy`, which every other call of an
-//! agent wants. So they can call none of those, and search in no other way than under a count.
+//! The calls of this module and of `reads` do not have the bound `A: Copy`, which every other call
+//! of an agent requires. So they cannot make these other calls, and all their searches are counted.
 ghost use Rattle.std.specs.Prelude.{◌≡◌, ◌≤◌};
 ghost use Rattle.stun_agent.specs.Agent.{poll_answer, after_poll};
 ghost use Rattle.stun_agent.specs.Deadlines.{early_requests, most_reads, most_looks, IsUnused};
@@ -18,23 +18,23 @@ use stun_base::instant::Instant;
 pub(crate) mod reads;
 pub(crate) mod table;
 
-// These bodies know of the allocator only that it is one. All calls that can search the requests
-// without a count want `A: Copy`, so a call of theirs from here does not compile.
+// These functions know only that `A` is an allocator. All calls that can search the requests
+// without a count require `A: Copy`, so they cannot be called here.
 impl<A: Allocator> StunAgent<A> {
-    /// Ends at most one request, or returns how long to wait.
+    /// Ends at most one request and returns which one, or returns the time at which to poll again.
     ///
-    /// If several requests are over, each call reports one of them, the one with the least
-    /// transaction ID, so call again at once after an end. A request is over if it was canceled or
-    /// its last wait has passed. `WaitUntil` is the next time at which a request is due to be sent
-    /// again or to end, but never before `now` and at most one hour after it. Poll again at that
-    /// time, and after every other call that can change the agent.
+    /// A request is over if it was canceled or its last wait has passed. If several requests are
+    /// over, each call ends only the one with the least transaction ID, so poll again at once after
+    /// a request has ended. `WaitUntil` has the next time at which a request is due to be
+    /// retransmitted or to end, but never a time before `now` or more than one hour after it. Poll
+    /// again at that time, and after every other call that can change the agent.
     ///
     /// Call `poll_transmit` first, until it returns `None`, because only `poll_transmit` advances
-    /// the retransmission timers. Once a retransmission is due, `poll` does not wait: it returns
-    /// `now`.
+    /// the retransmission timers. If a retransmission is due, `poll` returns `WaitUntil` with the
+    /// time `now`, so you do not wait.
     ///
-    /// Asks the agent's allocator for nothing. However many requests are outstanding, this call
-    /// reads at most one of them, the one that it ends, and looks at a limited number of times
+    /// This call does not allocate. However many requests are outstanding, it reads only the
+    /// request that it ends, and it looks at a limited number of links of the tree
     /// (`poll_counted`).
     pub fn poll(&mut self, now: Instant) -> StunAgentPollRet
         ensures answer { result ≡ poll_answer now self.old }
@@ -53,7 +53,7 @@ impl<A: Allocator> StunAgent<A> {
         answer
     }
 
-    /// Polls under a count that `poll_counted` has begun.
+    /// Polls, and adds to the count that `poll_counted` has begun.
     fn poll_under<L: Ledger>(&mut self, now: Instant, reads: &mut Reads<L>) -> StunAgentPollRet
         requires { reads.old ≡ record { entries = 0; looks = 0 } }
         ensures answer { result ≡ poll_answer now self.old }

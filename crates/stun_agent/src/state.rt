@@ -1,4 +1,4 @@
-//! What an agent keeps between calls: the outstanding requests, each with its timeouts.
+//! The state that an agent stores between calls: the outstanding requests, each with its timeouts.
 
 pub(crate) mod address;
 pub(crate) mod outstanding;

@@ -18,11 +18,11 @@ use std::time::Duration;
 
 pub(crate) mod counting;
 
-/// The statistics of an agent since it was built, or since `reset`.
+/// The statistics of an agent since it was built, or since the last `reset`.
 ///
-/// Bytes are counted over whole messages. No counter wraps around: each stays at the greatest
-/// number of 64 bits once it has reached it, and the sum of the round trips at the greatest number
-/// of 128 bits. None of the calls allocates.
+/// Bytes are counted over whole messages. No counter wraps around: each stops at the greatest
+/// 64-bit number, and the sum of the round trips at the greatest 128-bit number. None of the calls
+/// allocates.
 #[derive(Clone, Debug, Default, Drop, PartialEq, Eq)]
 pub struct StunAgentStats {
     requests_sent: u64,
@@ -57,8 +57,8 @@ impl Model for StunAgentStats {
 }
 
 impl StunAgentStats {
-    /// Returns the number of requests sent. Each request counts once, however often it was sent
-    /// again.
+    /// Returns the number of requests sent. A request counts once, however often it was
+    /// retransmitted.
     pub fn requests_sent(&self) -> u64
         ensures { result ≡ self.now.requests_sent }
     {
@@ -79,8 +79,8 @@ impl StunAgentStats {
         self.responses_sent
     }
 
-    /// Returns the number of responses received that answered an outstanding request, successes and
-    /// errors.
+    /// Returns the number of responses received, successes and errors. Only responses that answered
+    /// an outstanding request count.
     pub fn responses_received(&self) -> u64
         ensures { result ≡ self.now.responses_received }
     {
@@ -133,30 +133,30 @@ impl StunAgentStats {
     }
 
     /// Returns the number of round trips measured. A round trip is measured if the response was
-    /// passed to `handle_stun_message_with_time` before `poll_transmit` passed any timeout of its
-    /// request.
+    /// passed to `handle_stun_message_with_time` before `poll_transmit` advanced its request past
+    /// any timeout.
     pub fn rtt_count(&self) -> u64
         ensures { result ≡ self.now.rtt_count }
     {
         self.rtt_count
     }
 
-    /// Returns the shortest round trip, if any was measured.
+    /// Returns the shortest round trip, or `None` if no round trip was measured.
     pub fn rtt_min(&self) -> Option<Duration>
         ensures { option_map as_nanos result ≡ self.now.rtt_min }
     {
         self.rtt_min.map(|nanos| Duration::from_nanos(nanos))
     }
 
-    /// Returns the longest round trip, if any was measured.
+    /// Returns the longest round trip, or `None` if no round trip was measured.
     pub fn rtt_max(&self) -> Option<Duration>
         ensures { option_map as_nanos result ≡ self.now.rtt_max }
     {
         self.rtt_max.map(|nanos| Duration::from_nanos(nanos))
     }
 
-    /// Returns the mean round trip, if any was measured: the sum of all divided by their count,
-    /// rounded down to whole nanoseconds.
+    /// Returns the mean round trip, or `None` if no round trip was measured. The mean is the sum of
+    /// all round trips divided by their number, rounded down to whole nanoseconds.
     pub fn rtt_average(&self) -> Option<Duration>
         ensures { option_map as_nanos result ≡ average self.now }
     {
@@ -168,7 +168,8 @@ impl StunAgentStats {
     }
 
     /// Returns the number of requests sent, minus those that were answered, timed out or were
-    /// canceled. Returns 0 if these are more than were sent, which can be the case after `reset`.
+    /// canceled. Returns 0 if more requests ended than were sent, which can be the case after
+    /// `reset`.
     pub fn outstanding_requests(&self) -> u64
         ensures { result ≡ outstanding_requests self.now }
     {
@@ -219,8 +220,8 @@ impl StunAgentStats {
         self.bytes_received = self.bytes_received.saturating_add(bytes);
     }
 
-    /// Counts a response to an outstanding request, and its round trip in nanoseconds if that is
-    /// known.
+    /// Counts a response to an outstanding request and, unless it is `None`, its round trip in
+    /// nanoseconds.
     pub(crate) fn count_response_received(&mut self, bytes: u64, round_trip: Option<u64>)
         ensures { self.new ≡ statistics_after (response_received bytes round_trip) self.old }
     {
@@ -254,10 +255,11 @@ impl StunAgentStats {
     }
 }
 
-/// Counting is adding. One tally after another counts as both together. From the start, any list of
-/// tallies counts as its sums, each capped once, and its shortest and longest round trip. A counter
-/// is exact up to the greatest number of 64 bits, and then stays there; the sum of the round trips
-/// likewise at the greatest number of 128 bits.
+/// Counting is addition: to count one tally after another has the same effect as to count the sum
+/// of both. If a list of tallies is counted from the start, each counter is the sum over the list,
+/// capped once at the end, and the round trips are the shortest and the longest in the list. A
+/// counter is exact up to the greatest 64-bit number, and stays at that number from then on. The
+/// same holds for the sum of the round trips, with the greatest 128-bit number.
 pub fn counting_is_adding()
     ensures both { (first second : Tally) (statistics : Statistics)
         → statistics_after second (statistics_after first statistics)
@@ -274,8 +276,9 @@ pub fn counting_is_adding()
         → saturating_sum counter more ≡ last_count }
 {}
 
-/// While no counter is full, the requests outstanding are those sent that had neither a response,
-/// nor a timeout, nor a cancellation. Before anything is counted there are none.
+/// While no counter is full, the number of outstanding requests is the number of requests that were
+/// sent, minus those that were answered, timed out or were canceled. Before anything is counted, it
+/// is 0.
 pub fn outstanding_requests_are_those_left()
     ensures none { LeavesOutstanding new_statistics 0 }
     ensures left { (statistics : Statistics) (n : ℕ) → LeavesOutstanding statistics n

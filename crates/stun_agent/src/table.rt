@@ -1,5 +1,5 @@
-//! Outstanding requests with data of their owner, for a caller that has no use for the rest of an
-//! agent: it sends to one address, and matches responses itself.
+//! A table of outstanding requests to one address, each with a datum of the owner. It is for a
+//! caller that matches responses to requests itself, and does not need the rest of an agent.
 ghost use Rattle.std.specs.Prelude.{◌≡◌};
 ghost use Rattle.std.specs.Option.{option_copied};
 ghost use Rattle.stun_agent.specs.Tables.{new_table};
@@ -11,13 +11,13 @@ use std::marker::Model;
 use std::net::SocketAddr;
 use stun_base::transport::TransportType;
 
-/// The outstanding requests to one address, with their retransmission timers. Each has a datum of
-/// the owner.
+/// The outstanding requests to one address, with their retransmission timers. Each request has a
+/// datum of the owner.
 ///
-/// It has the timers of a `StunAgent`, in the same tree by transaction IDs. In contrast to an agent
-/// it moves the bytes of a request in, does not read them, and each request has timeouts of its
-/// own. It does not see messages that arrive: the owner decides what a response is to, and calls
-/// `answer`.
+/// The table has the same timers as a `StunAgent`, in the same kind of tree by transaction IDs.
+/// Unlike an agent, it takes ownership of the bytes of a request and does not read them, and each
+/// request has its own timeouts. The table does not see the messages that arrive: the owner decides
+/// which request a response answers, and calls `answer`.
 ///
 /// After every call that can change the table, call `poll_transmit` until it returns `None`, and
 /// then `poll`.
@@ -43,8 +43,8 @@ impl<A: Allocator, D> Model for Table<A, D> {
 }
 
 impl<A: Allocator + Copy, D: Drop> Table<A, D> {
-    /// Creates a table without requests, all of which will go to this address. It keeps statistics
-    /// if `stats` is true. Does not allocate.
+    /// Creates a table without requests, whose requests will all be sent to the address `to`. The
+    /// table keeps statistics if `stats` is true. Does not allocate.
     pub fn new(transport: TransportType, to: SocketAddr, stats: bool) -> Self
         ensures { result ≡ new_table transport to stats }
     {

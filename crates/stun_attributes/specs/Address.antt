@@ -33,7 +33,7 @@ ip_of family octets =
     else (if family == 0x02 && (length octets == 16)
     then Some (V6 (record { segments = segments_of octets })) else None)
 
--- the same with a port
+-- the address with a port, if there is an address
 abbrev pub with_port : ℕ → Option IpAddr → Option Address
 with_port port (Some ip) = Some (record { ip = ip; port = port })
 with_port port None = None

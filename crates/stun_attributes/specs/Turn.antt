@@ -1,6 +1,6 @@
--- The values of TURN's attributes (RFC 8656, section 18), byte by byte, beside those that
--- `stun_extra` has. What is reserved in them is zero when written, and ignored when read. Those of
--- one number, of nothing or of bytes alone are read as `Values` says.
+-- The values of TURN's attributes (RFC 8656, section 18), byte by byte, besides those that
+-- `stun_extra` has. Reserved bits are zero when written, and ignored when read. Values that are one
+-- number, empty or any bytes are read as `Values` says.
 use Rattle.std.specs.Prelude.{◌≡◌, ℕ, Bool, true, false, List, [], ◌∷◌, length, slice_index}
 use Rattle.std.specs.Prelude.{Option, Some, None, nat_le, ◌==◌, ◌&&◌, if◌then◌else◌}
 use Rattle.std.proofs.Common.{rules, refl}
@@ -15,7 +15,7 @@ abbrev pub family_number : AddressFamily → ℕ
 family_number Ipv4 = 0x01
 family_number Ipv6 = 0x02
 
--- the family of a number, if it is one
+-- the family with a number, if there is one
 abbrev pub numbered_family : ℕ → Option AddressFamily
 numbered_family number =
     if number == 0x01 then Some Ipv4 else (if number == 0x02 then Some Ipv6 else None)

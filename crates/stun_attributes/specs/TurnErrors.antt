@@ -1,6 +1,6 @@
 -- The values of the attributes with which TURN reports errors: ADDRESS-ERROR-CODE and ICMP (RFC
--- 8656, sections 18.12 and 18.13), byte by byte. What is reserved in them is zero when written, and
--- ignored when read.
+-- 8656, sections 18.12 and 18.13), byte by byte. Reserved bits are zero when written, and ignored
+-- when read.
 use Rattle.std.specs.Prelude.{◌≡◌, ◌<◌, ◌^◌, ℕ, ◌+◌, ◌*◌, ◌/◌, ◌%◌, Bool, List, [], ◌∷◌, ◌++◌}
 use Rattle.std.specs.Prelude.{length, drop, slice_index, nat_eq, Option, Some, None, Result, Ok}
 use Rattle.std.specs.Prelude.{Err, ◌==◌, ◌&&◌, ◌||◌, nat_le, if◌then◌else◌}
@@ -47,7 +47,7 @@ same_address_error_equivalence =
 abbrev pub address_error_value : AddressError → List ℕ
 address_error_value address = family_number address.family ∷ drop 1 (error_value address.error)
 
--- the error of a family and a code with its reason, if there are both
+-- the error with a family, a code and a reason, if there are all of them
 abbrev pub address_error_with : Option AddressFamily → Option CodeAndReason → Option AddressError
 address_error_with (Some family) (Some error) = Some (record { family = family; error = error })
 address_error_with (Some family) None = None

@@ -1,5 +1,5 @@
--- How values of one form are read, beside those of `stun_extra`. A value of another length than its
--- type has is malformed.
+-- How values of one form are read, besides those of `stun_extra`. A value of another length than
+-- its type has is malformed.
 use Rattle.std.specs.Prelude.{◌≡◌, ◌<◌, ◌^◌, ◌+◌, ℕ, List, length, Option, Some, None, ◌==◌, ◌&&◌}
 use Rattle.std.specs.Prelude.{◌||◌, if◌then◌else◌}
 use Rattle.std.proofs.Common.{arith, rules, ◌/◌, ◌%◌, ◌*◌}

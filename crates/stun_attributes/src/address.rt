@@ -15,7 +15,7 @@ use stun_base::error::StunParseError;
 use stun_types::attribute::{AttributeType, RawAttribute, append_header};
 use stun_types::prelude::*;
 
-/// The number of bytes of the value before the port: one that is reserved, and the family.
+/// The number of bytes of the value before the port: a reserved byte, and the family.
 const FAMILY_LENGTH: usize = 2;
 
 /// The number of bytes of the value before the octets.
@@ -35,7 +35,7 @@ struct Address {
 }
 
 impl Address {
-    /// Creates the address from a socket address, without its flow information and its scope.
+    /// Creates the address from a socket address. The flow information and the scope are left out.
     fn new(addr: SocketAddr) -> Address
         ensures { result ≡ record { ip = socket_ip addr; port = socket_port addr } }
     {
@@ -45,7 +45,7 @@ impl Address {
         }
     }
 
-    /// Returns the socket address, with 0 for flow information and scope.
+    /// Returns the socket address, with the flow information and the scope set to 0.
     fn socket(&self) -> SocketAddr
         ensures ip { socket_ip result ≡ self.now.ip }
         ensures port { IsPlainSocket result self.now.port }
@@ -68,7 +68,7 @@ impl Address {
 
 /// An attribute of type `KIND` whose value is an address and a port that are not XORed.
 ///
-/// Contracts: the value is the address and the port.
+/// Contracts: the value is a record of the address and the port.
 #[derive(Clone, Copy, Debug, PartialEq, Eq)]
 pub struct PlainAddress<const KIND: u16> {
     address: Address,
@@ -147,7 +147,7 @@ impl<'a, const KIND: u16> AttributeFromRaw<'a> for PlainAddress<KIND> {
     }
 }
 
-/// Appends the attribute with this type whose value is an address.
+/// Appends an attribute of this type whose value is this address.
 fn append_address<W: MessageWrite>(writer: &mut W, kind: AttributeType, address: &Address)
     requires { attribute_length (length (address_value address.now)) ≤ W.reserved writer.old }
     ensures bytes { W.bytes writer.new ≡ W.bytes writer.old
@@ -163,7 +163,8 @@ fn append_address<W: MessageWrite>(writer: &mut W, kind: AttributeType, address:
     }
 }
 
-/// Appends the attribute with this type whose value is an address of this family with these octets.
+/// Appends an attribute of this type whose value is the address with this family, this port and
+/// these octets.
 fn append_octets<W: MessageWrite>(
     writer: &mut W,
     kind: AttributeType,
@@ -188,8 +189,9 @@ fn append_octets<W: MessageWrite>(
     writer.append(octets);
 }
 
-/// Parses the address in a raw attribute with this type. Fails with `InvalidAttributeData` if the
-/// attribute has another type, an unknown family, or not as many octets as the family has.
+/// Parses the address in a raw attribute of this type. Fails with `InvalidAttributeData` if the
+/// attribute has another type or an unknown family, or if its address has the wrong length for the
+/// family.
 fn read_address(raw: &RawAttribute<'_>, kind: AttributeType) -> Result<Address, StunParseError>
     ensures { result ≡ attribute_answer (address_of kind.0 raw.now) }
 {
@@ -204,7 +206,8 @@ fn read_address(raw: &RawAttribute<'_>, kind: AttributeType) -> Result<Address, 
     }
 }
 
-/// Returns the address of a family, or `None` if there is no such family or not as many octets.
+/// Returns the address of this family with these octets. Returns `None` if the family is unknown,
+/// or if its addresses have another number of octets.
 fn read_ip(family: u8, octets: &[u8]) -> Option<IpAddr>
     ensures { result ≡ ip_of family octets.now }
 {

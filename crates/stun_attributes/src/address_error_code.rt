@@ -23,8 +23,8 @@ use stun_types::prelude::*;
 const CODE_LENGTH: usize = 4;
 
 /// ADDRESS-ERROR-CODE (RFC 8656, section 18.12): why a server has not allocated an address of one
-/// family, in a success response to an Allocate request that asked for both families. It has the
-/// family, a code from 300 to 699, and a reason phrase of at most 763 bytes.
+/// family. It is in a success response to an Allocate request that asked for both families. It has
+/// the family, a code from 300 to 699, and a reason phrase of at most 763 bytes.
 ///
 /// A TURN server sends 440 (Address Family not Supported) or 508 (Insufficient Capacity). The 13
 /// bits after the family are reserved. They are written as zeros and ignored when the attribute is
@@ -61,7 +61,7 @@ impl<'a> Model for AddressErrorCode<'a> {
     ghost view = { λ address. record { family = address.family; error = address.error } };
 }
 
-/// Copies the reference to the reason phrase. This does not allocate and never fails.
+/// Copies the reference, not the reason phrase. This does not allocate and never fails.
 impl<'a> Clone for AddressErrorCode<'a> {
     ghost is_clone = { λ it copy. copy ≡ it };
 
@@ -75,7 +75,7 @@ impl<'a> Clone for AddressErrorCode<'a> {
     }
 }
 
-/// Attributes are equal if and only if their families, their codes and their reason phrases are.
+/// Two attributes are equal if they have the same family, the same code and the same reason phrase.
 impl<'a> PartialEq for AddressErrorCode<'a> {
     ghost eq = { same_address_error };
 
@@ -198,15 +198,15 @@ impl<'a> AttributeFromRaw<'a> for AddressErrorCode<'a> {
     }
 }
 
-/// Reads the code and the reason phrase in a value, as those of an ERROR-CODE, whose first byte is
-/// reserved and ignored. Returns `None` if they are malformed.
+/// Parses the code and the reason phrase in a value. They have the same form as in ERROR-CODE,
+/// which has reserved bits in place of the family. Returns `None` if they are malformed.
 fn read_error(value: &[u8]) -> Option<ErrorCode<'_>>
     ensures { result ≡ error_of (record { kind = ERROR_CODE; value = value.now }) }
 {
     ErrorCode::from_raw(RawAttribute::new(AttributeType::ERROR_CODE, value)).ok()
 }
 
-/// Appends the padding after a value of this many bytes.
+/// Appends the padding of a value of `value_length` bytes.
 fn append_padding<W: MessageWrite>(writer: &mut W, value_length: usize)
     requires { padded_length value_length - value_length ≤ W.reserved writer.old }
     ensures bytes { W.bytes writer.new
@@ -220,7 +220,8 @@ fn append_padding<W: MessageWrite>(writer: &mut W, value_length: usize)
     writer.append(&zeros[..padding_length(value_length)]);
 }
 
-/// Returns the number of zeros that pad a value of this many bytes to a multiple of 4 bytes.
+/// Returns the number of zero bytes that pad a value of `value_length` bytes to a multiple of 4
+/// bytes.
 fn padding_length(value_length: usize) -> usize
     ensures { result ≡ padded_length value_length - value_length }
 {

@@ -32,7 +32,8 @@ impl AddressFamily {
         }
     }
 
-    /// Returns the family with a number, or `None` if the number is neither 1 (IPv4) nor 2 (IPv6).
+    /// Returns the family with this number, or `None` if the number is neither 1 (IPv4) nor 2
+    /// (IPv6).
     pub fn from_number(number: u8) -> Option<AddressFamily>
         ensures { result ≡ numbered_family number }
     {

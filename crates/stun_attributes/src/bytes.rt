@@ -26,7 +26,7 @@ impl<'a, const KIND: u16> Model for Bytes<'a, KIND> {
     ghost view = { λ attribute. attribute.bytes.now };
 }
 
-/// Copies the reference. This does not allocate and never fails.
+/// Copies the reference, not the bytes. This does not allocate and never fails.
 impl<'a, const KIND: u16> Clone for Bytes<'a, KIND> {
     ghost is_clone = { λ it copy. copy ≡ it };
 
@@ -37,7 +37,7 @@ impl<'a, const KIND: u16> Clone for Bytes<'a, KIND> {
     }
 }
 
-/// Attributes are equal if and only if their bytes are.
+/// Two attributes are equal if they have the same bytes.
 impl<'a, const KIND: u16> PartialEq for Bytes<'a, KIND> {
     ghost eq = { same_text };
 

@@ -11,14 +11,15 @@ use stun_types::prelude::*;
 /// The number of bytes of the value.
 const LENGTH: usize = 4;
 
-/// The bit A in the last byte of the value: another address.
+/// The bit A in the last byte of the value: the response should come from another address.
 const CHANGE_IP: u8 = 0x04;
 
-/// The bit B in the last byte of the value: another port.
+/// The bit B in the last byte of the value: the response should come from another port.
 const CHANGE_PORT: u8 = 0x02;
 
 /// CHANGE-REQUEST (RFC 5780, section 7.2): asks a server to answer a Binding request from another
-/// address, from another port, or from both. A client learns from it what its NAT lets in.
+/// address, from another port, or from both. From the responses that arrive, a client learns which
+/// packets its NAT lets in.
 ///
 /// # Examples
 ///
@@ -44,7 +45,7 @@ pub struct ChangeRequest {
 }
 
 impl ChangeRequest {
-    /// Creates the attribute from both flags: whether the response should come from another
+    /// Creates the attribute from its two flags: whether the response should come from another
     /// address, and whether it should come from another port.
     pub fn new(ip: bool, port: bool) -> Self
         ensures { result ≡ record { ip = ip; port = port } }

@@ -11,10 +11,10 @@ use stun_types::prelude::*;
 /// The bit R in the one byte of the value.
 const RESERVE_NEXT: u8 = 0x80;
 
-/// EVEN-PORT (RFC 8656, section 18.7): asks for an even port. Its bit R also asks the server to
-/// reserve the next higher port.
+/// EVEN-PORT (RFC 8656, section 18.7): asks the server for an even port. The bit R also asks the
+/// server to reserve the next higher port.
 ///
-/// Contracts: the value is that bit.
+/// Contracts: the value is the bit R.
 ///
 /// # Examples
 ///

@@ -10,7 +10,8 @@ use stun_base::error::{StunParseError, StunWriteError};
 use stun_types::attribute::{AttributeType, RawAttribute};
 use stun_types::prelude::*;
 
-/// The number of bytes of the value: two that are reserved, type and code, and the error data.
+/// The number of bytes of the value: two that are reserved, the type and the code, and the error
+/// data.
 const LENGTH: usize = 8;
 
 /// The number of types, which have 7 bits.
@@ -20,13 +21,13 @@ const TYPES: u8 = 128;
 const CODES: u16 = 512;
 
 /// ICMP (RFC 8656, section 18.13): the ICMP message that a server received for a datagram that it
-/// had sent to a peer. It is in a Data indication, in place of DATA.
+/// had sent to a peer. The attribute is in a Data indication, in place of DATA.
 ///
-/// Type and code are those of ICMP if the peer has an IPv4 address, and those of ICMPv6 if it has
-/// an IPv6 address. The first two bytes of the value are reserved. They are written as zeros and
-/// ignored when the attribute is parsed.
+/// The type and the code are those of ICMP if the peer has an IPv4 address, and those of ICMPv6 if
+/// it has an IPv6 address. The first two bytes of the value are reserved. They are written as zeros
+/// and ignored when the attribute is parsed.
 ///
-/// Contracts: the value is a record of the three parts.
+/// Contracts: the value is a record of the type, the code and the error data.
 ///
 /// # Examples
 ///
@@ -83,8 +84,8 @@ impl Icmp {
     ///
     /// # Errors
     ///
-    /// - [`StunWriteError::NotAllowed`]: the type is 128 or more, or the code is 512 or more. These
-    ///   have more bits than the attribute has for them.
+    /// - [`StunWriteError::NotAllowed`]: the type is 128 or more, or the code is 512 or more. The
+    ///   attribute has only 7 bits for the type, and 9 for the code.
     pub fn new(icmp_type: u8, code: u16, error_data: u32) -> Result<Self, StunWriteError>
         ensures { result ≡ report_answer icmp_type code error_data }
     {

@@ -1,10 +1,11 @@
 //! Further attributes: of STUN (RFC 8489, section 14), of ICE (RFC 8445, section 16.1), of TURN
-//! (RFC 8656, section 18; RFC 6062; RFC 8016), of third-party authorization (RFC 7635), of ECN (RFC
-//! 6679), of the transmissions of a transaction (RFC 7982), and of NAT behavior discovery (RFC
-//! 5780, section 7). Those that calls of this library read or write are in `stun_extra`.
+//! (RFC 8656, section 18; RFC 6062; RFC 8016), of third-party authorization (RFC 7635), of ECN
+//! (RFC 6679), of the transmissions of a transaction (RFC 7982), and of NAT behavior discovery
+//! (RFC 5780, section 7). The attributes that calls of this library read or write are in
+//! `stun_extra`.
 //!
-//! Attributes whose values have the same form share a type, such as [`Number`], and are its aliases
-//! below. The others have a file each.
+//! Attributes whose values have the same form are aliases of one type, such as [`Number`]. Each of
+//! the others is in a file of its own.
 #![tactic(auto)]
 
 ghost use Rattle.std.specs.Prelude.{◌≡◌, [], ◌∷◌};
@@ -51,14 +52,14 @@ pub const DOMAIN_LIMIT: usize = 255;
 /// The largest number of bytes of any value (RFC 8489, section 14).
 const VALUE_LIMIT: usize = 65535;
 
-/// MAPPED-ADDRESS (RFC 8489, section 14.1): the address from which a request came, not XORed.
+/// MAPPED-ADDRESS (RFC 8489, section 14.1): the address that a request came from, not XORed.
 pub type MappedAddress = PlainAddress<0x0001>;
 
 /// ALTERNATE-SERVER (RFC 8489, section 14.15): the server that a client should try instead.
 pub type AlternateServer = PlainAddress<0x8023>;
 
 /// ALTERNATE-DOMAIN (RFC 8489, section 14.16): the domain name of the server in ALTERNATE-SERVER,
-/// which its TLS certificate must contain. It has at most 255 bytes. It is not checked to be a
+/// which its TLS certificate must contain. It has at most 255 bytes. No call checks that it is a
 /// domain name.
 pub type AlternateDomain<'a> = Text<'a, 0x8003, DOMAIN_LIMIT>;
 
@@ -69,8 +70,8 @@ pub type Lifetime = Number<0x000D>;
 /// DATA (RFC 8656, section 18.4): the data of a datagram to or from a peer, borrowed.
 pub type Data<'a> = Bytes<'a, 0x0013>;
 
-/// XOR-RELAYED-ADDRESS (RFC 8656, section 18.5): the address that a server relays from, XORed as in
-/// XOR-MAPPED-ADDRESS.
+/// XOR-RELAYED-ADDRESS (RFC 8656, section 18.5): the address that a server has allocated for a
+/// client, XORed as in XOR-MAPPED-ADDRESS.
 pub type XorRelayedAddress = XorAddress<0x0016>;
 
 /// REQUESTED-ADDRESS-FAMILY (RFC 8656, section 18.6): the family of the address that a client asks
@@ -82,10 +83,10 @@ pub type RequestedAddressFamily = Family<0x0017>;
 pub type DontFragment = Flag<0x001A>;
 
 /// ADDITIONAL-ADDRESS-FAMILY (RFC 8656, section 18.11): in an Allocate request, the family of a
-/// second relayed address, beside one of IPv4.
+/// second relayed address, in addition to an IPv4 address.
 ///
-/// Only IPv6 is allowed. A server answers IPv4 with the error 400 (section 7.2), so IPv4 can be
-/// parsed here.
+/// Only IPv6 is allowed. This type can also be IPv4, so that a server can answer IPv4 with error
+/// 400 (section 7.2).
 pub type AdditionalAddressFamily = Family<0x8000>;
 
 /// CONNECTION-ID (RFC 6062, section 6.2.1): the number of a TCP connection to a peer of a TURN
@@ -93,27 +94,28 @@ pub type AdditionalAddressFamily = Family<0x8000>;
 pub type ConnectionId = Number<0x002A>;
 
 /// MOBILITY-TICKET (RFC 8016, section 3.3): the ticket by which a TURN server recognizes an
-/// allocation after the address of its client has changed. A client that requests a ticket sends it
-/// empty.
+/// allocation after the address of its client has changed. To request a ticket, a client sends the
+/// attribute with an empty value.
 pub type MobilityTicket<'a> = Bytes<'a, 0x8030>;
 
-/// THIRD-PARTY-AUTHORIZATION (RFC 7635, section 6.1): the name of the server, with which a client
-/// asks an authorization server for a token.
+/// THIRD-PARTY-AUTHORIZATION (RFC 7635, section 6.1): the name of the STUN server, which a client
+/// passes to an authorization server when it requests a token.
 pub type ThirdPartyAuthorization<'a> = Text<'a, 0x802E, VALUE_LIMIT>;
 
 /// ACCESS-TOKEN (RFC 7635, section 6.2): the token that an authorization server has issued. Only
 /// the STUN server can decrypt it.
 pub type AccessToken<'a> = Bytes<'a, 0x001B>;
 
-/// ECN-CHECK (RFC 6679, section 7.2.2): the ECN field that a request arrived with, which its
-/// response echoes in two bits. The lowest bit is 1 if they are valid, and all others are reserved.
+/// ECN-CHECK (RFC 6679, section 7.2.2): the two bits of the ECN field with which a request arrived,
+/// for the response to return. The lowest bit is 1 if these two bits are valid, and all other bits
+/// are reserved.
 pub type EcnCheck = Number<0x802D>;
 
 /// RESPONSE-ORIGIN (RFC 5780, section 7.3): the address that a response was sent from.
 pub type ResponseOrigin = PlainAddress<0x802B>;
 
-/// OTHER-ADDRESS (RFC 5780, section 7.4): the address and the port that a server answers from if a
-/// client asks for another address and another port.
+/// OTHER-ADDRESS (RFC 5780, section 7.4): the address and the port from which a server responds if
+/// a client asks for another address and another port.
 pub type OtherAddress = PlainAddress<0x802C>;
 
 /// RESPONSE-PORT (RFC 5780, section 7.5): the port, at the address of the client, to which a server
@@ -124,7 +126,7 @@ pub type ResponsePort = Short<0x0027>;
 /// sent in fragments.
 pub type Padding<'a> = Bytes<'a, 0x0026>;
 
-/// Returns the types of the aliases above, in their order.
+/// Returns the attribute types of the aliases above, in the order of the aliases.
 pub fn types() -> [u16; 18]
     ensures { result
         ≡ MAPPED_ADDRESS ∷ ALTERNATE_SERVER ∷ ALTERNATE_DOMAIN ∷ LIFETIME ∷ DATA ∷

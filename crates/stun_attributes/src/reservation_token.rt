@@ -11,7 +11,7 @@ use stun_types::prelude::*;
 /// The number of bytes of a token.
 const LENGTH: usize = 8;
 
-/// RESERVATION-TOKEN (RFC 8656, section 18.10): 8 bytes that name a port which the server has
+/// RESERVATION-TOKEN (RFC 8656, section 18.10): 8 bytes that identify a port that the server has
 /// reserved.
 ///
 /// Contracts: the value is the list of its bytes.

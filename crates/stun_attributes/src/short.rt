@@ -9,10 +9,10 @@ use stun_base::error::StunParseError;
 use stun_types::attribute::{AttributeType, RawAttribute};
 use stun_types::prelude::*;
 
-/// An attribute of type `KIND` whose value is a number of 16 bits, the highest byte first.
+/// An attribute of type `KIND` whose value is a number of 16 bits, in network order.
 ///
-/// It is written with a length of 2, which leaves the two bytes after the number to the padding of
-/// the attribute. It is parsed with a length of 2 and of 4, because senders differ in this.
+/// The value is written with a length of 2, so the two bytes after the number are padding. It can
+/// be parsed with a length of 2 or 4, because senders differ in this.
 ///
 /// Contracts: the value is the number.
 #[derive(Clone, Copy, Debug, PartialEq, Eq)]

@@ -9,16 +9,16 @@ use stun_base::error::StunParseError;
 use stun_types::attribute::{AttributeType, RawAttribute};
 use stun_types::prelude::*;
 
-/// The number of bytes of the value: two that are reserved, and both numbers.
+/// The number of bytes of the value: two that are reserved, and one for each of the two numbers.
 const LENGTH: usize = 4;
 
 /// TRANSACTION_TRANSMIT_COUNTER (RFC 7982, section 3.2): how many times the request of a
 /// transaction was sent, and how many times its response.
 ///
-/// A client adds it to each request, and counts its retransmissions in it. The server returns the
-/// number that arrived, with the number of its own responses. From the two the client learns which
-/// direction lost packets, and which request a response belongs to, so that it can measure the
-/// round-trip time.
+/// A client adds the attribute to each request, and counts its transmissions of the request in it.
+/// The server copies this number to its response, and adds how often it has sent the response. From
+/// the two numbers the client learns in which direction packets were lost, and which transmission
+/// of the request was answered, so that it can measure the round-trip time.
 ///
 /// The first two bytes of the value are reserved. They are written as zeros and ignored when the
 /// attribute is parsed.

@@ -4,24 +4,25 @@ use Rattle.std.proofs.Common.{false, Option, Some, None, refl, sym, ◌∙◌, a
 use Rattle.std.specs.Prelude.{cond}
 use Rattle.std.specs.List.{AllByRecursion, IsDistinct}
 use Rattle.std.specs.List.Sorted.{IsStrictlySortedBy}
-use Rattle.std.specs.Map.{keys_of}
-use Rattle.std.specs.Option.{is_some, option_map, IsSome}
+use Rattle.std.specs.Map.{keys_of, lookup, set_value}
+use Rattle.std.specs.Option.{is_some, option_map, option_map_or, IsSome}
 use Rattle.std.specs.Ordering.{eq_by_cmp, is_eq}
 use Rattle.std.proofs.lemmas.Map.Keys.{IsDistinct-from_sorted, IsDistinct-head, IsDistinct-tail}
 use Rattle.std.specs.declared.cmp.Ordering.{Ordering}
 use Rattle.std.specs.FinMap as fin
 use Rattle.std.specs.BTreeMap as tree
-use Rattle.std.specs.BTreeMap.{BTreeMap, UpdatesBy}
+use Rattle.std.specs.BTreeMap.{BTreeMap, UpdatesBy, insert_entry}
 use Rattle.std.specs.declared.net.socket_addr.SocketAddr.{SocketAddr}
 use Rattle.std.specs.declared.net.socket_addr.SocketAddr.TheVariants.{V4, V6}
 use Rattle.std.specs.contracts.net.socket_addr.SocketAddrOrd.TheImpl.{cmp-value}
 use Rattle.stun_base.specs.Address.{address_cmp}
 use Rattle.stun_auth.specs.Seen.{PlaceSeen}
 use Rattle.stun_auth.specs.Places.{PlacesSeen, at_place}
-use Rattle.stun_auth.specs.code.Places.{place_seen, places_seen}
+use Rattle.stun_auth.specs.code.Places.{PlacesKept, client_seen, last_users_of, place_seen}
+use Rattle.stun_auth.specs.code.Places.{places_seen}
 use Rattle.stun_auth.specs.declared.server.places.Place.{Place}
 use Rattle.stun_base.proofs.Addresses.{address_total, address_exact}
-use Rattle.stun_auth.proofs.Maps.{get-seen, seen_inserted, seen_removed}
+use Rattle.stun_auth.proofs.Maps.{get-seen, lookup-inserted, seen_inserted, seen_removed}
 
 -- the order that `SocketAddr` derives
 abbrev pub derived : SocketAddr → SocketAddr → Ordering
@@ -78,6 +79,22 @@ places_seen-changed m n a places o new change is found updates seen =
     places_seen-updated m n a new updates ∙ ap (λ s. fin.insert s a (place_seen new)) is
     ∙ ap (fin.insert places a) (seen ∙ ap change (found_there m a places o is found))
 
+-- a place that was made
+pub places_seen-made : {A : Type 0} (m n : BTreeMap SocketAddr (Place A)) (a : SocketAddr)
+    (places : PlacesSeen) (o : Option (Place A)) (new : Place A)
+    (change : Option PlaceSeen → PlaceSeen) → places_seen m.entries ≡ places
+    → o ≡ tree.get_by (derived a) m → n.entries ≡ insert_entry derived m.entries a new
+    → place_seen new ≡ change (option_map place_seen o)
+    → places_seen n.entries ≡ fin.insert places a (change (fin.get places a))
+places_seen-made m n a places o new change is found made seen =
+    let entries : n.entries ≡ insert_entry address_cmp m.entries a new =
+    made ∙ ap (λ R. insert_entry R m.entries a new) derived_is in
+    seen_inserted address_total address_exact (λ x. x) place_seen m.entries n.entries a new
+    (λ q. ap (lookup (eq_by_cmp address_cmp q)) entries
+    ∙ lookup-inserted address_total (λ x. x) a new q m.entries)
+    ∙ ap (λ s. fin.insert s a (place_seen new)) is
+    ∙ ap (fin.insert places a) (seen ∙ ap change (found_there m a places o is found))
+
 pub is_found : {A : Type 0} (m : BTreeMap SocketAddr (Place A)) (a : SocketAddr) (p : Place A)
     → Some p ≡ tree.get_by (derived a) m → IsSome (tree.get_by (derived a) m)
 is_found m a p found = subst (λ o. IsSome o) found refl
@@ -98,6 +115,36 @@ pub places_seen-none : {A : Type 0} (m : BTreeMap SocketAddr (Place A)) (a : Soc
     → None ≡ tree.get_by (derived a) m → places ≡ at_place (fin.get places a) places a change
 places_seen-none m a places change is found =
     ap (λ o. at_place o places a change) (found_there m a places None is found)
+
+-- the records of what is stored of all addresses
+pub seen_is : {stored now : PlacesKept} → stored ≡ now → stored.seen ≡ now.seen
+seen_is is = ap (λ (p : PlacesKept). p.seen) is
+
+-- ---- whose names are stored
+
+same_users : {A : Type 0} (test : SocketAddr → Bool) (old new : Place A)
+    → new.last_user ≡ old.last_user → (es : List (SocketAddr × Place A))
+    → Some old ≡ lookup test es → last_users_of (set_value test es new) ≡ last_users_of es
+same_users test old new same [] found = refl
+same_users {A} test old new same (e ∷ es) found =
+    by (test e.0) found (same_users test old new same es)
+  where
+    by : (b : Bool) → Some old ≡ cond b (Some e.1) (lookup test es)
+        → (Some old ≡ lookup test es → last_users_of (set_value test es new) ≡ last_users_of es)
+        → last_users_of (cond b ((e.0, new) ∷ es) (e ∷ set_value test es new))
+        ≡ last_users_of (e ∷ es)
+    by true is rest =
+        ap (λ user. (e.0, option_map client_seen user) ∷ last_users_of es)
+        (same ∙ ap (λ o. option_map_or (λ (p : Place A). p.last_user) o None) is)
+    by false is rest =
+        ap (λ users. (e.0, option_map client_seen e.1.last_user) ∷ users) (rest is)
+
+-- a place that changes and keeps its user
+pub last_users-written : {A : Type 0} (m : BTreeMap SocketAddr (Place A)) (a : SocketAddr)
+    (old new : Place A) → Some old ≡ tree.get_by (derived a) m → new.last_user ≡ old.last_user
+    → last_users_of (set_value (tree.is_at (derived a)) m.entries new) ≡ last_users_of m.entries
+last_users-written m a old new found same =
+    same_users (tree.is_at (derived a)) old new same m.entries found
 
 -- ---- how many there are
 none_found : {A : Type 0} (q : SocketAddr) (es : List (SocketAddr × Place A))

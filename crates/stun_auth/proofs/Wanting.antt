@@ -2,7 +2,7 @@
 use Rattle.std.proofs.Common.{◌≡◌, ℕ, ◌+◌, ◌<◌, ◌≤◌, Bool, true, false, true≢false}
 use Rattle.std.proofs.Common.{List, [], ◌∷◌, ◌++◌, Option, Some, None, Result, Ok, Err}
 use Rattle.std.proofs.Common.{refl, sym, ◌∙◌, ap, subst, arith, append_assoc, inl, inr}
-use Rattle.std.specs.Prelude.{◌-◌, IsOk, OnOk, if◌then◌else◌, length, map, nat_lt}
+use Rattle.std.specs.Prelude.{◌-◌, ⊤, IsOk, OnOk, if◌then◌else◌, length, map, nat_lt}
 use Rattle.std.proofs.lemmas.Bool.{cases_lt}
 use Rattle.std.proofs.lemmas.List.Sums.{sum_by-cons}
 use Rattle.stun_base.specs.declared.wire.error.StunWriteError.{StunWriteError}
@@ -30,6 +30,7 @@ use Rattle.stun_auth.specs.Additions.{Addition, Page, UnlessMemory, WantsMemory}
 use Rattle.stun_auth.specs.Additions.{added_all, added_one, after, growth, attribute}
 use Rattle.stun_auth.specs.Additions.{growth_of, integrity, is_text_too_long, page_in}
 use Rattle.stun_auth.specs.Additions.{addition_refusal, page_unless_refused, with_addition}
+use Rattle.stun_auth.specs.Additions.{written_page}
 use Rattle.stun_auth.specs.Outcome.{IsAdded, IsOutcome, outcome_of}
 use Rattle.stun_auth.proofs.AdditionLemmas.{added_all-append, growth-append}
 
@@ -129,7 +130,7 @@ added_refused xs ys page now end reserved left last reason h =
 
 -- ---- one addition
 
--- what is refused by the first reason that holds is refused by none where an allocation fails
+-- what is refused by the first reason that applies is refused by none where an allocation fails
 if_not : (b : Bool) (reason : StunWriteError) (rest : Option StunWriteError)
     → (reason ≡ OutOfMemory → ⊥) → (rest ≡ Some OutOfMemory → ⊥)
     → (if b then Some reason else rest) ≡ Some OutOfMemory → ⊥
@@ -382,3 +383,84 @@ pub choice_of_list : (list : List PasswordAlgorithmValue) (algorithm : Integrity
     ∷ attribute (password_algorithm algorithm) ∷ []
 choice_of_list [] algorithm some = absurd (omega (arith, some))
 choice_of_list (first ∷ list) algorithm some = refl
+
+-- ---- where no allocation is refused
+
+-- what is refused by no reason but want of memory succeeds or is refused
+not_wanting : (reason : StunWriteError) → (reason ≡ OutOfMemory → ⊥)
+    → UnlessMemory {V = Unit {0}} (Err reason) ⊤ ⊥
+not_wanting NotAllowed other = tt
+not_wanting MessageIntegrityExists other = tt
+not_wanting (AttributeExists kind) other = tt
+not_wanting TooLarge other = tt
+not_wanting TooSmall other = tt
+not_wanting IntegrityFailed other = tt
+not_wanting OutOfMemory other = other refl
+
+granted_by : {G : Type 0} (result : Result (Unit {0}) StunWriteError)
+    (refusal : Option StunWriteError) → (refusal ≡ Some OutOfMemory → ⊥)
+    → RefusedBy refusal result → (G → refusal ≡ None → IsOk result)
+    → G → UnlessMemory result ⊤ ⊥
+granted_by (Ok value) refusal other refused succeeds granted = tt
+granted_by (Err reason) None other refused succeeds granted =
+    absurd (true≢false (sym (succeeds granted refl)))
+granted_by (Err reason) (Some first) other refused succeeds granted =
+    let same : reason ≡ first = let h : Err reason ≡ Err first = refused in cc in
+    not_wanting reason (λ is. other (ap (λ r. Some r) (sym same ∙ is)))
+
+-- so it is of an attribute, and of the integrity attribute
+pub attribute_granted : {G : Type 0} (message : List ℕ) (room kind n : ℕ)
+    (result : Result (Unit {0}) StunWriteError)
+    → RefusedBy (attribute_refusal message room kind n) result
+    → (G → attribute_refusal message room kind n ≡ None → IsOk result)
+    → G → UnlessMemory result ⊤ ⊥
+attribute_granted message room kind n result =
+    granted_by result (attribute_refusal message room kind n)
+    (attribute_not_memory message room kind n)
+
+pub signing_granted : {G : Type 0} (message : List ℕ) (room : ℕ) (algorithm : IntegrityAlgorithm)
+    (result : Result (Unit {0}) StunWriteError)
+    → RefusedBy (signing_refusal message room algorithm) result
+    → (G → signing_refusal message room algorithm ≡ None → IsOk result)
+    → G → UnlessMemory result ⊤ ⊥
+signing_granted message room algorithm result =
+    granted_by result (signing_refusal message room algorithm)
+    (signing_not_memory message room algorithm)
+
+-- what holds unless memory is wanted holds where it is not
+pub where_granted : {V P : Type 0} (Q : Type 0) (result : Result V StunWriteError)
+    → UnlessMemory result P Q → UnlessMemory result ⊤ ⊥ → P
+where_granted Q (Ok value) h granted = h
+where_granted Q (Err NotAllowed) h granted = h
+where_granted Q (Err MessageIntegrityExists) h granted = h
+where_granted Q (Err (AttributeExists kind)) h granted = h
+where_granted Q (Err TooLarge) h granted = h
+where_granted Q (Err TooSmall) h granted = h
+where_granted Q (Err IntegrityFailed) h granted = h
+where_granted Q (Err OutOfMemory) h granted = absurd granted
+
+-- what may be signed is not refused
+pub signable_refused : (V Q : Type 0) (reason : StunWriteError)
+    (page : Result Page StunWriteError)
+    → UnlessMemory {V = Unit {0}} (Err reason) (Err reason ≡ page) Q → IsOk page
+    → UnlessMemory {V = V} (Err reason) (IsOk {T = V} (Err reason)) ⊤
+signable_refused V Q NotAllowed page h ok = subst IsOk (sym h) ok
+signable_refused V Q MessageIntegrityExists page h ok = subst IsOk (sym h) ok
+signable_refused V Q (AttributeExists kind) page h ok = subst IsOk (sym h) ok
+signable_refused V Q TooLarge page h ok = subst IsOk (sym h) ok
+signable_refused V Q TooSmall page h ok = subst IsOk (sym h) ok
+signable_refused V Q IntegrityFailed page h ok = subst IsOk (sym h) ok
+signable_refused V Q OutOfMemory page h ok = tt
+
+pub signable_answer : {W : Type 0} (Q : Type 0) (bytes : W → List ℕ) (room : W → ℕ)
+    (result : Result W StunWriteError) (page : Result Page StunWriteError)
+    → UnlessMemory result (written_page bytes room result ≡ page) Q → IsOk page
+    → UnlessMemory result (IsOk result) ⊤
+signable_answer Q bytes room (Ok writer) page h ok = refl
+signable_answer Q bytes room (Err NotAllowed) page h ok = subst IsOk (sym h) ok
+signable_answer Q bytes room (Err MessageIntegrityExists) page h ok = subst IsOk (sym h) ok
+signable_answer Q bytes room (Err (AttributeExists kind)) page h ok = subst IsOk (sym h) ok
+signable_answer Q bytes room (Err TooLarge) page h ok = subst IsOk (sym h) ok
+signable_answer Q bytes room (Err TooSmall) page h ok = subst IsOk (sym h) ok
+signable_answer Q bytes room (Err IntegrityFailed) page h ok = subst IsOk (sym h) ok
+signable_answer Q bytes room (Err OutOfMemory) page h ok = tt

@@ -33,22 +33,23 @@ pub record Page : Type 0 where
 abbrev pub page_of : List ℕ → Page
 page_of message = record { bytes = message; room = LENGTH_LIMIT - length message }
 
--- how many bytes an addition takes
+-- the number of bytes of an addition
 abbrev pub growth_of : Addition → ℕ
 growth_of (attribute a) = attribute_length (length a.value)
 growth_of (integrity algorithm key) = attribute_length (digest_length algorithm)
 
--- how many bytes additions take
+-- the number of bytes of additions
 abbrev pub growth : List Addition → ℕ
 growth list = sum_by growth_of list
 
--- whether a text has more bytes than its attribute takes (sections 14.3, 14.9 and 14.10)
+-- whether a text has more bytes than its attribute may have (sections 14.3, 14.9 and 14.10)
 abbrev pub is_text_too_long : TypedValue → Bool
 is_text_too_long a =
     (a.kind == USERNAME && nat_lt USERNAME_LIMIT (length a.value))
     || ((a.kind == REALM || (a.kind == NONCE)) && nat_lt TEXT_LIMIT (length a.value))
 
--- why an addition is refused. An attribute is made before it is added, so its length comes first
+-- why an addition is refused. An attribute is created before it is added, so its length is tested
+-- first
 abbrev pub addition_refusal : Addition → Page → Option StunWriteError
 addition_refusal (attribute a) page =
     if is_text_too_long a then Some TooLarge
@@ -65,25 +66,25 @@ abbrev pub page_unless_refused : Option StunWriteError → Page → Result Page 
 page_unless_refused None page = Ok page
 page_unless_refused (Some reason) page = Err reason
 
--- what one addition leaves, or why it is refused
+-- the page after one addition, or why that is refused
 unfoldable pub added_one : Addition → Page → Result Page StunWriteError
 added_one addition page =
     page_unless_refused (addition_refusal addition page)
     (record { bytes = with_addition addition page.bytes; room = page.room - growth_of addition })
 
--- the next step, unless the one before it is refused
+-- the next step, unless the step before it fails
 abbrev pub after : Result Page StunWriteError → (Page → Result Page StunWriteError)
     → Result Page StunWriteError
 after (Err reason) next = Err reason
 after (Ok page) next = next page
 
--- what additions leave, or the first refusal in their order
+-- the page after additions, or the first refusal in their order
 abbrev pub added_all : List Addition → Page → Result Page StunWriteError
 added_all [] page = Ok page
 added_all (addition ∷ others) page = after (added_one addition page) (added_all others)
 
--- an allocation fails for additions of which so many bytes are reserved. Nothing refuses the first
--- of them, up to one, and these take more than is reserved
+-- an allocation fails for additions of which this many bytes are reserved. The additions up to one
+-- of them are not refused, and have more bytes than are reserved
 pub record WantsMemory (list : List Addition) (page : Page) (reserved : ℕ) : Type 0 where
   pub first : List Addition
   pub others : List Addition
@@ -91,7 +92,7 @@ pub record WantsMemory (list : List Addition) (page : Page) (reserved : ℕ) : T
   pub not_refused : IsOk (added_all first page)
   pub not_reserved : reserved < growth first
 
--- the first fact holds, or the second where an allocation fails
+-- the first fact holds, or the second if an allocation fails
 abbrev pub UnlessMemory : {V : Type 0} → Result V StunWriteError → Type 0 → Type 0 → Type 0
 UnlessMemory (Ok value) P Q = P
 UnlessMemory (Err NotAllowed) P Q = P
@@ -106,7 +107,7 @@ UnlessMemory (Err OutOfMemory) P Q = Q
 abbrev pub page_in : {W : Type 0} → (W → List ℕ) → (W → ℕ) → W → Page
 page_in bytes room writer = record { bytes = bytes writer; room = room writer }
 
--- the answer of a call that takes and gives a writer, with the page that success leaves
+-- the result of a call that takes and returns a writer, as the page after a success
 abbrev pub written_page : {W : Type 0} → (W → List ℕ) → (W → ℕ) → Result W StunWriteError
     → Result Page StunWriteError
 written_page bytes room (Ok writer) = Ok (page_in bytes room writer)

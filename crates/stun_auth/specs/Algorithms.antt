@@ -44,7 +44,7 @@ abbrev pub only : IntegrityAlgorithm → AlgorithmSet
 only Sha1 = OnlySha1
 only Sha256 = OnlySha256
 
--- the set with one more algorithm, or itself where it is there already
+-- the set with one more algorithm, or the same set if it has that already
 abbrev pub with_algorithm : IntegrityAlgorithm → AlgorithmSet → AlgorithmSet
 with_algorithm Sha1 OnlySha1 = OnlySha1
 with_algorithm Sha1 OnlySha256 = Both
@@ -53,7 +53,7 @@ with_algorithm Sha256 OnlySha256 = OnlySha256
 with_algorithm Sha1 Both = Both
 with_algorithm Sha256 Both = Both
 
--- whether it is HMAC-SHA256
+-- whether an algorithm is HMAC-SHA256
 abbrev pub is_sha256 : IntegrityAlgorithm → Bool
 is_sha256 Sha1 = false
 is_sha256 Sha256 = true

@@ -1,4 +1,4 @@
--- A client: its settings, and what it keeps (RFC 8489, section 9.2).
+-- A client: its settings, and what it stores (RFC 8489, section 9.2).
 use Rattle.std.specs.Prelude.{ℕ, List, [], ◌∷◌, Option, None}
 use Rattle.stun_base.specs.Credentials.{NameAndPassword}
 use Rattle.stun_base.specs.declared.keys.algorithm.IntegrityAlgorithm.{IntegrityAlgorithm}
@@ -17,13 +17,13 @@ pub data Naming : Type 0 where
   plain : List ℕ → Naming
   hashed : List ℕ → Naming
 
--- what a client keeps of a server's challenge: what later requests carry, and the key that they are
--- signed under
+-- what a client stores of a server's challenge: what later requests carry, and the key that they
+-- are signed with
 pub record Challenge : Type 0 where
   pub naming : Naming
   pub realm : List ℕ
   pub nonce : List ℕ
-  -- the server's list, empty where it sent none
+  -- the server's list, or an empty list if it sent none
   pub algorithms : List IntegrityAlgorithm
   pub algorithm : IntegrityAlgorithm
   pub key : List ℕ
@@ -39,7 +39,7 @@ pub record ClientSide : Type 0 where
   pub settings : ClientSettings
   pub state : ClientState
 
--- a new client: HMAC-SHA1 alone, hashed names as the server allows, no credentials
+-- a new client: HMAC-SHA1 alone, hashed names if the server allows them, no credentials
 abbrev pub new_client : ClientSide
 new_client =
     record {

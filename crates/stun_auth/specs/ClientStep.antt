@@ -1,5 +1,5 @@
--- What a client answers to a message and keeps after it (RFC 8489, section 9.2.5). It is a function
--- of the client's settings, its state and what is read of the message.
+-- How a client answers a message, and its state after it (RFC 8489, section 9.2.5). It is a
+-- function of the client's settings, its state and the reading of the message.
 use Rattle.std.specs.Prelude.{ℕ, ◌==◌, List, [], find, Bool, true, false, not, ◌&&◌}
 use Rattle.std.specs.Prelude.{if◌then◌else◌, Option, Some, None, Result, Ok, Err, is_some, ⊤}
 use Rattle.std.specs.Str.{bytes_eq}
@@ -35,11 +35,11 @@ use Rattle.stun_auth.specs.declared.client.answer.LongTermClientValidation.TheVa
   Validated,
 }
 
--- what a message is answered
+-- the answer to a message
 abbrev pub ClientAnswer : Type 0
 ClientAnswer = Result LongTermClientValidation LongTermClientAuthErrorReason
 
--- what a message is answered, and the state that is left
+-- the answer to a message, and the state after it
 pub record ClientStep : Type 0 where
   pub answer : ClientAnswer
   pub state : ClientState
@@ -49,12 +49,13 @@ abbrev pub first_supported : List IntegrityAlgorithm → List IntegrityAlgorithm
     → Option IntegrityAlgorithm
 first_supported supported list = find (λ a. has a supported) list
 
--- a choice, or `UnsupportedFeature` where there is none
+-- a choice, or `UnsupportedFeature` if there is none
 abbrev pub or_unsupported : Option IntegrityAlgorithm → Result IntegrityAlgorithm ChallengeRefusal
 or_unsupported None = Err Refused.UnsupportedFeature
 or_unsupported (Some algorithm) = Ok algorithm
 
--- by the server's list. Without one, the nonce must not ask for a choice, and it is HMAC-SHA1
+-- the choice by the server's list. Without a list, the nonce must not ask for a choice, and it is
+-- HMAC-SHA1
 abbrev pub choose_by_list : List IntegrityAlgorithm → Bool → Option (List IntegrityAlgorithm)
     → Result IntegrityAlgorithm ChallengeRefusal
 choose_by_list supported asks (Some list) = or_unsupported (first_supported supported list)
@@ -73,14 +74,14 @@ unless_missing missing (Err refusal) = Err refusal
 unless_missing missing (Ok algorithm) =
     if missing then Err Refused.UnsupportedFeature else Ok algorithm
 
--- without security bits names are not hashed, and it is HMAC-SHA1
+-- the choice without security bits: names are not hashed, and it is HMAC-SHA1
 abbrev pub choose_without_bits : List IntegrityAlgorithm → Feature
     → Result IntegrityAlgorithm ChallengeRefusal
 choose_without_bits supported feature =
     if is_required feature then Err Refused.UnsupportedFeature
     else if has Sha1 supported then Ok Sha1 else Err Refused.UnsupportedFeature
 
--- the algorithm, by the nonce's security bits and by the server's list, if there are any
+-- the algorithm, by the nonce's security bits and the server's list, if there are any
 abbrev pub choose : List IntegrityAlgorithm → Feature → List ℕ → Option (List IntegrityAlgorithm)
     → Result IntegrityAlgorithm ChallengeRefusal
 choose supported feature nonce list =
@@ -89,7 +90,7 @@ choose supported feature nonce list =
     (choose_by_list supported (asks_for_algorithms nonce) list)
     else choose_without_bits supported feature
 
--- a user by name, or by the hash of it
+-- a user by name, or by the hash of the name
 abbrev pub naming_of : Bool → List ℕ → List ℕ → Naming
 naming_of true username realm = hashed (userhash_of username realm)
 naming_of false username realm = plain username
@@ -98,7 +99,7 @@ abbrev pub list_or_none : Option (List IntegrityAlgorithm) → List IntegrityAlg
 list_or_none None = []
 list_or_none (Some list) = list
 
--- a name is hashed where the nonce allows it and the client does it
+-- the challenge that is stored. The name is hashed if the nonce allows it and the client does it
 abbrev pub new_challenge : Feature → NameAndPassword → List ℕ → List ℕ
     → Option (List IntegrityAlgorithm)
     → IntegrityAlgorithm → Challenge
@@ -118,13 +119,13 @@ new_challenge_if feature user realm nonce list (Err refusal) = Err refusal
 new_challenge_if feature user realm nonce list (Ok algorithm) =
     Ok (new_challenge feature user realm nonce list algorithm)
 
--- the challenge that a client is answering already
+-- whether this is the challenge that the client is answering already
 abbrev pub is_repeated : ClientState → List ℕ → List ℕ → Bool
 is_repeated initial realm nonce = false
 is_repeated (authenticating c) realm nonce = bytes_eq realm c.realm && bytes_eq nonce c.nonce
 is_repeated (authenticated c) realm nonce = false
 
--- what is kept of a challenge with this realm, nonce and list, or why it is refused
+-- what is stored of a challenge with this realm, nonce and list, or why it is refused
 abbrev pub taken_up : ClientSettings → ClientState → Option NameAndPassword → Option (List ℕ)
     → Option (List ℕ) → Option (List IntegrityAlgorithm) → Result Challenge ChallengeRefusal
 taken_up s state None _ _ list = Err Refused.Unauthorized
@@ -139,7 +140,7 @@ abbrev pub client_reason : ChallengeRefusal → LongTermClientAuthErrorReason
 client_reason Refused.Unauthorized = Unauthorized
 client_reason Refused.UnsupportedFeature = UnsupportedFeature
 
--- the algorithm whose digest verifies under the kept key
+-- the algorithm whose digest verifies under the stored key
 abbrev pub verified_under_kept : ClientState → Reading → Option IntegrityAlgorithm
 verified_under_kept initial r = None
 verified_under_kept (authenticating c) r = verified_under r c.key
@@ -158,13 +159,13 @@ is_authenticated initial = false
 is_authenticated (authenticating c) = false
 is_authenticated (authenticated c) = true
 
--- the same state, in which the server is known to have the key
+-- the same state, except that the server is known to have the key
 abbrev pub after_confirmation : ClientState → ClientState
 after_confirmation initial = initial
 after_confirmation (authenticating c) = authenticated c
 after_confirmation (authenticated c) = authenticated c
 
--- an answer by the digest alone; a success confirms the challenge that is being answered
+-- the answer by the digest alone. A success confirms the challenge that is being answered
 abbrev pub after_digest : ClientState → Bool → Option IntegrityAlgorithm → ClientStep
 after_digest state success None = record { answer = Err IntegrityFailed; state = state }
 after_digest state success (Some algorithm) =
@@ -173,7 +174,7 @@ after_digest state success (Some algorithm) =
       state = if success then after_confirmation state else state;
     }
 
--- the kept challenge with another realm and nonce, and the same key
+-- the stored challenge with another realm and nonce, and the same key
 abbrev pub with_realm_and_nonce : ClientState → List ℕ → List ℕ → ClientState
 with_realm_and_nonce initial realm nonce = initial
 with_realm_and_nonce (authenticating c) realm nonce =
@@ -181,7 +182,7 @@ with_realm_and_nonce (authenticating c) realm nonce =
 with_realm_and_nonce (authenticated c) realm nonce =
     authenticated (record c { realm = realm; nonce = nonce })
 
--- after an error 438: its realm and nonce are taken; where one lacks, its digest alone decides
+-- after a 438: its realm and nonce are stored. If one of them is missing, its digest alone decides
 abbrev pub after_stale : ClientState → Option IntegrityAlgorithm → Option (List ℕ) → Option (List ℕ)
     → ClientStep
 after_stale state digest (Some realm) (Some nonce) =
@@ -202,7 +203,7 @@ abbrev pub is_code : ℕ → Option ℕ → Bool
 is_code code None = false
 is_code code (Some other) = other == code
 
--- what a client answers to a message, and its state after it
+-- the answer of a client to a message, and its state after it
 abbrev pub client_step : ClientSettings → ClientState → Reading → ClientStep
 client_step s state r =
     if is_code UNAUTHORIZED r.error && not (is_authenticated state) then
@@ -212,20 +213,20 @@ client_step s state r =
     then after_stale state (verified_under_kept state r) r.realm r.nonce
     else after_digest state (is_success r.class) (verified_under_kept state r)
 
--- the request is to be sent again: only these answers keep something new
+-- the request must be sent again: only these answers store something new
 abbrev pub IsResend : ClientAnswer → Type 0
 IsResend (Ok (ResendRequest algorithm)) = ⊤
 IsResend (Ok (Validated algorithm)) = ⊥
 IsResend (Err reason) = ⊥
 
--- the first fact holds, or the second where an allocation fails
+-- the first fact holds, or the second if an allocation fails
 abbrev pub ForClientReason : LongTermClientAuthErrorReason → Type 0 → Type 0 → Type 0
 ForClientReason Unauthorized P Q = P
 ForClientReason IntegrityFailed P Q = P
 ForClientReason UnsupportedFeature P Q = P
 ForClientReason OutOfMemory P Q = Q
 
--- the first fact holds, or the second where the answer is that an allocation failed
+-- the first fact holds, or the second if the answer is that an allocation failed
 abbrev pub ClientUnlessMemory : {V : Type 0} → Result V LongTermClientAuthErrorReason
     → Type 0 → Type 0
     → Type 0

@@ -1,4 +1,4 @@
--- What a list of datagrams comes to at a server that keeps nothing of an address.
+-- The outcome of a list of datagrams at a server that stores nothing about an address.
 use Rattle.std.specs.Prelude.{◌≡◌, ◌↔◌, ◌⊎◌, ◌||◌, ℕ, List, slice_get, true, Some}
 use Rattle.std.specs.Prelude.{if◌then◌else◌}
 use Rattle.std.specs.Str.{bytes_eq}
@@ -15,13 +15,13 @@ use Rattle.stun_auth.specs.Seen.{ClientSeen}
 use Rattle.stun_auth.specs.Server.{their_nonce}
 use Rattle.stun_auth.specs.Validation.{ServerSeen, is_malformed}
 
--- a datagram: from where, when, and its bytes
+-- a datagram: its source, its time, and its bytes
 pub record TimedDatagram : Type 0 where
   pub from : SocketAddr
   pub now : ℕ
   pub bytes : List ℕ
 
--- how nonces are made: the epoch of a moment, and the words of an address in an epoch
+-- how nonces are made: the epoch of a time, and the words of an address in an epoch
 pub record Derivation : Type 0 where
   pub epoch : ℕ → ℕ
   pub words : SocketAddr → ℕ → List ℕ
@@ -36,8 +36,8 @@ abbrev pub judged_datagram : ServerSeen → Derivation → TimedDatagram
 judged_datagram s how d =
     judged_in s (how.words d.from) (how.epoch d.now) (reading_of d.bytes)
 
--- how a refusal is told: a bad request as such where the message is malformed or has the current
--- nonce, and else as a stale nonce
+-- the refusal that a client is sent: a bad request stays one if the message is malformed or has the
+-- current nonce, and otherwise becomes a stale nonce
 abbrev pub told_refusal : List ℕ → Reading → VerdictRefusal → VerdictRefusal
 told_refusal ours r Unauthorized = Unauthorized
 told_refusal ours r StaleNonce = StaleNonce
@@ -47,11 +47,11 @@ told_refusal ours r BadRequest =
 -- each datagram is judged alone
 pub record JudgesEachDatagram (s : ServerSeen) (how : Derivation) (datagrams : List TimedDatagram)
     (given : List (Result ClientSeen VerdictRefusal)) : Type 0 where
-  -- someone is accepted if and only if the conjunction holds, under one of two nonces
+  -- a client is accepted if and only if the conjunction holds, under one of two nonces
   pub accepted : (i : ℕ) (d : TimedDatagram) (client : ClientSeen) → slice_get datagrams i ≡ Some d
       → (slice_get given i ≡ Some (Ok client))
       ↔ IsAcceptedIn s (how.words d.from) (how.epoch d.now) (reading_of d.bytes) client
-  -- who repeats what was once told is never told that the request is bad
+  -- a client that repeats what it was once sent never gets a bad request for it
   pub no_lockout : (d : TimedDatagram) (refusal : VerdictRefusal)
       → told_refusal (nonce_for_datagram s how d) (reading_of d.bytes) refusal ≡ BadRequest
       → (is_malformed (reading_of d.bytes) ≡ true)

@@ -1,4 +1,4 @@
--- When what is kept for an address is forgotten.
+-- When the record of an address is forgotten.
 use Rattle.std.specs.Prelude.{ℕ, nat_lt, Bool, ◌&&◌, if◌then◌else◌, Option, Some, None}
 use Rattle.std.specs.Option.{is_none, is_some}
 use Rattle.std.specs.FinMap as map
@@ -7,17 +7,17 @@ use Rattle.stun_base.specs.Address.{address_cmp}
 use Rattle.stun_auth.specs.Seen.{PlaceSeen}
 use Rattle.stun_auth.specs.Validation.{ServerSeen}
 
--- whether a place is forgotten at a moment: it has no client, and its nonce expired before
+-- whether a record is forgotten at a time: it has no client, and its nonce expired before
 abbrev pub is_forgotten : ℕ → PlaceSeen → Bool
 is_forgotten now place = is_none place.client && nat_lt place.expires now
 
--- what becomes of an address's place: a forgotten one is gone, its offered algorithms with it. Any
--- other stays
+-- the record of an address after forgetting: a forgotten one is gone, with its offered algorithms.
+-- Any other stays
 abbrev pub place_kept : ℕ → Option PlaceSeen → Option PlaceSeen
 place_kept now None = None
 place_kept now (Some place) = if is_forgotten now place then None else Some place
 
--- the places that are kept at a moment
+-- the records that are not forgotten at a time
 abbrev pub places_kept : ℕ → map.FinMap address_cmp PlaceSeen → map.FinMap address_cmp PlaceSeen
 places_kept now places =
     map.retain_keys places (λ address. is_some (place_kept now (map.get places address)))
@@ -26,6 +26,6 @@ places_kept now places =
 abbrev pub after_forgetting : ServerSeen → ℕ → ServerSeen
 after_forgetting s now = record s { places = places_kept now s.places }
 
--- the server that keeps nothing of an address; of all others it keeps what it kept
+-- the server without a record of this address, and with the records of all others
 abbrev pub without_place : ServerSeen → SocketAddr → ServerSeen
 without_place s address = record s { places = map.remove s.places address }

@@ -1,5 +1,5 @@
--- A user who was found elsewhere, and of whom only the key that a message needs is made (RFC 8489,
--- section 9.2.4).
+-- A user who was found elsewhere, of whose keys only the one that a message needs is made (RFC
+-- 8489, section 9.2.4).
 use Rattle.std.specs.Prelude.{◌≡◌, ℕ, List, Bool, ◌&&◌, if◌then◌else◌, Option, Some, None}
 use Rattle.std.specs.Option.{is_some, option_map}
 use Rattle.std.specs.Str.{bytes_eq}
@@ -20,7 +20,7 @@ use Rattle.stun_auth.specs.Validation.{is_complete}
 
 -- ---- what a message claims
 
--- a signed message, whom it names, and the algorithm that both sides agree on
+-- a signed message, the user whom it names, and the algorithm that both sides agree on
 pub record ClaimSeen : Type 0 where
   pub message : List ℕ
   pub user : Named
@@ -33,8 +33,7 @@ claim_by bytes (Some a) None = None
 claim_by bytes (Some a) (Some user) =
     Some (record { message = bytes; user = user; algorithm = a })
 
--- the same by what is read of the message: it is to be signed, and to have a realm, a nonce and a
--- name
+-- the claim in the reading of a message: it must be signed, and have a realm, a nonce and a name
 abbrev pub claim_read : AlgorithmSet → Feature → List ℕ → Reading → Option ClaimSeen
 claim_read algorithms feature bytes r =
     if is_some r.integrity && is_complete r
@@ -42,11 +41,11 @@ claim_read algorithms feature bytes r =
     (named_in r.userhash r.username feature)
     else None
 
--- what a message claims, where a server supports these algorithms
+-- what a message claims, if a server supports these algorithms
 abbrev pub claim_of : AlgorithmSet → Feature → List ℕ → Option ClaimSeen
 claim_of algorithms feature bytes = claim_read algorithms feature bytes (reading_of bytes)
 
--- ---- whose it is
+-- ---- whether it is the user's
 
 -- whether a message names the user of a name at a realm
 abbrev pub is_claimed : Named → List ℕ → List ℕ → Bool
@@ -66,7 +65,7 @@ found_key users claim user =
     if is_claimed claim.user user.username users.realm
     then verifying (reading_of claim.message) (key_of users user claim.algorithm) else None
 
--- the verdict that this key is: it is the user's with the agreed algorithm, or of nobody
+-- the verdict that follows from this key: it is the user's with the agreed algorithm, or nobody's
 abbrev pub found_verdict : ClaimSeen → RegisteredUser → Option (IntegrityAlgorithm × List ℕ)
     → Result ClientSeen VerdictRefusal
 found_verdict claim user None = Err Unauthorized

@@ -1,4 +1,4 @@
--- A user who is handed in with a message, for a server that keeps no list of its users (RFC 8489,
+-- A user who is passed with a message, for a server that stores no list of its users (RFC 8489,
 -- section 9.2.4).
 use Rattle.std.specs.Prelude.{◌≡◌, ℕ, List, if◌then◌else◌, true, Option, Some, None}
 use Rattle.std.specs.Option.{option_and_then, option_map}
@@ -21,31 +21,32 @@ use Rattle.stun_auth.specs.Seen.{ClientSeen, PlaceSeen}
 use Rattle.stun_auth.specs.Server.{Sight}
 use Rattle.stun_auth.specs.Validation.{ServerSeen, sight}
 
--- ---- whom a message is judged by
+-- ---- the user whom a message is judged by
 
--- by a name, or by the hash of a name at the realm
+-- a user by name, or by the hash of a name at the realm
 pub data Named : Type 0 where
   by_name : List ℕ → Named
   by_hash : List ℕ → Named
 
--- the same as it is told
+-- the user whom `NamedUser` names
 abbrev pub named_seen : NamedUser → Named
 named_seen (ByName name) = by_name name.now
 named_seen (ByHash hash) = by_hash hash
 
--- whom a request or an indication names: by a hash, where that is possible, or else by name
+-- the user whom a request or an indication names: by a hash, if hashes are accepted, or else by
+-- name
 abbrev pub named_in : Option (List ℕ) → Option (List ℕ) → Feature → Option Named
 named_in (Some hash) username feature = if is_possible feature then Some (by_hash hash) else None
 named_in None username feature = option_map by_name username
 
--- the client of a place
+-- the client of a record
 abbrev pub named_at : Option PlaceSeen → Option Named
 named_at place =
     option_map (λ (c : ClientSeen). by_name c.name)
     (option_and_then (λ (p : PlaceSeen). p.client) place)
 
--- by whose key a message is judged: of a response the client of its address, of all others the user
--- whom it names
+-- the user with whose key a message is judged: for a response the client of its address, for all
+-- others the user whom it names
 abbrev pub judged_by : Sight → Reading → Option Named
 judged_by s r =
     if is_response r.class then named_at s.place else named_in r.userhash r.username s.feature
@@ -61,12 +62,12 @@ meant_user s from r = option_and_then (user_of s.registered) (judged_by (sight s
 
 -- ---- a server with other users
 
--- one user, or nobody
+-- these users alone: one, or nobody
 abbrev pub only_user : Option RegisteredUser → map.FinMap name_cmp UserSecret
 only_user None = map.empty
 only_user (Some user) = map.insert map.empty user.username user.secret
 
--- the realm with its algorithms and this user alone, or nobody
+-- the realm with its algorithms and only this user, or nobody
 abbrev pub just : Registered → Option RegisteredUser → Registered
 just users user = record users { secrets = only_user user }
 
@@ -76,10 +77,10 @@ AreKeysOf users user keys =
     (a : IntegrityAlgorithm) → contains a users.algorithms ≡ true
     → stored_key keys a ≡ Some (long_term_key a user.username users.realm user.password)
 
--- the server with other users in the place of its own
+-- the server with other users in place of its own
 abbrev pub with_users : ServerSeen → Registered → ServerSeen
 with_users s users = record s { registered = users }
 
--- the server with one user in the place of its own
+-- the server with one user in place of its own
 abbrev pub with_just : ServerSeen → RegisteredUser → ServerSeen
 with_just s user = with_users s (just s.registered (Some user))

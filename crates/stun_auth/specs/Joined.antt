@@ -1,5 +1,5 @@
--- What a message says after additions (RFC 8489, sections 14.5, 14.6 and 9.2): which attributes are
--- visible, and whose digest verifies.
+-- What a reader finds in a message after additions (RFC 8489, sections 14.5, 14.6 and 9.2): which
+-- attributes are visible, and whose digest verifies.
 use Rattle.std.specs.Prelude.{◌≡◌, ℕ, ◌-◌, ◌<◌, ◌^◌, ◌==◌, false, if◌then◌else◌}
 use Rattle.std.specs.Prelude.{List, [], ◌∷◌, ◌++◌, length, Option, Some, None}
 use Rattle.std.specs.Option.{is_some, option_map, option_or}
@@ -25,7 +25,7 @@ abbrev pub written_attribute : List ℕ → Addition → TypedValue
 written_attribute message (attribute a) = a
 written_attribute message (integrity algorithm key) = integrity_attribute message algorithm key
 
--- the attributes that additions write, each after what is there
+-- the attributes that additions write, each at the end of the message
 abbrev pub added_members : List ℕ → List Addition → List Member
 added_members message [] = []
 added_members message (addition ∷ others) =
@@ -55,14 +55,14 @@ protection_in (attribute a ∷ others) = protection_in others
 protection_in (integrity algorithm key ∷ others) =
     Some (record { algorithm = algorithm; key = key })
 
--- a message with additions. Its type and id are as before. What was visible still is, and after it
--- the additions are, in their order
+-- a message with additions. Its type and ID are unchanged. What was visible is still visible, and
+-- so are the additions after it, in their order
 pub record HasAdded (before : List ℕ) (list : List Addition) (after : List ℕ) : Type 0 where
   pub is_message : IsMessage after
   pub type_is : type_field after ≡ type_field before
   pub transaction_id_is : transaction_id_field after ≡ transaction_id_field before
   pub visible_is : visible after ≡ visible before ++ added_members before list
-  -- a well-formed integrity attribute is there where a digest was added, and only there
+  -- there is a well-formed integrity attribute if and only if a digest was added
   pub integrity_is : has_visible_integrity after ≡ is_some (protection_in list)
   -- without a digest more can be added
   pub is_open : protection_in list ≡ None → IsOpen after
@@ -70,13 +70,13 @@ pub record HasAdded (before : List ℕ) (list : List Addition) (after : List ℕ
   pub digest_verifies : (p : Protection) → protection_in list ≡ Some p
       → verified_algorithm after p.key ≡ Some p.algorithm
 
--- of each type, the attribute that was added is read, or else the one that was there
+-- for each type, the attribute that was added is read, or else the one that the message had
 abbrev pub IsReadBack : List ℕ → List Addition → List ℕ → Type 0
 IsReadBack before list after =
     (kind : ℕ) → is_set_apart kind ≡ false
     → last_value kind after ≡ option_or (added_last kind list) (last_value kind before)
 
--- what additions leave where none of them is refused
+-- the page after additions, if none of them is refused
 abbrev pub page_after : List Addition → Page → Page
 page_after [] page = page
 page_after (addition ∷ others) page =

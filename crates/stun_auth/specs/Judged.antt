@@ -1,5 +1,5 @@
--- Whom a server accepts under a nonce that its caller gives, for a server that keeps nothing of an
--- address (RFC 8489, section 9.2.4).
+-- Which client a server accepts under a nonce that its caller passes, for a server that stores
+-- nothing about an address (RFC 8489, section 9.2.4).
 use Rattle.std.specs.Prelude.{◌≡◌, ◌↔◌, ℕ, List, Some, true}
 use Rattle.std.specs.Option.{IsSome}
 use Rattle.std.specs.declared.net.socket_addr.SocketAddr.{SocketAddr}
@@ -20,7 +20,7 @@ pub record AcceptedSeen : Type 0 where
   pub client : ClientSeen
   pub key : List ℕ
 
--- the same without the key
+-- the client alone, without the key
 abbrev pub client_judged : Result AcceptedSeen VerdictRefusal → Result ClientSeen VerdictRefusal
 client_judged (Ok accepted) = Ok accepted.client
 client_judged (Err refusal) = Err refusal
@@ -31,15 +31,15 @@ HasVerifyingKey users r accepted =
     (key_at users accepted.client.name accepted.client.algorithm ≡ Some accepted.key)
     × IsSome (verified_under r accepted.key)
 
--- the verdict of a server under a nonce, where it offered all algorithms that it supports
+-- the verdict of a server under a nonce, if it offered all algorithms that it supports
 abbrev pub verdict_by_nonce : ServerSeen → List ℕ → Reading → Result ClientSeen VerdictRefusal
 verdict_by_nonce s nonce r = verdict s.registered s.feature nonce (Some s.registered.algorithms) r
 
--- the server that a first message leaves, once a response to it is signed
+-- the server after a first message, once a response to it is signed
 abbrev pub offered_after : ServerSeen → SocketAddr → ℕ → List ℕ → Reading → ServerSeen
 offered_after s from now words r = after_signing (after_validation s from now words r) from true
 
--- a message is judged to be of a client if and only if it is accepted from that client
+-- a message is judged to be from a client if and only if it is accepted from that client
 abbrev pub JudgesAccepted : Registered → Feature → List ℕ → AlgorithmSet → Reading
     → Result AcceptedSeen VerdictRefusal
     → Type 0

@@ -1,6 +1,6 @@
--- What the contracts of this crate say, in the order to read it.
+-- What the contracts of this crate say, in reading order.
 
--- what an authenticator reads of a message (RFC 8489, sections 9.2.4 and 9.2.5)
+-- what an authenticator reads in a message (RFC 8489, sections 9.2.4 and 9.2.5)
 pub mod Reading
 -- the users of a realm and their keys (sections 9.2.2 and 14.4)
 pub mod Registered
@@ -10,35 +10,35 @@ pub mod Algorithms
 pub mod Feature
 -- nonces and the security bits that they carry (section 9.2)
 pub mod Nonces
--- what a server keeps for an address (section 9.2.4)
+-- the record that a server has of an address (section 9.2.4)
 pub mod Seen
--- whom a server accepts at an address, and why it refuses others (section 9.2.4)
+-- which client a server accepts at an address, and why it refuses others (section 9.2.4)
 pub mod Server
--- a whole server, and what validating a message answers and leaves (section 9.2.4)
+-- a whole server, its answer to a message, and its state after it (section 9.2.4)
 pub mod Validation
--- whom a server accepts under a nonce that the caller gives (section 9.2.4)
+-- which client a server accepts under a nonce that the caller passes (section 9.2.4)
 pub mod Judged
 -- the same under the nonces of two epochs
 pub mod Epochs
 -- a list of datagrams, each judged alone
 pub mod Datagrams
--- a user who is handed in with a message
+-- a user who is passed with a message
 pub mod Handed
 -- a user who was found elsewhere, and the one key that a message needs
 pub mod Found
 -- a change of one user, and the messages that mean another
 pub mod OtherUsers
--- the places of all addresses
+-- the records of all addresses
 pub mod Places
--- when what is kept for an address is forgotten
+-- when the record of an address is forgotten
 pub mod Forgetting
--- the same in steps
+-- forgetting in steps
 pub mod ForgettingSteps
 -- why a server refuses a message
 pub mod Reasons
--- a client: what it is set to and what it keeps (section 9.2)
+-- a client: its settings and what it stores (section 9.2)
 pub mod Client
--- what a client answers to a message and keeps after it (section 9.2.5)
+-- how a client answers a message, and its state after it (section 9.2.5)
 pub mod ClientStep
 -- the algorithms that a client supports, in their order
 pub mod Supported
@@ -56,9 +56,10 @@ pub mod ClientSigning
 pub mod ServerSigning
 -- short-term authentication (section 9.1)
 pub mod ShortTerm
--- laws: what a message says after additions
+-- laws: what a reader finds in a message after additions
 pub mod Joined
--- laws: what is read of a message that was signed
+-- laws: what a reader finds in a message that was signed
 pub mod Signed
--- what no clause of a public call cites: codings of models, views of structs, steps of the code
+-- definitions that no clause of a public call cites: codings of models, views of structs, steps of
+-- the code
 pub mod code

@@ -14,24 +14,24 @@ use Rattle.stun_auth.specs.Algorithms.{contains}
 use Rattle.stun_auth.specs.Feature.{is_possible}
 use Rattle.stun_auth.specs.declared.algorithm_set.AlgorithmSet.{AlgorithmSet}
 
--- the shortest time that a nonce may last, in nanoseconds: 30 seconds
+-- the shortest time for which a nonce may be valid, in nanoseconds: 30 seconds
 abbrev pub MINIMUM_EXPIRY : ℕ
 MINIMUM_EXPIRY = 30000000000
 
--- what a nonce begins with that carries security bits
+-- the beginning of a nonce that has security bits
 abbrev pub cookie : List ℕ
 cookie = codes "obMatJos2"
 
 abbrev pub begins_with_cookie : List ℕ → Bool
 begins_with_cookie text = starts_with nat_eq text cookie
 
--- the bytes, where there are three
+-- the bytes, if there are three
 abbrev pub three_bytes : Result (List ℕ) DecodeError → Option (List ℕ)
 three_bytes (Ok bytes) = if length bytes == 3 then Some bytes else None
 three_bytes (Err e) = None
 
--- the 24 security bits of a nonce: its four letters after the cookie, where they are base64 of
--- three bytes
+-- the 24 security bits of a nonce: its four letters after the cookie, if they are base64 of three
+-- bytes
 unfoldable pub security_bits : List ℕ → Option (List ℕ)
 security_bits text =
     if begins_with_cookie text && nat_le 13 (length text)
@@ -76,11 +76,11 @@ security_byte algorithms feature =
 abbrev pub front : ℕ → List ℕ
 front byte = spelled_bits (byte ∷ 0 ∷ 0 ∷ [])
 
--- letters that do not begin as the cookie does
+-- letters that do not begin like the cookie
 abbrev pub without_cookie : List ℕ → List ℕ
 without_cookie letters = if begins_with_cookie letters then 112 ∷ drop 1 letters else letters
 
--- the nonce that a server makes of random words
+-- the nonce that a server makes from random words
 abbrev pub nonce_of : AlgorithmSet → Feature → List ℕ → List ℕ
 nonce_of algorithms feature words =
     if security_byte algorithms feature == 0 then without_cookie (map letter words)

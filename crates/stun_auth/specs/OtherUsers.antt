@@ -1,4 +1,4 @@
--- A change of one user, and the messages that mean another or that verify under none of the user's
+-- A change of one user, and the messages that mean another user or verify under none of the user's
 -- keys (RFC 8489, section 9.2.4).
 use Rattle.std.specs.Prelude.{◌≡◌, ◌≢◌, ℕ, List, Option, Some, None, ⊤}
 use Rattle.std.specs.FinMap as map
@@ -8,7 +8,7 @@ use Rattle.stun_auth.specs.Handed.{Named, by_name, by_hash}
 use Rattle.stun_auth.specs.Reading.{Reading, verified_under}
 use Rattle.stun_auth.specs.Registered.{Registered, UserSecret, key_from, name_cmp}
 
--- what users are known by, with another secret for one name, or without it
+-- the secrets of the users, with another secret for one name, or without it
 abbrev pub secrets_with : map.FinMap name_cmp UserSecret → List ℕ → Option UserSecret
     → map.FinMap name_cmp UserSecret
 secrets_with secrets name None = map.remove secrets name
@@ -19,18 +19,18 @@ abbrev pub with_secret_for : Registered → List ℕ → Option UserSecret → R
 with_secret_for users name secret =
     record users { secrets = secrets_with users.secrets name secret }
 
--- whoever is named is another than the user of a name: named by another name, or by a hash that is
--- not that of the name
+-- the named user is not the one with this name: the message has another name, or a hash that is not
+-- that of the name
 abbrev pub IsAnother : Registered → List ℕ → Named → Type 0
 IsAnother users name (by_name other) = other ≢ name
 IsAnother users name (by_hash hash) = userhash_of name users.realm ≢ hash
 
--- nobody is meant, or another
+-- no user is meant, or another one
 abbrev pub MeansAnother : Registered → List ℕ → Option Named → Type 0
 MeansAnother users name None = ⊤
 MeansAnother users name (Some who) = IsAnother users name who
 
--- a message verifies under no key that a secret gives to the user of a name
+-- a message verifies under no key that a secret makes for the user of a name
 abbrev pub VerifiesUnderNone : Registered → List ℕ → UserSecret → Reading → Type 0
 VerifiesUnderNone users name secret r =
     (a : IntegrityAlgorithm) (key : List ℕ) → key_from a name users.realm secret ≡ Some key

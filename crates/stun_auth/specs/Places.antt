@@ -1,4 +1,4 @@
--- The places of all addresses.
+-- The records of all addresses.
 use Rattle.std.specs.Prelude.{if◌then◌else◌, Option, Some, None}
 use Rattle.std.specs.Option.{is_some}
 use Rattle.std.specs.FinMap as fin
@@ -7,11 +7,11 @@ use Rattle.stun_base.specs.Address.{address_cmp}
 use Rattle.stun_auth.specs.declared.algorithm_set.AlgorithmSet.{AlgorithmSet}
 use Rattle.stun_auth.specs.Seen.{ClientSeen, PlaceSeen}
 
--- a place for each address that has one
+-- a record for each address that has one
 abbrev pub PlacesSeen : Type 0
 PlacesSeen = fin.FinMap address_cmp PlaceSeen
 
--- the places with a change at an address, where it has one
+-- the records with a change at an address, if it has one
 abbrev pub at_place : Option PlaceSeen → PlacesSeen → SocketAddr → (PlaceSeen → PlaceSeen)
     → PlacesSeen
 at_place None places address change = places
@@ -20,11 +20,11 @@ at_place (Some place) places address change = fin.insert places address (change 
 abbrev pub with_change : PlacesSeen → SocketAddr → (PlaceSeen → PlaceSeen) → PlacesSeen
 with_change places address change = at_place (fin.get places address) places address change
 
--- a place with another client, or with none
+-- a record with another client, or with none
 abbrev pub with_client : Option ClientSeen → PlaceSeen → PlaceSeen
 with_client client place = record place { client = client }
 
--- a place to which a set of algorithms was offered: nothing is offered to a client
+-- a record whose address was offered a set of algorithms: nothing is offered to a client
 abbrev pub with_offer : AlgorithmSet → PlaceSeen → PlaceSeen
 with_offer supported place =
     if is_some place.client then place else record place { offered = Some supported }

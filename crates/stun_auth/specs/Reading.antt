@@ -1,4 +1,4 @@
--- What an authenticator reads of a message (RFC 8489, sections 9.2.4 and 9.2.5).
+-- What an authenticator reads in a message (RFC 8489, sections 9.2.4 and 9.2.5).
 use Rattle.std.specs.Prelude.{ℕ, Bool, if◌then◌else◌, List, reverse, map, Option, Some, None}
 use Rattle.std.specs.List.{find}
 use Rattle.std.specs.Option.{is_some, option_and_then, option_map}
@@ -22,7 +22,8 @@ use Rattle.stun_types.specs.Visible.{visible}
 abbrev pub last_of : ℕ → List Member → Option Member
 last_of kind members = first_of kind (reverse members)
 
--- what the last visible attribute of a type reads as: a malformed one takes an earlier one away
+-- the reading of the last visible attribute of a type. If that is malformed there is none, even if
+-- an earlier one is well formed
 abbrev pub last : {A : Type 0} → (TypedValue → Option A) → ℕ → List ℕ → Option A
 last reading kind bytes = option_and_then (λ m. reading m.1) (last_of kind (visible bytes))
 
@@ -30,7 +31,7 @@ last reading kind bytes = option_and_then (λ m. reading m.1) (last_of kind (vis
 abbrev pub has_visible_integrity : List ℕ → Bool
 has_visible_integrity bytes = is_some (find (λ m. is_integrity m.1) (visible bytes))
 
--- Each attribute is its last visible one, where that is well formed.
+-- Each attribute is the last visible one of its type, if that is well formed.
 pub record Reading : Type 0 where
   pub class : MessageClass
   -- the code of an error response
@@ -42,8 +43,8 @@ pub record Reading : Type 0 where
   -- the algorithms whose keys the listed, and the chosen, password algorithms make
   pub algorithms : Option (List IntegrityAlgorithm)
   pub algorithm : Option IntegrityAlgorithm
-  -- where an integrity attribute is visible and well formed, the algorithm whose digest verifies
-  -- under a key
+  -- if an integrity attribute is visible and well formed, the algorithm whose digest verifies under
+  -- a key
   pub integrity : Option (List ℕ → Option IntegrityAlgorithm)
 
 -- the algorithm whose digest verifies under a key
@@ -57,7 +58,7 @@ error_code bytes =
     if is_error (class_in bytes)
     then option_map (λ (e : CodeAndReason). e.code) (last error_of ERROR_CODE bytes) else None
 
--- what is read of the bytes of a message
+-- the reading of the bytes of a message
 unfoldable pub reading_of : List ℕ → Reading
 reading_of bytes = record {
   class = class_in bytes;

@@ -26,7 +26,7 @@ server_reason Refused.Unauthorized = Unauthorized
 server_reason Refused.BadRequest = BadRequest
 server_reason Refused.StaleNonce = StaleNonce
 
--- the first fact holds, or the second where the reason is a failed allocation
+-- the first fact holds, or the second if the reason is a failed allocation
 abbrev pub ForServerReason : LongTermServerAuthErrorReason → Type 0 → Type 0 → Type 0
 ForServerReason Unauthorized P Q = P
 ForServerReason IntegrityFailed P Q = P
@@ -35,7 +35,7 @@ ForServerReason BadRequest P Q = P
 ForServerReason StaleNonce P Q = P
 ForServerReason OutOfMemory P Q = Q
 
--- the first fact holds, or the second where an allocation failed
+-- the first fact holds, or the second if an allocation failed
 abbrev pub ServerUnlessMemory : {V : Type 0} → Result V LongTermServerAuthErrorReason
     → Type 0 → Type 0
     → Type 0

@@ -15,11 +15,11 @@ use Rattle.stun_auth.specs.declared.algorithm_set.AlgorithmSet.{AlgorithmSet}
 use Rattle.stun_auth.specs.declared.server.stored_keys.StoredKeys.{StoredKeys}
 use Rattle.stun_auth.specs.Algorithms.{contains, only}
 
--- names are ordered as bytes
+-- names are ordered by their bytes
 abbrev pub name_cmp : List ℕ → List ℕ → Ordering
 name_cmp = slice_cmp nat_cmp
 
--- what a user is known by: a password, or the keys that were made of one and stored
+-- the secret of a user: a password, or the keys that were made from one and stored
 pub data UserSecret : Type 0 where
   of_password : List ℕ → UserSecret
   of_keys : StoredKeys → UserSecret
@@ -29,15 +29,15 @@ pub record RegisteredUser : Type 0 where
   pub username : List ℕ
   pub secret : UserSecret
 
--- the user who is known by a password
+-- the user with a password
 abbrev pub user_by_password : NameAndPassword → RegisteredUser
 user_by_password user = record { username = user.username; secret = of_password user.password }
 
--- the user of a name who is known by stored keys
+-- the user of a name with stored keys
 abbrev pub user_by_keys : List ℕ → StoredKeys → RegisteredUser
 user_by_keys name keys = record { username = name; secret = of_keys keys }
 
--- the realm, the supported algorithms, and what each registered user is known by
+-- the realm, the supported algorithms, and the secret of each registered user
 pub record Registered : Type 0 where
   pub realm : List ℕ
   pub algorithms : AlgorithmSet
@@ -52,7 +52,7 @@ abbrev pub with_user : Registered → NameAndPassword → Registered
 with_user r user =
     record r { secrets = map.insert r.secrets user.username (of_password user.password) }
 
--- the users with one more who is known by stored keys, or with these keys for one of them
+-- the users with one more who has stored keys, or with these keys for one of them
 abbrev pub with_user_by_keys : Registered → List ℕ → StoredKeys → Registered
 with_user_by_keys r name keys =
     record r { secrets = map.insert r.secrets name (of_keys keys) }
@@ -79,7 +79,7 @@ abbrev pub stored_key : StoredKeys → IntegrityAlgorithm → Option (List ℕ)
 stored_key keys Sha1 = keys.sha1
 stored_key keys Sha256 = keys.sha256
 
--- the key that a secret gives for an algorithm to the user of a name at a realm: made of the
+-- the key that a secret makes for an algorithm for the user of a name at a realm: derived from the
 -- password, or as it is stored
 abbrev pub key_from : IntegrityAlgorithm → List ℕ → List ℕ → UserSecret → Option (List ℕ)
 key_from a name realm (of_password password) = Some (long_term_key a name realm password)
@@ -89,8 +89,8 @@ key_from a name realm (of_keys keys) = stored_key keys a
 abbrev pub key_if : Bool → IntegrityAlgorithm → List ℕ → List ℕ → UserSecret → Option (List ℕ)
 key_if supported a name realm secret = if supported then key_from a name realm secret else None
 
--- the key that a user has for an algorithm: if it is supported the one that the user's secret
--- gives, and else none
+-- the key that a user has for an algorithm: the one that the user's secret makes, if the algorithm
+-- is supported, and otherwise none
 abbrev pub key_of : Registered → RegisteredUser → IntegrityAlgorithm → Option (List ℕ)
 key_of r user a = key_if (contains a r.algorithms) a user.username r.realm user.secret
 

@@ -1,4 +1,4 @@
--- What a server keeps for an address (RFC 8489, section 9.2.4).
+-- The record that a server has of an address (RFC 8489, section 9.2.4).
 use Rattle.std.specs.Prelude.{ℕ, List, Option, Some, None}
 use Rattle.stun_base.specs.declared.keys.algorithm.IntegrityAlgorithm.{IntegrityAlgorithm}
 use Rattle.stun_auth.specs.declared.algorithm_set.AlgorithmSet.{AlgorithmSet}
@@ -8,14 +8,14 @@ pub record ClientSeen : Type 0 where
   pub name : List ℕ
   pub algorithm : IntegrityAlgorithm
 
--- the nonce with its end, the algorithms that were offered, if any, and the client
+-- the nonce and when it expires, the algorithms that were offered, if any, and the client
 pub record PlaceSeen : Type 0 where
   pub nonce : List ℕ
   pub expires : ℕ
   pub offered : Option AlgorithmSet
   pub client : Option ClientSeen
 
--- a place with a new nonce: what was offered and who is known stay
+-- a record with a new nonce, and the same offer and client
 abbrev pub renewed_place : Option PlaceSeen → List ℕ → ℕ → PlaceSeen
 renewed_place None nonce expires =
     record { nonce = nonce; expires = expires; offered = None; client = None }

@@ -1,7 +1,7 @@
 -- What a server's signing adds to a message, one addition after another (RFC 8489, section 9.2.4).
--- Additions are written in this order, and refused in it. Where the client's user is gone, only the
--- digest fails. `added_by_server` in Signed.antt says what is added by attribute, which is what a
--- reader finds. `laws::sides_add_by_attribute` says that both add the same.
+-- Additions are written in this order, and refused in it. If the client's user was removed, only
+-- the digest fails. `added_by_server` in Signed.antt lists the additions by attribute, which is
+-- what a reader finds. `laws::sides_add_by_attribute` says that both add the same.
 use Rattle.std.specs.Prelude.{ℕ, ◌+◌, List, [], ◌∷◌, ◌++◌, Bool, true, if◌then◌else◌}
 use Rattle.std.specs.Prelude.{Option, Some, None, Result, Ok, Err}
 use Rattle.std.specs.declared.net.socket_addr.SocketAddr.{SocketAddr}
@@ -27,18 +27,18 @@ challenge response users nonce =
     if response then attribute (added.nonce nonce) ∷ attribute (added.realm users.realm) ∷ []
     else []
 
--- the algorithms that a response offers where no client is known, the strongest first
+-- the algorithms that a response offers if no client is known, the strongest first
 abbrev pub offer : Bool → Registered → List Addition
 offer response users =
     if response then attribute (added.password_algorithms (algorithms_of users.algorithms)) ∷ []
     else []
 
--- what a response says of a nonce to whoever is to sign under it: nonce and realm, and the
--- algorithms where the nonce asks for a choice. A server that lists algorithms is to set that bit
+-- what a response adds for a client that will sign under a nonce: nonce and realm, and the
+-- algorithms if the nonce asks for a choice. A server that lists algorithms must set that bit
 abbrev pub challenge_under : Registered → List ℕ → List Addition
 challenge_under users nonce = challenge true users nonce ++ offer (asks_for_algorithms nonce) users
 
--- the algorithm of a client, which is named where it is not HMAC-SHA1
+-- the algorithm of a client, which is named unless it is HMAC-SHA1
 abbrev pub named_algorithm : IntegrityAlgorithm → List Addition
 named_algorithm a = if is_sha256 a then attribute (added.password_algorithm a) ∷ [] else []
 
@@ -52,7 +52,7 @@ abbrev pub attributes_for : Bool → Registered → List ℕ → Option ClientSe
 attributes_for response users nonce client =
     challenge response users nonce ++ algorithms_for response users client
 
--- the digest under the key of a user, or the refusal where user or key is gone
+-- the digest under the key of a user, or the refusal if the user or the key was removed
 abbrev pub signed_under_key : IntegrityAlgorithm → Option (List ℕ) → Page
     → Result Page StunWriteError
 signed_under_key a None page = Err IntegrityFailed
@@ -64,19 +64,19 @@ protected_for users None page = Ok page
 protected_for users (Some c) page =
     signed_under_key c.algorithm (key_at users c.name c.algorithm) page
 
--- what signing a message to an address leaves, or the first refusal in the order of the attributes:
--- without a nonce the message stays as it is
+-- the page after a message to an address is signed, or the first refusal in the order of the
+-- attributes. Without a nonce the message is unchanged
 abbrev pub signed_at : Bool → Registered → Option PlaceSeen → Page → Result Page StunWriteError
 signed_at response users None page = Ok page
 signed_at response users (Some p) page =
     after (added_all (attributes_for response users p.nonce p.client) page)
     (protected_for users p.client)
 
--- the same by what one address can tell of the server
+-- the page after signing, given the part of the server that concerns the address
 abbrev pub server_signed : Sight → Bool → Page → Result Page StunWriteError
 server_signed s response page = signed_at response s.registered s.place page
 
--- the digest under the key of a client, where user and key are there
+-- the digest under the key of a client, if there are such a user and key
 abbrev pub digest_under : IntegrityAlgorithm → Option (List ℕ) → List Addition
 digest_under a None = []
 digest_under a (Some key) = integrity a key ∷ []
@@ -85,32 +85,32 @@ abbrev pub digest_for : Registered → Option ClientSeen → List Addition
 digest_for users None = []
 digest_for users (Some c) = digest_under c.algorithm (key_at users c.name c.algorithm)
 
--- all that is added to a message to an address, as far as user and key are there
+-- all that is added to a message to an address, if there are such a user and key
 abbrev pub additions_at : Bool → Registered → Option PlaceSeen → List Addition
 additions_at response users None = []
 additions_at response users (Some p) =
     attributes_for response users p.nonce p.client ++ digest_for users p.client
 
--- the same by what one address can tell of the server
+-- all that is added, given the part of the server that concerns the address
 abbrev pub server_additions : Sight → Bool → List Addition
 server_additions s response = additions_at response s.registered s.place
 
--- how many bytes the digest to a client takes, whether its user is there or not
+-- the number of bytes of the digest to a client, even if its user was removed
 abbrev pub protection_growth : Option ClientSeen → ℕ
 protection_growth None = 0
 protection_growth (Some c) = attribute_length (digest_length c.algorithm)
 
--- how many bytes signing a message to an address adds
+-- the number of bytes that signing a message to an address adds
 abbrev pub growth_at : Bool → Registered → Option PlaceSeen → ℕ
 growth_at response users None = 0
 growth_at response users (Some p) =
     growth (attributes_for response users p.nonce p.client) + protection_growth p.client
 
--- the same by what one address can tell of the server
+-- the number of bytes that signing adds, given the part of the server that concerns the address
 abbrev pub server_growth : Sight → Bool → ℕ
 server_growth s response = growth_at response s.registered s.place
 
--- the server that signing leaves: what a response offered is kept
+-- the server after signing: it stores what a response offered
 abbrev pub after_signing : ServerSeen → SocketAddr → Bool → ServerSeen
 after_signing s to response =
     if response

@@ -15,30 +15,30 @@ pub record Secret : Type 0 where
   pub password : List ℕ
   pub algorithm : IntegrityAlgorithm
 
--- how many bytes signing adds
+-- the number of bytes that signing adds
 abbrev pub short_term_growth : Option Secret → ℕ
 short_term_growth None = 0
 short_term_growth (Some secret) = attribute_length (digest_length secret.algorithm)
 
--- a message as it is signed: with the integrity attribute alone, and without credentials as it was
--- (section 9.1.2)
+-- a signed message: with the integrity attribute alone, or unchanged without credentials (section
+-- 9.1.2)
 abbrev pub short_term_signed : Option Secret → List ℕ → List ℕ
 short_term_signed None message = message
 short_term_signed (Some secret) message = with_integrity message secret.algorithm secret.password
 
--- why signing a message in a writer with so much room is refused
+-- why signing a message in a writer with this much room is refused
 abbrev pub short_term_refusal : Option Secret → List ℕ → ℕ → Option StunWriteError
 short_term_refusal None message room = None
 short_term_refusal (Some secret) message room = signing_refusal message room secret.algorithm
 
--- the integrity attribute of an algorithm can be after a message in a writer with so much room
+-- the integrity attribute of an algorithm fits after a message in a writer with this much room
 pub record HasRoomForDigest (algorithm : IntegrityAlgorithm) (message : List ℕ) (room : ℕ) : Type
     0 where
   pub unsigned : has_integrity message ≡ false
   pub short : length_with message (digest_length algorithm) ≤ max_length
   pub fits : attribute_length (digest_length algorithm) ≤ room
 
--- nothing refuses the signing of a message in a writer with so much room
+-- nothing prevents the signing of a message in a writer with this much room
 abbrev pub IsSignableShortTerm : Option Secret → List ℕ → ℕ → Type 0
 IsSignableShortTerm None message room = ⊤
 IsSignableShortTerm (Some secret) message room = HasRoomForDigest secret.algorithm message room
@@ -49,8 +49,8 @@ abbrev pub algorithm_or_refusal : Option IntegrityAlgorithm → ValidateError
 algorithm_or_refusal None refusal = Err refusal
 algorithm_or_refusal (Some algorithm) refusal = Ok (Some algorithm)
 
--- the answer to a message. Its digest is checked under the password (section 9.1.3), and without
--- credentials it is not
+-- the answer to a message. Its digest is checked under the password (section 9.1.3), or not at all
+-- without credentials
 abbrev pub short_term_answer : Option Secret → List ℕ
     → Result (Option IntegrityAlgorithm) ValidateError
 short_term_answer None message = Ok None

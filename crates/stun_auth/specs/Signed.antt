@@ -1,7 +1,7 @@
--- What signing adds to a message, by attribute, and what is read of a signed message (RFC 8489,
--- sections 9.2.3 to 9.2.5). ClientSigning.antt and ServerSigning.antt list what is added, in the
--- order in which it is written or refused. Here it is a record: each field is what a reader finds
--- of its type. `laws::sides_add_by_attribute` says that both add the same.
+-- What signing adds to a message, by attribute, and what a reader finds in a signed message (RFC
+-- 8489, sections 9.2.3 to 9.2.5). ClientSigning.antt and ServerSigning.antt list what is added, in
+-- the order in which it is written or refused. Here it is a record, each of whose fields is what a
+-- reader finds of its type. `laws::sides_add_by_attribute` says that both add the same.
 use Rattle.std.specs.Prelude.{◌≡◌, ℕ, ◌+◌, ◌-◌, ◌≤◌, Bool, true, false, ◌||◌, if◌then◌else◌}
 use Rattle.std.specs.Prelude.{List, [], ◌∷◌, length, Option, Some, None, IsUtf8}
 use Rattle.std.specs.List.{AllByRecursion}
@@ -51,7 +51,7 @@ nothing =
       integrity = None;
     }
 
--- an addition, if there is one, in front of others
+-- an addition, if there is one, before others
 abbrev pub if_there : {A : Type 0} → (A → Addition) → Option A → List Addition → List Addition
 if_there addition None others = others
 if_there addition (Some value) others = addition value ∷ others
@@ -90,13 +90,13 @@ pub record IsSmall (a : Added) : Type 0 where
 abbrev pub added_kinds : List ℕ
 added_kinds = NONCE ∷ REALM ∷ USERNAME ∷ USERHASH ∷ PASSWORD_ALGORITHMS ∷ PASSWORD_ALGORITHM ∷ []
 
--- an open message that has none of them
+-- an open message that has no attribute of these types
 pub record IsUnsigned (message : List ℕ) : Type 0 where
   pub is_open : IsOpen message
   pub none : AllByRecursion (λ kind. has_kind kind (walk message) ≡ false) added_kinds
 
 -- a message that is built with no other attribute than an error code: its class and its error code,
--- as they are read
+-- as a reader finds them
 pub record IsBuilt (message : List ℕ) (class : MessageClass) (error : Option ℕ) : Type 0 where
   pub unsigned : IsUnsigned message
   pub class_is : class_in message ≡ class
@@ -119,7 +119,7 @@ kinds_in [] = []
 kinds_in (attribute a ∷ others) = a.kind ∷ kinds_in others
 kinds_in (integrity algorithm key ∷ others) = kinds_in others
 
--- a message in a writer with so much room is signable: only a failed allocation refuses these
+-- a message in a writer with this much room is signable: only a failed allocation prevents these
 -- additions. It has no integrity attribute, no FINGERPRINT, and none of the attributes that are
 -- added. Texts are within their limits. Length field and writer have room for all of them
 pub record IsSignable (a : Added) (message : List ℕ) (room : ℕ) : Type 0 where
@@ -129,7 +129,7 @@ pub record IsSignable (a : Added) (message : List ℕ) (room : ℕ) : Type 0 whe
   pub texts : IsWithinLimits a
   pub has_room : HasRoomFor a message room
 
--- what is read of a message is its class, its error code, and what was added
+-- a reader finds in a message its class, its error code, and what was added
 pub record ReadsAs (class : MessageClass) (error : Option ℕ) (a : Added) (r : Reading) : Type
     0 where
   pub class_is : r.class ≡ class
@@ -161,7 +161,7 @@ abbrev pub is_listed : List IntegrityAlgorithm → Bool
 is_listed [] = false
 is_listed (a ∷ list) = true
 
--- a request says who asks; a message of any class names the algorithms, and has the digest
+-- a request has the identity; a message of any class names the algorithms, and has the digest
 abbrev pub added_under : Bool → Challenge → Added
 added_under request c = record {
   nonce = only_if request c.nonce;
@@ -173,7 +173,7 @@ added_under request c = record {
   integrity = Some (record { algorithm = c.algorithm; key = c.key });
 }
 
--- what a client adds, if it has taken up a challenge
+-- what a client adds, if it has answered a challenge
 abbrev pub added_if_kept : Bool → Option Challenge → Added
 added_if_kept request None = nothing
 added_if_kept request (Some c) = added_under request c
@@ -184,8 +184,8 @@ added_by_client request state = added_if_kept request (kept_challenge state)
 
 -- ---- the server
 
--- to an address without a client: a response carries the challenge with the algorithms that are
--- offered
+-- what is added to a message to an address without a client: a response has the challenge with the
+-- algorithms that are offered
 abbrev pub added_without_client : Bool → Registered → List ℕ → Added
 added_without_client response users nonce = record {
   nonce = only_if response nonce;
@@ -197,7 +197,7 @@ added_without_client response users nonce = record {
   integrity = None;
 }
 
--- to a client, under the key of its user
+-- what is added to a message to a client, under the key of its user
 abbrev pub added_under_key : Bool → Registered → List ℕ → IntegrityAlgorithm → List ℕ → Added
 added_under_key response users nonce algorithm key = record {
   nonce = only_if response nonce;
@@ -209,7 +209,8 @@ added_under_key response users nonce algorithm key = record {
   integrity = Some (record { algorithm = algorithm; key = key });
 }
 
--- to an address with this nonce and this client; there is nothing to add where user or key is gone
+-- what is added to an address with this nonce and this client. There is nothing to add if the user
+-- or the key was removed
 abbrev pub added_for : Bool → Registered → List ℕ → Option ClientSeen → Option Added
 added_for response users nonce None = Some (added_without_client response users nonce)
 added_for response users nonce (Some c) =
@@ -220,14 +221,14 @@ abbrev pub added_at : Bool → Registered → Option PlaceSeen → Option Added
 added_at response users None = Some nothing
 added_at response users (Some p) = added_for response users p.nonce p.client
 
--- what a server adds to a message to an address; nothing where the client's user or key is gone
+-- what a server adds to a message to an address: nothing if the client's user or key was removed
 abbrev pub added_by_server : Sight → Bool → Option Added
 added_by_server s response = added_at response s.registered s.place
 
 -- ---- unchecked signings
 
--- as `IsSignable`, for what a client adds. Its nonce and realm were read of a message, so they are
--- within their limits at every client
+-- a message is signable, like `IsSignable`, with what a client adds. Its nonce and realm were read
+-- in a message, so they are within their limits at every client
 pub record IsSignableByClient (a : Added) (message : List ℕ) (room : ℕ) : Type 0 where
   pub is_open : IsOpen message
   pub none_there : AllByRecursion (λ kind. has_kind kind (walk message) ≡ false)
@@ -235,8 +236,8 @@ pub record IsSignableByClient (a : Added) (message : List ℕ) (room : ℕ) : Ty
   pub username : IfSome a.username (λ text. length text ≤ USERNAME_LIMIT)
   pub has_room : HasRoomFor a message room
 
--- as `IsSignable`, for what a server adds. It made its nonces, so they are within their limit at
--- every server, and it names no user
+-- a message is signable, like `IsSignable`, with what a server adds. The server made its nonces, so
+-- they are within their limit at every server, and it names no user
 pub record IsSignableByServer (a : Added) (message : List ℕ) (room : ℕ) : Type 0 where
   pub is_open : IsOpen message
   pub none_there : AllByRecursion (λ kind. has_kind kind (walk message) ≡ false)
@@ -244,12 +245,13 @@ pub record IsSignableByServer (a : Added) (message : List ℕ) (room : ℕ) : Ty
   pub realm : IfSome a.realm (λ text. length text ≤ TEXT_LIMIT)
   pub has_room : HasRoomFor a message room
 
--- the caller of an unchecked signing at a client knows this
+-- what the caller of an unchecked signing at a client must know
 abbrev pub IsSignableAtClient : Bool → ClientState → List ℕ → ℕ → Type 0
 IsSignableAtClient request state message room =
     IsSignableByClient (added_by_client request state) message room
 
--- and at a server this, where the client's user and key are still there
+-- what the caller of an unchecked signing at a server must know, whose client's user and key are
+-- still there
 abbrev pub IsSignableAtServer : Sight → Bool → List ℕ → ℕ → Type 0
 IsSignableAtServer s response message room =
     IsSomeAnd (added_by_server s response) (λ a. IsSignableByServer a message room)

@@ -1,4 +1,4 @@
--- A server, and what validating a message answers and leaves (RFC 8489, section 9.2.4).
+-- A server, its answer to a message, and its state after it (RFC 8489, section 9.2.4).
 use Rattle.std.specs.Prelude.{◌≡◌, ◌↔◌, ℕ, List, Bool, not, ◌&&◌, ◌||◌}
 use Rattle.std.specs.Prelude.{if◌then◌else◌, Option, Some, None, false}
 use Rattle.std.specs.Option.{is_some, option_and_then}
@@ -28,7 +28,7 @@ use Rattle.stun_auth.specs.Registered.{Registered, key_at, new_registered}
 use Rattle.stun_auth.specs.Seen.{ClientSeen, PlaceSeen}
 use Rattle.stun_auth.specs.Server.{Sight, IsAccepted, has_current_nonce, current_place, verdict}
 
--- the users with the realm and the supported algorithms, the settings, and the place of each
+-- the users with the realm and the supported algorithms, the settings, and the record of each
 -- address that has one
 pub record ServerSeen : Type 0 where
   pub registered : Registered
@@ -36,8 +36,8 @@ pub record ServerSeen : Type 0 where
   pub expiry : ℕ
   pub places : map.FinMap address_cmp PlaceSeen
 
--- HMAC-SHA1 alone, hashed names where the client wants them, nonces of an hour, no users and no
--- places
+-- HMAC-SHA1 alone, hashed names if the client sends them, nonces of an hour, no users and no
+-- records
 abbrev pub new_server : List ℕ → ServerSeen
 new_server realm =
     record {
@@ -47,7 +47,7 @@ new_server realm =
       places = map.empty;
     }
 
--- what one address can tell of the server
+-- the part of the server that concerns one address
 abbrev pub sight : ServerSeen → SocketAddr → Sight
 sight s a =
     record {
@@ -61,7 +61,7 @@ sight s a =
 abbrev pub client_at : ServerSeen → SocketAddr → Option ClientSeen
 client_at s a = option_and_then (λ (p : PlaceSeen). p.client) (map.get s.places a)
 
--- what a message is answered
+-- the answer to a message
 abbrev pub Answer : Type 0
 Answer = Result LongTermServerValidation LongTermServerAuthErrorReason
 
@@ -70,7 +70,7 @@ Answer = Result LongTermServerValidation LongTermServerAuthErrorReason
 abbrev pub verified_for_client : Registered → Reading → ClientSeen → Option IntegrityAlgorithm
 verified_for_client users r c = option_and_then (verified_under r) (key_at users c.name c.algorithm)
 
--- the same for the client of a place, if there is one
+-- the algorithm for the client of a record, if there is one
 abbrev pub client_verified : Registered → Reading → Option PlaceSeen → Option IntegrityAlgorithm
 client_verified users r place =
     option_and_then (verified_for_client users r)
@@ -81,12 +81,12 @@ abbrev pub validated_or_failed : Option IntegrityAlgorithm → Answer
 validated_or_failed None = Err IntegrityFailed
 validated_or_failed (Some a) = Ok (Validated a)
 
--- REALM, NONCE and a name are there
+-- whether a message has REALM, NONCE and a name
 abbrev pub is_complete : Reading → Bool
 is_complete r = is_some r.realm && is_some r.nonce && (is_some r.userhash || is_some r.username)
 
--- whether integrity is there and one of these is not. It is refused whichever nonce is current, and
--- no nonce is made for it
+-- whether a message has integrity but lacks one of these. It is refused whichever nonce is current,
+-- and no nonce is made for it
 abbrev pub is_malformed : Reading → Bool
 is_malformed r = is_some r.integrity && not (is_complete r)
 
@@ -99,22 +99,22 @@ abbrev pub answer_to : Result ClientSeen VerdictRefusal → Answer
 answer_to (Ok client) = Ok (Validated client.algorithm)
 answer_to (Err refusal) = Err (server_reason refusal)
 
--- the place with the client that is accepted, if one is
+-- the record with the client that is accepted, if one is
 abbrev pub with_accepted : PlaceSeen → Result ClientSeen VerdictRefusal → PlaceSeen
 with_accepted place (Ok client) = record place { client = Some client }
 with_accepted place (Err refusal) = place
 
--- the verdict at a place
+-- the verdict at a record
 abbrev pub verdict_at : Sight → PlaceSeen → Reading → Result ClientSeen VerdictRefusal
 verdict_at s place r = verdict s.registered s.feature place.nonce place.offered r
 
--- the answer at a moment with random words
+-- the answer at a time with random words
 abbrev pub answer : Sight → ℕ → List ℕ → Reading → Answer
 answer s now words r =
     if is_response r.class then validated_or_failed (client_verified s.registered r s.place)
     else answer_to (verdict_at s (current_place s now words) r)
 
--- the place that is left
+-- the record after a message
 abbrev pub place_after : Sight → ℕ → List ℕ → Reading → Option PlaceSeen
 place_after s now words r =
     if needs_nonce r
@@ -122,27 +122,27 @@ place_after s now words r =
     (verdict_at s (current_place s now words) r))
     else s.place
 
--- whether random words are drawn: where a nonce is needed and none is current
+-- whether random words are read: if a nonce is needed and none is current
 abbrev pub draws : Sight → ℕ → Reading → Bool
 draws s now r = needs_nonce r && not (has_current_nonce now s.place)
 
--- a message changes nothing at its address: no nonce is made for it, and the place stays as it is
+-- a message changes nothing at its address: no nonce is made for it, and the record is unchanged
 pub record ChangesNothing (s : Sight) (now : ℕ) (words : List ℕ) (r : Reading) : Type 0 where
   pub no_nonce : draws s now r ≡ false
   pub same_place : place_after s now words r ≡ s.place
 
--- the places with one at an address
+-- the records with this one at an address
 abbrev pub put_place : map.FinMap address_cmp PlaceSeen → SocketAddr → Option PlaceSeen
     → map.FinMap address_cmp PlaceSeen
 put_place places a None = places
 put_place places a (Some place) = map.insert places a place
 
--- the server that is left
+-- the server after a message
 abbrev pub after_validation : ServerSeen → SocketAddr → ℕ → List ℕ → Reading → ServerSeen
 after_validation s from now words r =
     record s { places = put_place s.places from (place_after (sight s from) now words r) }
 
--- a message is accepted with an algorithm: someone is accepted with it at the place where a nonce
+-- a message is accepted with an algorithm: a client is accepted with it at the record whose nonce
 -- is current
 abbrev pub AcceptedWith : Sight → ℕ → List ℕ → Reading → IntegrityAlgorithm → Type 0
 AcceptedWith s now words r a =

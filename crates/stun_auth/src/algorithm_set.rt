@@ -6,7 +6,7 @@ ghost use Rattle.stun_auth.specs.Algorithms.{algorithms_of};
 use stun_base::algorithm::IntegrityAlgorithm;
 use stun_types::attribute::PasswordAlgorithmValue;
 
-/// One algorithm or both. A server supports at least one.
+/// One of the two integrity algorithms, or both. A server supports at least one.
 #[derive(Clone, Copy, Debug, PartialEq, Eq)]
 pub(crate) enum AlgorithmSet {
     OnlySha1,
@@ -17,7 +17,7 @@ pub(crate) enum AlgorithmSet {
 impl AlgorithmSet {
     ghost use Rattle.stun_auth.specs.Algorithms.{contains, only, with_algorithm};
 
-    /// Returns the set of one algorithm.
+    /// Returns the set that contains only this algorithm.
     pub(crate) fn only(algorithm: IntegrityAlgorithm) -> AlgorithmSet
         ensures { result ≡ only algorithm }
     {
@@ -27,7 +27,7 @@ impl AlgorithmSet {
         }
     }
 
-    /// Returns the set with one more algorithm.
+    /// Returns this set with `algorithm` added.
     pub(crate) fn with(self, algorithm: IntegrityAlgorithm) -> AlgorithmSet
         ensures { result ≡ with_algorithm algorithm self }
     {
@@ -48,7 +48,8 @@ impl AlgorithmSet {
         }
     }
 
-    /// Returns the password algorithms that make the keys, the strongest first.
+    /// Returns the password algorithms that make the keys for the algorithms of this set, the
+    /// strongest first.
     pub(crate) fn password_algorithms(self) -> &'static [PasswordAlgorithmValue]
         ensures { map integrity_of result.now ≡ algorithms_of self }
     {

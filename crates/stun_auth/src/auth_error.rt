@@ -7,9 +7,10 @@ use std::marker::Model;
 use stun_base::algorithm::IntegrityAlgorithm;
 use thiserror::Error;
 
-/// The error of a client or a server that refuses a message, with a reason of that side.
+/// The error with which a long-term client or server refuses a message. `R` is the type of that
+/// side's reasons.
 ///
-/// Contracts: they see its reason.
+/// Contracts: the value is the reason.
 #[derive(Clone, Copy, Debug, PartialEq, Eq, Error)]
 #[error("{reason}")]
 pub struct LongTermAuthError<R: Debug + Display> {
@@ -25,21 +26,21 @@ impl<R: Debug + Display> Model for LongTermAuthError<R> {
 }
 
 impl<R: Copy + Debug + Display> LongTermAuthError<R> {
-    /// Creates the error of this reason.
+    /// Creates an error with this reason.
     pub(crate) fn new(reason: R) -> Self
         ensures { result ≡ reason }
     {
         LongTermAuthError { reason }
     }
 
-    /// Returns why the message was refused.
+    /// Returns the reason for which the message was refused.
     pub fn reason(&self) -> R
         ensures { result ≡ self.now }
     {
         self.reason
     }
 
-    /// Returns `None` always, because nothing is known of the signature of a message that is
+    /// Always returns `None`, because nothing is known about the signature of a message that was
     /// refused.
     pub fn integrity(&self) -> Option<IntegrityAlgorithm>
         ensures { result ≡ None }

@@ -8,7 +8,8 @@
 //! 3. On `ResendRequest` it makes the request again with a new transaction ID, and continues with
 //!    step 1. On `Validated` it accepts the response. On `IntegrityFailed` it drops the response
 //!    and keeps waiting, and on any other refusal it gives up.
-ghost use Rattle.std.specs.Prelude.{◌≡◌, ◌∷◌, [], Some, OnErr, codes, option_copied, string_bytes};
+ghost use Rattle.std.specs.Prelude.{◌≡◌, ◌∷◌, [], ⊤, Some, OnErr, codes, option_copied};
+ghost use Rattle.std.specs.Prelude.{string_bytes};
 ghost use Rattle.std.specs.Fmt.{WritesOnOk, WritesStyledOnOk};
 ghost use Rattle.stun_auth.specs.Reading.{reading_of};
 ghost use Rattle.stun_auth.specs.Client.{new_client};
@@ -37,10 +38,12 @@ use crate::supported::Supported;
 use std::alloc::{Allocator, Global};
 use std::marker::Model;
 use std::{fmt, mem};
+use stun_base::memory::Memory;
 use stun_types::attribute::ErrorCode;
 use stun_types::message::{IntegrityAlgorithm, LongTermCredentials, Message};
 
-/// How far a client has come with its server.
+/// The state of a client: it has no key, a key that no success response has confirmed yet, or a
+/// confirmed key.
 #[derive(Drop)]
 enum State<A: Allocator> {
     Initial,
@@ -51,7 +54,7 @@ enum State<A: Allocator> {
 impl<A: Allocator> State<A> {
     ghost use Rattle.stun_auth.specs.ClientStep.{after_confirmation, with_realm_and_nonce};
 
-    /// Replaces the kept realm and nonce; the key stays.
+    /// Replaces the stored realm and nonce, if a challenge is stored. The key is unchanged.
     fn renew(&mut self, realm: LimitedText<A>, nonce: LimitedText<A>)
         ensures { state_seen self.new ≡ with_realm_and_nonce (state_seen self.old)
             (string_bytes realm.text) (string_bytes nonce.text) }
@@ -69,7 +72,7 @@ impl<A: Allocator> State<A> {
         }
     }
 
-    /// Notes that the server has the key.
+    /// Marks the stored key, if any, as confirmed by the server.
     fn confirm(&mut self)
         ensures { state_seen self.new ≡ after_confirmation (state_seen self.old) }
     {
@@ -81,7 +84,7 @@ impl<A: Allocator> State<A> {
     }
 }
 
-/// Returns whether an error has a code.
+/// Returns whether `error` is `Some` with this code.
 fn is_code(code: u16, error: Option<u16>) -> bool
     ensures { result ≡ is_code code error }
 {
@@ -96,7 +99,7 @@ fn is_code(code: u16, error: Option<u16>) -> bool
 ///
 /// A client starts without a key, so its first request goes out unsigned. The server answers 401,
 /// with a realm and a nonce. The client accepts this challenge: it derives its key from user name,
-/// realm and password, and its next request is signed. A success response whose signature verifies
+/// realm and password, and its next request is signed. A success response with a valid signature
 /// confirms the key. After that, a 401 is no longer treated as a challenge, because an attacker
 /// could have sent it.
 ///
@@ -106,30 +109,29 @@ fn is_code(code: u16, error: Option<u16>) -> bool
 /// see a request, and to answer it from the server's address before the server does:
 ///
 /// 1. The attacker answers the first request with a 401 that has the server's realm and the nonce
-///    `x`. This nonce has no security bits, so the client takes its sender for an older server: it
-///    derives the MD5 key, and stores no list of algorithms. It also sends its user name in clear
-///    from now on.
+///    `x`. This nonce has no security bits, so the client assumes an older server: it derives the
+///    MD5 key, stores no list of algorithms, and from now on sends its user name in clear.
 /// 2. The server answers the next request, signed under the nonce `x`, with a true 438: its own
 ///    nonce, whose security bits ask for password algorithms, and its list.
-/// 3. The client takes realm and nonce from a 438, and nothing else. Key, algorithm, list and the
-///    form of the user name stay those of the forged 401.
-/// 4. The third request has the current nonce, and neither a list nor a choice of an algorithm. By
-///    section 9.2.4 that means MD5, so the server validates it. Client and server both return
-///    `Validated` with HMAC-SHA1.
+/// 3. The client takes realm and nonce from a 438, and nothing else. The key, the algorithm, the
+///    list and the form of the user name are still those of the forged 401.
+/// 4. The third request has the current nonce, but neither PASSWORD-ALGORITHMS nor
+///    PASSWORD-ALGORITHM. By section 9.2.4 that means MD5, so the server validates it. Client and
+///    server both return `Validated` with HMAC-SHA1.
 ///
-/// A client that supports only HMAC-SHA256 refuses the nonce `x`, and falls to two forged messages:
-/// a 401 whose nonce has security bits that ask for no password algorithms, such as
-/// `obMatJos2QAAAx`, and a 438 with the nonce of the server.
+/// A client that supports only HMAC-SHA256 refuses the nonce `x`, but can be downgraded by two
+/// forged messages: a 401 whose nonce has security bits that ask for no password algorithms, such
+/// as `obMatJos2QAAAx`, and a 438 with the nonce of the server.
 ///
-/// The attacker learns no key and cannot sign. What the two sides lose is that the stronger
-/// algorithm, which both have, protects the session. To notice it, call `signing_algorithm` after
-/// every `ResendRequest`, before you sign, and give up if it is not the algorithm that you want.
-/// SECURITY.md says what else a client and a server can do.
+/// The attacker learns no key and cannot sign. But the stronger algorithm, which both sides have,
+/// does not protect the session. To notice it, call `signing_algorithm` after every
+/// `ResendRequest`, before you sign, and give up if it is not the algorithm that you want.
+/// SECURITY.md lists further measures for clients and servers.
 ///
 /// Use one client for each server and user. To change the user after a success, create a new
 /// client. `Debug` shows nothing of the contents.
 ///
-/// Contracts: they see the settings and the state.
+/// Contracts: the value is a record of the settings and the state.
 #[derive(Drop)]
 pub struct LongTermClientAuth<A: Allocator = Global> {
     alloc: A,
@@ -167,7 +169,7 @@ impl<A: Allocator> fmt::Debug for LongTermClientAuth<A> {
         ensures writes { WritesOnOk W.write_str_gives f.old result
             (codes "LongTermClientAuth { .. }") f.new }
 
-        // It writes the same with every width, precision and other option.
+        // The options of the formatter, such as the width, do not change the text.
         ensures styled { WritesStyledOnOk W.write_str_gives f.old result
             (codes "LongTermClientAuth { .. }") f.new }
     {
@@ -179,7 +181,7 @@ impl<A: Allocator> LongTermClientAuth<A> {
     /// Creates a client without credentials. It supports HMAC-SHA1 only, and sends the user name as
     /// a hash if the server allows it (`Feature::Auto`).
     ///
-    /// It does not allocate. What the client stores later is allocated with `alloc`.
+    /// The call does not allocate. The client's later allocations use `alloc`.
     pub fn new(alloc: A) -> Self
         ensures { result ≡ new_client }
     {
@@ -221,8 +223,8 @@ impl<A: Allocator> LongTermClientAuth<A> {
 
     /// Adds a supported algorithm. It changes nothing if the algorithm is supported already.
     ///
-    /// If the server offers a list of algorithms, the client uses the first algorithm of that list
-    /// which it supports.
+    /// If the server offers a list of algorithms, the client uses the first algorithm in that list
+    /// that it supports.
     pub fn add_supported_integrity(&mut self, algorithm: IntegrityAlgorithm)
         ensures { self.new ≡ record self.old {
           settings = record self.old.settings {
@@ -235,17 +237,19 @@ impl<A: Allocator> LongTermClientAuth<A> {
 
     /// Makes this the only supported algorithm.
     ///
-    /// This does not protect a client of HMAC-SHA256 from being downgraded by a forged challenge.
-    /// Call `signing_algorithm` after each `ResendRequest`, before you sign, and give up if it is
-    /// not the algorithm that you want.
+    /// This does not protect a client that supports only HMAC-SHA256 from being downgraded by a
+    /// forged challenge. Call `signing_algorithm` after each `ResendRequest`, before you sign, and
+    /// give up if it is not the algorithm that you want.
     ///
-    /// With HMAC-SHA256 alone, a challenge is answered as follows:
+    /// A client that supports only HMAC-SHA256 handles a challenge as follows:
     ///
     /// - If the nonce has no security bits, the challenge is refused with `UnsupportedFeature`.
-    /// - If there is a list of algorithms without HMAC-SHA256, it is refused with
+    /// - If the challenge has a list of algorithms without HMAC-SHA256, it is refused with
     ///   `UnsupportedFeature`.
-    /// - If there is no list, and the security bits ask for no password algorithms, the client uses
-    ///   HMAC-SHA1 all the same.
+    /// - If the challenge has no list, but its security bits ask for password algorithms, it is
+    ///   refused with `Unauthorized`.
+    /// - If the challenge has no list, and its security bits ask for no password algorithms, the
+    ///   client uses HMAC-SHA1 all the same.
     pub fn set_supported_integrity(&mut self, algorithm: IntegrityAlgorithm)
         ensures { self.new ≡ record self.old {
           settings = record self.old.settings { supported = algorithm ∷ [] };
@@ -272,14 +276,15 @@ impl<A: Allocator> LongTermClientAuth<A> {
         self.feature = feature;
     }
 
-    /// Returns whether a success has confirmed the stored key.
+    /// Returns whether a success response has confirmed the stored key.
     fn is_authenticated(&self) -> bool
         ensures { result ≡ is_authenticated self.now.state }
     {
         matches!(&self.state, State::Authenticated(_))
     }
 
-    /// Returns the algorithm whose digest verifies under the stored key.
+    /// Returns the algorithm of a message's signature if the signature is valid under the stored
+    /// key, and `None` otherwise.
     fn verified_under_kept(&self, reading: &MessageReading<'_, '_>) -> Option<IntegrityAlgorithm>
         ensures { result ≡ verified_under_kept self.now.state (reading_seen reading.now) }
     {
@@ -290,8 +295,8 @@ impl<A: Allocator> LongTermClientAuth<A> {
         }
     }
 
-    /// Returns whether a challenge has the realm and the nonce of the one that the client is
-    /// answering.
+    /// Returns whether a challenge has the same realm and the same nonce as the challenge that the
+    /// client is answering.
     fn is_repeated(&self, realm: &str, nonce: &str) -> bool
         ensures { result ≡ is_repeated self.now.state realm.now nonce.now }
     {
@@ -304,7 +309,7 @@ impl<A: Allocator> LongTermClientAuth<A> {
         }
     }
 
-    /// Returns the challenge that a message brings, or the reason to refuse it.
+    /// Returns the challenge in a message, or the reason to refuse it.
     fn offer<'a, 'm>(
         &'a self,
         reading: MessageReading<'m, '_>,
@@ -340,7 +345,8 @@ impl<A: Allocator> LongTermClientAuth<A> {
         }
     }
 
-    /// Judges a message by its digest alone.
+    /// Judges a message by its signature alone. `digest` is the algorithm of the signature, or
+    /// `None` if the signature is missing or invalid.
     fn settle(
         &mut self,
         is_success: bool,
@@ -367,25 +373,25 @@ impl<A: Allocator> LongTermClientAuth<A> {
     }
 }
 
-impl<A: Allocator + Copy> LongTermClientAuth<A> {
+impl<A: Memory> LongTermClientAuth<A> {
     /// Judges a response from the server (RFC 8489, section 9.2.5).
     ///
-    /// - A **401** is a challenge until the first success has been validated, and is as good as its
-    ///   signature after that. If the client can answer the challenge, it stores realm and nonce,
-    ///   makes its key, and returns `ResendRequest`.
-    /// - A **438** that has REALM and NONCE replaces both, whether it is signed or not, and also
-    ///   returns `ResendRequest`. The key, and with it the algorithm, stays. If no challenge has
-    ///   been accepted yet, nothing is stored.
-    /// - **Any other response** is `Validated` if its signature verifies under the client's key. A
-    ///   success that is validated confirms the key.
+    /// - A **401** is a challenge until the first success has been validated. After that it is
+    ///   judged by its signature, like any other response. If the client can answer the challenge,
+    ///   it stores realm and nonce, makes its key, and returns `ResendRequest`.
+    /// - If a **438** has REALM and NONCE, the client replaces its stored realm and nonce, whether
+    ///   the response is signed or not, and also returns `ResendRequest`. It keeps its key, and
+    ///   with it the algorithm. If it has not accepted a challenge yet, it stores nothing.
+    /// - **Any other response** is `Validated` if its signature is valid under the client's key. A
+    ///   validated success response confirms the key.
     ///
     /// After `ResendRequest` send the request again with a new transaction ID, signed by
     /// `sign_outgoing_message`.
     ///
-    /// This call sees neither the transaction ID nor the source address. Pass it only responses to
-    /// an outstanding request of yours, from the address that the request went to. Limit the number
-    /// of requests that you send again, because a server, or an attacker who sees a transaction ID,
-    /// could otherwise make you resend forever.
+    /// This call checks neither the transaction ID nor the source address. Pass it only responses
+    /// to an outstanding request of yours, from the address that the request went to. Limit the
+    /// number of requests that you send again, because a server, or an attacker who sees a
+    /// transaction ID, could otherwise make you resend forever.
     ///
     /// An error leaves the client unchanged. For a 401 that is a challenge, the first of these that
     /// applies is returned:
@@ -393,18 +399,18 @@ impl<A: Allocator + Copy> LongTermClientAuth<A> {
     /// - `Unauthorized`: no credentials are set, REALM or NONCE is missing, or the client has
     ///   already answered this challenge, which usually means a wrong password. Give up.
     /// - `UnsupportedFeature`: client and server have no algorithm in common. If the nonce
-    ///   announces a list of algorithms and there is none, the error is `Unauthorized` instead.
-    ///   Give up.
+    ///   announces a list of algorithms and the message has none, the error is `Unauthorized`
+    ///   instead. Give up.
     /// - `UnsupportedFeature`: the user name must be hashed (`Feature::Required`), and the nonce
     ///   does not allow it. Give up.
     ///
     /// For every other response:
     ///
-    /// - `IntegrityFailed`: the signature is missing or does not verify. Drop the response, which
-    ///   may be forged, and keep waiting.
+    /// - `IntegrityFailed`: the signature is missing or invalid. Drop the response, which may be
+    ///   forged, and keep waiting.
     ///
-    /// `OutOfMemory` means that an allocation failed, and can take the place of `ResendRequest`
-    /// only.
+    /// `OutOfMemory` means that an allocation failed. Only a call that would otherwise have
+    /// returned `ResendRequest` can fail with it.
     pub fn validate_incoming_message(
         &mut self,
         message: &Message,
@@ -419,6 +425,7 @@ impl<A: Allocator + Copy> LongTermClientAuth<A> {
             })
             (self.new ≡ self.old) }
         ensures refused { OnErr result (self.new ≡ self.old) }
+        ensures granted { A.grants → ClientUnlessMemory result ⊤ ⊥ }
     {
         let reading = MessageReading::of(message);
         let digest = self.verified_under_kept(&reading);
@@ -431,7 +438,8 @@ impl<A: Allocator + Copy> LongTermClientAuth<A> {
         self.settle(reading.is_success(), digest)
     }
 
-    /// Keeps a challenge and answers it.
+    /// Accepts the challenge in a message and returns `ResendRequest`, or fails with the reason to
+    /// refuse it.
     fn take_up(
         &mut self,
         reading: MessageReading<'_, '_>,
@@ -449,6 +457,7 @@ impl<A: Allocator + Copy> LongTermClientAuth<A> {
             ClientUnlessMemory result (self.new ≡ record self.old { state = step.state })
             (self.new ≡ self.old) }
         ensures refused { OnErr result (self.new ≡ self.old) }
+        ensures granted { A.grants → ClientUnlessMemory result ⊤ ⊥ }
     {
         let kept = match self.offer(reading) {
             Err(refusal) => return Err(refused(refusal)),
@@ -463,7 +472,8 @@ impl<A: Allocator + Copy> LongTermClientAuth<A> {
         }
     }
 
-    /// Keeps the realm and nonce that come with a stale nonce.
+    /// Stores the realm and nonce of a 438 and returns `ResendRequest`. If the 438 lacks REALM or
+    /// NONCE, judges it by its signature.
     fn renew(
         &mut self,
         reading: &MessageReading<'_, '_>,
@@ -477,6 +487,7 @@ impl<A: Allocator + Copy> LongTermClientAuth<A> {
             ClientUnlessMemory result (self.new ≡ record self.old { state = step.state })
             (self.new ≡ self.old) }
         ensures refused { OnErr result (self.new ≡ self.old) }
+        ensures granted { A.grants → ClientUnlessMemory result ⊤ ⊥ }
     {
         let Some(realm) = reading.realm else {
             return self.settle(false, digest);
@@ -495,7 +506,7 @@ impl<A: Allocator + Copy> LongTermClientAuth<A> {
     }
 }
 
-/// Returns the error of a challenge that is refused.
+/// Returns the error with which the client refuses a challenge.
 fn refused(refusal: ChallengeRefusal) -> LongTermClientAuthError
     ensures { result ≡ client_reason refusal }
 {

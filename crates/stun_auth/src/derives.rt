@@ -1,5 +1,5 @@
-//! What the derived impls and the defaults of the authenticators do: comparisons, copies and first
-//! values.
+//! Calls of the derived impls of the authenticators' types, to state their results: defaults,
+//! clones and comparisons.
 ghost use Rattle.std.specs.Prelude.{◌≡◌, ◌<◌, [], ◌∷◌, Ok, IsTrue, ◌↔◌};
 
 use crate::client::answer::{
@@ -14,7 +14,7 @@ use crate::server::reason::{
 use crate::server::stored_keys::StoredKeys;
 use std::alloc::AllocError;
 
-/// Returns the default, `Auto`: user names are sent as a hash if the peer supports it too.
+/// Returns the default feature, `Auto`: user names are sent as a hash if the peer supports it too.
 pub fn default_feature() -> Feature
     ensures { result ≡ Feature.Auto }
 {
@@ -28,7 +28,7 @@ pub fn default_security_bits() -> NonceSecurityBits
     NonceSecurityBits::default()
 }
 
-/// Clones a feature and security bits. The clones are the same values.
+/// Clones a feature and security bits. The clones are equal to the originals.
 pub fn copied_parts(
     feature: &Feature,
     bits: &NonceSecurityBits,
@@ -38,7 +38,7 @@ pub fn copied_parts(
     Ok((feature.clone()?, bits.clone()?))
 }
 
-/// Clones results and reasons of both sides. The clones are the same values.
+/// Clones results and reasons of both sides. The clones are equal to the originals.
 pub fn copied_answers(
     server: &LongTermServerValidation,
     client: &LongTermClientValidation,
@@ -73,21 +73,21 @@ pub fn copied_refusals(
     Ok((server.clone()?, client.clone()?))
 }
 
-/// Returns true if two features are the same value.
+/// Returns whether two `Feature`s are equal: the same variant.
 pub fn is_same_feature(one: Feature, other: Feature) -> bool
     ensures { IsTrue result ↔ (one ≡ other) }
 {
     one == other
 }
 
-/// Returns true if two security bits are the same bytes.
+/// Returns whether two `NonceSecurityBits` are equal: the same three bytes.
 pub fn are_same_security_bits(one: NonceSecurityBits, other: NonceSecurityBits) -> bool
     ensures { IsTrue result ↔ (one ≡ other) }
 {
     one == other
 }
 
-/// Returns true if two results of a server are the same value.
+/// Returns whether two results of a server are equal: validated with the same algorithm.
 pub fn is_same_server_validation(
     one: LongTermServerValidation,
     other: LongTermServerValidation,
@@ -97,7 +97,7 @@ pub fn is_same_server_validation(
     one == other
 }
 
-/// Returns true if two results of a client are the same value.
+/// Returns whether two results of a client are equal: the same variant with the same algorithm.
 pub fn is_same_client_validation(
     one: LongTermClientValidation,
     other: LongTermClientValidation,
@@ -107,7 +107,7 @@ pub fn is_same_client_validation(
     one == other
 }
 
-/// Returns true if two reasons of a server are the same value.
+/// Returns whether two reasons of a server are equal: the same variant.
 pub fn is_same_server_reason(
     one: LongTermServerAuthErrorReason,
     other: LongTermServerAuthErrorReason,
@@ -117,7 +117,7 @@ pub fn is_same_server_reason(
     one == other
 }
 
-/// Returns true if two reasons of a client are the same value.
+/// Returns whether two reasons of a client are equal: the same variant.
 pub fn is_same_client_reason(
     one: LongTermClientAuthErrorReason,
     other: LongTermClientAuthErrorReason,
@@ -127,28 +127,29 @@ pub fn is_same_client_reason(
     one == other
 }
 
-/// Returns true if two errors of a server have the same reason.
+/// Returns whether two errors of a server are equal: they have the same reason.
 pub fn is_same_server_refusal(one: LongTermServerAuthError, other: LongTermServerAuthError) -> bool
     ensures { IsTrue result ↔ (one ≡ other) }
 {
     one == other
 }
 
-/// Returns true if two errors of a client have the same reason.
+/// Returns whether two errors of a client are equal: they have the same reason.
 pub fn is_same_client_refusal(one: LongTermClientAuthError, other: LongTermClientAuthError) -> bool
     ensures { IsTrue result ↔ (one ≡ other) }
 {
     one == other
 }
 
-/// Returns true if two refusals under a nonce are the same value.
+/// Returns whether two `VerdictRefusal`s are equal: the same variant.
 pub fn is_same_verdict_refusal(one: VerdictRefusal, other: VerdictRefusal) -> bool
     ensures { IsTrue result ↔ (one ≡ other) }
 {
     one == other
 }
 
-/// Clones a refusal under a nonce and stored keys. The clones are the same values.
+/// Clones a reason to refuse a message under a nonce, and stored keys. The clones are equal to the
+/// originals.
 pub fn copied_verdict_refusal(
     refusal: &VerdictRefusal,
     keys: &StoredKeys,

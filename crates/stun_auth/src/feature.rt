@@ -4,20 +4,20 @@ ghost use Rattle.std.specs.Prelude.{◌≡◌};
 /// Whether user names are sent as a hash (USERHASH; RFC 8489, sections 9.2 and 14.4).
 #[derive(Clone, Copy, Debug, Default, PartialEq, Eq, Hash)]
 pub enum Feature {
-    /// If the peer supports it too.
+    /// User names are sent as a hash if the peer supports it too.
     #[default]
     Auto,
-    /// Always. A client refuses a challenge whose nonce does not allow it. A server treats it like
-    /// `Auto`.
+    /// User names are always sent as a hash. A client refuses a challenge whose nonce does not
+    /// allow hashes. A server treats this value like `Auto`.
     Required,
-    /// Never.
+    /// User names are never sent as a hash.
     Disabled,
 }
 
 impl Feature {
     ghost use Rattle.stun_auth.specs.Feature.{is_possible};
 
-    /// Returns whether the feature may be used at all.
+    /// Returns whether user names may be sent as a hash at all: unless the feature is `Disabled`.
     pub(crate) fn is_possible(self) -> bool
         ensures { result ≡ is_possible self }
     {

@@ -64,8 +64,9 @@ ghost use Rattle.stun_auth.specs.Validation.{ValidatesAccepted, after_validation
 ghost use Rattle.stun_auth.specs.Validation.{answer_to, draws, needs_nonce, place_after, sight};
 ghost use Rattle.stun_auth.specs.Validation.{verdict_at, with_accepted};
 
-/// A reader of an open message finds what was added to it. Its own attributes are visible as
-/// before, and the added ones after them. The digest that was added last verifies under its key.
+/// A reader finds the attributes that were added to an open message. The attributes that the
+/// message had are visible as before, and the added attributes follow them. The signature that was
+/// added last is valid under its key.
 pub fn additions_are_read_back()
     ensures added { (list : List Addition) (message : List ℕ) (room : ℕ) (page : Page)
         → IsOpen message → AllByRecursion IsTyped list
@@ -81,8 +82,8 @@ pub fn additions_are_read_back()
 }
 
 /// A reader of a signed message finds its class, its error code, and each attribute that signing
-/// added, and no attribute that signing did not add. The digest verifies under the key that it was
-/// made with.
+/// added, and no attribute that signing did not add. The signature is valid under the key that it
+/// was made with.
 pub fn signed_messages_are_read()
     ensures { (a : Added) (message : List ℕ) (room : ℕ) (page : Page) → IsUnsigned message
         → IsText a
@@ -93,9 +94,10 @@ pub fn signed_messages_are_read()
     stun_types::laws::signed_message_stands();
 }
 
-/// Nothing behind the deciding integrity attribute is read. Two messages that agree up to it have
-/// the same reading, so every server and every client gives them the same answer and is the same
-/// after either, and every password verifies both or neither.
+/// Nothing after the deciding integrity attribute is read. Two messages that agree up to the end of
+/// that attribute have the same reading. So every server and every client gives both messages the
+/// same answer, and has the same state after either of them. Under each password, both signatures
+/// are valid or both are invalid.
 pub fn what_follows_integrity_is_not_read()
     ensures reading { (bytes others : List ℕ) → AgreeUpToIntegrity bytes others
         → reading_of bytes ≡ reading_of others }
@@ -117,15 +119,16 @@ pub fn what_follows_integrity_is_not_read()
 }
 
 /// A request or an indication is `Validated` with an algorithm if and only if it is accepted with
-/// it (RFC 8489, section 9.2.4).
+/// that algorithm (RFC 8489, section 9.2.4).
 pub fn accepted_messages_are_validated()
     ensures { (s : Sight) (now : ℕ) (words : List ℕ) (r : Reading)
         → ValidatesAccepted s now words r (answer s now words r) }
 {}
 
-/// A response changes nothing at a server, nor does a message that has integrity and lacks realm,
-/// nonce or name. While a nonce is current, a refused message changes nothing either, nor does an
-/// accepted one of the client whom the address already has.
+/// A server is unchanged after a response, and after a message that has an integrity attribute but
+/// lacks REALM, NONCE or a user name. While the nonce of an address is current, the server is also
+/// unchanged after a refused message from that address, and after an accepted message of the client
+/// that the address already has.
 pub fn messages_that_change_nothing()
     ensures needless { (s : Sight) (now : ℕ) (words : List ℕ) (r : Reading) → needs_nonce r ≡ false
         → ChangesNothing s now words r }
@@ -138,9 +141,10 @@ pub fn messages_that_change_nothing()
         → ChangesNothing s now words r }
 {}
 
-/// `judge` is `validate_incoming_message`, if the nonce is current at the address and all supported
-/// algorithms were offered there: the verdict says what that call returns for a request or an
-/// indication, and which client it leaves.
+/// `judge` agrees with `validate_incoming_message`, if the nonce is current at the address and all
+/// supported algorithms were offered there. The verdict of `judge` then determines the result of
+/// `validate_incoming_message` for a request or an indication, and the client of the address
+/// afterwards.
 pub fn judging_is_validating()
     ensures answer { (s : ServerSeen) (from : SocketAddr) (now : ℕ) (words : List ℕ) (r : Reading)
         (place : PlaceSeen) → map.get s.places from ≡ Some place
@@ -155,9 +159,10 @@ pub fn judging_is_validating()
         ≡ Some (with_accepted place (verdict_by_nonce s place.nonce r)) }
 {}
 
-/// `judge` under the nonce of some words is a run of the calls that keep records, at an address
-/// that has none: validate with those words, sign a response, validate again, and forget. Nothing
-/// is left of the address.
+/// `judge`, under the nonce that is made from some random numbers, returns the same verdict as this
+/// series of calls for an address without a record: validate the message with those numbers, sign a
+/// response, validate the message again, and forget the address. The series leaves no record of the
+/// address.
 pub fn judging_is_a_run_of_calls()
     ensures answer { (s : ServerSeen) (from : SocketAddr) (now later : ℕ) (words others : List ℕ)
         (r : Reading) → map.get s.places from ≡ None → needs_nonce r ≡ true
@@ -170,26 +175,26 @@ pub fn judging_is_a_run_of_calls()
         from ≡ s }
 {}
 
-/// In an epoch a client is accepted if and only if it is accepted under one of two nonces: that of
-/// the epoch and that of the one before. Neither a record of an address nor an earlier message is
-/// read.
+/// If each epoch has its own nonce, a client is accepted in an epoch if and only if it is accepted
+/// under the nonce of that epoch or under the nonce of the epoch before. The verdict depends
+/// neither on a record of an address nor on earlier messages.
 pub fn two_epochs_accept_what_one_does()
     ensures { (s : ServerSeen) (words : ℕ → List ℕ) (epoch : ℕ) (r : Reading)
         (client : ClientSeen)
         → (judged_in s words epoch r ≡ Ok client) ↔ IsAcceptedIn s words epoch r client }
 {}
 
-/// Each datagram of a list is judged alone, however the words of nonces are derived of address and
-/// epoch. So what is accepted depends on the datagram, its source, the time and the settings, and
-/// on no earlier one.
+/// Each datagram of a list is judged by itself, however the random numbers of nonces are derived
+/// from address and epoch. So its verdict depends only on the datagram, its source, the time and
+/// the settings.
 pub fn datagrams_are_judged_alone()
     ensures { (s : ServerSeen) (how : Derivation) (datagrams : List TimedDatagram)
         → JudgesEachDatagram s how datagrams (list_map (judged_datagram s how) datagrams) }
 {}
 
-/// A message is judged by the one user whom it means. A server that has just that user judges it
-/// under each nonce and offer as the server that has all users. So does a server without users,
-/// where that user is not registered.
+/// The verdict on a message depends only on the user whom the message names. A server that has just
+/// that user judges the message, under each nonce and offer, like the server that has all users. If
+/// that user is not registered, a server without users also does.
 pub fn the_named_user_is_enough_to_judge()
     ensures { (users : Registered) (feature : TheFeature) (nonce : List ℕ)
         (offered : Option AlgorithmSet) (r : Reading)
@@ -198,10 +203,11 @@ pub fn the_named_user_is_enough_to_judge()
         ≡ verdict users feature nonce offered r }
 {}
 
-/// A user who was found is judged as one who was prepared. What a message claims is judged under its
-/// own nonce as at a server whose only user this is (`verdict`). So a key that is found accepts the
-/// message from that user: it is the one that the user has there for the agreed algorithm (`key`), and
-/// the signature of that algorithm verifies under it (`verifies`).
+/// `verify_found` judges a message like `judge_of` does with a prepared user. Under the message's
+/// own nonce, the verdict is that of a server whose only user is the found one (`verdict`). So if
+/// `verify_found` returns a key, the message is accepted from that user. The key is then the user's
+/// key for the agreed algorithm (`key`), and the message's signature is valid under it
+/// (`verifies`).
 pub fn found_users_are_judged_as_prepared_ones()
     ensures verdict { (users : Registered) (user : RegisteredUser) (feature : TheFeature)
         (bytes : List ℕ) (claim : ClaimSeen) → claim_of users.algorithms feature bytes ≡ Some claim
@@ -216,9 +222,10 @@ pub fn found_users_are_judged_as_prepared_ones()
         → verified_under (reading_of claim.message) found.1 ≡ Some found.0 }
 {}
 
-/// A message is judged by the one user whom it means. A server that has just that user gives it the
-/// same answer as the server that has all users, from the same random numbers. It keeps the same
-/// for the address. The same holds of a server without users, where that user is not registered.
+/// The answer to a message depends only on the user whose key the message must be signed with. A
+/// server that has just that user gives the same answer as the server that has all users, from the
+/// same random numbers, and stores the same record for the address. If that user is not registered,
+/// a server without users also does.
 pub fn the_named_user_is_enough()
     ensures answer { (s : ServerSeen) (from : SocketAddr) (now : ℕ) (words : List ℕ) (r : Reading)
         → answer (sight (with_users s (just s.registered (meant_user s from r))) from) now words r
@@ -232,9 +239,10 @@ pub fn the_named_user_is_enough()
         ≡ draws (sight s from) now r }
 {}
 
-/// A user who is passed with stored keys is judged and signed for like one who is passed with a
-/// password, if the name is the same and the keys are those that the password makes at the server's
-/// realm. A key for an algorithm that the server does not support may be any.
+/// When messages are judged and signed, a user who is passed with stored keys is treated like a
+/// user who is passed with a password, if the names are the same and the keys are those that the
+/// password makes at the server's realm. A key for an algorithm that the server does not support
+/// may have any value.
 pub fn stored_keys_are_as_their_password()
     ensures answer { (s : ServerSeen) (user : NameAndPassword) (keys : StoredKeys)
         (from : SocketAddr) (now : ℕ) (words : List ℕ) (r : Reading)
@@ -270,10 +278,10 @@ pub fn stored_keys_are_as_their_password()
         response) s.registered }
 {}
 
-/// A user who is added by a password has the long-term key of name, realm and password for each
-/// supported algorithm, and no other key. One who is added by stored keys has those of the
-/// supported algorithms. A user who is removed has none. The keys of all other names stay.
-/// `user_verifies` shows this by messages.
+/// A user who is added with a password has the long-term key of name, realm and password for each
+/// supported algorithm, and no other key. A user who is added with stored keys has the stored keys
+/// for supported algorithms. A user who is removed has no key. The keys of users with other names
+/// are unchanged. `user_verifies` checks signatures with these keys.
 pub fn users_have_their_keys()
     ensures added { (users : Registered) (user : NameAndPassword) (a : IntegrityAlgorithm)
         → key_at (with_user users user) user.username a
@@ -294,12 +302,13 @@ pub fn users_have_their_keys()
         → name ≢ gone → key_at (without_user users gone) name a ≡ key_at users name a }
 {}
 
-/// Users do not meet. If one user is added or removed, or gets another password or other keys, this
-/// changes nothing for the others: each message that means another user gets the same verdict and
-/// the same answer, leaves the same record, and is signed for in the same way.
+/// Users do not affect each other. If a user is added or removed, or gets another password or other
+/// keys, nothing changes for the other users: each message that refers to another user gets the
+/// same verdict and the same answer, and leaves the same record. Messages to the address of another
+/// user are signed as before.
 ///
-/// A message means another user if it gives another name, or a hash that is not that of the name. A
-/// response means the client of its address.
+/// A message refers to another user if it has another name, or a hash that is not the hash of this
+/// user's name. A response refers to the client of its address.
 pub fn users_do_not_meet()
     ensures judged { (users : Registered) (name : List ℕ) (secret : Option UserSecret)
         (feature : TheFeature) (nonce : List ℕ) (offered : Option AlgorithmSet) (r : Reading)
@@ -330,12 +339,13 @@ pub fn users_do_not_meet()
         ≡ server_signed (sight s to) response page }
 {}
 
-/// A refusal tells nothing of a password. Two servers that differ in the password or the keys of
-/// one user give each message that verifies under neither the same verdict and the same answer,
-/// keep the same record of its address, and use as many random numbers. A message that gives the
-/// user's name is refused as if the user were not registered.
+/// A refusal reveals nothing about a password. Take two servers that differ only in the password or
+/// the keys of one user, and a message whose signature is valid under neither. Both servers give
+/// the message the same verdict and the same answer, store the same record of its address, and use
+/// the same number of random numbers. A message that has the user's name is refused as if the user
+/// were not registered.
 ///
-/// This is about what is answered, and not about how long it takes.
+/// The law does not limit the time that an answer takes.
 pub fn refusals_tell_no_password()
     ensures judged { (users : Registered) (name : List ℕ) (one other : UserSecret) (r : Reading)
         → VerifiesUnderNone users name one r → VerifiesUnderNone users name other r
@@ -368,10 +378,10 @@ pub fn refusals_tell_no_password()
         ≡ verdict (with_secret_for users name None) feature nonce offered r }
 {}
 
-/// Different random numbers make different nonces: two nonces of the same settings are the same
-/// only if their random numbers leave the same remainders modulo 62, the number of letters that a
-/// nonce is spelled with. A nonce without security bits is no exception, unless its letters begin
-/// like the cookie of nonces with security bits, where the first letter is replaced.
+/// Different random numbers make different nonces: two nonces of the same settings are equal only
+/// if their random numbers are equal modulo 62, which is the number of letters. This also holds for
+/// nonces without security bits, except for random numbers whose letters begin with the nonce
+/// cookie by chance, because their first letter is replaced.
 pub fn nonces_of_different_words_differ()
     ensures with_bits { (set : AlgorithmSet) (feature : TheFeature) (words others : List ℕ)
         → (contains Sha256 set || is_possible feature) ≡ true
@@ -385,9 +395,9 @@ pub fn nonces_of_different_words_differ()
         → list_map (λ word. word % 62) words ≡ list_map (λ word. word % 62) others }
 {}
 
-/// A caller who has a message judged only if fewer addresses than a bound have a record, or the
-/// message's own address has one, never comes past that bound. Signing, and removing a client, add
-/// no address, and forgetting one adds none.
+/// If a caller passes a message only while fewer addresses than a bound have a record, or if the
+/// address of the message has a record, the number of records never exceeds that bound. Signing,
+/// removing a client and forgetting an address add no record.
 pub fn addresses_stay_within_a_bound()
     ensures bound { (bound : ℕ) (s : ServerSeen) (from : SocketAddr) (now : ℕ) (words : List ℕ)
         (r : Reading) → map.len s.places ≤ bound
@@ -403,8 +413,9 @@ pub fn addresses_stay_within_a_bound()
         → map.len (without_place s address).places ≤ map.len s.places }
 {}
 
-/// Forgetting changes the place of each address by itself. After it, each address that has a nonce
-/// has a client, or its nonce expires at that time or later. Each such address is as it was.
+/// `forget_expired` decides about the record of each address by itself. Afterwards each remaining
+/// record has a client, or a nonce that expires at `now` or later. Every record with such a client
+/// or nonce remains, and is unchanged.
 pub fn expired_nonces_are_forgotten()
     ensures place { (s : ServerSeen) (now : ℕ) (a : SocketAddr) →
         map.get (after_forgetting s now).places a ≡ place_kept now (map.get s.places a) }
@@ -419,15 +430,15 @@ pub fn expired_nonces_are_forgotten()
         → map.get (after_forgetting s now).places a ≡ Some place }
 {}
 
-/// Steps of forgetting, each going on where the one before ended, leave the same server as
-/// `forget_expired` once they come to the end.
+/// Calls of `forget_expired_within`, each of which continues where the one before ended, leave the
+/// same server as `forget_expired` once they have visited the last address.
 pub fn steps_forget_what_has_expired()
     ensures { (s : ServerSeen) (now : ℕ) (sizes : List ℕ) (left : ServerSeen)
         → after_steps s now None sizes ≡ Some left → left ≡ after_forgetting s now }
 {}
 
-/// A message that is built without attributes can be signed, and so can one with an error code
-/// alone. Both are read as what they were built with.
+/// A message that is built without attributes can be signed, and so can a message with an error
+/// code alone. A reader finds in each message the class and the error code that it was built with.
 pub fn built_messages_can_be_signed()
     ensures bare { (message_type transaction_id : ℕ) → message_type < 2 ^ 14
         → IsBuilt (spelled_message message_type transaction_id []) (class_of message_type) None }
@@ -441,9 +452,10 @@ pub fn built_messages_can_be_signed()
     stun_types::laws::signed_message_stands();
 }
 
-/// What signing added is within its limits. Signing succeeds if the texts are within theirs, and
-/// message and writer have room for what it adds. That is at most 2,148 bytes, if at most two
-/// algorithms are listed.
+/// If signing succeeds, the texts that it added are within their limits. Signing succeeds if the
+/// texts to add are within their limits, and the message and the writer have room for all
+/// attributes to add. These attributes take at most 2,148 bytes if at most two algorithms are
+/// listed.
 pub fn signing_succeeds_with_room()
     ensures within { (a : Added) (page signed : Page) → added_all (additions_of a) page ≡ Ok signed
         → IsWithinLimits a }
@@ -463,8 +475,9 @@ pub fn signing_succeeds_with_room()
     stun_types::laws::signed_message_stands();
 }
 
-/// Both sides add, attribute by attribute, what their lists of additions say. A server that signs
-/// has something to add.
+/// The attributes that a client adds are those of `added_by_client`, and the attributes that a
+/// server adds are those of `added_by_server`. If a server signs without an error, it has
+/// attributes to add.
 pub fn sides_add_by_attribute()
     ensures client { (request : Bool) (state : ClientState)
         → client_additions request state ≡ additions_of (added_by_client request state) }
@@ -475,10 +488,10 @@ pub fn sides_add_by_attribute()
         → IsOk (server_signed s response page) → IsSome (added_by_server s response) }
 {}
 
-/// The nonces that a server makes are texts (RFC 8489, section 9.2). They ask for password
+/// The nonces that a server makes are UTF-8 (RFC 8489, section 9.2). They ask for password
 /// algorithms if and only if HMAC-SHA256 is supported, and allow a hashed user name if and only if
-/// the feature does. They have security bits if they do either. Nonces of the same settings have
-/// the same security bits.
+/// the feature does. They have security bits if and only if they ask for password algorithms or
+/// allow a hashed user name. Nonces of the same settings have the same security bits.
 pub fn nonces_ask_for_what_is_supported()
     ensures text { (set : AlgorithmSet) (feature : TheFeature) (words : List ℕ)
         → IsUtf8 (nonce_of set feature words) }
@@ -495,7 +508,8 @@ pub fn nonces_ask_for_what_is_supported()
         → length (nonce_of set feature words) ≤ 13 + length words }
 {}
 
-/// Both sides sign what is signable: only a failed allocation refuses it.
+/// A client and a server can sign each message that is signable: signing it fails only if an
+/// allocation fails.
 pub fn sides_sign_what_is_signable()
     ensures client { (request : Bool) (state : ClientState) (message : List ℕ) (room : ℕ)
         → IsSignable (added_by_client request state) message room
@@ -509,8 +523,8 @@ pub fn sides_sign_what_is_signable()
     sides_add_by_attribute();
 }
 
-/// What a side signs with success it may sign unchecked, in a writer with the same room. The
-/// message is open, and no longer than a message may be.
+/// If a client or a server has signed an open message that is within the length limit, it may also
+/// sign that message unchecked, in a writer with the same room.
 pub fn what_was_signed_may_be_signed()
     ensures client { (request : Bool) (state : ClientState) (message : List ℕ) (room : ℕ)
         → IsOpen message → length message ≤ LENGTH_LIMIT
@@ -526,22 +540,23 @@ pub fn what_was_signed_may_be_signed()
     sides_add_by_attribute();
 }
 
-/// Signing changes nothing of what a server adds to later messages to the address. What it signed
-/// once with success it may sign again unchecked.
+/// Signing does not change which attributes a server adds to later messages to the address. So a
+/// message that was signed once may be signed again unchecked.
 pub fn signing_leaves_what_is_added()
     ensures { (s : ServerSeen) (to : SocketAddr) (response later : Bool)
         → added_by_server (sight (after_signing s to response) to) later
         ≡ added_by_server (sight s to) later }
 {}
 
-/// The security bits of a nonce are those that it begins with, whatever text follows them (RFC
-/// 8489, section 9.2).
+/// `security_bits` returns the security bits that a nonce begins with, whatever text follows them
+/// (RFC 8489, section 9.2).
 pub fn security_bits_are_read_back()
     ensures { (a b c : ℕ) (text : List ℕ) → a < 2 ^ 8 → b < 2 ^ 8 → c < 2 ^ 8
         → security_bits (spelled_bits (a ∷ b ∷ c ∷ []) ++ text) ≡ Some (a ∷ b ∷ c ∷ []) }
 {}
 
-/// Both sides sign built messages in writers with room for 2,148 bytes.
+/// A client and a server can sign a message that was built without attributes or with an error code
+/// alone, if the writer has room for 2,148 bytes.
 pub fn sides_sign_with_room()
     ensures client { (request : Bool) (state : ClientState) (class : MessageClass)
         (error : Option ℕ) (message : List ℕ) (room : ℕ) → IsBuilt message class error
@@ -557,8 +572,8 @@ pub fn sides_sign_with_room()
     sides_add_by_attribute();
 }
 
-/// What is read of a message that a client signed is what it keeps of the server's challenge, if
-/// that is text.
+/// A reader of a message that a client signed finds its class, its error code, and the attributes
+/// that the client added for the server's challenge, if the texts in them are UTF-8.
 pub fn client_messages_are_read()
     ensures { (request : Bool) (state : ClientState) (class : MessageClass) (error : Option ℕ)
         (message : List ℕ) (room : ℕ) (page : Page) → IsBuilt message class error
@@ -571,8 +586,8 @@ pub fn client_messages_are_read()
     sides_add_by_attribute();
 }
 
-/// What is read of a message that a server signed is the challenge of the address, and the digest
-/// under its client's key.
+/// A reader of a message that a server signed finds its class, its error code, the challenge of the
+/// address, and the signature under the key of the address's client.
 pub fn server_messages_are_read()
     ensures { (s : Sight) (response : Bool) (a : Added) (class : MessageClass) (error : Option ℕ)
         (message : List ℕ) (room : ℕ) (page : Page) → IsBuilt message class error

@@ -1,9 +1,10 @@
 //! Texts within the limit of REALM and NONCE (RFC 8489, sections 14.9 and 14.10).
-ghost use Rattle.std.specs.Prelude.{◌≡◌, ◌≤◌, length, IfOk};
+ghost use Rattle.std.specs.Prelude.{◌≡◌, ◌≤◌, length, IfOk, IsOk};
 ghost use Rattle.std.specs.String.{string_bytes};
 ghost use Rattle.stun_types.specs.Limits.{TEXT_LIMIT};
 
 use std::alloc::{AllocError, Allocator};
+use stun_base::memory::Memory;
 
 /// A text of at most 763 bytes.
 #[derive(Drop)]
@@ -13,21 +14,12 @@ pub struct LimitedText<A: Allocator> {
 }
 
 impl<A: Allocator> LimitedText<A> {
-    /// Takes a text.
+    /// Creates the value from a text.
     pub fn new(text: String<A>) -> Self
         requires { length (string_bytes text) ≤ TEXT_LIMIT }
         ensures { string_bytes result.text ≡ string_bytes text }
     {
         LimitedText { text }
-    }
-
-    /// Copies a text.
-    pub fn copied(alloc: A, text: &str) -> Result<Self, AllocError>
-        requires { length text.now ≤ TEXT_LIMIT }
-        ensures { IfOk result (λ copy. string_bytes copy.text ≡ text.now) }
-    {
-        let text = String::from_str(alloc, text)?;
-        Ok(LimitedText { text })
     }
 
     /// Returns the text.
@@ -38,7 +30,7 @@ impl<A: Allocator> LimitedText<A> {
         self.text.as_str()
     }
 
-    /// Returns the number of its bytes.
+    /// Returns the length of the text in bytes.
     pub(crate) fn len(&self) -> usize
         ensures { result ≡ length (string_bytes self.now.text) }
     {
@@ -46,12 +38,23 @@ impl<A: Allocator> LimitedText<A> {
     }
 }
 
-impl<A: Allocator + Copy> LimitedText<A> {
-    /// Copies the text.
-    pub fn cloned(&self) -> Result<Self, AllocError>
-        ensures { IfOk result (λ copy. string_bytes copy.text ≡ string_bytes self.now.text) }
+impl<A: Memory> LimitedText<A> {
+    /// Copies a text of at most 763 bytes. Fails if an allocation fails.
+    pub fn copied(alloc: A, text: &str) -> Result<Self, AllocError>
+        requires { length text.now ≤ TEXT_LIMIT }
+        ensures text { IfOk result (λ copy. string_bytes copy.text ≡ text.now) }
+        ensures granted { A.grants → IsOk result }
     {
-        let text = self.text.clone()?;
+        let text = A::text(alloc, text)?;
+        Ok(LimitedText { text })
+    }
+
+    /// Copies the text. Fails if an allocation fails.
+    pub fn cloned(&self) -> Result<Self, AllocError>
+        ensures text { IfOk result (λ copy. string_bytes copy.text ≡ string_bytes self.now.text) }
+        ensures granted { A.grants → IsOk result }
+    {
+        let text = A::text(*self.text.allocator(), self.text.as_str())?;
         Ok(LimitedText { text })
     }
 }

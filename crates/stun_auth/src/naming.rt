@@ -1,9 +1,9 @@
 //! How a client names its user (RFC 8489, section 9.2.5).
 ghost use Rattle.std.specs.Option.{IfSome};
-ghost use Rattle.std.specs.Prelude.{◌≡◌, ◌≤◌, IfOk, IsUtf8, length};
+ghost use Rattle.std.specs.Prelude.{◌≡◌, ◌≤◌, ⊤, IfOk, IsOk, IsUtf8, length};
 ghost use Rattle.std.specs.String.{string_bytes};
 ghost use Rattle.stun_types.specs.Attribute.{attribute_length};
-ghost use Rattle.stun_auth.specs.Additions.{page_in};
+ghost use Rattle.stun_auth.specs.Additions.{UnlessMemory, page_in};
 ghost use Rattle.stun_auth.specs.ClientSigning.{name_attribute, who_asks};
 ghost use Rattle.stun_auth.specs.ClientStep.{naming_of};
 ghost use Rattle.stun_auth.specs.Outcome.{IsAdded};
@@ -13,6 +13,7 @@ ghost use Rattle.stun_auth.specs.Signed.{hashed_name, plain_name};
 use crate::message::addition::{AddedAttribute, add, attribute_bytes};
 use std::alloc::{AllocError, Allocator};
 use stun_base::key::userhash;
+use stun_base::memory::Memory;
 use stun_types::message::StunWriteError;
 use stun_types::prelude::*;
 
@@ -23,32 +24,38 @@ pub enum UserNaming<A: Allocator> {
     Hashed([u8; 32]),
 }
 
-impl<A: Allocator + Copy> UserNaming<A> {
-    /// Returns the name of a user at a realm, as it is or hashed.
+impl<A: Memory> UserNaming<A> {
+    /// Copies the name of a user, or computes its hash at a realm if `hashes` is set. Fails if an
+    /// allocation fails.
     pub fn new(alloc: A, hashes: bool, username: &str, realm: &str) -> Result<Self, AllocError>
-        ensures { IfOk result (λ naming. naming_seen naming
+        ensures naming { IfOk result (λ naming. naming_seen naming
             ≡ naming_of hashes username.now realm.now) }
+        ensures granted { A.grants → IsOk result }
     {
         if hashes {
             Ok(UserNaming::Hashed(userhash(username, realm)))
         } else {
-            Ok(UserNaming::Plain(String::from_str(alloc, username)?))
+            Ok(UserNaming::Plain(A::text(alloc, username)?))
         }
     }
 
     /// Copies the name.
     pub fn copied(&self) -> Result<Self, AllocError>
-        ensures { IfOk result (λ copy. naming_seen copy ≡ naming_seen self.now) }
+        ensures naming { IfOk result (λ copy. naming_seen copy ≡ naming_seen self.now) }
+        ensures granted { A.grants → IsOk result }
     {
         match self {
-            UserNaming::Plain(name) => Ok(UserNaming::Plain(name.clone()?)),
+            UserNaming::Plain(name) => {
+                let name = A::text(*name.allocator(), name.as_str())?;
+                Ok(UserNaming::Plain(name))
+            }
             UserNaming::Hashed(hash) => Ok(UserNaming::Hashed(*hash)),
         }
     }
 }
 
 impl<A: Allocator> UserNaming<A> {
-    /// Adds nonce, realm and the name of the user.
+    /// Adds NONCE, REALM, and USERNAME or USERHASH.
     pub fn add_identity<W: MessageWrite>(
         &self,
         writer: &mut W,
@@ -60,6 +67,7 @@ impl<A: Allocator> UserNaming<A> {
         ensures added { IsAdded (who_asks nonce.now realm.now (naming_seen self.now))
             (page_in W.bytes W.room writer.old) (W.reserved writer.old)
             result (page_in W.bytes W.room writer.new) (W.reserved writer.new) }
+        ensures granted { W.grants → UnlessMemory result ⊤ ⊥ }
     {
         add(writer, AddedAttribute::Nonce(nonce))?;
         add(writer, AddedAttribute::Realm(realm))?;
@@ -76,7 +84,7 @@ impl<A: Allocator> UserNaming<A> {
         }
     }
 
-    /// Returns how many bytes that attribute takes.
+    /// Returns the number of bytes of the attribute that names the user.
     pub(crate) fn bytes(&self) -> usize
         ensures { result ≡ attribute_length (length (name_attribute (naming_seen self.now)).value) }
     {
@@ -86,7 +94,8 @@ impl<A: Allocator> UserNaming<A> {
         }
     }
 
-    /// Does nothing: a name is UTF-8, and a hash has its length.
+    /// Does nothing at run time. It gives proofs two facts: a name is UTF-8, and a hash has 32
+    /// bytes.
     pub fn keeps_text(&self)
         ensures plain { IfSome (plain_name (naming_seen self.now)) IsUtf8 }
         ensures hashed { IfSome (hashed_name (naming_seen self.now)) (λ hash. length hash ≡ 32) }
@@ -98,14 +107,14 @@ impl<A: Allocator> UserNaming<A> {
     }
 }
 
-/// Does nothing: a text is UTF-8.
+/// Does nothing at run time. It gives proofs the fact that a text is UTF-8.
 fn keeps_utf8<A: Allocator>(text: &String<A>)
     ensures { IsUtf8 (string_bytes text.now) }
 {
     let _ = text.as_str();
 }
 
-/// Does nothing: a hash has its length.
+/// Does nothing at run time. It gives proofs the fact that a hash has 32 bytes.
 fn keeps_length(hash: &[u8; 32])
     ensures { length hash.now ≡ 32 }
 {

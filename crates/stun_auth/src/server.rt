@@ -6,7 +6,8 @@
 //! A server that stores nothing about its clients calls `nonce_of_words`, `judge` and
 //! `add_challenge` instead.
 
-ghost use Rattle.std.specs.Prelude.{◌≡◌, ◌≤◌, Option, None, Some, OnOk, OnErr, Ok, codes};
+ghost use Rattle.std.specs.Prelude.{◌≡◌, ◌≤◌, Option, None, Some, OnOk, OnErr, Ok};
+ghost use Rattle.std.specs.Prelude.{IsOk, codes};
 ghost use Rattle.std.specs.Duration.{as_nanos};
 ghost use Rattle.std.specs.Fmt.{WritesOnOk, WritesStyledOnOk};
 ghost use Rattle.std.specs.Option.{option_copied, option_map};
@@ -35,6 +36,7 @@ use std::time::Duration;
 use stun_base::algorithm::IntegrityAlgorithm;
 use stun_base::credentials::LongTermCredentials;
 use stun_base::instant::Instant;
+use stun_base::memory::Memory;
 
 pub(crate) mod accepted;
 mod claim;
@@ -55,10 +57,10 @@ pub(crate) mod user_secret;
 mod validation;
 pub(crate) mod verdict;
 
-/// The shortest time that a nonce may last, in seconds.
+/// The shortest time for which a nonce may be valid, in seconds.
 const MINIMUM_NONCE_EXPIRY_SECONDS: u64 = 30;
 
-/// How long a nonce lasts unless another time is set, in seconds.
+/// How long a nonce is valid unless another time is set, in seconds.
 const DEFAULT_NONCE_EXPIRY_SECONDS: u64 = 3600;
 
 /// Returns the shortest time for which a nonce may be valid, 30 seconds: the least that
@@ -73,21 +75,22 @@ pub fn minimum_nonce_expiry_duration() -> Duration
 /// a record for each client address.
 ///
 /// The record of an address holds the latest nonce that was made for it, the time at which that
-/// nonce expires, the algorithms that the address was offered, and its *client*: the user who was
-/// validated there last.
+/// nonce expires, the algorithms that the address was offered, and its *client*. The client is the
+/// user who was validated there last.
 ///
 /// Almost every request or indication from a new address adds a record, even if it is refused. The
 /// only exception is a message that has an integrity attribute but lacks REALM, NONCE or a user
 /// name. So anybody who can send from many addresses makes the server grow, and you have to set a
 /// limit to `address_count`.
 ///
-/// A record stays until a call forgets it or the server is dropped. `forget_expired` forgets it
-/// once its nonce has expired, if it has no client. `forget` does so at once.
+/// A record stays until a call forgets it or the server is dropped. `forget_expired` forgets a
+/// record that has no client once its nonce has expired. `forget` forgets a record at once.
 ///
 /// `Debug` shows nothing of the contents.
 ///
-/// Contracts: they see the realm, the supported algorithms, the settings, the records (`places`),
-/// and for each user a password or stored keys.
+/// Contracts: the value is a record of the realm with its algorithms and users (`registered`), the
+/// settings (`feature`, `expiry`), and the records of addresses (`places`). Each user has a
+/// password or stored keys.
 #[derive(Drop)]
 pub struct LongTermServerAuth<A: Allocator = Global> {
     alloc: A,
@@ -110,7 +113,7 @@ impl<A: Allocator> Model for LongTermServerAuth<A> {
       registered = s.registry;
       feature = s.feature;
       expiry = as_nanos s.expiry;
-      places = s.places;
+      places = s.places.seen;
     } };
 }
 
@@ -121,7 +124,7 @@ impl<A: Allocator> fmt::Debug for LongTermServerAuth<A> {
         ensures writes { WritesOnOk W.write_str_gives f.old result
             (codes "LongTermServerAuth { .. }") f.new }
 
-        // It writes the same with every width, precision and other option.
+        // The options of the formatter, such as the width, do not change the text.
         ensures styled { WritesStyledOnOk W.write_str_gives f.old result
             (codes "LongTermServerAuth { .. }") f.new }
     {
@@ -129,7 +132,7 @@ impl<A: Allocator> fmt::Debug for LongTermServerAuth<A> {
     }
 }
 
-impl<A: Allocator + Copy> LongTermServerAuth<A> {
+impl<A: Memory> LongTermServerAuth<A> {
     /// Creates a server for a realm, without users. It supports HMAC-SHA1 only, accepts hashed user
     /// names (`Feature::Auto`), and its nonces are valid for 3600 seconds.
     ///
@@ -181,9 +184,10 @@ impl<A: Allocator + Copy> LongTermServerAuth<A> {
     /// Returns the number of addresses that have a record, in constant time, so that you can set a
     /// limit.
     ///
-    /// A message from a new address may add one. Only `forget`, `forget_expired` and
-    /// `forget_expired_within` remove any. If you have a message validated only while the count is
-    /// below your limit or its address has a record, the count never exceeds that limit.
+    /// A message from a new address may add a record. Only `forget`, `forget_expired` and
+    /// `forget_expired_within` remove records. If you let the server validate a message only while
+    /// the count is below your limit, or if the address of the message has a record, the count
+    /// never exceeds that limit.
     ///
     /// Contracts: law `addresses_stay_within_a_bound`.
     pub fn address_count(&self) -> usize
@@ -205,12 +209,13 @@ impl<A: Allocator + Copy> LongTermServerAuth<A> {
     }
 
     /// Returns the client of an address: the user who was validated there last, and the algorithm
-    /// that both sides agreed on. This is the user whom the last request or indication from there
-    /// named that was `Validated`.
+    /// that both sides agreed on. This user was named in the last request or indication from the
+    /// address that was `Validated`.
     ///
-    /// Call this right after `Validated` to learn who sent the request. Neither the first USERNAME
-    /// of a message nor the algorithm of its signature tells that. A refused message changes
-    /// nothing here, and a user who has been removed since is still returned.
+    /// Call this right after `Validated` to learn who sent the request. The first USERNAME of a
+    /// message, and the algorithm of its signature, may differ from the name and the algorithm that
+    /// this call returns. A refused message changes nothing here, and a user who has been removed
+    /// since is still returned.
     ///
     /// Returns `None` if nobody was validated at the address, or after `remove_client`.
     pub fn client(&self, address: SocketAddr) -> Option<(&str, IntegrityAlgorithm)>
@@ -226,9 +231,8 @@ impl<A: Allocator + Copy> LongTermServerAuth<A> {
         }
     }
 
-    /// Registers a user with a key for each supported algorithm (RFC 8489, section 9.2.2). A
-    /// registered user with this name gets this password, and the keys that it makes, instead of
-    /// the secret that it had.
+    /// Adds a user with a key for each supported algorithm (RFC 8489, section 9.2.2), or replaces
+    /// the password or keys of an existing user.
     ///
     /// A name longer than 513 bytes is accepted, but only a USERHASH can name such a user (section
     /// 14.3).
@@ -239,16 +243,17 @@ impl<A: Allocator + Copy> LongTermServerAuth<A> {
           registered = with_user self.old.registered credentials;
         }) }
         ensures err { OnErr result (self.new ≡ self.old) }
+        ensures granted { A.grants → IsOk result }
     {
         self.registry.add_user(credentials)
     }
 
-    /// Registers a user by stored keys in place of a password. A registered user with this name
-    /// gets these keys instead of the secret that it had.
+    /// Adds a user with stored keys in place of a password, or replaces the password or keys of an
+    /// existing user.
     ///
     /// Clients derive their keys for the realm that the server sends, so `keys` must have been made
-    /// for this realm. The user has the keys of the algorithms that the server supports, also of
-    /// those that it comes to support later, as far as `keys` has them.
+    /// for this realm. The user has the keys of the algorithms that the server supports, including
+    /// algorithms that it supports later, if `keys` has them.
     ///
     /// A name of more than 513 bytes is accepted, but only a USERHASH can name such a user, because
     /// USERNAME is limited to 513 bytes (RFC 8489, section 14.3).
@@ -263,13 +268,14 @@ impl<A: Allocator + Copy> LongTermServerAuth<A> {
           registered = with_user_by_keys self.old.registered (string_bytes name) keys;
         }) }
         ensures err { OnErr result (self.new ≡ self.old) }
+        ensures granted { A.grants → IsOk result }
     {
         self.registry.add_user_with_keys(name, keys)
     }
 
     /// Adds a supported algorithm, and makes the keys of each user anew. It does not allocate.
     ///
-    /// With 100,000 users this takes most of a second, so call it before you add them.
+    /// With 100,000 users this takes most of a second, so call it before you add users.
     pub fn add_supported_integrity(&mut self, algorithm: IntegrityAlgorithm)
         ensures { self.new ≡ record self.old {
           registered = record self.old.registered {
@@ -284,9 +290,9 @@ impl<A: Allocator + Copy> LongTermServerAuth<A> {
     /// Makes this the only supported algorithm: each user has a key for it, and no other. It does
     /// not allocate.
     ///
-    /// Call it before you add users, because it makes the keys of each user anew, and before the
-    /// first message arrives, because messages to a client that uses another algorithm can no longer
-    /// be signed until you call `remove_client`.
+    /// Call it before you add users, because it makes the keys of each user anew. Call it also
+    /// before the first message arrives, because messages to a client that uses another algorithm
+    /// can no longer be signed until you call `remove_client`.
     pub fn set_supported_integrity(&mut self, algorithm: IntegrityAlgorithm)
         ensures { self.new ≡ record self.old {
           registered = record self.old.registered { algorithms = only algorithm };
@@ -296,7 +302,7 @@ impl<A: Allocator + Copy> LongTermServerAuth<A> {
     }
 
     /// Sets whether clients may send a hash (USERHASH) in place of the user name (RFC 8489, section
-    /// 14.4). Nonces that are made from now on tell them so.
+    /// 14.4). Nonces that are made from now on announce it.
     ///
     /// A server treats `Feature::Required` like `Feature::Auto`: it still accepts a plain USERNAME.
     ///
@@ -323,16 +329,17 @@ impl<A: Allocator + Copy> LongTermServerAuth<A> {
         self.registry.remove_user(name);
     }
 
-    /// Forgets the client of an address, but not its nonce and its offer. Messages to this address
-    /// get no signature until a client is validated there again. It does not allocate.
+    /// Forgets the client of an address, but keeps its nonce and the algorithms that it was
+    /// offered. Messages to this address get no signature until a client is validated there again.
+    /// It does not allocate.
     ///
-    /// The memory of the user's name stays with the record, as many bytes as the name has, until
-    /// another user is validated there or the record is forgotten. So a request of the same user at
-    /// the same address needs no memory for the name.
+    /// The record keeps the memory of the user's name until another user is validated there or the
+    /// record is forgotten. So the next request of the same user from the same address needs no new
+    /// memory for the name.
     ///
     /// Call it after every response. As long as an address has a client, its record never expires,
-    /// and its 401 and 438 responses have no list of algorithms, so that a client that starts
-    /// afresh at the same address cannot authenticate.
+    /// and its 401 and 438 responses have no list of algorithms, so a new client at the same
+    /// address cannot authenticate.
     pub fn remove_client(&mut self, address: SocketAddr)
         ensures { self.new ≡ record self.old {
           places = with_change self.old.places address
@@ -342,9 +349,9 @@ impl<A: Allocator + Copy> LongTermServerAuth<A> {
         self.places.remove_client(address);
     }
 
-    /// Removes the record of an address: its nonce and when that expires, its offer, and its
-    /// client. The records of other addresses stay. The next message from the address is treated as
-    /// the first.
+    /// Removes the record of an address: its nonce with the expiry time, the algorithms that it was
+    /// offered, and its client. The records of other addresses stay. The next message from the
+    /// address is treated like its first.
     ///
     /// It finds the record in logarithmic time, and does not allocate.
     pub fn forget(&mut self, address: SocketAddr)
@@ -356,8 +363,8 @@ impl<A: Allocator + Copy> LongTermServerAuth<A> {
     /// Removes every record that has no client and whose nonce expired before `now`, and frees its
     /// memory. Other records stay.
     ///
-    /// Pass the current time minus the nonce lifetime, so that a record outlives its nonce by as
-    /// long again. A client that comes back within that time is answered 438 and can continue. If
+    /// Pass the current time minus the nonce lifetime, so that a record outlives its nonce by one
+    /// more lifetime. A client that returns within that time is answered 438 and can continue. If
     /// its record were gone, and it repeated the algorithms that it was once offered, it would be
     /// refused with `BadRequest`.
     ///
@@ -369,8 +376,8 @@ impl<A: Allocator + Copy> LongTermServerAuth<A> {
         self.places.forget_expired(now);
     }
 
-    /// Like `forget_expired`, but visits at most `most` records, so that a server with many records
-    /// has no long pause.
+    /// Forgets records like `forget_expired`, but visits at most `most` records, so that a server
+    /// with many records has no long pause.
     ///
     /// It visits addresses that have a record, in the order of `SocketAddr`, starting at `from`, or
     /// at the first one if `from` is `None`. It returns the first address that it did not visit, or
@@ -380,9 +387,9 @@ impl<A: Allocator + Copy> LongTermServerAuth<A> {
     /// next = auth.forget_expired_within(now, next, 100);
     /// ```
     ///
-    /// Calls up to a `None`, with no other call between them, forget together what `forget_expired`
-    /// does (law `steps_forget_what_has_expired`). A record that is made between them is visited if
-    /// its address comes after `next`, and otherwise in the next round.
+    /// A series of calls that ends with `None`, with no other call between them, forgets the same
+    /// records as `forget_expired` (law `steps_forget_what_has_expired`). A record that is made
+    /// between them is visited if its address comes after `next`, and otherwise in the next round.
     ///
     /// It does not allocate. Each record costs one look-up, and one more if it is removed.
     pub fn forget_expired_within(

@@ -12,6 +12,7 @@ use crate::message::addition::integrity_bytes;
 use std::alloc::{AllocError, Allocator, Global};
 use std::fmt;
 use std::marker::Model;
+use stun_base::memory::Memory;
 use stun_types::message::{
     IntegrityAlgorithm, IntegrityKey, Message, PreparedKey, ShortTermCredentials, StunWriteError,
     ValidateError,
@@ -25,13 +26,14 @@ use stun_types::prelude::*;
 /// before you sign, and compare it yourself when a message arrives. `Debug` shows nothing of the
 /// contents.
 ///
-/// Contracts: they see the bytes of the password and the algorithm, once both are set.
+/// Contracts: the value has the bytes of the password and the algorithm, or is `None` until they
+/// are set.
 #[derive(Drop)]
 pub struct ShortTermAuth<A: Allocator = Global> {
     kept: Option<KeptPassword<A>>,
 }
 
-/// Credentials with their key, prepared for the algorithm to sign with.
+/// The credentials, the algorithm to sign with, and the key, which is prepared for that algorithm.
 #[derive(Drop)]
 struct KeptPassword<A: Allocator> {
     credentials: ShortTermCredentials<A>,
@@ -59,7 +61,7 @@ impl<A: Allocator> fmt::Debug for ShortTermAuth<A> {
         ensures writes { WritesOnOk W.write_str_gives f.old result
             (codes "ShortTermAuth { .. }") f.new }
 
-        // It writes the same with every width, precision and other option.
+        // The options of the formatter, such as the width, do not change the text.
         ensures styled { WritesStyledOnOk W.write_str_gives f.old result
             (codes "ShortTermAuth { .. }") f.new }
     {
@@ -71,7 +73,8 @@ impl<A: Allocator> ShortTermAuth<A> {
     /// Creates an authenticator without credentials. Until `set_credentials` is called, it signs
     /// nothing and verifies nothing.
     ///
-    /// It does not allocate, and does not store the allocator: the key uses that of the password.
+    /// It does not allocate, and does not store the allocator: the key uses the allocator of the
+    /// password.
     pub fn new(_alloc: A) -> Self
         ensures { result ≡ None }
     {
@@ -88,8 +91,8 @@ impl<A: Allocator> ShortTermAuth<A> {
             .map(|kept| (&kept.credentials, kept.algorithm))
     }
 
-    /// Returns the key that the credentials give, which is the password itself (RFC 8489, section
-    /// 9.1.1).
+    /// Returns the key, which is the password itself (RFC 8489, section 9.1.1), or `None` if no
+    /// credentials were set.
     pub fn integrity_key(&self) -> Option<&IntegrityKey<A>>
         ensures { option_copied result ≡ option_map (λ secret. secret.password) self.now }
     {
@@ -129,9 +132,11 @@ impl<A: Allocator> ShortTermAuth<A> {
         ensures refused { MatchOption (short_term_refusal self.old (W.bytes writer) (W.room writer))
             (IsOkUnless result StunWriteError.OutOfMemory) (λ reason. result ≡ Err reason) }
 
-        // What is reserved already does not allocate.
+        // Nothing is allocated for bytes that are reserved already.
         ensures succeeds { short_term_refusal self.old (W.bytes writer) (W.room writer) ≡ None
             → short_term_growth self.old ≤ W.reserved writer → IsOk result }
+        ensures granted { W.grants
+            → short_term_refusal self.old (W.bytes writer) (W.room writer) ≡ None → IsOk result }
         ensures stays { self.new ≡ self.old }
     {
         let mut writer = writer;
@@ -141,12 +146,11 @@ impl<A: Allocator> ShortTermAuth<A> {
         Ok(writer)
     }
 
-    /// Like `sign_outgoing_message`, for a message that you know to be signable, which it signs in
-    /// the same way.
+    /// Signs a message like `sign_outgoing_message`, if you know that it is signable.
     ///
     /// Without credentials every message is signable. With credentials, a signable message has no
-    /// integrity attribute, and its writer and its length field have room for one: 24 bytes for
-    /// HMAC-SHA1, 36 for HMAC-SHA256.
+    /// integrity attribute, and its writer and its length field have room for the new one: 24 bytes
+    /// for HMAC-SHA1, 36 for HMAC-SHA256.
     ///
     /// Fails if an allocation fails.
     #[tactic(auto, using(crate::proofs::Growth::length_of_signed))]
@@ -163,6 +167,7 @@ impl<A: Allocator> ShortTermAuth<A> {
         ensures room { IfOk result (λ signed. W.room signed + short_term_growth self.old
             ≡ W.room writer) }
         ensures succeeds { short_term_growth self.old ≤ W.reserved writer → IsOk result }
+        ensures granted { W.grants → IsOk result }
         ensures stays { self.new ≡ self.old }
     {
         let mut writer = writer;
@@ -176,7 +181,8 @@ impl<A: Allocator> ShortTermAuth<A> {
     /// 8489, section 9.1.3).
     ///
     /// If the message has MESSAGE-INTEGRITY-SHA256, only that attribute is checked. Otherwise
-    /// MESSAGE-INTEGRITY is. It fails like `Message::validate_integrity`, and does not allocate.
+    /// MESSAGE-INTEGRITY is checked. The call fails like `Message::validate_integrity`, and does
+    /// not allocate.
     ///
     /// Returns `None` if no credentials were set, because nothing was checked then. Do not mistake
     /// it for a valid signature.
@@ -194,8 +200,8 @@ impl<A: Allocator> ShortTermAuth<A> {
     }
 }
 
-impl<A: Allocator + Copy> ShortTermAuth<A> {
-    /// Sets the password, and the algorithm to sign with. A message signed with either algorithm is
+impl<A: Memory> ShortTermAuth<A> {
+    /// Sets the password, and the algorithm to sign with. Signatures of both algorithms are
     /// verified.
     ///
     /// Fails if an allocation fails, and then leaves both unchanged. A password of up to 32 bytes
@@ -209,6 +215,7 @@ impl<A: Allocator + Copy> ShortTermAuth<A> {
             (record { password = credentials; algorithm = algorithm })) }
         ensures err { OnErr result (self.new ≡ self.old) }
         ensures succeeds_inline { length credentials ≤ 32 → IsOk result }
+        ensures granted { A.grants → IsOk result }
     {
         let key = PreparedKey::new(credentials.make_key()?, algorithm);
         self.kept = Some(KeptPassword {

@@ -6,7 +6,7 @@ ghost use Rattle.stun_auth.specs.code.Supported.{in_order};
 
 use stun_base::algorithm::IntegrityAlgorithm;
 
-/// One algorithm, or both in the order in which they were added.
+/// One algorithm, or both algorithms in the order in which they were added.
 #[derive(Clone, Copy, Debug, PartialEq, Eq)]
 pub(crate) enum Supported {
     Only(IntegrityAlgorithm),
@@ -14,14 +14,14 @@ pub(crate) enum Supported {
 }
 
 impl Supported {
-    /// Creates the set of one algorithm.
+    /// Creates the set that contains only this algorithm.
     pub(crate) fn only(algorithm: IntegrityAlgorithm) -> Self
         ensures { in_order result ≡ algorithm ∷ [] }
     {
         Supported::Only(algorithm)
     }
 
-    /// Adds an algorithm at the end, unless it is in the set.
+    /// Returns the set with an algorithm added at the end, unless the set has it already.
     pub(crate) fn with(self, algorithm: IntegrityAlgorithm) -> Self
         ensures { in_order result ≡ with_supported algorithm (in_order self) }
     {

@@ -8,7 +8,7 @@ abbrev pub data_bytes : {A : Type 0} → Data A → List ℕ
 data_bytes (Borrowed bytes) = bytes.now
 data_bytes (Owned bytes) = bytes.items
 
--- the bytes are its own
+-- the bytes are owned
 abbrev pub IsOwned : {A : Type 0} → Data A → Type 0
 IsOwned (Borrowed bytes) = ⊥
 IsOwned (Owned bytes) = Unit {0}

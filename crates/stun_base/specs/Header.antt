@@ -1,5 +1,5 @@
 -- The header of a message (RFC 8489, section 5). Its 20 bytes are the type, the number of bytes
--- after the header, the magic cookie and the transaction id. A number of a list of bytes is that of
+-- after the header, the magic cookie and the transaction ID. A number of a list of bytes is that of
 -- byteorder, in network order.
 use Rattle.std.specs.Prelude.{◌≤◌, ◌^◌, ◌%◌, ℕ, Bool, IsTrue, List, length, drop}
 use Rattle.std.specs.Prelude.{Option, Some, None, nat_lt, ◌&&◌, ◌==◌, if◌then◌else◌}
@@ -11,7 +11,7 @@ use Rattle.stun_base.specs.declared.wire.error.StunParseError.TheVariants.{Trunc
 abbrev pub HEADER_LENGTH : ℕ
 HEADER_LENGTH = 20
 
--- what the cookie field holds (section 5)
+-- the value of the cookie field (section 5)
 abbrev pub MAGIC_COOKIE : ℕ
 MAGIC_COOKIE = 0x2112A442
 
@@ -27,17 +27,17 @@ length_field bytes = big_number 2 (drop 2 bytes)
 abbrev pub cookie_field : List ℕ → ℕ
 cookie_field bytes = big_number 4 (drop 4 bytes)
 
--- the id of the transaction, in the last twelve
+-- the ID of the transaction, in the last twelve
 abbrev pub transaction_id_field : List ℕ → ℕ
 transaction_id_field bytes = big_number 12 (drop 8 bytes)
 
--- what a header says beside its cookie
+-- the fields of a header without its cookie
 pub record HeaderFields : Type 0 where
   pub message_type : ℕ
   pub data_length : ℕ
   pub transaction_id : ℕ
 
--- what the header says that the bytes begin with
+-- the fields of the header that the bytes begin with
 abbrev pub header_of : List ℕ → HeaderFields
 header_of bytes = record {
   message_type = type_field bytes;
@@ -57,7 +57,7 @@ pub record BeginsWithHeader (bytes : List ℕ) : Type 0 where
   pub is_whole : HEADER_LENGTH ≤ length bytes
   pub fields : IsTrue (is_stun bytes)
 
--- why bytes do not begin with a header: too few bytes come before wrong fields
+-- why bytes do not begin with a header: too few bytes are reported before wrong fields
 abbrev pub header_refusal : List ℕ → Option StunParseError
 header_refusal bytes =
     if nat_lt (length bytes) HEADER_LENGTH then Some Truncated

@@ -12,7 +12,7 @@ block_length = 64
 abbrev pub short_key : (List ℕ → List ℕ) → List ℕ → List ℕ
 short_key hash key = if nat_lt block_length (length key) then hash key else key
 
--- bytes filled up to a block by zeros (section 2, step 1)
+-- bytes filled up to a block with zeros (section 2, step 1)
 abbrev pub block_of : List ℕ → List ℕ
 block_of bytes = bytes ++ replicate (block_length - length bytes) 0
 
@@ -20,7 +20,7 @@ block_of bytes = bytes ++ replicate (block_length - length bytes) 0
 abbrev pub key_block : (List ℕ → List ℕ) → List ℕ → List ℕ
 key_block hash key = block_of (short_key hash key)
 
--- each byte of a block xor the pad (section 2, steps 2 and 5)
+-- each byte of a block XORed with the pad (section 2, steps 2 and 5)
 abbrev pub xor_pad : ℕ → List ℕ → List ℕ
 xor_pad pad block = map (λ byte. bit_xor byte pad) block
 

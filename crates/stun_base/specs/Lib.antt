@@ -1,12 +1,12 @@
--- What the contracts of this crate say, in the order to read it.
+-- What the contracts of this crate say, in reading order.
 
 -- the header of a message, and why bytes have none (RFC 8489, section 5)
 pub mod Header
 -- class and method in the type field (section 5)
 pub mod MessageType
--- the ids of transactions (section 5)
+-- the IDs of transactions (section 5)
 pub mod TransactionId
--- the random numbers of an id or a nonce
+-- the random numbers of an ID or a nonce
 pub mod Words
 -- the types of attributes (section 18.3)
 pub mod Attributes
@@ -30,5 +30,6 @@ pub mod Transport
 pub mod Address
 -- bytes that are borrowed or owned
 pub mod Data
--- what no clause of a public call cites: codings of models, views of structs, steps of the code
+-- definitions that no clause of a public call cites: codings of models, views of structs, steps of
+-- the code
 pub mod code

@@ -14,7 +14,7 @@ class_number Indication = 1
 class_number Success = 2
 class_number Error = 3
 
--- the class that two bits C1 C0 name
+-- the class that two bits C1 C0 stand for
 abbrev pub class_of_bits : ℕ → MessageClass
 class_of_bits bits =
     if bits == 0 then Request else if bits == 1 then Indication else if bits == 2 then Success
@@ -24,7 +24,7 @@ class_of_bits bits =
 abbrev pub class_of : ℕ → MessageClass
 class_of number = class_of_bits (number / 256 % 2 * 2 + number / 16 % 2)
 
--- the method of a type: the bits that are left, closed up
+-- the method of a type: the bits that are left, joined together
 abbrev pub method_of : ℕ → ℕ
 method_of number = number % 16 + number / 32 % 8 * 16 + number / 512 % 32 * 128
 

@@ -1,7 +1,7 @@
--- The ids of transactions (RFC 8489, section 5): numbers of 96 bits.
+-- The IDs of transactions (RFC 8489, section 5): numbers of 96 bits.
 use Rattle.std.specs.Prelude.{ℕ, ◌+◌, ◌*◌, ◌^◌, List, [], ◌∷◌, length}
 
--- the number of which these are the parts of 32 bits, the highest first
+-- the number that has these parts of 32 bits, the highest first
 abbrev pub value_of_words : List ℕ → ℕ
 value_of_words [] = 0
 value_of_words (word ∷ words) = word * 2 ^ (32 * length words) + value_of_words words

@@ -8,12 +8,12 @@ unfoldable pub next_words : ℕ → Stream → List ℕ
 next_words zero source = []
 next_words (suc n) source = (next_u32 source).0 ∷ next_words n (next_u32 source).1
 
--- the source after so many numbers
+-- the source after this many numbers
 unfoldable pub after_words : ℕ → Stream → Stream
 after_words zero source = source
 after_words (suc n) source = after_words n (next_u32 source).1
 
--- a source of numbers that the caller passed: the next and the rest, and zero once none is left
+-- a source of numbers that the caller passed: the next number and the rest, or zero if none is left
 abbrev pub next_word : List ℕ → ℕ × List ℕ
 next_word [] = (0, [])
 next_word (word ∷ words) = (word, words)

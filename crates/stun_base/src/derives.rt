@@ -1,4 +1,5 @@
-//! What derived impls and constants do: comparisons, copies, orders and numbers.
+//! The derived impls and the constants of this crate, each behind a function whose contract states
+//! what it does: comparisons, copies and numbers.
 ghost use Rattle.std.specs.Prelude.{◌≡◌, ◌<◌, ◌↔◌, ◌^◌, ◌-◌, ◌∷◌, [], IsTrue, Ok, Some, map};
 ghost use Rattle.std.specs.Ordering.{nat_cmp};
 ghost use Rattle.stun_base.specs.Algorithm.{strength};
@@ -17,140 +18,144 @@ use crate::wire::words::WordSource;
 use std::alloc::{AllocError, Allocator};
 use std::cmp::Ordering;
 
-/// A type has a class and a method, and nothing else.
+/// Splits a message type into its class and its method.
 pub fn parts(message_type: MessageType) -> (MessageClass, Method)
     ensures { type_number result.0 result.1 ≡ message_type }
 {
     (message_type.class(), message_type.method())
 }
 
-/// HMAC-SHA1 is below HMAC-SHA256.
+/// Returns whether the first algorithm is weaker than the second. HMAC-SHA1 is weaker than
+/// HMAC-SHA256.
 pub fn is_weaker(one: IntegrityAlgorithm, other: IntegrityAlgorithm) -> bool
     ensures { IsTrue result ↔ (strength one < strength other) }
 {
     one < other
 }
 
-/// Algorithms are compared by their strength.
+/// Compares two algorithms by their strength.
 pub fn order_of_algorithms(one: IntegrityAlgorithm, other: IntegrityAlgorithm) -> Ordering
     ensures { result ≡ nat_cmp (strength one) (strength other) }
 {
     one.cmp(&other)
 }
 
-/// Ids are ordered as numbers.
+/// Returns whether the first transaction ID is less than the second, as a number.
 pub fn is_below(one: TransactionId, other: TransactionId) -> bool
     ensures { IsTrue result ↔ (one < other) }
 {
     one < other
 }
 
-/// Ids are compared as numbers.
+/// Compares two transaction IDs as numbers.
 pub fn order_of_ids(one: TransactionId, other: TransactionId) -> Ordering
     ensures { result ≡ nat_cmp one other }
 {
     one.cmp(&other)
 }
 
-/// Times are ordered as numbers of nanoseconds.
+/// Returns whether the first time is earlier than the second.
 pub fn is_earlier(one: Instant, other: Instant) -> bool
     ensures { IsTrue result ↔ (one < other) }
 {
     one < other
 }
 
-/// Times are compared as numbers of nanoseconds.
+/// Compares two times by their numbers of nanoseconds.
 pub fn order_of_moments(one: Instant, other: Instant) -> Ordering
     ensures { result ≡ nat_cmp one other }
 {
     one.cmp(&other)
 }
 
-/// Algorithms are equal as values.
+/// Returns whether two algorithms are the same.
 pub fn is_same_algorithm(one: IntegrityAlgorithm, other: IntegrityAlgorithm) -> bool
     ensures { IsTrue result ↔ (one ≡ other) }
 {
     one == other
 }
 
-/// Ids are equal as numbers.
+/// Returns whether two transaction IDs are the same number.
 pub fn is_same_id(one: TransactionId, other: TransactionId) -> bool
     ensures { IsTrue result ↔ (one ≡ other) }
 {
     one == other
 }
 
-/// Times are equal as numbers of nanoseconds.
+/// Returns whether two times are the same number of nanoseconds.
 pub fn is_same_moment(one: Instant, other: Instant) -> bool
     ensures { IsTrue result ↔ (one ≡ other) }
 {
     one == other
 }
 
-/// Classes are equal as values.
+/// Returns whether two message classes are the same.
 pub fn is_same_class(one: MessageClass, other: MessageClass) -> bool
     ensures { IsTrue result ↔ (one ≡ other) }
 {
     one == other
 }
 
-/// Methods are equal as numbers.
+/// Returns whether two methods are the same number.
 pub fn is_same_method(one: Method, other: Method) -> bool
     ensures { IsTrue result ↔ (one ≡ other) }
 {
     one == other
 }
 
-/// Types of messages are equal as numbers.
+/// Returns whether two message types are the same number.
 pub fn is_same_type(one: MessageType, other: MessageType) -> bool
     ensures { IsTrue result ↔ (one ≡ other) }
 {
     one == other
 }
 
-/// Headers are equal if and only if all their fields are.
+/// Returns whether two headers are equal: the same message type, length field and transaction ID.
 pub fn is_same_header(one: MessageHeader, other: MessageHeader) -> bool
     ensures { IsTrue result ↔ (one ≡ other) }
 {
     one == other
 }
 
-/// Types of attributes are equal as numbers.
+/// Returns whether two attribute types are the same number.
 pub fn is_same_attribute_type(one: AttributeType, other: AttributeType) -> bool
     ensures { IsTrue result ↔ (one ≡ other) }
 {
     one == other
 }
 
-/// Transports are equal as values.
+/// Returns whether two transports are the same.
 pub fn is_same_transport(one: TransportType, other: TransportType) -> bool
     ensures { IsTrue result ↔ (one ≡ other) }
 {
     one == other
 }
 
-/// Errors of reading are equal as values, with the type of the missing attribute.
+/// Returns whether two `StunParseError`s are equal: the same variant and, for `MissingAttribute`,
+/// the same attribute type.
 pub fn is_same_parse_error(one: StunParseError, other: StunParseError) -> bool
     ensures { IsTrue result ↔ (one ≡ other) }
 {
     one == other
 }
 
-/// Errors of checking are equal as values.
+/// Returns whether two `ValidateError`s are equal: the same variant and, for `Parse`, equal inner
+/// errors.
 pub fn is_same_validate_error(one: ValidateError, other: ValidateError) -> bool
     ensures { IsTrue result ↔ (one ≡ other) }
 {
     one == other
 }
 
-/// Errors of writing are equal as values, with the type of the attribute that exists.
+/// Returns whether two `StunWriteError`s are equal: the same variant and, for `AttributeExists`,
+/// the same attribute type.
 pub fn is_same_write_error(one: StunWriteError, other: StunWriteError) -> bool
     ensures { IsTrue result ↔ (one ≡ other) }
 {
     one == other
 }
 
-/// Short-term credentials are equal if and only if their passwords are the same bytes.
+/// Returns whether two short-term credentials are equal: their passwords have the same bytes.
 pub fn is_same_password<A: Allocator>(
     one: &ShortTermCredentials<A>,
     other: &ShortTermCredentials<A>,
@@ -160,7 +165,8 @@ pub fn is_same_password<A: Allocator>(
     one == other
 }
 
-/// Long-term credentials are equal if and only if name and password are the same bytes.
+/// Returns whether two long-term credentials are equal: their user names have the same bytes, and
+/// so do their passwords.
 pub fn is_same_user<A: Allocator>(
     one: &LongTermCredentials<A>,
     other: &LongTermCredentials<A>,
@@ -170,7 +176,7 @@ pub fn is_same_user<A: Allocator>(
     one == other
 }
 
-/// Copies of the parts of a header are the same values.
+/// Copies a header and the values that a header contains.
 pub fn copied_header_parts(
     header: &MessageHeader,
     id: &TransactionId,
@@ -198,7 +204,7 @@ pub fn copied_header_parts(
     ))
 }
 
-/// Copies of the other small types are the same values.
+/// Copies an algorithm, an attribute type, a time and a transport.
 pub fn copied_parts(
     algorithm: &IntegrityAlgorithm,
     kind: &AttributeType,
@@ -215,7 +221,7 @@ pub fn copied_parts(
     ))
 }
 
-/// Copies of errors are the same values.
+/// Copies one error of each type.
 pub fn copied_errors(
     parse: &StunParseError,
     validate: &ValidateError,
@@ -226,28 +232,29 @@ pub fn copied_errors(
     Ok((parse.clone()?, validate.clone()?, write.clone()?))
 }
 
-/// The first time is 0.
+/// Returns `Instant::ZERO`, which is 0.
 pub fn first_moment() -> Instant
     ensures { result ≡ 0 }
 {
     Instant::ZERO
 }
 
-/// The last time is the greatest number of 64 bits.
+/// Returns `Instant::MAX`, which is the greatest 64-bit number.
 pub fn last_moment() -> Instant
     ensures { result ≡ 2 ^ 64 - 1 }
 {
     Instant::MAX
 }
 
-/// The method of a binding request is 1 (RFC 8489, section 18.2).
+/// Returns the Binding method, which is 1 (RFC 8489, section 18.2).
 pub fn binding() -> Method
     ensures { result ≡ 0x001 }
 {
     BINDING
 }
 
-/// The types of binding messages: request, indication, success and error (RFC 8489, section 5).
+/// Returns the types of Binding messages: request, indication, success and error (RFC 8489, section
+/// 5).
 pub fn binding_types() -> [MessageType; 4]
     ensures { result ≡ 0x0001 ∷ 0x0011 ∷ 0x0101 ∷ 0x0111 ∷ [] }
 {
@@ -259,7 +266,8 @@ pub fn binding_types() -> [MessageType; 4]
     ]
 }
 
-/// The bits of a method in a type: method 0x5A3 and class success are type 0x1743.
+/// Returns the type of a success response with method 0x5A3, which is 0x1743. The example shows
+/// where the bits of a method are in a type.
 pub fn spread_type() -> Option<MessageType>
     ensures { result ≡ Some 0x1743 }
 {
@@ -267,7 +275,7 @@ pub fn spread_type() -> Option<MessageType>
     Some(MessageType::from_class_method(MessageClass::Success, method))
 }
 
-/// The numbers of the registry (RFC 8489, section 18.3), in ascending order.
+/// Returns all constants of `AttributeType`, by ascending numbers (RFC 8489, section 18.3).
 pub fn attribute_types() -> [AttributeType; 11]
     ensures { map (λ kind. kind.0) result ≡
         0x0006 ∷ 0x0008 ∷ 0x0009 ∷ 0x0014 ∷ 0x0015 ∷ 0x001C ∷ 0x001D ∷ 0x001E ∷ 0x0020
@@ -288,7 +296,7 @@ pub fn attribute_types() -> [AttributeType; 11]
     ]
 }
 
-/// Sources are equal if and only if the same numbers are left.
+/// Returns whether two sources are equal: the same numbers are left to read in both.
 pub fn is_same_source(one: &WordSource, other: &WordSource) -> bool
     ensures { IsTrue result ↔ (one.now ≡ other.now) }
 {

@@ -1,5 +1,5 @@
-//! Digests, the keys that they are computed with, and the credentials that keys are derived from
-//! (RFC 8489, sections 9 and 14.5; RFC 2104).
+//! HMACs, the keys of HMACs, and the credentials that keys are derived from (RFC 8489, sections 9
+//! and 14.5; RFC 2104).
 
 pub mod algorithm;
 pub(crate) mod begun_hash;

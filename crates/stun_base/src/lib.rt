@@ -1,9 +1,10 @@
-//! The parts of STUN (RFC 8489) that the crates above share: headers, message types, transaction
+//! The parts of STUN (RFC 8489) that the other crates share: headers, message types, transaction
 //! IDs, times, errors, HMAC, keys and credentials.
 #![tactic(auto)]
 
 pub mod derives;
 mod keys;
+pub mod memory;
 mod wire;
 
 pub use keys::{algorithm, compare, credentials, hmac, key, prepared_key};

@@ -1,5 +1,5 @@
-//! The fields of a message (RFC 8489, sections 5 and 18), and what is used beside them: times,
-//! transports, random numbers and errors.
+//! The fields of a message (RFC 8489, sections 5 and 18), and the values that are passed with
+//! messages: times, transports, random numbers and errors.
 
 pub mod attribute_type;
 pub mod data;

@@ -1,4 +1,4 @@
--- What no clause of a public call cites.
+-- Definitions that no clause of a public call cites.
 
 -- the room of a writer
 pub mod Room

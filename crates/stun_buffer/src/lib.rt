@@ -1,4 +1,4 @@
-//! A writer of messages that uses the memory of a vector again.
+//! A writer of messages that reuses the memory of a vector.
 #![tactic(auto)]
 
 pub mod writer;

@@ -1,4 +1,4 @@
-//! A writer of messages that uses the memory of a vector again.
+//! A writer of messages that reuses the memory of a vector.
 
 ghost use Rattle.std.specs.Prelude.{◌≡◌, []};
 ghost use Rattle.stun_types.specs.WriteVec.{Written};
@@ -8,17 +8,18 @@ use std::alloc::{Allocator, Global};
 use std::marker::Model;
 use std::mem;
 use stun_base::error::StunWriteError;
+use stun_base::memory::Memory;
 use stun_types::limits::LENGTH_LIMIT;
 use stun_types::prelude::*;
 
-/// A writer that puts a message into the memory of a vector that the caller has. It allocates if
-/// the message is longer than that memory, which then grows.
+/// A writer that writes a message to the memory of a vector of the caller. It allocates only if the
+/// message does not fit into that memory, which then grows.
 ///
-/// Contracts: the value is that of a writer to a `Vec`.
+/// Contracts: the value is that of a writer into a `Vec`.
 #[derive(Drop)]
 pub struct BufferWriter<A: Allocator = Global> {
     bytes: Vec<u8, A>,
-    // How many more bytes are reserved.
+    // The number of bytes that can be appended without another reservation.
     reserved: usize,
 }
 
@@ -36,7 +37,7 @@ impl<A: Allocator> Model for BufferWriter<A> {
 }
 
 impl<A: Allocator> BufferWriter<A> {
-    /// Creates a writer that goes on after these bytes.
+    /// Creates a writer that contains these bytes already, and appends to them.
     pub fn after(bytes: Vec<u8, A>) -> Self
         ensures { result ≡ record { bytes = bytes.items; reserved = 0 } }
     {
@@ -45,8 +46,9 @@ impl<A: Allocator> BufferWriter<A> {
 }
 
 impl<A: Allocator + Copy> BufferWriter<A> {
-    /// Creates an empty writer with the memory of a vector, and leaves the vector empty and without
-    /// memory. The vector that `finish` returns has it then. This does not allocate.
+    /// Creates an empty writer that takes over the memory of a vector, and leaves the vector empty
+    /// and without memory. The vector that `finish` returns then has this memory. This does not
+    /// allocate.
     pub fn over(buffer: &mut Vec<u8, A>) -> Self
         ensures writer { result ≡ record { bytes = []; reserved = 0 } }
         ensures left { buffer.new.items ≡ [] }
@@ -58,13 +60,15 @@ impl<A: Allocator + Copy> BufferWriter<A> {
     }
 }
 
-impl<A: Allocator> MessageWrite for BufferWriter<A> {
+impl<A: Memory> MessageWrite for BufferWriter<A> {
     ghost use Rattle.std.specs.Prelude.{◌-◌, length};
     ghost use Rattle.stun_types.specs.Limits.{LENGTH_LIMIT};
 
     type Output = Vec<u8, A>;
 
     ghost bytes = { λ writer. writer.bytes };
+
+    ghost grants = { A.grants };
 
     ghost room = { λ writer. LENGTH_LIMIT - length writer.bytes };
 
@@ -85,7 +89,7 @@ impl<A: Allocator> MessageWrite for BufferWriter<A> {
         if additional <= self.reserved {
             return Ok(());
         }
-        self.bytes.reserve(additional)?;
+        A::reserve(&mut self.bytes, additional)?;
         self.reserved = additional;
         Ok(())
     }

@@ -1,7 +1,5 @@
 -- How many bytes each call writes.
-use Rattle.std.proofs.Common.{◌≡◌, ℕ, ◌+◌, List, [], ◌∷◌, length}
-use Rattle.std.proofs.Common.{length-append, refl, arith, ap, ◌∙◌, ◌≤◌}
-use Rattle.std.proofs.lemmas.List.{length-replicate}
+use Rattle.std.proofs.Common.{◌≡◌, ℕ, ◌+◌, List, length, length-append, refl, arith, ap, ◌∙◌, ◌≤◌}
 use Rattle.md5.specs.Md5.{md5, digest_bytes as md5_bytes}
 use Rattle.sha2.specs.Sha256.{sha256, digest_bytes as sha256_bytes}
 use Rattle.stun_base.specs.Algorithm.{digest_length}
@@ -17,6 +15,8 @@ use Rattle.stun_types.specs.Grammar.{spelled_attribute}
 use Rattle.stun_types.specs.Message.{with_length}
 use Rattle.stun_types.specs.Writing.{with_attribute, with_integrity, length_with}
 use Rattle.stun_types.specs.Writing.{integrity_attribute, covered_at_end}
+use Rattle.stun_types.proofs.AddingLemmas.{length-spelled_attribute}
+use Rattle.stun_types.proofs.SigningLemmas.{length-with_length}
 use Rattle.stun_c.specs.Requests.{binding_request, key_length}
 use Rattle.stun_c.proofs.Sizes.{request_length}
 
@@ -29,19 +29,6 @@ length-long_term_key Sha256 username realm password = refl
 pub length-userhash_of : (username realm : List ℕ) → length (userhash_of username realm) ≡ 32
 unfolding sha256 sha256_bytes
 length-userhash_of username realm = refl
-
--- the length field takes no bytes more
-length-with_length : (bytes : List ℕ) (n : ℕ) → 20 ≤ length bytes
-    → length (with_length bytes n) ≡ length bytes
-length-with_length [] n long = absurd (omega (arith, long))
-length-with_length (x ∷ []) n long = absurd (omega (arith, long))
-length-with_length (x ∷ y ∷ []) n long = absurd (omega (arith, long))
-length-with_length (x ∷ y ∷ z ∷ []) n long = absurd (omega (arith, long))
-length-with_length (x ∷ y ∷ z ∷ w ∷ bytes) n long = refl
-
-pub length-spelled_attribute : (attribute : TypedValue)
-    → length (spelled_attribute attribute) ≡ attribute_length (length attribute.value)
-length-spelled_attribute attribute = simp (length-append, length-replicate) (omega arith)
 
 -- an attribute after a message, and the digest of an algorithm
 pub length-with_attribute : (message : List ℕ) (attribute : TypedValue) → 20 ≤ length message

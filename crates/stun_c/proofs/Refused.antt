@@ -13,12 +13,13 @@ use Rattle.stun_types.specs.Attribute.{attribute_length}
 use Rattle.stun_types.specs.Grammar.{spelled_message, spelled_attribute}
 use Rattle.stun_types.specs.Message.{with_length}
 use Rattle.stun_types.specs.Writing.{empty_answer, length_with, with_attribute}
+use Rattle.stun_types.proofs.AddingLemmas.{length-spelled_attribute}
 use Rattle.stun_extra.specs.Unknown.{spelled_types, unknown_attribute_error}
 use Rattle.stun_numbers.specs.declared.refusal.Refusal.TheVariants.{BufferTooSmall}
 use Rattle.stun_numbers.specs.Buffers.{buffer_after, within_room}
 use Rattle.stun_c.specs.Answers.{written_number}
 use Rattle.stun_c.specs.Extra.{refused_front, types_attribute, unknown_answer}
-use Rattle.stun_c.proofs.Lengths.{length-spelled_attribute, length-with_attribute}
+use Rattle.stun_c.proofs.Lengths.{length-with_attribute}
 
 -- a header takes 20 bytes
 length-begun : (request : List ℕ) → length (empty_answer Error request) ≡ 20

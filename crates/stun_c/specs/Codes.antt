@@ -1,4 +1,4 @@
--- What the refusals of a verdict are, and what the numbers of refusals say in English.
+-- The errors of a verdict, and the English texts for the numbers of errors.
 use Rattle.std.specs.Prelude.{ℕ, ℤ, pos, int_lt, unsigned_abs, List, [], ◌∷◌, ◌++◌, codes, ◌==◌}
 use Rattle.std.specs.Prelude.{if◌then◌else◌}
 use Rattle.stun_base.specs.declared.wire.error.StunParseError.{StunParseError}
@@ -10,8 +10,7 @@ use Rattle.stun_numbers.specs.declared.refusal.Refusal.TheVariants.{Truncated, N
 use Rattle.stun_numbers.specs.declared.refusal.Refusal.TheVariants.{NoIntegrity, MalformedIntegrity}
 use Rattle.stun_numbers.specs.declared.refusal.Refusal.TheVariants.{IntegrityFailed}
 
--- the refusal for an error of a verdict: what is missing or malformed there is the integrity
--- attribute
+-- the error for a failed verdict: what is missing or malformed there is the integrity attribute
 abbrev pub refusal_of_integrity : StunParseError → Refusal
 refusal_of_integrity Parse.Truncated = Truncated
 refusal_of_integrity Parse.NotStun = NotStun
@@ -23,11 +22,11 @@ abbrev pub refusal_of_verdict : ValidateError → Refusal
 refusal_of_verdict (Validate.Parse error) = refusal_of_integrity error
 refusal_of_verdict Validate.IntegrityFailed = IntegrityFailed
 
--- a text and the zero byte that ends it in C
+-- a text with the zero byte that ends it in C
 abbrev pub ended_text : List ℕ → List ℕ
 ended_text text = text ++ 0 ∷ []
 
--- what the refusal of a number says, by the number without its sign
+-- the text for the error of a number, without its sign
 unfoldable pub refusal_text : ℕ → List ℕ
 refusal_text number =
     if number == 1 then ended_text (codes "bytes are missing at the end")
@@ -63,7 +62,7 @@ refusal_text number =
     else if number == 29 then ended_text (codes "the handle has a value of another kind, realm or algorithm")
     else ended_text (codes "unknown refusal")
 
--- what an answer says
+-- the text for a result
 abbrev pub error_text : ℤ → List ℕ
 error_text answer =
     if int_lt answer (pos 0) then refusal_text (unsigned_abs answer)

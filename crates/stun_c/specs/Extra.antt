@@ -1,4 +1,4 @@
--- What the calls over `stun_extra` return: FINGERPRINT, types that are not known, and streams.
+-- The results of the calls over `stun_extra`: FINGERPRINT, types that are not known, and streams.
 use Rattle.std.specs.Prelude.{ℕ, ℤ, pos, ◌+◌, ◌-◌, List, [], ◌++◌, length, map, take, drop}
 use Rattle.std.specs.Prelude.{nat_lt, ◌==◌, if◌then◌else◌, Option, Some, None, Result, Ok, Err}
 use Rattle.std.specs.Option.{option_or}
@@ -29,20 +29,20 @@ use Rattle.stun_c.specs.Writing.{fit_refusal, shows_kind}
 
 -- ---- FINGERPRINT (RFC 8489, section 14.7)
 
--- the number of what a FINGERPRINT is
+-- the number for the state of a FINGERPRINT
 abbrev pub fingerprint_number : Fingerprint → ℕ
 fingerprint_number Absent = 0
 fingerprint_number Right = 1
 fingerprint_number Wrong = 2
 fingerprint_number Misplaced = 3
 
--- what `stunp_check_fingerprint` returns
+-- the result of `stunp_check_fingerprint`
 abbrev pub fingerprint_answer : List ℕ → ℤ
 fingerprint_answer bytes =
     unless_no_message (refusal bytes) (pos (fingerprint_number (fingerprint_in bytes)))
 
--- why FINGERPRINT does not end the first `count` bytes of a buffer, if it does not: they are not
--- there, they are no message, and then what the library's call refuses (law
+-- why FINGERPRINT cannot end the first `count` bytes of a buffer, if it cannot: the buffer is
+-- shorter, they are not a message, and then the errors of the library's call (law
 -- `fingerprint_is_refused`)
 abbrev pub ending_refusal : List ℕ → ℕ → Option Refusal
 ending_refusal buffer count =
@@ -51,18 +51,18 @@ ending_refusal buffer count =
     (if shows_kind FINGERPRINT (take count buffer) then Some AttributeExists
     else fit_refusal (take count buffer) (length buffer - count) 4)
 
--- what `stunp_add_fingerprint` makes
+-- the message that `stunp_add_fingerprint` makes
 abbrev pub fingerprinted_message : List ℕ → ℕ → Result (List ℕ) Refusal
 fingerprinted_message buffer count =
     refusal_or (ending_refusal buffer count) (Ok (with_fingerprint (take count buffer)))
 
 -- ---- types that are not known (sections 6.3.1 and 14.13)
 
--- the most types that a caller may name as known
+-- the largest number of types that a caller may list as known
 abbrev pub MOST_KNOWN : ℕ
 MOST_KNOWN = 256
 
--- why no types are told, if none are: too many are known, and then the message
+-- why no types are returned, if none are: too many are known, and then the errors of the message
 abbrev pub known_refusal : List ℕ → List ℕ → Option Refusal
 known_refusal bytes known =
     if nat_lt MOST_KNOWN (length known) then Some BadArgument
@@ -72,22 +72,22 @@ known_refusal bytes known =
 abbrev pub unknown_of : List ℕ → List ℕ → List AttributeType
 unknown_of bytes known = unknown_types (types_of known) bytes
 
--- their number, or why they are not told
+-- the number of types, or why they are not returned
 abbrev pub told_number : Option Refusal → List AttributeType → ℤ
 told_number None types = pos (length types)
 told_number (Some refusal) types = refusal_number refusal
 
--- the caller's numbers where types are written to their front, as many as have room
+-- the caller's numbers after types are written to their front, as many as there is room for
 abbrev pub numbers_after : List AttributeType → List ℕ → List ℕ
 numbers_after types numbers =
     take (length numbers) (map (λ kind. kind.0) types) ++ drop (length types) numbers
 
--- the same, where nothing is refused
+-- the caller's numbers, if there is no error
 abbrev pub types_after : Option Refusal → List AttributeType → List ℕ → List ℕ
 types_after None types numbers = numbers_after types numbers
 types_after (Some refusal) types numbers = numbers
 
--- the front of the answer to a request: an error response with its method and its id, and the error
+-- the front of the answer to a request: an error response with its method and its ID, and the error
 unfoldable pub refused_front : List ℕ → List ℕ
 refused_front request =
     with_attribute (empty_answer Error request) unknown_attribute_error
@@ -100,14 +100,14 @@ types_attribute types = record { kind = UNKNOWN_ATTRIBUTES; value = spelled_type
 unfoldable pub unknown_answer : List ℕ → List AttributeType → List ℕ
 unknown_answer request types = with_attribute (refused_front request) (types_attribute types)
 
--- what is made of a message with such types, which must be a request: nothing where there are none
+-- the answer to a message with such types, which must be a request: nothing if there are none
 abbrev pub answer_made : List ℕ → List AttributeType → Result (List ℕ) Refusal
 answer_made message types =
     if class_number (class_in message) == 0
     then if length types == 0 then Ok [] else Ok (unknown_answer message types)
     else Err BadArgument
 
--- what `stunp_refuse_unknown` makes
+-- the answer that `stunp_refuse_unknown` makes
 abbrev pub unknown_made : List ℕ → List ℕ → Result (List ℕ) Refusal
 unknown_made request known =
     refusal_or (known_refusal request known) (answer_made request (unknown_of request known))
@@ -117,30 +117,30 @@ abbrev pub unless_odd : Option (List AttributeType) → Result (List AttributeTy
 unless_odd None = Err MalformedAttribute
 unless_odd (Some types) = Ok types
 
--- the types that a value of UNKNOWN-ATTRIBUTES holds
+-- the types in a value of UNKNOWN-ATTRIBUTES
 abbrev pub types_of_value : Result (List ℕ) Refusal → Result (List AttributeType) Refusal
 types_of_value (Ok value) =
     unless_odd (unknown_attributes_in (record { kind = UNKNOWN_ATTRIBUTES; value = value }))
 types_of_value (Err refusal) = Err refusal
 
--- those in the attribute at a place of a message, or why there are none
+-- the types in the attribute at an offset of a message, or why there are none
 abbrev pub types_at : List ℕ → ℕ → Result (List AttributeType) Refusal
 types_at bytes place = types_of_value (value_at bytes place)
 
--- what `stunp_read_types` returns of them
+-- the result of `stunp_read_types` for these types
 abbrev pub held_number : Result (List AttributeType) Refusal → ℤ
 held_number (Ok types) = pos (length types)
 held_number (Err refusal) = refusal_number refusal
 
--- the caller's numbers, to whose front they are written
+-- the caller's numbers after they are written to the front
 abbrev pub held_after : Result (List AttributeType) Refusal → List ℕ → List ℕ
 held_after (Ok types) numbers = numbers_after types numbers
 held_after (Err refusal) numbers = numbers
 
 -- ---- streams (section 6.2.2)
 
--- how many bytes what a stream begins with has, or how many of it must be there to tell: those that
--- are there and those that it needs
+-- how many bytes the first item of a stream has, or how many bytes are needed to know that: those
+-- that have arrived and those that it needs
 abbrev pub wanted_number : ℕ → Frame → ℤ
 wanted_number there (Need more) = pos (there + more)
 wanted_number there (Whole n) = pos n

@@ -1,22 +1,22 @@
--- What the contracts of this crate say, in the order to read it.
+-- What the contracts of this crate say, in reading order.
 
--- the refusals of a verdict, and what the numbers of refusals say
+-- the errors of a verdict, and the texts for the numbers of errors
 pub mod Codes
--- what the building calls make of their arguments, or the first refusal
+-- what the building calls make of their arguments, or the first error
 pub mod Requests
--- what the calls that write a message make of the caller's buffer
+-- how the calls that write a message change the caller's buffer
 pub mod Writing
--- what each call returns, and what it leaves in the buffer of the caller
+-- the result of each call, and the caller's buffer after it
 pub mod Answers
--- what the calls that read a message return
+-- the results of the calls that read a message
 pub mod Reading
--- what the walk over the attributes returns, and where it stands
+-- the results of the walk over the attributes, and its position
 pub mod Walking
--- what the calls over `stun_extra` return: FINGERPRINT, types that are not known, and streams
+-- the results of the calls over `stun_extra`: FINGERPRINT, types that are not known, and streams
 pub mod Extra
--- what the calls for TURN return and write
+-- the results of the calls for TURN, and what they write
 pub mod Turn
--- what the laws of this crate say
+-- the statements of the laws of this crate
 pub mod Laws
--- what no clause of a public call cites: what private functions alone use
+-- definitions that no clause of a public call cites: what private functions alone use
 pub mod code

@@ -1,4 +1,4 @@
--- What the walk over a message's attributes returns, which goes on from a cursor.
+-- The results of the walk over a message's attributes, which continues from a cursor.
 use Rattle.std.specs.Prelude.{ℕ, ℤ, List, length, nat_lt}
 use Rattle.std.specs.Prelude.{◌==◌, ◌||◌, if◌then◌else◌, Option, Some, None}
 use Rattle.stun_base.specs.Header.{HEADER_LENGTH}
@@ -17,22 +17,22 @@ use Rattle.stun_numbers.specs.Refusals.{refusal_number, message_refusal}
 use Rattle.stun_c.specs.declared.walk.Cursor.{Cursor}
 use Rattle.stun_c.specs.Reading.{place_number}
 
--- what is visible ahead of a cursor, by its number
+-- what is visible after a cursor, by its number
 abbrev pub visibility_from : ℕ → Visibility
 visibility_from hidden =
     if hidden == 0 then Everything
     else if hidden == 1 then AfterIntegrity
     else if hidden == 2 then AfterIntegritySha256 else Nothing
 
--- what is ahead of a cursor: at 0 all visible attributes, and at another place those from there
--- that are visible
+-- the attributes after a cursor: at 0 all visible attributes, and at another offset the visible
+-- ones from there on
 abbrev pub ahead : Cursor → List ℕ → List Member
 ahead cursor bytes =
     if cursor.place == 0 then visible bytes
     else visible_after (visibility_from cursor.hidden) (walk_from cursor.place bytes)
 
--- why nothing is read at a cursor, if nothing is: at 0 the bytes are no message, and another place
--- is not after their header or past their end
+-- why nothing is read at a cursor, if nothing is: at 0 the bytes are not a message, and another
+-- offset is not after their header or is past their end
 abbrev pub cursor_refusal : Cursor → List ℕ → Option Refusal
 cursor_refusal cursor bytes =
     if cursor.place == 0 then message_refusal (refusal bytes)
@@ -40,7 +40,7 @@ cursor_refusal cursor bytes =
     then Some BadArgument
     else None
 
--- what `stunp_walk` returns of the attribute that it comes to, if there is one: where its value
+-- the result of `stunp_walk` for the attribute that it finds, if there is one: where its value
 -- begins
 abbrev pub walk_answer : Option Refusal → Option Member → ℤ
 walk_answer (Some refusal) found = refusal_number refusal

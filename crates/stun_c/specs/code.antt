@@ -3,7 +3,7 @@
 pub mod Room
 -- a message and its FINGERPRINT, as it is written
 pub mod Ended
--- how many bytes a frame speaks of
+-- the number of bytes that a frame states
 pub mod Frames
 -- ChannelData and its padding, as it is written
 pub mod Channels

@@ -1,4 +1,4 @@
-//! Addresses, plain or hidden under a transaction id (RFC 8489, sections 14.1 and 14.2).
+//! Writes addresses, plain or XORed with a transaction ID (RFC 8489, sections 14.1 and 14.2).
 
 ghost use Rattle.std.specs.Prelude.{◌≡◌, ◌≤◌, ◌<◌, ◌+◌, length, take, true, IfOk, IfErr, Some};
 ghost use Rattle.stun_base.specs.Header.{transaction_id_field};
@@ -15,16 +15,16 @@ use stun_base::transaction_id::TransactionId;
 use stun_numbers::message::base_message;
 use stun_numbers::refusal::Refusal;
 
-/// What a port is xored with: the first half of the magic cookie.
+/// The number with which a port is XORed: the first half of the magic cookie.
 pub const PORT_KEY: u16 = 0x2112;
 
-/// The family of IPv4.
+/// The address family of IPv4.
 pub const IPV4: u8 = 1;
 
-/// The family of IPv6.
+/// The address family of IPv6.
 pub const IPV6: u8 = 2;
 
-/// Changes each octet to its exclusive or with the byte of the key at the same index.
+/// XORs each octet with the byte of the key at the same index.
 pub fn xor_with(octets: &mut [u8], key: &[u8])
     requires { length octets.old ≤ length key.now }
     ensures { octets.new ≡ xor_bytes octets.old key.now }
@@ -34,7 +34,8 @@ pub fn xor_with(octets: &mut [u8], key: &[u8])
     }
 }
 
-/// Returns the key with which addresses are XORed: the magic cookie, and then the transaction ID.
+/// Returns the key with which addresses are XORed: the magic cookie, followed by the transaction
+/// ID.
 pub fn xor_key(id: TransactionId) -> [u8; 16]
     ensures { result ≡ xor_key id }
 {
@@ -43,7 +44,7 @@ pub fn xor_key(id: TransactionId) -> [u8; 16]
     key
 }
 
-/// Writes the value of an address.
+/// Writes the value of an attribute with an address that is not XORed.
 fn write_address(value: &mut [u8], octets: &[u8], port: u16)
     requires { length value.old ≡ 4 + length octets.now }
     ensures { value.new ≡ plain_value octets.now port }
@@ -55,7 +56,7 @@ fn write_address(value: &mut [u8], octets: &[u8], port: u16)
     back.copy_from_slice(octets);
 }
 
-/// Writes the value that hides an address.
+/// Writes the value of an attribute with an XORed address.
 #[tactic(auto, unfolding(crate::specs::Writing::hidden_value))]
 fn write_hidden(value: &mut [u8], octets: &[u8], port: u16, id: TransactionId)
     requires short { length octets.now ≤ 16 }
@@ -67,7 +68,7 @@ fn write_hidden(value: &mut [u8], octets: &[u8], port: u16, id: TransactionId)
     xor_with(back, &xor_key(id));
 }
 
-/// Returns whether these are the octets of an address and a port.
+/// Returns whether `octets` has the length of an IPv4 or IPv6 address, and `port` is below 65536.
 fn is_address(octets: &[u8], port: u32) -> bool
     ensures answer { result ≡ is_address octets.now port }
     ensures limits { result ≡ true → (port < 65536) × (length octets.now ≤ 16) }
@@ -82,8 +83,8 @@ fn is_address(octets: &[u8], port: u32) -> bool
     }
 }
 
-/// Returns the transaction ID of the message at the front of the buffer, if an attribute may be
-/// added to it.
+/// Returns the transaction ID of the message in the first `count` bytes of the buffer. Fails if no
+/// attribute may be added to this message.
 fn base_id(buffer: &[u8], count: usize) -> Result<TransactionId, Refusal>
     ensures ok { IfOk result (λ id. id ≡ transaction_id_field (take count buffer.now)) }
     ensures err { IfErr result (λ refusal. base_refusal buffer.now count ≡ Some refusal) }
@@ -92,8 +93,8 @@ fn base_id(buffer: &[u8], count: usize) -> Result<TransactionId, Refusal>
     Ok(message.transaction_id())
 }
 
-/// Adds an attribute of a type that hides these octets to the message in the first `count` bytes of
-/// the buffer.
+/// Adds an attribute of this type, with the XORed address of these octets and this port, to the
+/// message in the first `count` bytes of the buffer.
 fn add_hidden(buffer: &mut [u8], count: usize, kind: AttributeType, octets: &[u8], port: u16) -> i64
     requires { length octets.now ≤ 16 }
     ensures { Writes (added_attribute buffer.old count kind.0 (hidden_value octets.now port
@@ -110,8 +111,9 @@ fn add_hidden(buffer: &mut [u8], count: usize, kind: AttributeType, octets: &[u8
     }
 }
 
-/// Adds an attribute of a type with an address, in the form of XOR-MAPPED-ADDRESS, to the message
-/// in the first `count` bytes of the buffer. Returns the new length, or the number of the error.
+/// Adds an attribute of this type, with an address in the form of XOR-MAPPED-ADDRESS, to the
+/// message in the first `count` bytes of the buffer. Returns the new length, or a negative error
+/// code.
 pub fn add_address(
     buffer: &mut [u8],
     count: usize,
@@ -128,8 +130,8 @@ pub fn add_address(
     add_hidden(buffer, count, kind, octets, port as u16)
 }
 
-/// Adds an attribute of a type with an address, in the form of MAPPED-ADDRESS, to the message in
-/// the first `count` bytes of the buffer. Returns the new length, or the number of the error.
+/// Adds an attribute of this type, with an address in the form of MAPPED-ADDRESS, to the message in
+/// the first `count` bytes of the buffer. Returns the new length, or a negative error code.
 pub fn add_plain(buffer: &mut [u8], count: usize, kind: u32, octets: &[u8], port: u32) -> i64
     ensures { Writes (added_plain_address buffer.old count kind octets.now port) buffer.old result
         buffer.new }

@@ -1,9 +1,9 @@
-//! What the numbers of refusals say, in English, as `include/stunp.h` has it.
+//! The English texts for the errors in `include/stunp.h`.
 
 ghost use Rattle.std.specs.Prelude.{◌≡◌};
 ghost use Rattle.stun_c.specs.Codes.{error_text, refusal_text};
 
-/// Returns what the refusal of this number says, without its sign, and a zero byte.
+/// Returns the text for the error with the code `-number`, with a terminating zero.
 #[tactic(auto, unfolding(crate::specs::Codes::refusal_text))]
 fn refusal_text(number: u64) -> &'static [u8]
     ensures { result.now ≡ refusal_text number }
@@ -42,7 +42,7 @@ fn refusal_text(number: u64) -> &'static [u8]
     }
 }
 
-/// Returns the text for a number that a call returned, with a terminating zero.
+/// Returns the text for the result of a call, with a terminating zero.
 pub fn error_text(answer: i64) -> &'static [u8]
     ensures { result.now ≡ error_text answer }
 {

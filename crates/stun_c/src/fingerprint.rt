@@ -1,4 +1,4 @@
-//! FINGERPRINT, checked and added (RFC 8489, section 14.7).
+//! Checks FINGERPRINT, and adds it to messages (RFC 8489, section 14.7).
 
 ghost use Rattle.std.specs.Prelude.{◌≡◌, ◌≤◌, ◌+◌, ◌++◌, length, pos, take, drop, IfErr, OnOk};
 ghost use Rattle.std.specs.Prelude.{Some, None};
@@ -16,10 +16,10 @@ use stun_extra::fingerprint::{FINGERPRINT_LENGTH, Fingerprint, check_fingerprint
 use stun_numbers::refusal::Refusal;
 use stun_types::message::Message;
 
-/// What the CRC-32 of a message is XORed with.
+/// The number that the CRC-32 of a message is XORed with.
 const FINGERPRINT_XOR: u32 = 0x5354_554E;
 
-/// Returns what a FINGERPRINT is, as a number.
+/// Returns the `stunp_fingerprint` for the result of a check.
 fn fingerprint_number(fingerprint: Fingerprint) -> i64
     ensures { result ≡ pos (fingerprint_number fingerprint) }
 {
@@ -31,8 +31,7 @@ fn fingerprint_number(fingerprint: Fingerprint) -> i64
     }
 }
 
-/// Checks the FINGERPRINT of a message. Returns the number of the result, or the number of the
-/// error.
+/// Checks the FINGERPRINT of a message. Returns a `stunp_fingerprint`, or a negative error code.
 pub fn check(message: &[u8]) -> i64
     ensures { result ≡ fingerprint_answer message.now }
 {
@@ -42,8 +41,8 @@ pub fn check(message: &[u8]) -> i64
     }
 }
 
-/// Returns whether FINGERPRINT can be added to the message at the front of the buffer, or the first
-/// reason against it.
+/// Checks that FINGERPRINT can be added to the message in the first `count` bytes of the buffer. If
+/// it cannot, fails with the first error that applies.
 fn endable(buffer: &[u8], count: usize) -> Result<(), Refusal>
     ensures ok { OnOk result (ending_refusal buffer.now count ≡ None) }
     ensures room { OnOk result (HasRoom count 4 (length buffer.now)) }
@@ -59,7 +58,7 @@ fn endable(buffer: &[u8], count: usize) -> Result<(), Refusal>
     fits(&message, buffer.len() - count, 4)
 }
 
-/// Returns the four bytes of the FINGERPRINT after these bytes of a message.
+/// Returns the value of a FINGERPRINT that follows these bytes of a message.
 #[tactic(auto, unfolding(crate::specs::code::Ended::fingerprint_value))]
 fn value_after(bytes: &[u8]) -> [u8; 4]
     ensures { result ≡ fingerprint_value bytes.now }
@@ -67,8 +66,8 @@ fn value_after(bytes: &[u8]) -> [u8; 4]
     (crc32(bytes) ^ FINGERPRINT_XOR).to_be_bytes()
 }
 
-/// Writes the FINGERPRINT after these bytes of a message to the front of a buffer that has room for
-/// it.
+/// Writes to the front of a buffer the FINGERPRINT that follows these bytes of a message. The
+/// buffer must have room for it.
 fn spell_after(bytes: &[u8], buffer: &mut [u8])
     requires { 8 ≤ length buffer.old }
     ensures { buffer.new ≡ fingerprint_after bytes.now ++ drop 8 buffer.old }
@@ -77,8 +76,9 @@ fn spell_after(bytes: &[u8], buffer: &mut [u8])
     spell(buffer, AttributeType::FINGERPRINT, &value);
 }
 
-/// Raises the length field of the message at the front of the buffer and writes its FINGERPRINT
-/// after it. The answer is where that ends.
+/// Appends FINGERPRINT to the message in the first `count` bytes of the buffer: sets the length
+/// field of the message to include FINGERPRINT, and writes FINGERPRINT after the message. Returns
+/// the new length.
 fn append(buffer: &mut [u8], count: usize) -> i64
     requires { HasRoom count 4 (length buffer.old) }
     ensures answer { result ≡ pos (count + 8) }
@@ -93,7 +93,7 @@ fn append(buffer: &mut [u8], count: usize) -> i64
 }
 
 /// Adds FINGERPRINT to the message in the first `count` bytes of the buffer. Returns the new
-/// length, or the number of the error.
+/// length, or a negative error code.
 pub fn add(buffer: &mut [u8], count: usize) -> i64
     ensures { Writes (fingerprinted_message buffer.old count) buffer.old result buffer.new }
 {

@@ -1,4 +1,4 @@
-//! Where what a stream of bytes begins with ends, and which packets are those of STUN.
+//! Finds the end of the first message in a stream, and recognizes the packets that are for STUN.
 
 ghost use Rattle.std.specs.Prelude.{◌≡◌, ◌↔◌, ◌⊎◌, ◌<◌, ◌^◌, ℕ, length, pos, slice_index};
 ghost use Rattle.stun_extra.specs.Framing.{IsStunPacket, frame_of, packet_frame_of, turn_frame_of};
@@ -8,7 +8,7 @@ ghost use Rattle.stun_c.specs.Extra.{wanted_number};
 use stun_extra::framing::{Frame, is_stun};
 use stun_numbers::refusal::Refusal;
 
-/// Returns 1 if a packet belongs to STUN, and otherwise 0.
+/// Returns 1 if a packet is for STUN, and otherwise 0.
 pub fn is_stun_packet(packet: &[u8]) -> i64
     ensures yes { (result ≡ pos 1) ↔ IsStunPacket packet.now }
     ensures no { (result ≡ pos 1) ⊎ (result ≡ pos 0) }
@@ -16,13 +16,14 @@ pub fn is_stun_packet(packet: &[u8]) -> i64
     if is_stun(packet) { 1 } else { 0 }
 }
 
-/// Bytes are below 256.
+/// States for the proofs that bytes are below 256.
 fn bytes_fit(bytes: &[u8])
     ensures { (i : ℕ) → slice_index bytes.now i < 2 ^ 8 }
 {}
 
-/// Returns how many bytes the whole frame has, or how many are needed to tell, of which `there`
-/// have arrived; or `NotStun`.
+/// Returns the length of the whole frame if it is known, and otherwise the number of bytes that are
+/// needed to determine it. `there` is the number of bytes that have arrived. Returns the code of
+/// `NotStun` if these bytes are not STUN.
 fn wanted_number(there: usize, frame: Frame) -> i64
     requires { wanted_bytes there frame < 2 ^ 63 }
     ensures { result ≡ wanted_number there frame }
@@ -35,7 +36,7 @@ fn wanted_number(there: usize, frame: Frame) -> i64
 }
 
 /// Returns the length of the message at the front of the bytes, or 20 if there are fewer bytes than
-/// a header has. Returns the number of `NotStun` if they are not a header.
+/// a header has. Returns the code of `NotStun` if the bytes do not begin with a header.
 #[tactic(auto, using(crate::proofs::Frames::few_of_message))]
 pub fn next_frame(bytes: &[u8]) -> i64
     ensures { result ≡ wanted_number (length bytes.now) (frame_of bytes.now) }
@@ -44,8 +45,9 @@ pub fn next_frame(bytes: &[u8]) -> i64
     wanted_number(bytes.len(), stun_extra::framing::next_frame(bytes))
 }
 
-/// Returns the length of the packet at the front of the bytes, which comes after its length in 2
-/// bytes (RFC 4571).
+/// Returns the length of the packet at the front of the bytes, including the 2 bytes before it that
+/// state its length (RFC 4571). If too few bytes have arrived, returns the number of bytes that are
+/// needed to determine the length.
 #[tactic(auto, using(crate::proofs::Frames::few_of_packet))]
 pub fn next_packet_frame(bytes: &[u8]) -> i64
     ensures { result ≡ wanted_number (length bytes.now) (packet_frame_of bytes.now) }
@@ -54,7 +56,9 @@ pub fn next_packet_frame(bytes: &[u8]) -> i64
     wanted_number(bytes.len(), stun_extra::framing::next_packet_frame(bytes))
 }
 
-/// Returns the length of the message or the ChannelData at the front of the bytes.
+/// Returns the length of the STUN message or ChannelData message at the front of the bytes,
+/// including the padding of ChannelData. If too few bytes have arrived, returns the number of bytes
+/// that are needed to determine the length.
 #[tactic(auto, using(crate::proofs::Frames::few_of_turn))]
 pub fn next_turn_frame(bytes: &[u8]) -> i64
     ensures { result ≡ wanted_number (length bytes.now) (turn_frame_of bytes.now) }

@@ -1,4 +1,4 @@
-//! The header of a message in one struct.
+//! Reads the header of a message into a struct.
 
 ghost use Rattle.std.specs.Prelude.{◌≡◌, IfOk, IfErr, Some, None, OnOk};
 ghost use Rattle.stun_base.specs.Header.{header_refusal};
@@ -10,7 +10,7 @@ use stun_base::header::{HEADER_LENGTH, MessageHeader};
 use stun_base::message_type::MessageClass;
 use stun_numbers::refusal::Refusal;
 
-/// What a header says.
+/// The fields of a message header.
 #[repr(C)]
 #[derive(Debug, Clone, Copy, PartialEq, Eq)]
 pub struct Header {
@@ -18,13 +18,13 @@ pub struct Header {
     pub message_class: u32,
     /// The method, below 4096.
     pub method: u32,
-    /// The number of bytes of the message, those of the header included.
+    /// The length of the message in bytes, including the header.
     pub length: usize,
-    /// The transaction id.
+    /// The transaction ID.
     pub id: [u8; 12],
 }
 
-/// Returns the two bits of a class.
+/// Returns the number of a class: the value of its two bits.
 pub fn class_number(class: MessageClass) -> u32
     ensures { result ≡ class_number class }
 {
@@ -36,7 +36,7 @@ pub fn class_number(class: MessageClass) -> u32
     }
 }
 
-/// Reads the header that these bytes begin with.
+/// Returns the fields of the message header at the front of `bytes`.
 fn fields_of(bytes: &[u8]) -> Result<Header, StunParseError>
     ensures ok { IfOk result (λ header. header ≡ header_in bytes.now) }
     ensures accepted { OnOk result (header_refusal bytes.now ≡ None) }
@@ -54,8 +54,8 @@ fn fields_of(bytes: &[u8]) -> Result<Header, StunParseError>
     })
 }
 
-/// Writes the fields of the header at the front of the bytes. Returns 0, or the number of the
-/// error.
+/// Writes to `out` the fields of the message header at the front of `bytes`. Returns 0, or a
+/// negative error code.
 pub fn read_header(bytes: &[u8], out: &mut Header) -> i64
     ensures answer { result ≡ header_answer bytes.now }
     ensures written { out.new ≡ header_after (header_refusal bytes.now) bytes.now out.old }

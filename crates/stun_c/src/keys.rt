@@ -1,4 +1,4 @@
-//! Keys and hashes of texts.
+//! Makes long-term keys and USERHASH values from texts.
 
 ghost use Rattle.std.specs.Prelude.{◌≡◌, IfOk, IfErr, Ok, Err};
 ghost use Rattle.stun_numbers.specs.Algorithms.{algorithm_numbered};
@@ -12,8 +12,8 @@ use stun_numbers::algorithm::algorithm_numbered;
 use stun_numbers::refusal::Refusal;
 use stun_numbers::text::text;
 
-/// Copies the long-term key of a user of a realm, for the algorithm with this number, to the front
-/// of the buffer. Returns its length, or the number of the error.
+/// Writes the long-term key of a user in a realm, for the algorithm with this number, to the front
+/// of the buffer. Returns its length, or a negative error code.
 pub fn write_key(
     algorithm: u32,
     username: &[u8],
@@ -37,7 +37,7 @@ pub fn write_key(
     }
 }
 
-/// Returns the USERHASH of a user of a realm.
+/// Returns the USERHASH of a user in a realm.
 pub fn userhash_of_texts(username: &[u8], realm: &[u8]) -> Result<[u8; 32], Refusal>
     ensures ok { IfOk result (λ hash. userhash_of_texts username.now realm.now ≡ Ok hash) }
     ensures err { IfErr result (λ refusal. userhash_of_texts username.now realm.now ≡ Err refusal) }

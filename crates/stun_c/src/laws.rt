@@ -1,5 +1,5 @@
-//! What `include/stunp.h` says of several calls: numbers of bytes, a whole walk, and what the calls
-//! over `stun_extra` refuse and write.
+//! Laws about the definitions that the contracts of this crate cite: statements of
+//! `include/stunp.h` about several calls. They do nothing when they run.
 
 ghost use Rattle.std.specs.Prelude.{◌≡◌, ◌≤◌, ◌<◌, ◌^◌, ◌+◌, ◌⊎◌, ℕ, ℤ, pos, suc, Bool, List, []};
 ghost use Rattle.std.specs.Prelude.{◌∷◌, ◌++◌, drop, take, length, map};
@@ -63,7 +63,9 @@ use stun_base::algorithm::IntegrityAlgorithm;
 use stun_extra::framing::Frame;
 use stun_numbers::refusal::Refusal;
 
-/// A key has 16 or 32 bytes, a USERHASH 32, and a request those of its header, USERNAME and digest.
+/// A long-term key has 16 bytes for HMAC-SHA1 and 32 for HMAC-SHA256, and a USERHASH has 32 bytes.
+/// A request of `stunp_build_signed` is as long as its header, its USERNAME and its signature
+/// together.
 pub fn stated_lengths()
     ensures long_term_key { (algorithm : IntegrityAlgorithm) (username realm password : List ℕ)
         → length (long_term_key algorithm username realm password) ≡ key_length algorithm }
@@ -73,16 +75,17 @@ pub fn stated_lengths()
         ≡ 28 + padded_length (length username) + digest_length algorithm }
 {}
 
-/// A walk is calls of `stunp_walk` on one message. The first has a cursor of zeros, and each other
-/// the cursor that the one before left. They come to the visible attributes, each once and in their
-/// order, and then to none.
+/// If `stunp_walk` is called for one message, first with a cursor of zeros and then always with the
+/// cursor that the last call has left, it returns each visible attribute once, in the order of the
+/// message, and then reports that none is left.
 pub fn a_walk_comes_to_what_is_visible()
     ensures { (bytes : List ℕ) (cursors : ℕ → Cursor) → (cursors 0).place ≡ 0
         → ((n : ℕ) → ahead (cursors (suc n)) bytes ≡ drop 1 (ahead (cursors n) bytes))
         → (n : ℕ) → slice_get (ahead (cursors n) bytes) 0 ≡ slice_get (visible bytes) n }
 {}
 
-/// `stunp_add_fingerprint` refuses a message as `stun_extra` does, and for the same reason.
+/// `stunp_add_fingerprint` fails for the same messages as the call of `stun_extra` that adds
+/// FINGERPRINT, and for the same reason.
 pub fn fingerprint_is_refused()
     ensures { (message : List ℕ) (room : ℕ)
         → option_map (refusal_of_write true) (fingerprint_refusal message room)
@@ -90,36 +93,38 @@ pub fn fingerprint_is_refused()
         (fit_refusal message room 4) }
 {}
 
-/// What `stunp_refuse_unknown` writes is spelled as any message: an error response with the method
-/// and the id of the request, its ERROR-CODE, and UNKNOWN-ATTRIBUTES.
+/// The message that `stunp_refuse_unknown` writes encodes an error response with the method and the
+/// transaction ID of the request, and with the attributes ERROR-CODE and UNKNOWN-ATTRIBUTES.
 pub fn refusal_is_spelled()
     ensures { (request : List ℕ) (types : List AttributeType) → unknown_answer request types
         ≡ spelled_message (type_number MessageClass.Error (method_of (type_field request)))
         (transaction_id_field request) (unknown_attribute_error ∷ types_attribute types ∷ []) }
 {}
 
-/// The value of an attribute is in the message at the place that the calls return and take.
+/// The offset that the calls return for an attribute, and that they take as an argument, is the
+/// offset of its value in the message.
 pub fn a_value_is_where_it_begins()
     ensures { (bytes : List ℕ) (place : ℕ) → IfOk (value_at bytes (attribute_place place))
         (λ value. take (length value) (drop place bytes) ≡ value) }
 {}
 
-/// What `stunp_error_text` writes has no more bytes than `STUNP_LONGEST_ERROR_TEXT`.
+/// The text that `stunp_error_text` writes has at most `STUNP_LONGEST_ERROR_TEXT` bytes.
 pub fn an_error_text_is_short()
     ensures { (answer : ℤ) → length (error_text answer) ≤ 64 }
 {}
 
-/// What `stunp_build_channel_data` writes, `stunp_read_channel_data` reads: the same channel and
-/// the same data, with the padding of a stream or without, whatever bytes follow.
+/// `stunp_read_channel_data` returns the channel number and the data that were passed to
+/// `stunp_build_channel_data`, whether or not the message is padded, and whatever bytes follow it.
 pub fn channel_data_is_read_back()
     ensures { (padded : Bool) (channel : ℕ) (data_bytes rest : List ℕ) → 0x4000 ≤ channel
         → channel < 0x8000 → length data_bytes < 2 ^ 16
         → IsReadAs channel data_bytes (channel_item padded channel data_bytes ++ rest) }
 {}
 
-/// A call that verifies, parses or checks returns a number of success only for what the library finds
-/// so: a signature that is valid under the key, by the algorithm of the number; a message; a message
-/// with a right FINGERPRINT.
+/// `stunp_verify` returns an algorithm only if the library finds that the signature of this
+/// algorithm is valid under the key. `stunp_parse` returns 0 only if the library parses the bytes
+/// as a message, and `stunp_check_fingerprint` returns 1 only if they are a message whose
+/// FINGERPRINT is right.
 pub fn verdicts_are_those_of_the_library()
     ensures valid { (bytes key : List ℕ) (n : ℕ) → verify_answer bytes key ≡ pos n
         → (algorithm : IntegrityAlgorithm) × (refusal bytes ≡ None)
@@ -129,8 +134,8 @@ pub fn verdicts_are_those_of_the_library()
         → (refusal bytes ≡ None) × (fingerprint_in bytes ≡ Right) }
 {}
 
-/// What the calls that sign, and those that make keys, write is what the library makes of the same
-/// arguments.
+/// The calls that sign a message, add FINGERPRINT or make a key write the same bytes as the library
+/// does for the same arguments.
 pub fn signatures_are_those_of_the_library()
     ensures request { (algorithm : IntegrityAlgorithm) (id username key bytes : List ℕ)
         → signed_request (Some algorithm) id username key ≡ Ok bytes
@@ -148,8 +153,8 @@ pub fn signatures_are_those_of_the_library()
         → bytes ≡ with_fingerprint (take count buffer) }
 {}
 
-/// A call that adds an attribute leaves the message in the buffer as it was, with this attribute
-/// behind it; and a call that is refused leaves the whole buffer.
+/// A call that adds an attribute writes it after the message, and changes nothing of the message
+/// except its length field. A call that fails leaves the whole buffer unchanged.
 pub fn attributes_are_added_behind_the_message()
     ensures any { (buffer : List ℕ) (count attribute : ℕ) (value bytes : List ℕ)
         → added_number buffer count attribute value ≡ Ok bytes
@@ -181,9 +186,10 @@ pub fn attributes_are_added_behind_the_message()
         × (after ≡ bytes ++ rest)) ⊎ (after ≡ before) }
 {}
 
-/// A message that is begun has its class, its method and its ID, and no attribute; ChannelData is
-/// that of the library; and the answer to a request is refused by the types that the caller does not
-/// name as known.
+/// `stunp_begin` writes a message with the class, the method and the transaction ID that were
+/// passed, and without attributes. `stunp_build_channel_data` writes the ChannelData message of the
+/// library. `stunp_refuse_unknown` writes nothing, or the error response that lists the types of
+/// the request that must be understood and that the caller does not know.
 pub fn what_is_begun_is_what_was_asked_for()
     ensures message { (class method : ℕ) (id bytes : List ℕ)
         → begun_message class method id ≡ Ok bytes
@@ -196,8 +202,8 @@ pub fn what_is_begun_is_what_was_asked_for()
         → (bytes ≡ []) ⊎ (bytes ≡ unknown_answer request (unknown_of request known)) }
 {}
 
-/// What a call reads is in the message that it reads: the class, the method and the ID of a message
-/// that is one, and the value of an attribute that is whole.
+/// The values that a call reads are in the message: its class, its method, its transaction ID, and
+/// the values of ERROR-CODE, XOR-MAPPED-ADDRESS, CHANNEL-NUMBER and REQUESTED-TRANSPORT.
 pub fn what_is_read_is_in_the_message()
     ensures class { (bytes : List ℕ) (n : ℕ) → class_answer bytes ≡ pos n
         → (refusal bytes ≡ None) × (n ≡ class_number (class_in bytes)) }
@@ -219,8 +225,8 @@ pub fn what_is_read_is_in_the_message()
         → transport_in bytes ≡ Ok n }
 {}
 
-/// The calls that read the attribute at an offset read one value, as a number, a text, types or an
-/// address.
+/// The calls that read the attribute at an offset as a number, a text, a list of types or an
+/// address all read the same value.
 pub fn attributes_are_read_from_their_value()
     ensures number { (bytes value : List ℕ) (place : ℕ) → sized_at bytes place ≡ Ok value
         → value_at bytes place ≡ Ok value }
@@ -235,10 +241,10 @@ pub fn attributes_are_read_from_their_value()
         × (octets ≡ xor_bytes a.octets (xor_key (transaction_id_field bytes))) }
 {}
 
-/// A call that comes to an attribute comes to the one that the library finds in the message, and
-/// says where its value begins: the first of a type, the next one after an offset, or the one ahead
-/// of a cursor. Where it comes to none it returns 0, or no number of success if it was to find one.
-/// What it writes is of this attribute.
+/// A call that finds an attribute finds the same attribute as the library: the first of a type, the
+/// next one after an offset, or the next one from a cursor on. It returns the offset of the value,
+/// and writes the type and the length of the attribute. If there is no such attribute it returns 0,
+/// or `STUNP_MISSING_ATTRIBUTE` if it was called for a type.
 pub fn attributes_that_are_found_are_in_the_message()
     ensures found { (bytes : List ℕ) (kind before : ℕ) (part : TypedValue → ℕ) (n : ℕ)
         → find_answer (finding_refusal kind bytes) (first_of kind (visible bytes)) ≡ pos n
@@ -260,9 +266,9 @@ pub fn attributes_that_are_found_are_in_the_message()
         before) }
 {}
 
-/// What a call writes beside its result is of the value that it reads: the length of a text, a
-/// number, the port of an address, the parts of ChannelData and the types in a list, as many as
-/// have room. No call writes more than its buffer has room for.
+/// The values that a call writes in addition to its result are those that it reads: the length of a
+/// text, a number, the port of an address, the channel and the length of ChannelData, and as many
+/// types of a list as there is room for. No call writes more than its buffer has room for.
 pub fn what_is_written_is_what_was_read()
     ensures text { (x : Result (List ℕ) Refusal) (place before n : ℕ)
         → text_answer x place ≡ pos n → (text : List ℕ) × (x ≡ Ok text) × (n ≡ place + 4)

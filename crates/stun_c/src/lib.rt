@@ -1,8 +1,9 @@
 //! The calls for programs in C and Rust, which `include/stunp.h` declares.
 //!
-//! Each of them calls the crates below, and its clause cites their definitions. None allocates, and
-//! calls share nothing. A call that fails returns the number of its error, which is negative. The
-//! header lists the errors of each call, in the order in which they are tested.
+//! Each call does its work with the crates below, and its contract cites the definitions of those
+//! crates. No call allocates, and calls share no state. A call that fails returns the code of its
+//! error, which is negative (`Refusal::code`). The header lists the errors of each call, in the
+//! order in which they are tested.
 #![tactic(auto)]
 
 ghost use Rattle.std.specs.Prelude.{◌≡◌, ◌↔◌, ◌⊎◌, drop, length, pos, slice_get, IfNone, IfSome};
@@ -69,7 +70,7 @@ use value::attribute_place;
 use verdict::verdict;
 use walk::Cursor;
 
-/// Checks that the bytes are one whole message, and returns 0.
+/// Checks that `message` is one whole STUN message. Returns 0, or the code of the error.
 #[unsafe(no_mangle)]
 pub extern "C" fn stunp_parse(message: &[u8]) -> i64
     ensures { result ≡ parse_answer message.now }
@@ -80,7 +81,8 @@ pub extern "C" fn stunp_parse(message: &[u8]) -> i64
     }
 }
 
-/// Verifies the signature of a message with a key, and returns the algorithm of the signature.
+/// Verifies the signature of a message with a key, and returns the algorithm of the signature: 1
+/// for HMAC-SHA1, 2 for HMAC-SHA256.
 #[unsafe(no_mangle)]
 pub extern "C" fn stunp_verify(message: &[u8], key: &[u8]) -> i64
     ensures { result ≡ verify_answer message.now key.now }
@@ -91,8 +93,8 @@ pub extern "C" fn stunp_verify(message: &[u8], key: &[u8]) -> i64
     }
 }
 
-/// Writes a Binding request with this ID and USERNAME, signed with this key, and returns its
-/// length.
+/// Writes to `out` a Binding request with this transaction ID and this USERNAME, signed with this
+/// key, and returns its length.
 #[unsafe(no_mangle)]
 pub extern "C" fn stunp_build_signed(
     algorithm: u32,
@@ -111,7 +113,7 @@ pub extern "C" fn stunp_build_signed(
     }
 }
 
-/// Writes the long-term key of a user for an algorithm, and returns its length, 16 or 32.
+/// Writes to `out` the long-term key of a user for an algorithm, and returns its length, 16 or 32.
 #[unsafe(no_mangle)]
 pub extern "C" fn stunp_long_term_key(
     algorithm: u32,
@@ -126,7 +128,7 @@ pub extern "C" fn stunp_long_term_key(
     write_key(algorithm, username, realm, password, out)
 }
 
-/// Writes the USERHASH of a user in a realm, and returns its length, 32.
+/// Writes to `out` the USERHASH of a user in a realm, and returns its length, 32.
 #[unsafe(no_mangle)]
 pub extern "C" fn stunp_userhash(username: &[u8], realm: &[u8], out: &mut [u8]) -> i64
     ensures { WritesWithin (userhash_of_texts username.now realm.now) out.old result out.new }
@@ -137,10 +139,11 @@ pub extern "C" fn stunp_userhash(username: &[u8], realm: &[u8], out: &mut [u8]) 
     }
 }
 
-/// Whether this is the proved library. The export has another value here.
+/// Whether this is the proved library. In the exported library this constant is false.
 const IS_PROVED: bool = true;
 
-/// Returns whether this is the proved library. It is: the archive is made of what was proved.
+/// Returns `true`, because this is the proved library: its archive is built from the sources that
+/// were proved.
 #[unsafe(no_mangle)]
 pub extern "C" fn stunp_is_proved() -> bool
     ensures { result ≡ true }
@@ -148,26 +151,26 @@ pub extern "C" fn stunp_is_proved() -> bool
     IS_PROVED
 }
 
-/// Returns the version of this library: 10000 times its first number, plus 100 times its second,
-/// plus its third.
+/// Returns the version of this library, for example 300 for release 0.3.0: 10000 times the first
+/// number, plus 100 times the second, plus the third.
 #[unsafe(no_mangle)]
 pub extern "C" fn stunp_version() -> i64
-    ensures { result ≡ pos 200 }
+    ensures { result ≡ pos 300 }
 {
-    200
+    300
 }
 
-/// Returns the version too. Each release that breaks compatibility changes the name of this call,
-/// so that a program that was compiled against another release does not link.
+/// Returns the same number as `stunp_version`. Each release that breaks compatibility changes the
+/// name of this call, so a program that was compiled against another release does not link.
 #[unsafe(no_mangle)]
-pub extern "C" fn stunp_release_0_2() -> i64
-    ensures { result ≡ pos 200 }
+pub extern "C" fn stunp_release_0_3() -> i64
+    ensures { result ≡ pos 300 }
 {
-    200
+    300
 }
 
-/// Writes an English text for the result of a call, with a zero byte at its end, and returns the
-/// number of bytes written.
+/// Writes to `out` an English text for the result of a call, with a zero byte at its end, and
+/// returns the number of bytes written.
 #[unsafe(no_mangle)]
 pub extern "C" fn stunp_error_text(answer: i64, out: &mut [u8]) -> i64
     ensures { WritesWithin (Ok (error_text answer)) out.old result out.new }
@@ -175,8 +178,8 @@ pub extern "C" fn stunp_error_text(answer: i64, out: &mut [u8]) -> i64
     write(out, error_text(answer))
 }
 
-/// Writes a message without attributes, with this class, method and ID, and returns its length,
-/// 20.
+/// Writes to `out` a message without attributes, with this class, method and transaction ID, and
+/// returns its length, 20.
 #[unsafe(no_mangle)]
 pub extern "C" fn stunp_begin(class: u32, method: u32, id: &[u8], out: &mut [u8]) -> i64
     ensures { WritesWithin (begun_message class method id.now) out.old result out.new }
@@ -208,8 +211,8 @@ pub extern "C" fn stunp_add_number(
     number::add_number(buffer, count, kind, number, size)
 }
 
-/// Appends an attribute whose value is an address that is not XORed, as in MAPPED-ADDRESS, to the
-/// message in the first `count` bytes of a buffer, and returns the new length.
+/// Appends an attribute whose value is a plain address, as in MAPPED-ADDRESS, to the message in the
+/// first `count` bytes of a buffer, and returns the new length.
 #[unsafe(no_mangle)]
 pub extern "C" fn stunp_add_address(
     buffer: &mut [u8],
@@ -273,8 +276,8 @@ pub extern "C" fn stunp_add_error(buffer: &mut [u8], count: usize, code: u32, re
     writing::add_error(buffer, count, code, reason)
 }
 
-/// Signs the message in the first `count` bytes of a buffer: appends the integrity attribute of an
-/// algorithm, and returns the new length.
+/// Signs the message in the first `count` bytes of a buffer: appends MESSAGE-INTEGRITY or
+/// MESSAGE-INTEGRITY-SHA256, as the algorithm requires, and returns the new length.
 #[unsafe(no_mangle)]
 pub extern "C" fn stunp_sign(buffer: &mut [u8], count: usize, algorithm: u32, key: &[u8]) -> i64
     ensures { Writes (signed_message buffer.old count (algorithm_numbered algorithm) key.now)
@@ -283,7 +286,7 @@ pub extern "C" fn stunp_sign(buffer: &mut [u8], count: usize, algorithm: u32, ke
     writing::sign(buffer, count, algorithm, key)
 }
 
-/// Reads the header at the front of some bytes, and returns 0.
+/// Writes to `header` the fields of the message header at the front of `bytes`, and returns 0.
 #[unsafe(no_mangle)]
 pub extern "C" fn stunp_read_header(bytes: &[u8], header: &mut Header) -> i64
     ensures answer { result ≡ header_answer bytes.now }
@@ -292,7 +295,7 @@ pub extern "C" fn stunp_read_header(bytes: &[u8], header: &mut Header) -> i64
     header::read_header(bytes, header)
 }
 
-/// Returns the class of a message, from 0 to 3.
+/// Returns the class of a message, a `stunp_message_class` from 0 to 3.
 #[unsafe(no_mangle)]
 pub extern "C" fn stunp_class(message: &[u8]) -> i64
     ensures { result ≡ class_answer message.now }
@@ -308,7 +311,7 @@ pub extern "C" fn stunp_method(message: &[u8]) -> i64
     reading::method(message)
 }
 
-/// Writes the transaction ID of a message, and returns its length, 12.
+/// Writes to `out` the transaction ID of a message, and returns its length, 12.
 #[unsafe(no_mangle)]
 pub extern "C" fn stunp_id(message: &[u8], out: &mut [u8]) -> i64
     ensures { WritesWithin (id_of_message message.now) out.old result out.new }
@@ -316,8 +319,9 @@ pub extern "C" fn stunp_id(message: &[u8], out: &mut [u8]) -> i64
     reading::id(message, out)
 }
 
-/// Finds the first visible attribute after the one whose value is at an offset: returns the offset
-/// of its value, and writes its type and the length of the value. Returns 0 if there is none.
+/// Finds the first visible attribute after the attribute whose value has the offset `place`. Writes
+/// its type to `kind` and the length of its value to `value_length`, and returns the offset of its
+/// value. Returns 0 if there is no such attribute.
 #[unsafe(no_mangle)]
 pub extern "C" fn stunp_next(
     message: &[u8],
@@ -335,8 +339,9 @@ pub extern "C" fn stunp_next(
     reading::next(message, attribute_place(place), kind, value_length)
 }
 
-/// Goes to the next visible attribute: returns the offset of its value, writes its type and the
-/// length of the value, and moves the cursor past it. Returns 0 if there is none.
+/// Finds the next visible attribute at or after a cursor, and moves the cursor past it. Writes its
+/// type to `kind` and the length of its value to `value_length`, and returns the offset of its
+/// value. Returns 0 if no visible attribute is left.
 #[unsafe(no_mangle)]
 pub extern "C" fn stunp_walk(
     message: &[u8],
@@ -361,8 +366,8 @@ pub extern "C" fn stunp_walk(
     walk::walk(message, cursor, kind, value_length)
 }
 
-/// Finds the first visible attribute of a type: returns the offset of its value, and writes the
-/// length of the value.
+/// Finds the first visible attribute of a type. Writes the length of its value to `value_length`,
+/// and returns the offset of its value.
 #[unsafe(no_mangle)]
 pub extern "C" fn stunp_find(message: &[u8], kind: u32, value_length: &mut usize) -> i64
     ensures answer { result ≡ find_answer (finding_refusal kind message.now)
@@ -382,8 +387,8 @@ pub extern "C" fn stunp_error_code(message: &[u8]) -> i64
     reading::error_code(message)
 }
 
-/// Reads the address and the port in the first visible XOR-MAPPED-ADDRESS of a message, and returns
-/// the length of the address, 4 or 16.
+/// Writes to `out` and `port` the address and the port in the first visible XOR-MAPPED-ADDRESS of a
+/// message, and returns the length of the address, 4 or 16.
 #[unsafe(no_mangle)]
 pub extern "C" fn stunp_xor_mapped_address(message: &[u8], out: &mut [u8], port: &mut u16) -> i64
     ensures written { WritesWithin (octets_of_message message.now) out.old result out.new }
@@ -394,8 +399,9 @@ pub extern "C" fn stunp_xor_mapped_address(message: &[u8], out: &mut [u8], port:
     reading::mapped_address(message, out, port)
 }
 
-/// Reads the XORed address and the port in the value at an offset of a message, and returns the
-/// length of the address, 4 or 16.
+/// Writes to `out` and `port` the address and the port in an attribute like XOR-MAPPED-ADDRESS,
+/// whose value has the offset `place`. Undoes the XOR, and returns the length of the address, 4 or
+/// 16.
 #[unsafe(no_mangle)]
 pub extern "C" fn stunp_read_xor_address(
     message: &[u8],
@@ -412,8 +418,8 @@ pub extern "C" fn stunp_read_xor_address(
     reading::address_at(message, attribute_place(place), out, port)
 }
 
-/// Reads the address and the port in the value at an offset of a message, which are not XORed, and
-/// returns the length of the address, 4 or 16.
+/// Writes to `out` and `port` the address and the port in an attribute like MAPPED-ADDRESS, which
+/// is not XORed and whose value has the offset `place`. Returns the length of the address, 4 or 16.
 #[unsafe(no_mangle)]
 pub extern "C" fn stunp_read_address(
     message: &[u8],
@@ -431,8 +437,8 @@ pub extern "C" fn stunp_read_address(
     reading::plain_at(message, attribute_place(place), out, port)
 }
 
-/// Reads the number in the value at an offset of a message, and returns the number of its bytes, 1,
-/// 2, 4 or 8.
+/// Writes to `number` the number in the attribute whose value has the offset `place`, and returns
+/// the length of the value in bytes, 1, 2, 4 or 8.
 #[unsafe(no_mangle)]
 pub extern "C" fn stunp_read_number(message: &[u8], place: usize, number: &mut u64) -> i64
     ensures answer { result ≡ written_number (sized_at message.now (attribute_place place)) }
@@ -442,8 +448,8 @@ pub extern "C" fn stunp_read_number(message: &[u8], place: usize, number: &mut u
     number::number_at(message, attribute_place(place), number)
 }
 
-/// Checks that the value at an offset of a message is a text: returns the offset, and writes the
-/// length of the text.
+/// Checks that the attribute value at the offset `place` of a message is a UTF-8 text. Writes the
+/// length of the text to `text_length`, and returns `place`.
 #[unsafe(no_mangle)]
 pub extern "C" fn stunp_read_text(message: &[u8], place: usize, text_length: &mut usize) -> i64
     ensures answer { result ≡ text_answer (text_at message.now (attribute_place place))
@@ -454,8 +460,9 @@ pub extern "C" fn stunp_read_text(message: &[u8], place: usize, text_length: &mu
     value::read_text(message, attribute_place(place), text_length)
 }
 
-/// Reads the list of types in the value at an offset of a message, as in UNKNOWN-ATTRIBUTES:
-/// returns the number of types, and writes as many as there is room for.
+/// Reads the list of attribute types in the value at the offset `place` of a message, as in
+/// UNKNOWN-ATTRIBUTES. Writes as many types as fit into `types`, and returns how many types the
+/// list has.
 #[unsafe(no_mangle)]
 pub extern "C" fn stunp_read_types(message: &[u8], place: usize, types: &mut [u16]) -> i64
     ensures answer { result ≡ held_number (types_at message.now (attribute_place place)) }
@@ -465,8 +472,9 @@ pub extern "C" fn stunp_read_types(message: &[u8], place: usize, types: &mut [u1
     value::read_types(message, attribute_place(place), types)
 }
 
-/// Checks the FINGERPRINT of a message: returns 0 if it has none, 1 if it is right, 2 if it is
-/// wrong, and 3 if it is misplaced.
+/// Checks the FINGERPRINT of a message. Returns 0 if the message has no FINGERPRINT, 1 if
+/// FINGERPRINT is right, 2 if it is wrong, and 3 if it is not the last attribute or does not have 4
+/// bytes.
 #[unsafe(no_mangle)]
 pub extern "C" fn stunp_check_fingerprint(message: &[u8]) -> i64
     ensures { result ≡ fingerprint_answer message.now }
@@ -483,8 +491,8 @@ pub extern "C" fn stunp_add_fingerprint(buffer: &mut [u8], count: usize) -> i64
     fingerprint::add(buffer, count)
 }
 
-/// Lists the types of a message that must be understood and are not among the known ones: returns
-/// their number, and writes as many as there is room for.
+/// Lists the attribute types of a message that must be understood and are not in `known`. Writes as
+/// many of them as fit into `types`, and returns how many there are.
 #[unsafe(no_mangle)]
 pub extern "C" fn stunp_unknown_types(message: &[u8], known: &[u16], types: &mut [u16]) -> i64
     ensures answer { result ≡ told_number (known_refusal message.now known.now)
@@ -495,8 +503,9 @@ pub extern "C" fn stunp_unknown_types(message: &[u8], known: &[u16], types: &mut
     unknown::types(message, known, types)
 }
 
-/// Writes the error response 420 to a request that has unknown types which must be understood, and
-/// returns its length. Returns 0 if the request has none.
+/// Writes to `out` the error response 420 to a request that has attributes which must be understood
+/// and whose types are not in `known`, and returns its length. Returns 0 if the request has no such
+/// attribute.
 #[unsafe(no_mangle)]
 pub extern "C" fn stunp_refuse_unknown(request: &[u8], known: &[u16], out: &mut [u8]) -> i64
     ensures { WritesWithin (unknown_made request.now known.now) out.old result out.new }
@@ -504,7 +513,8 @@ pub extern "C" fn stunp_refuse_unknown(request: &[u8], known: &[u16], out: &mut 
     unknown::refuse(request, known, out)
 }
 
-/// Returns 1 if a packet is for STUN, on a port that other protocols share, and otherwise 0.
+/// Returns 1 if a packet that arrived on a port shared with other protocols is for STUN, and
+/// otherwise 0.
 #[unsafe(no_mangle)]
 pub extern "C" fn stunp_is_stun(packet: &[u8]) -> i64
     ensures yes { (result ≡ pos 1) ↔ IsStunPacket packet.now }
@@ -513,8 +523,9 @@ pub extern "C" fn stunp_is_stun(packet: &[u8]) -> i64
     framing::is_stun_packet(packet)
 }
 
-/// Finds the end of the message at the front of a stream: returns how many bytes it has, or if its
-/// header is not whole, how many bytes are needed to say more.
+/// Finds the end of the message at the front of a stream, and returns the length of the message. If
+/// fewer bytes than a header have arrived, returns 20: the number of bytes that are needed to
+/// determine the length.
 #[unsafe(no_mangle)]
 pub extern "C" fn stunp_next_frame(bytes: &[u8]) -> i64
     ensures { result ≡ wanted_number (length bytes.now) (frame_of bytes.now) }
@@ -522,8 +533,8 @@ pub extern "C" fn stunp_next_frame(bytes: &[u8]) -> i64
     framing::next_frame(bytes)
 }
 
-/// Finds the end of the packet at the front of a stream that has its length in 2 bytes before it.
-/// These 2 bytes count too.
+/// Like `stunp_next_frame`, but for a stream in which each packet comes after its length in 2 bytes
+/// (RFC 4571). The result includes these 2 bytes.
 #[unsafe(no_mangle)]
 pub extern "C" fn stunp_next_packet_frame(bytes: &[u8]) -> i64
     ensures { result ≡ wanted_number (length bytes.now) (packet_frame_of bytes.now) }
@@ -531,7 +542,8 @@ pub extern "C" fn stunp_next_packet_frame(bytes: &[u8]) -> i64
     framing::next_packet_frame(bytes)
 }
 
-/// Finds the end of the message or the ChannelData at the front of a stream, its padding included.
+/// Like `stunp_next_frame`, but for a stream of TURN, which has STUN messages and ChannelData
+/// messages. The result includes the padding of a ChannelData message.
 #[unsafe(no_mangle)]
 pub extern "C" fn stunp_next_turn_frame(bytes: &[u8]) -> i64
     ensures { result ≡ wanted_number (length bytes.now) (turn_frame_of bytes.now) }
@@ -539,8 +551,8 @@ pub extern "C" fn stunp_next_turn_frame(bytes: &[u8]) -> i64
     framing::next_turn_frame(bytes)
 }
 
-/// Writes data on a channel of TURN, with zeros up to a multiple of 4 bytes for a stream, and
-/// returns how many bytes were written.
+/// Writes to `out` a ChannelData message of TURN, and returns how many bytes were written. If
+/// `is_padded` is true, zeros follow up to a multiple of 4 bytes, as a stream requires.
 #[unsafe(no_mangle)]
 pub extern "C" fn stunp_build_channel_data(
     channel: u32,
@@ -553,8 +565,8 @@ pub extern "C" fn stunp_build_channel_data(
     turn::build_channel_data(channel, data, is_padded, out)
 }
 
-/// Reads the data on a channel of TURN at the front of some bytes: returns its offset, and writes
-/// the number of the channel and the length of the data.
+/// Reads the ChannelData message of TURN at the front of `bytes`. Writes its channel number to
+/// `channel` and the length of its data to `data_length`, and returns the offset of the data.
 #[unsafe(no_mangle)]
 pub extern "C" fn stunp_read_channel_data(
     bytes: &[u8],
@@ -570,7 +582,7 @@ pub extern "C" fn stunp_read_channel_data(
     turn::read_channel_data(bytes, channel, data_length)
 }
 
-/// Returns the number in the first visible CHANNEL-NUMBER of a message.
+/// Returns the channel number in the first visible CHANNEL-NUMBER of a message.
 #[unsafe(no_mangle)]
 pub extern "C" fn stunp_channel_number(message: &[u8]) -> i64
     ensures { result ≡ channel_number_answer message.now }

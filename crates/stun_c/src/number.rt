@@ -1,4 +1,4 @@
-//! Attributes whose value is a number in network order.
+//! Writes and reads attributes whose value is a number in network order.
 
 ghost use Rattle.std.specs.Prelude.{◌≡◌, ◌<◌, length, true, IfOk, IfErr, Ok, Err};
 ghost use Rattle.byteorder.specs.Endian.{big_bytes, big_number};
@@ -12,7 +12,7 @@ use stun_base::header::HEADER_LENGTH;
 use stun_numbers::refusal::Refusal;
 use stun_types::attribute::RawAttribute;
 
-/// Returns whether numbers are written in this many bytes.
+/// Returns whether a number may have this size in bytes: 1, 2, 4 or 8.
 fn is_size(size: usize) -> bool
     ensures { result ≡ is_size size }
 {
@@ -25,7 +25,7 @@ fn is_size(size: usize) -> bool
     }
 }
 
-/// Returns whether numbers are written in this many bytes, and this one fits.
+/// Returns whether a number may have `size` bytes, and `number` fits into them.
 fn has_size(size: usize, number: u64) -> bool
     ensures { result ≡ has_size size number }
 {
@@ -38,7 +38,7 @@ fn has_size(size: usize, number: u64) -> bool
     }
 }
 
-/// Writes a number in one byte.
+/// Converts a number below 256 to one byte.
 fn one_byte(number: u64) -> [u8; 1]
     requires { number < 256 }
     ensures { result ≡ big_bytes 1 number }
@@ -46,8 +46,8 @@ fn one_byte(number: u64) -> [u8; 1]
     [number as u8]
 }
 
-/// Adds an attribute of a type with a number of `size` bytes to the message in the first `count`
-/// bytes of the buffer. Returns the new length, or the number of the error.
+/// Adds an attribute of this type, whose value is a number of `size` bytes, to the message in the
+/// first `count` bytes of the buffer. Returns the new length, or a negative error code.
 pub fn add_number(buffer: &mut [u8], count: usize, kind: u32, number: u64, size: usize) -> i64
     ensures { Writes (added_sized buffer.old count kind size number) buffer.old result buffer.new }
 {
@@ -62,8 +62,9 @@ pub fn add_number(buffer: &mut [u8], count: usize, kind: u32, number: u64, size:
     }
 }
 
-/// Returns the bytes of the number in the attribute at an offset of a message, or why there are
-/// none.
+/// Returns the value of the attribute at the offset `place` of a message. Fails with `BadArgument`
+/// if there is no attribute, and with `MalformedAttribute` if its value does not have 1, 2, 4 or 8
+/// bytes.
 fn sized_at(message: &[u8], place: usize) -> Result<&[u8], Refusal>
     ensures ok { IfOk result (λ value. sized_at message.now place ≡ Ok value.now) }
     ensures size { IfOk result (λ value. is_size (length value.now) ≡ true) }
@@ -82,7 +83,7 @@ fn sized_at(message: &[u8], place: usize) -> Result<&[u8], Refusal>
     Ok(value)
 }
 
-/// Returns the number in these bytes.
+/// Returns the number that these bytes encode.
 fn number_of(value: &[u8]) -> u64
     requires { is_size (length value.now) ≡ true }
     ensures { result ≡ big_number (length value.now) value.now }
@@ -95,8 +96,8 @@ fn number_of(value: &[u8]) -> u64
     }
 }
 
-/// Writes the number in the attribute at an offset of a message. Returns how many bytes it has, or
-/// the number of the error.
+/// Writes to `number` the number in the attribute at the offset `place` of a message. Returns its
+/// size in bytes, or a negative error code.
 pub fn number_at(message: &[u8], place: usize, number: &mut u64) -> i64
     ensures answer { result ≡ written_number (sized_at message.now place) }
     ensures number { number.new ≡ sized_after (sized_at message.now place) number.old }

@@ -1,5 +1,5 @@
-//! Reads messages: their fields, their attributes by offset, and the error and the address that
-//! they report.
+//! Reads the fields of messages, attribute values by offset, the code in ERROR-CODE, and the
+//! address in XOR-MAPPED-ADDRESS.
 
 ghost use Rattle.std.specs.Prelude.{◌≡◌, ◌≤◌, ◌+◌, ℕ, length, IfOk, IfErr, IfSome, IfNone};
 ghost use Rattle.std.specs.Prelude.{IsOkAnd, OnOk, Some, None, Ok, Err, slice_index, true};
@@ -31,7 +31,7 @@ use stun_types::attribute::{ATTRIBUTE_HEADER_LENGTH, ErrorCode, RawAttribute};
 use stun_types::message::Message;
 use stun_types::prelude::*;
 
-/// Returns the two bits of a message's class, or the number of the error.
+/// Returns the class of a message, as the value of its two bits, or a negative error code.
 pub fn class(message: &[u8]) -> i64
     ensures { result ≡ class_answer message.now }
 {
@@ -41,7 +41,7 @@ pub fn class(message: &[u8]) -> i64
     }
 }
 
-/// Returns the method of a message, or the number of the error.
+/// Returns the method of a message, or a negative error code.
 pub fn method(message: &[u8]) -> i64
     ensures { result ≡ method_answer message.now }
 {
@@ -60,8 +60,8 @@ fn id_bytes(message: &[u8]) -> Result<&[u8], Refusal>
     Ok(&message.as_bytes()[8..20])
 }
 
-/// Copies the transaction ID of a message to the front of the buffer. Returns its length, or the
-/// number of the error.
+/// Copies the transaction ID of a message to the front of the buffer. Returns its length, or a
+/// negative error code.
 pub fn id(message: &[u8], out: &mut [u8]) -> i64
     ensures { WritesWithin (id_of_message message.now) out.old result out.new }
 {
@@ -71,7 +71,7 @@ pub fn id(message: &[u8], out: &mut [u8]) -> i64
     }
 }
 
-/// Returns the first visible attribute after an offset, with its own offset.
+/// Returns the first visible attribute whose offset is greater than `place`, with its offset.
 fn member_after<'a>(message: &Message<'a>, place: usize) -> Option<(usize, RawAttribute<'a>)>
     ensures first { result ≡ next_member place message.now }
     ensures within { IfSome result (λ m. m.0 + 4 ≤ length message.now) }
@@ -79,9 +79,9 @@ fn member_after<'a>(message: &Message<'a>, place: usize) -> Option<(usize, RawAt
     message.iter_attributes().find(|found| place < found.0)
 }
 
-/// Finds the first visible attribute after the one at an offset: returns the offset of its value,
-/// or 0 if there is none, or the number of the error, and writes its type and the length of its
-/// value.
+/// Finds the first visible attribute after the attribute at the offset `place`, and writes its type
+/// and the length of its value. Returns the offset of its value, 0 if there is no such attribute,
+/// or a negative error code.
 pub fn next(message: &[u8], place: usize, kind: &mut u16, value_length: &mut usize) -> i64
     ensures answer { result ≡ next_answer message.now place }
     ensures kind { kind.new ≡ number_after (λ a. a.kind) (refusal message.now)
@@ -103,14 +103,15 @@ pub fn next(message: &[u8], place: usize, kind: &mut u16, value_length: &mut usi
     }
 }
 
-/// Returns the error that a message reports.
+/// Returns the first visible ERROR-CODE of a message.
 fn error_in<'a>(message: &Message<'a>) -> Result<ErrorCode<'a>, StunParseError>
     ensures { result ≡ error_in message.now }
 {
     message.attribute::<ErrorCode<'a>>()
 }
 
-/// Returns the code of the error that a message reports, or the number of the error.
+/// Returns the code in the first visible ERROR-CODE of a message, from 300 to 699, or a negative
+/// error code if it cannot be read.
 pub fn error_code(message: &[u8]) -> i64
     ensures { result ≡ error_answer message.now }
 {
@@ -123,7 +124,7 @@ pub fn error_code(message: &[u8]) -> i64
     }
 }
 
-/// Returns whether an address of this family has this many octets.
+/// Returns whether an address of the family `family` has `count` octets.
 fn has_octets(family: u8, count: usize) -> bool
     ensures answer { result ≡ has_octets family count }
     ensures short { result ≡ true → count ≤ 16 }
@@ -145,8 +146,8 @@ fn first_of<'a>(message: &Message<'a>, kind: AttributeType) -> Option<(usize, Ra
         .find(|found| found.1.get_type() == kind)
 }
 
-/// Finds the first visible attribute of a type: returns the offset of its value, or the number of
-/// the error, and writes the length of the value.
+/// Finds the first visible attribute of a type, and writes the length of its value. Returns the
+/// offset of its value, or a negative error code.
 pub fn find(message: &[u8], kind: u32, value_length: &mut usize) -> i64
     ensures answer { result ≡ find_answer (finding_refusal kind message.now)
         (first_member_of kind (visible message.now)) }
@@ -169,7 +170,8 @@ pub fn find(message: &[u8], kind: u32, value_length: &mut usize) -> i64
     }
 }
 
-/// Returns the port and the octets of an XOR-MAPPED-ADDRESS, still XORed, if it is well formed.
+/// Returns the port and the octets of an XOR-MAPPED-ADDRESS, still XORed, or `None` if it is
+/// malformed.
 fn hidden_parts<'a>(attribute: &RawAttribute<'a>) -> Option<(u16, &'a [u8])>
     ensures none { IfNone result (xored_of attribute.now ≡ None) }
     ensures some { IfSome result (λ parts. xored_of attribute.now ≡ Some (record {
@@ -189,8 +191,8 @@ fn hidden_parts<'a>(attribute: &RawAttribute<'a>) -> Option<(u16, &'a [u8])>
     Some((BigEndian::read_u16(&value[2..]), &value[4..]))
 }
 
-/// Returns the port and the octets of the address that a message reports, still XORed, or why it
-/// reports none.
+/// Returns the port and the octets in the first visible XOR-MAPPED-ADDRESS of a message, still
+/// XORed.
 fn address_in<'a>(message: &Message<'a>) -> Result<(u16, &'a [u8]), Refusal>
     ensures ok { IfOk result (λ parts. (id : ℕ)
         → shown_octets (address_in message.now) id ≡ Ok (xor_bytes parts.1.now (xor_key id))) }
@@ -208,8 +210,8 @@ fn address_in<'a>(message: &Message<'a>) -> Result<(u16, &'a [u8]), Refusal>
     }
 }
 
-/// Returns the port and the octets of the address that a message reports, with the XOR undone in
-/// memory of 16 bytes, or why it reports none.
+/// Returns the port and the octets in the first visible XOR-MAPPED-ADDRESS of a message. Undoes the
+/// XOR in `place`, which has 16 bytes.
 fn shown_in<'a>(message: &Message<'_>, place: &'a mut [u8]) -> Result<(u16, &'a [u8]), Refusal>
     requires { length place.old ≡ 16 }
     ensures ok { IfOk result (λ parts. shown_octets (address_in message.now)
@@ -238,8 +240,8 @@ fn shown_address<'a>(message: &[u8], place: &'a mut [u8]) -> Result<(u16, &'a [u
     shown_in(&message, place)
 }
 
-/// Copies the address that a message reports: its octets to the front of the buffer, and its port
-/// to the caller's. Returns how many octets there are, or the number of the error.
+/// Copies the octets in the first visible XOR-MAPPED-ADDRESS of a message to the front of `out`,
+/// and writes its port to `port`. Returns the number of octets, or a negative error code.
 pub fn mapped_address(message: &[u8], out: &mut [u8], port: &mut u16) -> i64
     ensures written { WritesWithin (octets_of_message message.now) out.old result out.new }
     ensures port { port.new ≡ port_after (within_room (octets_of_message message.now)
@@ -259,8 +261,8 @@ pub fn mapped_address(message: &[u8], out: &mut [u8], port: &mut u16) -> i64
     }
 }
 
-/// Returns the port and the octets in the attribute at an offset of a message, still XORed, or why
-/// there are none.
+/// Returns the port and the octets in the address attribute at the offset `place` of a message, as
+/// they are in the message.
 #[tactic(auto, using(crate::proofs::Members::header_before))]
 fn hidden_at(message: &[u8], place: usize) -> Result<(u16, &[u8]), Refusal>
     ensures ok { IfOk result (λ parts. octets_at message.now place
@@ -288,7 +290,7 @@ fn hidden_at(message: &[u8], place: usize) -> Result<(u16, &[u8]), Refusal>
     }
 }
 
-/// Returns the transaction ID in a header.
+/// Returns the transaction ID in the header of a message.
 fn id_in(message: &[u8]) -> TransactionId
     requires { 20 ≤ length message.now }
     ensures { result ≡ transaction_id_field message.now }
@@ -296,7 +298,7 @@ fn id_in(message: &[u8]) -> TransactionId
     transaction_id(&message[8..20]).unwrap()
 }
 
-/// Returns what addresses are XORed with under the ID in a header.
+/// Returns the key with which the addresses in a message are XORed.
 fn key_in(message: &[u8]) -> [u8; 16]
     requires { 20 ≤ length message.now }
     ensures { result ≡ xor_key (transaction_id_field message.now) }
@@ -305,8 +307,8 @@ fn key_in(message: &[u8]) -> [u8; 16]
     xor_key(id)
 }
 
-/// Returns the port and the octets in the attribute at an offset of a message, with the XOR undone
-/// in memory of 16 bytes, or why there are none.
+/// Returns the port and the octets in the XORed address attribute at the offset `place` of a
+/// message. Undoes the XOR in `room`, which has 16 bytes.
 fn shown_at<'a>(
     message: &[u8],
     place: usize,
@@ -325,9 +327,8 @@ fn shown_at<'a>(
     Ok((port ^ PORT_KEY, shown))
 }
 
-/// Copies the address in the attribute at an offset of a message: its octets to the front of the
-/// buffer, and its port to the caller's. Returns how many octets there are, or the number of the
-/// error.
+/// Copies the octets in the XORed address attribute at the offset `place` of a message to the front
+/// of `out`, and writes its port to `port`. Returns the number of octets, or a negative error code.
 pub fn address_at(message: &[u8], place: usize, out: &mut [u8], port: &mut u16) -> i64
     ensures written { WritesWithin (octets_at message.now place) out.old result out.new }
     ensures port { port.new ≡ port_after (within_room (octets_at message.now place)
@@ -347,7 +348,7 @@ pub fn address_at(message: &[u8], place: usize, out: &mut [u8], port: &mut u16) 
     }
 }
 
-/// Like `address_at`, for an address that is not XORed.
+/// Like `address_at`, but for an address attribute that is not XORed.
 pub fn plain_at(message: &[u8], place: usize, out: &mut [u8], port: &mut u16) -> i64
     ensures written { WritesWithin (plain_octets (address_at message.now place)) out.old result
         out.new }

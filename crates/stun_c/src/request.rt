@@ -1,4 +1,4 @@
-//! The signed request.
+//! Writes the request of `stunp_build_signed`.
 
 ghost use Rattle.std.specs.Prelude.{◌≡◌, ◌≤◌, length, IfOk, OnOk, IfErr, Some, None, Ok, Err};
 ghost use Rattle.stun_types.specs.Limits.{USERNAME_LIMIT};
@@ -14,12 +14,12 @@ use stun_types::attribute::Username;
 use stun_types::message::{Message, MessageWriteMutSlice};
 use stun_types::prelude::*;
 
-/// The bytes of the longest request: a header, a USERNAME of 513 bytes with its padding, and a
-/// digest of 32 bytes.
+/// The length of the longest request: a header, a USERNAME of 513 bytes with its padding, and an
+/// HMAC-SHA256 signature of 32 bytes.
 pub const LONGEST_REQUEST: usize = 20 + 4 + 516 + 4 + 32;
 
-/// Returns the user name in these bytes: `NotText` if they are not UTF-8, `TextTooLong` if they are
-/// more than 513.
+/// Converts bytes to a USERNAME. Fails with `NotText` if they are not UTF-8, and with `TextTooLong`
+/// if there are more than 513.
 fn username(bytes: &[u8]) -> Result<Username<'_>, Refusal>
     ensures ok { IfOk result (λ username. (username_refusal bytes.now ≡ None)
         × (username ≡ bytes.now)) }
@@ -32,8 +32,8 @@ fn username(bytes: &[u8]) -> Result<Username<'_>, Refusal>
     }
 }
 
-/// Writes a Binding request with this id, USERNAME and integrity under the key, to a buffer that
-/// has room for the longest one.
+/// Writes a Binding request with this transaction ID and this USERNAME, signed with the key, to a
+/// buffer that has room for the longest request. Returns its bytes.
 #[tactic(auto, using(crate::proofs::Sizes::request_length, crate::proofs::Sizes::signing_fits))]
 pub fn signed_request<'a>(
     algorithm: u32,

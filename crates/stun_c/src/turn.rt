@@ -1,5 +1,5 @@
-//! ChannelData of TURN (RFC 8656, section 12.4), which is data without a message around it, and the
-//! numbers in two of TURN's attributes.
+//! Writes and reads ChannelData messages of TURN (RFC 8656, section 12.4), which carry data without
+//! a STUN message around it, and reads the numbers in two attributes of TURN.
 
 ghost use Rattle.std.specs.Prelude.{◌≡◌, ◌≤◌, ◌<◌, ◌^◌, ◌+◌, ◌++◌, Some, drop, length};
 ghost use Rattle.std.specs.Prelude.{IfErr, IfOk, OnOk};
@@ -19,17 +19,18 @@ use stun_extra::framing::CHANNEL_HEADER_LENGTH;
 use stun_numbers::refusal::Refusal;
 use stun_types::message::Message;
 
-/// The most bytes of data that the length in front of them can state.
+/// The largest number of bytes of data that the length field of ChannelData can state.
 const MOST_DATA: usize = 65535;
 
-/// Returns whether a number is one of a channel of RFC 5766, whose range includes that of RFC 8656.
+/// Returns whether a number is a channel number of RFC 5766. Its range includes the range of RFC
+/// 8656.
 fn is_channel_number(number: u32) -> bool
     ensures { result ≡ is_any_channel_number number }
 {
     0x4000 <= number && number < 0x8000
 }
 
-/// Returns how many zero bytes follow data of this length.
+/// Returns how many zero bytes follow `data_length` bytes of data, or 0 if `is_padded` is false.
 fn padding_length(data_length: usize, is_padded: bool) -> usize
     ensures length { result ≡ padding_length data_length is_padded }
     ensures short { result < 4 }
@@ -41,7 +42,7 @@ fn padding_length(data_length: usize, is_padded: bool) -> usize
     }
 }
 
-/// Writes the number of a channel and the length of its data.
+/// Writes the header of a ChannelData message: the channel number and the length of the data.
 fn write_header(header: &mut [u8], channel: u16, data_length: u16)
     requires { length header.old ≡ 4 }
     ensures { header.new ≡ big_bytes 2 channel ++ big_bytes 2 data_length }
@@ -50,7 +51,7 @@ fn write_header(header: &mut [u8], channel: u16, data_length: u16)
     header[2..].copy_from_slice(&data_length.to_be_bytes());
 }
 
-/// Writes ChannelData and its padding to the front of a buffer that has room for it.
+/// Writes a ChannelData message and its padding to the front of a buffer that has room for them.
 fn spell(buffer: &mut [u8], channel: u16, data: &[u8], padding_length: usize)
     requires short { length data.now < 2 ^ 16 }
     requires room { 4 + length data.now + padding_length ≤ length buffer.old }
@@ -65,8 +66,8 @@ fn spell(buffer: &mut [u8], channel: u16, data: &[u8], padding_length: usize)
     write_zeros(padding);
 }
 
-/// Writes data on a channel to the front of a buffer, with zeros up to a multiple of 4 bytes for a
-/// stream. Returns how many bytes were written, or the number of the error.
+/// Writes a ChannelData message to the front of a buffer, and, if `is_padded` is true, zeros up to
+/// a multiple of 4 bytes. Returns how many bytes were written, or a negative error code.
 pub fn build_channel_data(channel: u32, data: &[u8], is_padded: bool, out: &mut [u8]) -> i64
     ensures { WritesWithin (built_channel_data channel data.now is_padded) out.old result out.new }
 {
@@ -85,8 +86,9 @@ pub fn build_channel_data(channel: u32, data: &[u8], is_padded: bool, out: &mut 
     whole as i64
 }
 
-/// Returns the channel and the length of the data, or why the bytes do not begin with whole
-/// ChannelData.
+/// Returns the channel number and the length of the data in the ChannelData message at the front of
+/// some bytes. Fails with `Truncated` if the message is not whole, and with `NotStun` if the bytes
+/// do not begin with a channel number.
 fn channel_data_in(bytes: &[u8]) -> Result<(u16, usize), Refusal>
     ensures ok { OnOk result (channel_refusal bytes.now ≡ None) }
     ensures channel { IfOk result (λ parts. parts.0 ≡ big_number 2 bytes.now) }
@@ -106,8 +108,8 @@ fn channel_data_in(bytes: &[u8]) -> Result<(u16, usize), Refusal>
     Ok((BigEndian::read_u16(bytes), data_length))
 }
 
-/// Reads the ChannelData at the front of some bytes: writes its channel and the length of its data,
-/// and returns the offset of the data, or the number of the error.
+/// Reads the ChannelData message at the front of some bytes, and writes its channel number and the
+/// length of its data. Returns the offset of the data, or a negative error code.
 pub fn read_channel_data(bytes: &[u8], channel: &mut u16, data_length: &mut usize) -> i64
     ensures answer { result ≡ channel_answer (channel_refusal bytes.now) }
     ensures channel { channel.new
@@ -125,14 +127,15 @@ pub fn read_channel_data(bytes: &[u8], channel: &mut u16, data_length: &mut usiz
     }
 }
 
-/// Returns the channel that a message names, or why there is none.
+/// Returns the first visible CHANNEL-NUMBER of a message.
 fn channel_in(message: &Message<'_>) -> Result<ChannelNumber, StunParseError>
     ensures { result ≡ channel_in message.now }
 {
     message.attribute::<ChannelNumber>()
 }
 
-/// Returns the channel that a message names, or the number of the error.
+/// Returns the channel number in the first visible CHANNEL-NUMBER of a message, or a negative error
+/// code.
 pub fn channel_number(message: &[u8]) -> i64
     ensures { result ≡ channel_number_answer message.now }
 {
@@ -145,14 +148,15 @@ pub fn channel_number(message: &[u8]) -> i64
     }
 }
 
-/// Returns the protocol that a message asks for, or why there is none.
+/// Returns the first visible REQUESTED-TRANSPORT of a message.
 fn transport_in(message: &Message<'_>) -> Result<RequestedTransport, StunParseError>
     ensures { result ≡ transport_in message.now }
 {
     message.attribute::<RequestedTransport>()
 }
 
-/// Returns the number of the protocol that a message asks for, or the number of the error.
+/// Returns the number of the protocol in the first visible REQUESTED-TRANSPORT of a message, or a
+/// negative error code.
 pub fn requested_transport(message: &[u8]) -> i64
     ensures { result ≡ transport_answer message.now }
 {

@@ -1,5 +1,5 @@
-//! Types of attributes that must be understood and that a caller does not know (RFC 8489, sections
-//! 6.3.1 and 14.13).
+//! Finds the attribute types that must be understood and that the caller does not know, and writes
+//! the error response 420 that lists them (RFC 8489, sections 6.3.1 and 14.13).
 
 ghost use Rattle.std.specs.Prelude.{◌≡◌, ◌≤◌, ◌<◌, ◌+◌, ◌*◌, ◌++◌, ◌^◌, length, pos, take, drop};
 ghost use Rattle.std.specs.Prelude.{set, IfOk, IfErr, OnOk, Some, None, Ok, Err};
@@ -25,11 +25,11 @@ use stun_types::attribute::attribute_length;
 use stun_types::message::{Message, MessageWriteMutSlice};
 use stun_types::prelude::*;
 
-/// The most types that a caller may name as known.
+/// The largest number of types that a caller may list as known.
 // They are copied to the stack, because these calls have no allocator.
 const MOST_KNOWN: usize = 256;
 
-/// Makes types of numbers.
+/// Converts numbers to attribute types, in an array of the same length.
 fn copy_types(types: &mut [AttributeType], numbers: &[u16])
     requires { length types.old ≡ length numbers.now }
     ensures { types.new ≡ types_of numbers.now }
@@ -39,8 +39,8 @@ fn copy_types(types: &mut [AttributeType], numbers: &[u16])
     }
 }
 
-/// Returns the types of these numbers, in memory that has room for the most, or `BadArgument` if
-/// there are more.
+/// Converts the numbers of the types that the caller knows, in memory for `MOST_KNOWN` types. Fails
+/// with `BadArgument` if there are more than `MOST_KNOWN` numbers.
 fn known_types<'a>(
     numbers: &[u16],
     place: &'a mut [AttributeType],
@@ -58,7 +58,7 @@ fn known_types<'a>(
     Ok(known)
 }
 
-/// Writes a number at an index, if the array is long enough.
+/// Writes a number to the array at an index. Does nothing if the array has no such index.
 #[tactic(auto, using(crate::proofs::Told::not_set))]
 pub fn put(numbers: &mut [u16], place: usize, number: u16)
     ensures { numbers.new ≡ set numbers.old place number }
@@ -68,7 +68,7 @@ pub fn put(numbers: &mut [u16], place: usize, number: u16)
     }
 }
 
-/// Writes the unknown types of a message to the front of the caller's, as many as have room, and
+/// Writes the unknown types of a message to the front of the caller's array, as many as fit, and
 /// returns how many there are.
 #[tactic(auto, using(crate::proofs::Told::told_next, crate::proofs::Told::left_next))]
 fn tell(message: &Message<'_>, known: &[AttributeType], types: &mut [u16]) -> usize
@@ -84,7 +84,9 @@ fn tell(message: &Message<'_>, known: &[AttributeType], types: &mut [u16]) -> us
     count
 }
 
-/// Returns a message and the types that its reader knows, or the number of the refusal.
+/// Parses the message, and converts the numbers of the types that the caller knows. Fails with
+/// `BadArgument` if there are more than `MOST_KNOWN` numbers, and then with the error of
+/// `Message::from_bytes`.
 fn readable<'a, 'b>(
     bytes: &'a [u8],
     known: &[u16],
@@ -100,8 +102,8 @@ fn readable<'a, 'b>(
     Ok((message, known))
 }
 
-/// Writes the unknown types of a message, as many as there is room for. Returns how many there are,
-/// or the number of the error.
+/// Writes the unknown types of a message to the front of the caller's array, as many as fit.
+/// Returns how many there are, or a negative error code.
 pub fn types(message: &[u8], known: &[u16], types: &mut [u16]) -> i64
     ensures answer { result ≡ told_number (known_refusal message.now known.now)
         (unknown_of message.now known.now) }
@@ -115,13 +117,14 @@ pub fn types(message: &[u8], known: &[u16], types: &mut [u16]) -> i64
     }
 }
 
-/// The phrase of the error 420 (RFC 8489, section 14.8).
+/// The reason phrase of the error 420 (RFC 8489, section 14.8).
 const PHRASE: &[u8] = b"Unknown Attribute";
 
-/// The number of bytes of the answer's header and its ERROR-CODE.
+/// The number of bytes that the header and the ERROR-CODE of the response take.
 const FRONT_LENGTH: usize = 48;
 
-/// Returns the header of an error response to a message.
+/// Writes the header of an error response to a request to the front of a buffer that has room for
+/// it, and returns its bytes.
 fn header<'a>(request: &Message<'_>, buffer: &'a mut [u8]) -> &'a [u8]
     requires { 20 ≤ length buffer.old }
     ensures { result.now ≡ empty_answer MessageClass.Error request.now }
@@ -130,7 +133,7 @@ fn header<'a>(request: &Message<'_>, buffer: &'a mut [u8]) -> &'a [u8]
     Message::builder_error(request, writer).unwrap().finish()
 }
 
-/// Writes the header of an error response to a message.
+/// Writes the header of an error response to a request to the front of the buffer.
 fn begin_answer(request: &Message<'_>, out: &mut [u8])
     requires { 20 ≤ length out.old }
     ensures { out.new ≡ empty_answer MessageClass.Error request.now ++ drop 20 out.old }
@@ -140,7 +143,8 @@ fn begin_answer(request: &Message<'_>, out: &mut [u8])
     out[..HEADER_LENGTH].copy_from_slice(header);
 }
 
-/// Writes the ERROR-CODE of a 420 after a header, whose length field counts it then.
+/// Writes the ERROR-CODE of a 420 after the header in the buffer, and sets the length field to
+/// include it.
 fn append_error(out: &mut [u8])
     requires { 48 ≤ length out.old }
     ensures { out.new ≡ with_attribute (take 20 out.old) unknown_attribute_error
@@ -151,7 +155,7 @@ fn append_error(out: &mut [u8])
     append(out, HEADER_LENGTH, AttributeType::ERROR_CODE, &value);
 }
 
-/// Writes the header of the answer to a request and its ERROR-CODE.
+/// Writes the header and the ERROR-CODE of the response to a request.
 fn write_front(request: &Message<'_>, out: &mut [u8])
     requires { 48 ≤ length out.old }
     ensures { out.new ≡ refused_front request.now ++ drop 48 out.old }
@@ -160,7 +164,7 @@ fn write_front(request: &Message<'_>, out: &mut [u8])
     append_error(out);
 }
 
-/// Writes a type in 2 bytes.
+/// Writes an attribute type in 2 bytes, at the offset `end`.
 fn put_type(place: &mut [u8], end: usize, kind: AttributeType)
     requires { end + 2 ≤ length place.old }
     ensures { place.new ≡ take end place.old ++ big_bytes 2 kind.0 ++ drop (end + 2) place.old }
@@ -168,8 +172,7 @@ fn put_type(place: &mut [u8], end: usize, kind: AttributeType)
     place[end..end + 2].copy_from_slice(&kind.value().to_be_bytes());
 }
 
-/// Writes the types of a message that are unknown, 2 bytes each, to a place that has room for just
-/// these.
+/// Writes the unknown types of a message, 2 bytes each, to memory of exactly this size.
 #[tactic(auto, using(crate::proofs::Told::spelled_next))]
 fn write_types(message: &Message<'_>, known: &[AttributeType], place: &mut [u8])
     requires { length place.old ≡ 2 * length (unknown_types known.now message.now) }
@@ -183,7 +186,7 @@ fn write_types(message: &Message<'_>, known: &[AttributeType], place: &mut [u8])
 }
 
 /// Writes UNKNOWN-ATTRIBUTES with its header and its padding to the front of a buffer that has room
-/// for it.
+/// for them.
 fn spell_types(message: &Message<'_>, known: &[AttributeType], count: usize, buffer: &mut [u8])
     requires count { count ≡ length (unknown_types known.now message.now) }
     requires few { count < 2 ^ 14 }
@@ -200,8 +203,8 @@ fn spell_types(message: &Message<'_>, known: &[AttributeType], count: usize, buf
     write_zeros(padding);
 }
 
-/// Raises the length field after the front of an answer, and writes UNKNOWN-ATTRIBUTES there. The
-/// answer is where that ends.
+/// Appends UNKNOWN-ATTRIBUTES to a response that has its header and its ERROR-CODE: sets the length
+/// field to include the attribute, and writes it after ERROR-CODE. Returns the new length.
 fn append_types(message: &Message<'_>, known: &[AttributeType], count: usize, out: &mut [u8]) -> i64
     requires count { count ≡ length (unknown_types known.now message.now) }
     requires few { count < 2 ^ 14 }
@@ -218,8 +221,8 @@ fn append_types(message: &Message<'_>, known: &[AttributeType], count: usize, ou
     end as i64
 }
 
-/// Writes the answer to a request with so many unknown types to the front of a buffer. Returns its
-/// length, or that it has no room.
+/// Writes the response to a request with `count` unknown types to the front of a buffer. Returns
+/// its length, or the code of `BufferTooSmall` if it does not fit.
 #[tactic(auto, using(crate::proofs::Refused::answer_refused))]
 fn write_answer(request: &Message<'_>, known: &[AttributeType], count: usize, out: &mut [u8]) -> i64
     requires count { count ≡ length (unknown_types known.now request.now) }
@@ -242,8 +245,9 @@ fn count_types(message: &Message<'_>, known: &[AttributeType]) -> usize
     unknown_types(message, known).count()
 }
 
-/// Writes the answer to a message, which must be a request, to the front of the buffer. Returns its
-/// length, or 0 where the message has no unknown type.
+/// Writes the response to `message` to the front of the buffer. Returns the length of the response,
+/// or 0 if the message has no unknown type. Fails with `BadArgument` if the message is not a
+/// request, and then with `BufferTooSmall` if the response does not fit.
 fn answer(message: &Message<'_>, known: &[AttributeType], out: &mut [u8]) -> i64
     ensures { WritesWithin (answer_made message.now (unknown_types known.now message.now)) out.old
         result out.new }
@@ -258,8 +262,8 @@ fn answer(message: &Message<'_>, known: &[AttributeType], out: &mut [u8]) -> i64
     write_answer(message, known, count, out)
 }
 
-/// Writes the response to a request with unknown types to the front of the buffer. Returns its
-/// length, 0 if the request has none, or the number of the error.
+/// Writes the response to a request with unknown types to the front of the buffer. Returns the
+/// length of the response, 0 if the request has no unknown type, or a negative error code.
 pub fn refuse(request: &[u8], known: &[u16], out: &mut [u8]) -> i64
     ensures { WritesWithin (unknown_made request.now known.now) out.old result out.new }
 {

@@ -1,4 +1,4 @@
-//! The value of the attribute at an offset of a message, as a text or as a list of types.
+//! Reads the value of the attribute at an offset of a message, as a text or as a list of types.
 
 ghost use Rattle.std.specs.Prelude.{◌≡◌, ◌≤◌, ◌<◌, ◌+◌, length, IfOk, IfErr, OnOk, Ok, Err};
 ghost use Rattle.stun_c.specs.Extra.{held_after, held_number, numbers_after, types_at};
@@ -13,14 +13,15 @@ use stun_numbers::text::text;
 use stun_types::attribute::{ATTRIBUTE_HEADER_LENGTH, RawAttribute};
 use stun_types::prelude::*;
 
-/// Returns the offset of the attribute whose value is at an offset.
+/// Returns the offset of the attribute whose value is at the offset `place`.
 pub fn attribute_place(place: usize) -> usize
     ensures { result ≡ attribute_place place }
 {
     place.saturating_sub(ATTRIBUTE_HEADER_LENGTH)
 }
 
-/// Returns the value of the attribute at an offset of a message, or why there is none.
+/// Returns the value of the attribute at the offset `place` of a message. Fails with `BadArgument`
+/// if there is no attribute.
 fn value_at(message: &[u8], place: usize) -> Result<&[u8], Refusal>
     ensures ok { IfOk result (λ value. value_at message.now place ≡ Ok value.now) }
     ensures within { OnOk result (place + 4 ≤ length message.now) }
@@ -36,7 +37,8 @@ fn value_at(message: &[u8], place: usize) -> Result<&[u8], Refusal>
     }
 }
 
-/// Returns the text in the attribute at an offset of a message, or why there is none.
+/// Returns the text in the attribute at the offset `place` of a message. Fails with `BadArgument`
+/// if there is no attribute, and with `NotText` if its value is not UTF-8.
 fn text_at(message: &[u8], place: usize) -> Result<&str, Refusal>
     ensures ok { IfOk result (λ text. text_at message.now place ≡ Ok text.now) }
     ensures within { OnOk result (place + 4 ≤ length message.now) }
@@ -46,8 +48,8 @@ fn text_at(message: &[u8], place: usize) -> Result<&str, Refusal>
     text(value)
 }
 
-/// Returns the offset of the text in the attribute at an offset of a message, or the number of the
-/// error, and writes the length of the text.
+/// Writes the length of the text in the attribute at the offset `place` of a message. Returns the
+/// offset of the text, or a negative error code.
 pub fn read_text(message: &[u8], place: usize, text_length: &mut usize) -> i64
     ensures answer { result ≡ text_answer (text_at message.now place) place }
     ensures text_length { text_length.new
@@ -62,7 +64,9 @@ pub fn read_text(message: &[u8], place: usize, text_length: &mut usize) -> i64
     }
 }
 
-/// Returns the types that the attribute at an offset of a message holds, or why there are none.
+/// Returns the list of types in the attribute at the offset `place` of a message. Fails with
+/// `BadArgument` if there is no attribute, and with `MalformedAttribute` if its value is not a list
+/// of types.
 #[tactic(auto, using(crate::proofs::Told::held_few))]
 fn types_at(message: &[u8], place: usize) -> Result<UnknownAttributes<'_>, Refusal>
     ensures ok { IfOk result (λ types. types_at message.now place ≡ Ok types) }
@@ -76,7 +80,7 @@ fn types_at(message: &[u8], place: usize) -> Result<UnknownAttributes<'_>, Refus
     }
 }
 
-/// Writes types to the front of the caller's, as many as have room.
+/// Writes as many of the types as fit to the front of the caller's array.
 #[tactic(auto, using(crate::proofs::Told::held_next, crate::proofs::Told::held_none, crate::proofs::Told::held_all))]
 fn hold(held: &UnknownAttributes<'_>, types: &mut [u16])
     ensures { types.new ≡ numbers_after held.now types.old }
@@ -88,8 +92,8 @@ fn hold(held: &UnknownAttributes<'_>, types: &mut [u16])
     }
 }
 
-/// Writes the types of the attribute at an offset of a message, as many as there is room for.
-/// Returns how many it has, or the number of the error.
+/// Writes the types in the attribute at the offset `place` of a message, as many as fit into the
+/// caller's array. Returns how many types the attribute has, or a negative error code.
 pub fn read_types(message: &[u8], place: usize, types: &mut [u16]) -> i64
     ensures answer { result ≡ held_number (types_at message.now place) }
     ensures types { types.new ≡ held_after (types_at message.now place) types.old }

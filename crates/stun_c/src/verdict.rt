@@ -1,4 +1,4 @@
-//! The verdict on a message.
+//! Verifies the signature of a message.
 
 ghost use Rattle.std.specs.Prelude.{◌≡◌, pos, IfOk, IfErr};
 ghost use Rattle.stun_numbers.specs.Algorithms.{algorithm_number};
@@ -11,7 +11,7 @@ use stun_base::error::{StunParseError, ValidateError};
 use stun_numbers::refusal::Refusal;
 use stun_types::message::Message;
 
-/// Returns the refusal for an error of reading the integrity attribute that decides.
+/// Converts the error with which the integrity attribute of a message could not be parsed.
 fn integrity_refusal(error: StunParseError) -> Refusal
     ensures { result ≡ refusal_of_integrity error }
 {
@@ -24,7 +24,7 @@ fn integrity_refusal(error: StunParseError) -> Refusal
     }
 }
 
-/// Returns the refusal for an error of a verdict.
+/// Converts the error with which the verification of a message has failed.
 fn verdict_refusal(error: ValidateError) -> Refusal
     ensures { result ≡ refusal_of_verdict error }
 {
@@ -34,7 +34,7 @@ fn verdict_refusal(error: ValidateError) -> Refusal
     }
 }
 
-/// Returns the algorithm of the message's signature if it is valid under the key, or why none is.
+/// Verifies the signature of a message with the key, and returns its algorithm.
 pub fn verdict(message: &[u8], key: &[u8]) -> Result<IntegrityAlgorithm, Refusal>
     ensures ok { IfOk result (λ algorithm. verify_answer message.now key.now
         ≡ pos (algorithm_number algorithm)) }

@@ -1,4 +1,4 @@
-//! A walk over the visible attributes of a message, which reads each of its attributes once.
+//! Walks over the visible attributes of a message, and reads each of its attributes once.
 
 ghost use Rattle.std.specs.Prelude.{◌≡◌, ◌≤◌, ◌+◌, length, drop, slice_get, IfOk, IfErr, OnOk};
 ghost use Rattle.std.specs.Prelude.{IfNone, IfSome, Some, None};
@@ -12,18 +12,20 @@ use stun_numbers::refusal::Refusal;
 use stun_types::attribute::{ATTRIBUTE_HEADER_LENGTH, RawAttribute};
 use stun_types::message::{Message, Visibility};
 
-/// How far a walk has come. One of zeros is before the first attribute.
+/// A position among the attributes of a message. If it is all zeros, it is before the first
+/// attribute.
 #[repr(C)]
 #[derive(Debug, Clone, Copy, PartialEq, Eq)]
 pub struct Cursor {
-    /// Where the next attribute begins, or 0.
+    /// The offset of the next attribute, or 0 before the first one.
     pub place: usize,
-    /// Which attributes are visible: 0 for all of them, 1 for those after MESSAGE-INTEGRITY, 2 for
-    /// those after MESSAGE-INTEGRITY-SHA256, and any other number for none.
+    /// Which attributes are visible from here on: 0 for all, 1 for the attributes that may follow
+    /// MESSAGE-INTEGRITY, 2 for the attributes that may follow MESSAGE-INTEGRITY-SHA256, and any
+    /// other number for none.
     pub hidden: u32,
 }
 
-/// Returns what is visible ahead of a cursor, by its number.
+/// Converts the number in a cursor to a visibility.
 fn visibility_from(hidden: u32) -> Visibility
     ensures { result ≡ visibility_from hidden }
 {
@@ -35,7 +37,7 @@ fn visibility_from(hidden: u32) -> Visibility
     }
 }
 
-/// Returns the number of what is visible in a cursor.
+/// Converts a visibility to the number in a cursor.
 fn hidden_number(visibility: Visibility) -> u32
     ensures { visibility_from result ≡ visibility }
 {
@@ -47,8 +49,9 @@ fn hidden_number(visibility: Visibility) -> u32
     }
 }
 
-/// Returns the first attribute that is visible from a cursor, with its offset, and moves the cursor
-/// after it, or to the end.
+/// Returns the first attribute that is visible from a cursor on, with its offset, and moves the
+/// cursor past it. If no attribute is visible from the cursor on, returns `None`, and moves the
+/// cursor to the end of the message.
 fn advance<'a>(message: &'a [u8], cursor: &mut Cursor) -> Option<(usize, RawAttribute<'a>)>
     requires behind { 20 ≤ cursor.old.place }
     requires within { cursor.old.place ≤ length message.now }
@@ -76,8 +79,9 @@ fn advance<'a>(message: &'a [u8], cursor: &mut Cursor) -> Option<(usize, RawAttr
     None
 }
 
-/// Returns the cursor at which a walk goes on: that of the caller, or for one at 0 that after the
-/// header of a message.
+/// Returns the cursor at which a walk continues: the caller's cursor, or the one just after the
+/// header of the message if the offset in the caller's cursor is 0. Fails with `BadArgument` if any
+/// other offset is in the header or after the end of the message.
 #[tactic(auto, using(crate::proofs::Walking::shown_visible))]
 fn begun(message: &[u8], cursor: Cursor) -> Result<Cursor, Refusal>
     ensures ok { IfOk result
@@ -101,9 +105,9 @@ fn begun(message: &[u8], cursor: Cursor) -> Result<Cursor, Refusal>
     Ok(cursor)
 }
 
-/// Finds the first visible attribute after a cursor: returns the offset of its value, or 0 if there
-/// is none, or the number of the error, writes its type and the length of its value, and moves the
-/// cursor past it.
+/// Finds the first visible attribute from a cursor on, writes its type and the length of its value,
+/// and moves the cursor past it. Returns the offset of its value, 0 if there is no such attribute,
+/// or a negative error code.
 pub fn walk(message: &[u8], cursor: &mut Cursor, kind: &mut u16, value_length: &mut usize) -> i64
     ensures answer { result ≡ walk_answer (cursor_refusal cursor.old message.now)
         (slice_get (ahead cursor.old message.now) 0) }

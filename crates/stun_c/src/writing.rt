@@ -1,4 +1,4 @@
-//! Messages written in the caller's buffer, an attribute at a time.
+//! Writes messages to the caller's buffer, one attribute at a time.
 
 ghost use Rattle.std.specs.Prelude.{◌≡◌, ◌≤◌, ◌<◌, ℕ, List, pos, nat_lt, Ok, Err, ◌+◌, ◌-◌, ◌++◌};
 ghost use Rattle.std.specs.Prelude.{length, take, drop, replicate, IfOk, IfErr, OnOk, Some, None};
@@ -47,8 +47,9 @@ pub fn shows_kind(message: &Message<'_>, kind: AttributeType) -> bool
         .is_some()
 }
 
-/// Fails if a value of this length does not fit after a message with this much room: first for the
-/// length field, then for the room.
+/// Checks that an attribute with a value of this length fits after a message, in a buffer with
+/// `room` further bytes. Fails with `MessageTooLong` if the length field could not state the new
+/// length, and then with `BufferTooSmall` if there is not enough room.
 pub fn fits(message: &Message<'_>, room: usize, value_length: usize) -> Result<(), Refusal>
     ensures ok { OnOk result (fit_refusal message.now room value_length ≡ None) }
     ensures header { OnOk result (20 ≤ length message.now) }
@@ -69,7 +70,8 @@ pub fn fits(message: &Message<'_>, room: usize, value_length: usize) -> Result<(
     Ok(())
 }
 
-/// Returns why an attribute of this type and length is not added: the first reason that holds.
+/// Checks that an attribute with this type and a value of this length can be added. If it cannot,
+/// fails with the first error that applies.
 fn addable(
     buffer: &[u8],
     count: usize,
@@ -99,7 +101,7 @@ pub fn set_length(message: &mut [u8], data_length: u16)
     BigEndian::write_u16(&mut message[2..], data_length);
 }
 
-/// Writes the header of an attribute.
+/// Writes the header of an attribute: its type, and the length of its value.
 pub fn write_header(header: &mut [u8], kind: AttributeType, value_length: usize)
     requires whole { length header.old ≡ 4 }
     requires short { value_length ≤ max_length }
@@ -109,7 +111,7 @@ pub fn write_header(header: &mut [u8], kind: AttributeType, value_length: usize)
     header[2..].copy_from_slice(&(value_length as u16).to_be_bytes());
 }
 
-/// Writes zeros.
+/// Fills the padding with zeros.
 pub fn write_zeros(padding: &mut [u8])
     ensures { padding.new ≡ replicate (length padding.old) 0 }
 {
@@ -133,8 +135,8 @@ pub fn spell(buffer: &mut [u8], kind: AttributeType, value: &[u8])
     write_zeros(padding);
 }
 
-/// Raises the length field of the message at the front of the buffer and writes the attribute after
-/// it. The answer is where that ends.
+/// Appends an attribute to the message in the first `count` bytes of the buffer: sets the length
+/// field of the message to include it, and writes it after the message. Returns the new length.
 pub(crate) fn append(buffer: &mut [u8], count: usize, kind: AttributeType, value: &[u8]) -> i64
     requires { HasRoom count (length value.now) (length buffer.old) }
     ensures answer { result ≡ pos (count + attribute_length (length value.now)) }
@@ -150,7 +152,7 @@ pub(crate) fn append(buffer: &mut [u8], count: usize, kind: AttributeType, value
 }
 
 /// Adds an attribute to the message in the first `count` bytes of the buffer. Returns the new
-/// length, or the number of the error.
+/// length, or a negative error code.
 pub fn add(buffer: &mut [u8], count: usize, kind: AttributeType, value: &[u8]) -> i64
     ensures { Writes (added_attribute buffer.old count kind.0 value.now) buffer.old result
         buffer.new }
@@ -161,7 +163,7 @@ pub fn add(buffer: &mut [u8], count: usize, kind: AttributeType, value: &[u8]) -
     }
 }
 
-/// Like `add`, for a type that must be a number of 16 bits.
+/// Adds an attribute like `add`, but fails with `BadArgument` if its type is above 65535.
 pub fn add_numbered(buffer: &mut [u8], count: usize, kind: u32, value: &[u8]) -> i64
     ensures { Writes (added_number buffer.old count kind value.now) buffer.old result buffer.new }
 {
@@ -171,7 +173,7 @@ pub fn add_numbered(buffer: &mut [u8], count: usize, kind: u32, value: &[u8]) ->
     add(buffer, count, AttributeType::new(kind as u16), value)
 }
 
-/// Writes the integrity attribute of a text to the front of a buffer that has room for it.
+/// Writes the integrity attribute that signs a text to the front of a buffer that has room for it.
 fn spell_digest(buffer: &mut [u8], algorithm: IntegrityAlgorithm, key: &[u8], text: &[u8])
     requires { attribute_length (digest_length algorithm) ≤ length buffer.old }
     ensures { buffer.new ≡ spelled_attribute (record {
@@ -206,8 +208,9 @@ fn digest_sha256(key: &[u8], text: &[u8]) -> [u8; SHA256_LENGTH]
     hmac_sha256(key, &[text])
 }
 
-/// Raises the length field of the message at the front of the buffer and writes its integrity
-/// attribute after it. The answer is where that ends.
+/// Appends the integrity attribute of an algorithm to the message in the first `count` bytes of the
+/// buffer: sets the length field of the message to include it, and writes it after the message.
+/// Returns the new length.
 fn append_integrity(
     buffer: &mut [u8],
     count: usize,
@@ -226,8 +229,9 @@ fn append_integrity(
     end as i64
 }
 
-/// Returns the algorithm of this number, if its attribute can be added to the message at the front
-/// of the buffer.
+/// Returns the algorithm with this number. Fails with `BadArgument` if no algorithm has this
+/// number, and then with the first error that keeps its integrity attribute from being added to the
+/// message in the first `count` bytes of the buffer.
 fn signable(buffer: &[u8], count: usize, algorithm: u32) -> Result<IntegrityAlgorithm, Refusal>
     ensures ok { IfOk result (λ algorithm'. (algorithm_numbered algorithm ≡ Some algorithm')
         × (digest_refusal buffer.now count algorithm' ≡ None)
@@ -241,8 +245,8 @@ fn signable(buffer: &[u8], count: usize, algorithm: u32) -> Result<IntegrityAlgo
     Ok(algorithm)
 }
 
-/// Adds the integrity attribute to the message in the first `count` bytes of the buffer. Returns
-/// the new length, or the number of the error.
+/// Adds the integrity attribute of an algorithm to the message in the first `count` bytes of the
+/// buffer. Returns the new length, or a negative error code.
 pub fn sign(buffer: &mut [u8], count: usize, algorithm: u32, key: &[u8]) -> i64
     ensures { Writes (signed_message buffer.old count (algorithm_numbered algorithm) key.now)
         buffer.old result buffer.new }
@@ -253,7 +257,7 @@ pub fn sign(buffer: &mut [u8], count: usize, algorithm: u32, key: &[u8]) -> i64
     }
 }
 
-/// Returns the class of these two bits.
+/// Returns the class with this number. Fails with `BadArgument` if the number is above 3.
 fn class_numbered(number: u32) -> Result<MessageClass, Refusal>
     ensures ok { IfOk result (λ class. (nat_lt number 4 ≡ true) × (class ≡ class_of_bits number)) }
     ensures err { IfErr result (λ refusal. (nat_lt number 4 ≡ false)
@@ -268,7 +272,8 @@ fn class_numbered(number: u32) -> Result<MessageClass, Refusal>
     }
 }
 
-/// Returns the method of this number, which has 12 bits.
+/// Returns the method with this number. Fails with `BadArgument` if the number has more than 12
+/// bits.
 fn method_numbered(number: u32) -> Result<Method, Refusal>
     ensures ok { IfOk result (λ method. (nat_lt number 4096 ≡ true) × (method ≡ number)) }
     ensures err { IfErr result (λ refusal. (nat_lt number 4096 ≡ false)
@@ -280,7 +285,7 @@ fn method_numbered(number: u32) -> Result<Method, Refusal>
     Ok(Method::new(number as u16).unwrap())
 }
 
-/// Writes a header to a buffer that has room for it.
+/// Writes a message header to a buffer that has room for it, and returns its bytes.
 fn header<'a>(class: u32, method: u32, id: &[u8], buffer: &'a mut [u8]) -> Result<&'a [u8], Refusal>
     requires { 20 ≤ length buffer.old }
     ensures ok { IfOk result (λ header. begun_message class method id.now ≡ Ok header.now) }
@@ -295,8 +300,8 @@ fn header<'a>(class: u32, method: u32, id: &[u8], buffer: &'a mut [u8]) -> Resul
     Ok(writer.finish())
 }
 
-/// Writes a message without attributes to the front of the buffer. Returns its length, or the
-/// number of the error.
+/// Writes a message without attributes to the front of the buffer. Returns its length, or a
+/// negative error code.
 pub fn begin(class: u32, method: u32, id: &[u8], out: &mut [u8]) -> i64
     ensures { WritesWithin (begun_message class method id.now) out.old result out.new }
 {
@@ -318,8 +323,9 @@ pub fn write_error(value: &mut [u8], code: u16, reason: &[u8])
     back.copy_from_slice(reason);
 }
 
-/// Returns the code of an error that can be written with this reason, or the first reason against
-/// it.
+/// Returns the code, if it can be written to an ERROR-CODE with this reason phrase. Fails with
+/// `BadArgument` if the code is not between 300 and 699, then with `NotText` or `TextTooLong` for
+/// the reason phrase.
 fn error_arguments(code: u32, reason: &[u8]) -> Result<u16, Refusal>
     ensures ok { IfOk result (λ code'. (code' ≡ code) × (code < 700) ×
         (length reason.now ≤ TEXT_LIMIT)) }
@@ -337,7 +343,7 @@ fn error_arguments(code: u32, reason: &[u8]) -> Result<u16, Refusal>
 }
 
 /// Adds an ERROR-CODE to the message in the first `count` bytes of the buffer. Returns the new
-/// length, or the number of the error.
+/// length, or a negative error code.
 pub fn add_error(buffer: &mut [u8], count: usize, code: u32, reason: &[u8]) -> i64
     ensures { Writes (added_error buffer.old count code reason.now) buffer.old result buffer.new }
 {

@@ -1,16 +1,15 @@
 -- What answers a request that is handed out signs under the key of its user.
-use Rattle.std.proofs.Common.{◌≡◌, ◌≤◌, ◌⊎◌, inl, inr, ℕ, zero, suc, ℤ, pos, List, [], ◌++◌}
-use Rattle.std.proofs.Common.{Bool, true, false, Option, Some, None, length, take}
-use Rattle.std.proofs.Common.{refl, sym, ◌∙◌, ap, subst, arith, Ok, Err}
+use Rattle.std.proofs.Common.{◌≡◌, ◌≤◌, inl, inr, ℕ, zero, suc, ℤ, pos, List, [], ◌++◌, Bool, true}
+use Rattle.std.proofs.Common.{false, Option, Some, None, length, take, refl, sym, ◌∙◌, ap, subst}
+use Rattle.std.proofs.Common.{arith, Ok, Err}
 use Rattle.std.specs.Prelude.{cond, drop, min, nat_abs, nat_lt, replicate, IsSome}
-use Rattle.std.specs.Option.{unwrap_or}
+use Rattle.std.specs.Option.{unwrap_or, option_map}
 use Rattle.std.specs.FinMap as map
-use Rattle.std.specs.Option.{option_and_then, option_map}
 use Rattle.std.specs.declared.net.socket_addr.SocketAddr.{SocketAddr}
 use Rattle.std.specs.declared.result.Result.{Result}
 use Rattle.std.proofs.Math.Seq.{take-append_seam}
 use Rattle.std.proofs.lemmas.List.{take_all}
-use Rattle.stun_auth.specs.Reading.{has_visible_integrity, reading_of, verified_under}
+use Rattle.stun_auth.specs.Reading.{reading_of, verified_under}
 use Rattle.stun_auth.specs.Seen.{ClientSeen}
 use Rattle.stun_auth.specs.declared.server.reason.VerdictRefusal.{VerdictRefusal}
 use Rattle.stun_base.specs.MessageType.{class_in}
@@ -20,9 +19,7 @@ use Rattle.stun_base.specs.declared.wire.message_type.MessageClass.{MessageClass
 use Rattle.stun_base.specs.declared.wire.message_type.MessageClass.TheVariants.{Request}
 use Rattle.stun_base.specs.declared.wire.message_type.MessageClass.TheVariants.{Indication}
 use Rattle.stun_base.specs.declared.wire.message_type.MessageClass.TheVariants.{Success, Error}
-use Rattle.stun_types.specs.Integrity.{deciding, deciding_algorithm, integrity_algorithm}
-use Rattle.stun_types.specs.Integrity.{is_digest, verified_algorithm, verified_at}
-use Rattle.stun_types.specs.Walk.{Member}
+use Rattle.stun_types.specs.Integrity.{deciding_algorithm, verified_algorithm}
 use Rattle.stun_types.specs.Writing.{with_integrity}
 use Rattle.stun_extra.specs.Unknown.{unknown_types}
 use Rattle.stun_endpoint.specs.Answers.{Signature}
@@ -38,12 +35,12 @@ use Rattle.stun_endpoint.specs.Responding.{Reply as TheReply, Responding, drop_r
 use Rattle.stun_endpoint.specs.Responding.{reply_by}
 use Rattle.stun_endpoint.specs.Settings.{Settings}
 use Rattle.stun_endpoint.specs.ShortTerm as short
-use Rattle.stun_endpoint.specs.ShortTerm.{IsSignedBy, Keys, Signer, received_signed, signature_of}
-use Rattle.stun_endpoint.specs.ShortTerm.{signer_of}
+use Rattle.stun_endpoint.specs.ShortTerm.{Keys, Signer, received_signed, signature_of, signer_of}
 use Rattle.stun_endpoint.specs.declared.received.DropReason.{DropReason}
 use Rattle.stun_endpoint.specs.declared.received.Refusal.{Refusal}
 use Rattle.stun_endpoint.proofs.HandedLemmas.{handed_is_accepted}
 use Rattle.stun_endpoint.proofs.SignerLemmas.{signed-iff}
+use Rattle.stun_client.proofs.DowngradeLemmas.{decides}
 use Rattle.stun_numbers.specs.Algorithms.{algorithm_number, algorithm_numbered}
 use Rattle.stun_numbers.specs.declared.refusal.Refusal.TheVariants.{BufferTooSmall}
 use Rattle.stun_c_endpoint.specs.Kept.{Judge, by_realm, by_users, openly}
@@ -81,30 +78,6 @@ not_dropped : (why : Option DropReason) (rest : Outcome) (q : AcceptedRequest)
     → unless_dropped rest why ≡ requested q → rest ≡ requested q
 not_dropped None rest q h = h
 not_dropped (Some why) rest q h = cc
-
--- a digest that verifies is in an attribute, whatever the key is
-verified-decides : (bytes key : List ℕ) (o : Option Member) (a : IntegrityAlgorithm)
-    → option_and_then (verified_at (λ _. key) bytes) o ≡ Some a
-    → option_map (λ (m : Member). integrity_algorithm m.1) o ≡ Some a
-verified-decides bytes key None a is = cc
-verified-decides bytes key (Some m) a is = decided (is_digest bytes key m) is
-  where
-    decided : (b : Bool) → cond b (Some (integrity_algorithm m.1)) None ≡ Some a
-        → Some (integrity_algorithm m.1) ≡ Some a
-    decided true is = is
-    decided false is = cc
-
-decides-if : (bytes key : List ℕ) (b : Bool) (a : IntegrityAlgorithm)
-    → option_and_then (λ (verify : List ℕ → Option IntegrityAlgorithm). verify key)
-    (cond b (Some (verified_algorithm bytes)) None) ≡ Some a
-    → deciding_algorithm bytes ≡ Some a
-decides-if bytes key true a is = verified-decides bytes key (deciding bytes) a is
-decides-if bytes key false a is = cc
-
-decides : (bytes key : List ℕ) (a : IntegrityAlgorithm)
-    → verified_under (reading_of bytes) key ≡ Some a → deciding_algorithm bytes ≡ Some a
-unfolding reading_of
-decides bytes key a is = decides-if bytes key (has_visible_integrity bytes) a is
 
 abbrev IsDecided : List ℕ → Type 0
 IsDecided bytes = (a : IntegrityAlgorithm) × (deciding_algorithm bytes ≡ Some a)

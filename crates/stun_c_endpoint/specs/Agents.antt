@@ -1,5 +1,5 @@
--- The agent of ICE that a caller in C makes, and what simple calls on it return (RFC 8445, section
--- 5.3).
+-- The ICE agent that a caller in C creates, and the results of simple calls on it (RFC 8445,
+-- section 5.3).
 use Rattle.std.specs.Prelude.{◌≡◌, ℕ, ℤ, pos, List, Bool, true, false, ◌&&◌, MatchOption}
 use Rattle.std.specs.Prelude.{if◌then◌else◌, Option, Some, None, Result, Ok, Err}
 use Rattle.std.specs.Option.{option_map}
@@ -26,19 +26,19 @@ abbrev pub role_if : Bool → Role
 role_if true = Controlling
 role_if false = Controlled
 
--- whether a role is to control
+-- whether a role is that of the controlling agent
 abbrev pub is_controlling : Role → Bool
 is_controlling Controlling = true
 is_controlling Controlled = false
 
--- ---- making an agent
+-- ---- creating an agent
 
--- what a caller gives of one side: the username fragment and the password as bytes
+-- the arguments of a caller for one side: the username fragment and the password as bytes
 pub record SideGiven : Type 0 where
   pub name : List ℕ
   pub password : List ℕ
 
--- what a caller gives: the username fragments and the passwords of both sides as bytes, the
+-- the arguments of a caller: the username fragments and the passwords of both sides as bytes, the
 -- tie-breaker, and whether the agent controls
 pub record AgentGiven : Type 0 where
   pub name : List ℕ
@@ -48,14 +48,14 @@ pub record AgentGiven : Type 0 where
   pub tie_breaker : ℕ
   pub controls : Bool
 
--- the refusal of credentials that make no agent
+-- the error for credentials of which no agent can be built
 abbrev pub refusal_of_building : BuildError → Refusal
 refusal_of_building NameLength = BadArgument
 refusal_of_building ColonInName = BadArgument
 refusal_of_building PasswordLength = BadArgument
 refusal_of_building NoMemory = OutOfMemory
 
--- why no agent is made, the first reason that holds
+-- why no agent is created: the first reason that applies
 unfoldable pub agent_refusal : AgentGiven → Option Refusal
 agent_refusal g =
     if is_utf8 g.name && is_utf8 g.password && (is_utf8 g.peer_name && is_utf8 g.peer_password)
@@ -63,7 +63,7 @@ agent_refusal g =
     (build_refusal g.name g.peer_name g.password g.peer_password)
     else Some NotText
 
--- the agent of what is given
+-- the agent that is created from these arguments
 abbrev pub agent_given : AgentGiven → Agent
 agent_given g = record {
   name = g.name;
@@ -73,8 +73,8 @@ agent_given g = record {
   role = role_if g.controls;
 }
 
--- a call makes the agent of what is given in an empty handle and returns 0, or returns the first
--- refusal; or an allocation failed
+-- a call creates the agent from these arguments in an empty handle and returns 0, or returns the
+-- first error; or an allocation failed
 abbrev pub MakesAgent : AgentGiven → ℤ → Option Kept → Type 0
 MakesAgent g result now =
     MatchOption (agent_refusal g)
@@ -83,14 +83,14 @@ MakesAgent g result now =
 
 -- ---- an agent that does not know its peer yet
 
--- the refusal of the credentials of one side
+-- why the credentials of one side are not accepted, if they are not
 unfoldable pub side_given_refusal : SideGiven → Option Refusal
 side_given_refusal s =
     if is_utf8 s.name && is_utf8 s.password
     then option_map refusal_of_building (side_refusal s.name s.password)
     else Some NotText
 
--- the agent of its own credentials, a tie-breaker, and whether it controls
+-- the agent with its own credentials, a tie-breaker, and whether it controls
 abbrev pub offering_agent : SideGiven → ℕ → Bool → Agent
 offering_agent s tie controls = record {
   name = s.name;
@@ -100,7 +100,7 @@ offering_agent s tie controls = record {
   role = role_if controls;
 }
 
--- a call makes this agent in an empty handle and returns 0, or returns the first refusal; or an
+-- a call creates this agent in an empty handle and returns 0, or returns the first error; or an
 -- allocation failed
 abbrev pub MakesOffering : SideGiven → ℕ → Bool → ℤ → Option Kept → Type 0
 MakesOffering s tie controls result now =
@@ -112,8 +112,9 @@ MakesOffering s tie controls result now =
 abbrev pub knowing_agent : Agent → SideGiven → Agent
 knowing_agent a s = record a { peer = Some (remote_peer a.name s.name s.password) }
 
--- a call gives an agent the credentials of its peer and returns 0, or returns the first refusal and
--- leaves the agent as it is: there is none, or the credentials are refused; or an allocation failed
+-- a call sets the credentials of an agent's peer and returns 0, or returns the first error and
+-- leaves the agent unchanged: there is none, or the credentials are not accepted; or an allocation
+-- failed
 abbrev pub SetsPeer : Result Agent Refusal → SideGiven → ℤ → Option Kept → Option Kept → Type 0
 SetsPeer (Err refusal) s result before now = (result ≡ refusal_number refusal) × (now ≡ before)
 SetsPeer (Ok a) s result before now =
@@ -128,15 +129,15 @@ abbrev pub controlling_answer : Result Agent Refusal → ℤ
 controlling_answer (Err refusal) = refusal_number refusal
 controlling_answer (Ok a) = if is_controlling a.role then pos 1 else pos 0
 
--- a call gives an agent another tie-breaker and returns 0, or there is no agent
+-- a call sets another tie-breaker of an agent and returns 0, or there is no agent
 abbrev pub SetsTieBreaker : Result Agent Refusal → ℕ → ℤ → Option Kept → Option Kept → Type 0
 SetsTieBreaker (Err refusal) tie result before now =
     (result ≡ refusal_number refusal) × (now ≡ before)
 SetsTieBreaker (Ok a) tie result before now =
     (result ≡ pos 0) × (now ≡ Some (Checker (record a { tie_breaker = tie })))
 
--- a call gives an agent the role that controls, or the other one, and returns 0, or there is no
--- agent
+-- a call sets the role of an agent to controlling, or to the other one, and returns 0, or there is
+-- no agent
 abbrev pub SetsRole : Result Agent Refusal → Bool → ℤ → Option Kept → Option Kept → Type 0
 SetsRole (Err refusal) controls result before now =
     (result ≡ refusal_number refusal) × (now ≡ before)

@@ -1,4 +1,4 @@
--- The body of a request that a caller gives as encoded attributes (RFC 8489, section 14).
+-- The body of a request that a caller passes as encoded attributes (RFC 8489, section 14).
 use Rattle.std.specs.Prelude.{◌≡◌, ◌≢◌, ℕ, List, [], ◌∷◌, ◌++◌, true, false, ◌&&◌, ◌==◌}
 use Rattle.std.specs.Prelude.{length, drop, if◌then◌else◌, Option, Some, None, Result, Ok, Err}
 use Rattle.std.specs.declared.net.socket_addr.SocketAddr.{SocketAddr}
@@ -15,8 +15,8 @@ use Rattle.stun_numbers.specs.declared.refusal.Refusal.{Refusal}
 use Rattle.stun_numbers.specs.declared.refusal.Refusal.TheVariants.{BadArgument, MessageTooLong}
 use Rattle.stun_numbers.specs.declared.refusal.Refusal.TheVariants.{NotAllowed, OutOfMemory}
 
--- the address of XOR-PEER-ADDRESS, which is not XORed yet: a family, a port and the octets, as
--- MAPPED-ADDRESS has them (section 14.1)
+-- the address of XOR-PEER-ADDRESS, which is not XORed yet: a family, a port and the octets, as in
+-- MAPPED-ADDRESS (section 14.1)
 abbrev pub peer_of : List ℕ → Option SocketAddr
 peer_of value =
     if (length value == 8) && (big_number 2 value == 1)
@@ -45,7 +45,8 @@ with_attribute body a =
     if a.kind == XOR_PEER_ADDRESS then with_peer body (peer_of a.value)
     else unless_refused (body_refusal body a.kind (length a.value)) (body ++ with_value a ∷ [])
 
--- what bytes after those of a body come to: the body with their attributes, or the first refusal
+-- the result of reading bytes after those of a body: the body with their attributes, or the first
+-- error
 pub data Reads : Body → List ℕ → Result Body Refusal → Type 0 where
   ends : (body : Body) → Reads body [] (Ok body)
   breaks_off : (body : Body) (bytes : List ℕ) → bytes ≢ [] → has_attribute bytes ≡ false

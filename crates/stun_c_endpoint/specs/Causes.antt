@@ -1,4 +1,4 @@
--- Why a request is refused, as a caller in C gets it (RFC 8489, sections 9.2.4 and 6.3.1).
+-- Why a request is refused, as a caller in C receives it (RFC 8489, sections 9.2.4 and 6.3.1).
 use Rattle.std.specs.Prelude.{◌≡◌, ◌⊎◌, ℕ, ℤ, pos, List, ◌||◌, ◌==◌, not, nat_lt, Option, Some}
 use Rattle.std.specs.Prelude.{None, if◌then◌else◌, Result, Ok, Err}
 use Rattle.stun_auth.specs.Validation.{ServerSeen}
@@ -42,7 +42,7 @@ with_table s (ShortTermUsers t) = Err WrongHandle
 with_table s (Checker t) = Err WrongHandle
 with_table s (Client t) = Err WrongHandle
 
--- a server of another kind has no causes, and is refused before the table is looked at
+-- a server of another kind has no causes, and fails before the table is looked at
 abbrev pub long_term_with : Option Kept → Kept → Result OfRealm Refusal
 long_term_with users (Server s) = at_handle users (λ u. with_table s u)
 long_term_with users (Users t) = Err WrongHandle
@@ -55,8 +55,8 @@ long_term_with users (Client t) = Err WrongHandle
 abbrev pub long_term_and_users : Option Kept → Option Kept → Result OfRealm Refusal
 long_term_and_users server users = at_handle server (λ s. long_term_with users s)
 
--- the cause by what two handles have. Their refusals come first, and then a time that is none of
--- seconds, and an address that is none
+-- the cause, given the values of two handles. Their errors come first, and then a time that is not
+-- one of seconds, and an address that is not one
 abbrev pub caused_at : Result OfRealm Refusal → Address → ℕ → List ℕ
     → Result (Option Cause) Refusal
 caused_at (Err refusal) from seconds bytes = Err refusal
@@ -65,7 +65,7 @@ caused_at (Ok realm) from seconds bytes =
     else at_address (socket_address from)
     (λ from. Ok (cause_of realm.settings (realm_of_table realm.users) from seconds bytes))
 
--- the number of a cause, and 0 of none
+-- the number of a cause, or 0 for none
 abbrev pub cause_number : Option Cause → ℕ
 cause_number None = 0
 cause_number (Some NoSignature) = 1
@@ -76,16 +76,16 @@ cause_number (Some StaleNonce) = 5
 cause_number (Some WrongCredentials) = 6
 cause_number (Some UnknownAttribute) = 7
 
--- ---- the cause beside what a datagram comes to
+-- ---- the cause besides the outcome of a datagram
 
--- the number of the cause, by a server with long-term credentials and its users
+-- the number of the cause, at a server with long-term credentials and with its users
 abbrev pub cause_by : Settings → ServerSeen → Option SocketAddr → ℕ → List ℕ → ℕ
 cause_by s u None seconds bytes = 0
 cause_by s u (Some from) seconds bytes =
     cause_number (cause_of s (realm_of_table u) from seconds bytes)
 
--- the number by what two handles have. Servers of other kinds have no causes, because their codes
--- tell as much; nor has a datagram that is not judged (`outcome_at`)
+-- the number, given the values of two handles. Servers of other kinds have no causes, because their
+-- codes say as much; nor has a datagram that is not judged (`outcome_at`)
 abbrev pub cause_at : Result Judge Refusal → Address → ℕ → List ℕ → Received → ℕ
 cause_at (Err refusal) from seconds bytes r = 0
 cause_at (Ok (by_users s u)) from seconds bytes r = 0

@@ -1,4 +1,4 @@
--- The client that a caller in C makes.
+-- The client that a caller in C creates.
 use Rattle.std.specs.Prelude.{◌≡◌, ℕ, ℤ, List, ◌++◌, Bool, true, false, ◌&&◌, ◌||◌, ◌==◌, not}
 use Rattle.std.specs.Prelude.{length, nat_lt, if◌then◌else◌, Option, Some, None}
 use Rattle.std.specs.Str.{is_utf8}
@@ -27,7 +27,7 @@ use Rattle.stun_c_endpoint.specs.declared.client.settings.TheConstants.{UNDERSTO
 use Rattle.stun_c_endpoint.specs.declared.handle.endpoint.Kept.{Kept}
 use Rattle.stun_c_endpoint.specs.declared.handle.endpoint.Kept.TheVariants.{Client}
 
--- what a caller gives: the addresses, texts and keys as bytes, types as numbers
+-- the arguments of a caller: the addresses, texts and keys as bytes, types as numbers
 pub record ClientGiven : Type 0 where
   pub server : Address
   pub seed : List ℕ
@@ -37,7 +37,7 @@ pub record ClientGiven : Type 0 where
   pub understood : List ℕ
   pub options : ClientOptions
 
--- a number, or its default where it is 0
+-- a number, or its default if it is 0
 abbrev pub or_else : ℕ → ℕ → ℕ
 or_else number default = if number == 0 then default else number
 
@@ -59,7 +59,7 @@ preferences_given o = record {
   anonymous_username = feature_given o.anonymous_username;
 }
 
--- the algorithm of short-term credentials: HMAC-SHA1, unless it is to be the other one
+-- the algorithm of short-term credentials: HMAC-SHA1, unless the other one is passed
 abbrev pub algorithm_given : ℕ → IntegrityAlgorithm
 algorithm_given number = if number == 2 then Sha256 else Sha1
 
@@ -75,7 +75,7 @@ identity_given name password o =
     else if o.credentials == 1 then short_term name password (algorithm_given o.algorithms)
     else long_term_given name password o
 
--- whether a number is none that is taken
+-- whether a number is out of range
 abbrev pub is_out_of_range : Bool → ClientOptions → Bool
 is_out_of_range user o =
     nat_lt 3 o.algorithms || (nat_lt 2 o.anonymous_username
@@ -93,7 +93,7 @@ abbrev pub transport_given : Bool → TransportType
 transport_given true = Tcp
 transport_given false = Udp
 
--- when a request is sent again, and when it ends: by default as RFC 8489 has it, section 6.2.1
+-- when a request is sent again, and when it ends: by default as in RFC 8489, section 6.2.1
 abbrev pub timeouts_given : ClientOptions → Settings
 timeouts_given o = record {
   initial = or_else o.initial 500000000;
@@ -104,7 +104,7 @@ timeouts_given o = record {
 
 -- ---- the client
 
--- why no client is made at an address, the first reason that holds
+-- why no client is created at an address: the first reason that applies
 unfoldable pub client_refusal : ClientGiven → Option Refusal
 client_refusal g =
     if is_out_of_range (has_user g.name) g.options
@@ -115,7 +115,8 @@ client_refusal g =
     then Some TextTooLong
     else None
 
--- the client of what is given, of the server at an address. It keeps no statistics
+-- the client that is created from these arguments, of the server at an address. It keeps no
+-- statistics
 abbrev pub client_given : ClientGiven → SocketAddr → ClientSeen
 client_given g server =
     new_client (transport_given g.options.is_stream) server false g.options.requires_fingerprint
@@ -124,13 +125,13 @@ client_given g server =
     (types_of g.understood ++ UNDERSTOOD) (or_else g.options.challenges 6) (timeouts_given g.options)
     g.seed
 
--- an address that is none is refused first
+-- an address that is not one fails first
 abbrev pub MakesAt : Option SocketAddr → ClientGiven → ℤ → Option Kept → Type 0
 MakesAt None g result now = (result ≡ refusal_number BadArgument) × (now ≡ None)
 MakesAt (Some server) g result now =
     Makes (client_refusal g) (Client (client_given g server)) result now
 
--- a call makes the client of what is given in an empty handle and returns 0, or returns the first
--- refusal; or an allocation failed
+-- a call creates the client from these arguments in an empty handle and returns 0, or returns the
+-- first error; or an allocation failed
 abbrev pub MakesClient : ClientGiven → ℤ → Option Kept → Type 0
 MakesClient g result now = MakesAt (socket_address g.server) g result now

@@ -1,5 +1,5 @@
--- What a client is to do next, as a caller in C gets it.
-use Rattle.std.specs.Prelude.{ℕ, length, Bool, true, false, ◌==◌, if◌then◌else◌, Option, Some, None}
+-- The next thing to do for a client, as a caller in C receives it.
+use Rattle.std.specs.Prelude.{ℕ, length, min, Bool, true, false, ◌==◌, if◌then◌else◌, Option, Some, None}
 use Rattle.std.specs.Option.{option_map_or}
 use Rattle.stun_client.specs.declared.judged.Outcome.{Outcome}
 use Rattle.stun_client.specs.declared.judged.Outcome.TheVariants.{Malformed, NotUnderstood}
@@ -22,9 +22,9 @@ use Rattle.stun_c_endpoint.specs.Told.{FAILED, integrity_number}
 use Rattle.stun_c_endpoint.specs.declared.client.event.Dropped.{Dropped}
 use Rattle.stun_c_endpoint.specs.declared.client.event.Event.{Event}
 
--- how many bytes a caller's event has, with which it begins
+-- the number of bytes of a caller's event, with which it begins
 abbrev pub EVENT_SIZE : ℕ
-EVENT_SIZE = 72
+EVENT_SIZE = 80
 
 -- the numbers of the reasons to drop a response
 abbrev pub drop_told : DropReason → ℕ
@@ -37,10 +37,24 @@ drop_told OutOfMemory = 12
 drop_told LateChallenge = 14
 drop_told reason.Refused = 15
 
--- a number, and 0 of none
+-- a number, or 0 for none
 abbrev pub or_zero : Option ℕ → ℕ
 or_zero None = 0
 or_zero (Some number) = number
+
+-- the greatest number of 64 bits
+abbrev pub FOR_EVER : ℕ
+FOR_EVER = 18446744073709551615
+
+-- until when to wait: the greatest number, if no request is outstanding
+abbrev pub or_for_ever : Option ℕ → ℕ
+or_for_ever None = FOR_EVER
+or_for_ever (Some until) = until
+
+-- a round trip: the greatest number, if it is not known or too long for 64 bits
+abbrev pub trip_told : Option ℕ → ℕ
+trip_told None = FOR_EVER
+trip_told (Some nanos) = min nanos FOR_EVER
 
 -- what was dropped for a request
 abbrev pub drops_told : Drops → Dropped
@@ -50,7 +64,7 @@ drops_told d =
 abbrev pub nothing_dropped : Dropped
 nothing_dropped = record { count = 0; why = 0; code = 0 }
 
--- the kind alone
+-- an event with only its kind
 abbrev pub event_blank : ℕ → Event → Event
 event_blank kind e = record {
   size = e.size;
@@ -64,10 +78,12 @@ event_blank kind e = record {
   not_understood = 0;
   signed_by = 0;
   dropped = nothing_dropped;
+  round_trip = 0;
 }
 
--- what a caller gets where a call fails: no kind of before, and no length. Of a struct of another size
--- only these two fields are written, which it has in each release
+-- the event of a caller after a call that failed: it has neither the kind nor the length from
+-- before. In a struct of another size only these two fields are written, which it has in each
+-- release
 abbrev pub event_failed : Event → Event
 event_failed e = record (if e.size == EVENT_SIZE then event_blank FAILED e else e) {
   size = e.size;
@@ -75,7 +91,7 @@ event_failed e = record (if e.size == EVENT_SIZE then event_blank FAILED e else 
   length = 0;
 }
 
--- an event whose bytes are lost: all else is told
+-- an event whose bytes are lost. All else is in it
 abbrev pub event_unless : Bool → ℕ → Event → Event
 event_unless true count e = record e { kind = FAILED; length = 0; needed = count }
 event_unless false count e = e
@@ -102,7 +118,11 @@ end_told (TimedOut drops) e = record e { result = 4; dropped = drops_told drops 
 end_told Unauthorized e = record e { result = 5 }
 end_told Cancelled e = record e { result = 8 }
 
--- which request has ended, and how, and how long the response is that ended it
+-- which request has ended, and how, the length of the response that ended it, and the round trip
 abbrev pub ended_told : ℕ → EndSeen → Event → Event
 ended_told number x e =
-    end_told x.end (record (event_blank 2 e) { request = number; length = length x.response })
+    end_told x.end (record (event_blank 2 e) {
+      request = number;
+      length = length x.response;
+      round_trip = trip_told x.round_trip;
+    })

@@ -1,5 +1,5 @@
--- A check of an agent of ICE with further attributes, which a caller in C gives as encoded attributes
--- (RFC 8445, section 7.2.4; RFC 8489, section 14).
+-- A check of an ICE agent with further attributes, which a caller in C passes as encoded
+-- attributes (RFC 8445, section 7.2.4; RFC 8489, section 14).
 use Rattle.std.specs.Prelude.{◌≡◌, ◌≢◌, ◌⊎◌, ℕ, ℤ, ◌-◌, List, [], ◌∷◌, Bool, true, false}
 use Rattle.std.specs.Prelude.{length, drop, if◌then◌else◌, Option, Some, MatchOption}
 use Rattle.std.specs.Prelude.{Result, Ok, Err, ◌==◌}
@@ -27,7 +27,7 @@ use Rattle.stun_c_endpoint.specs.declared.ice.told.IceCheck.{IceCheck}
 
 -- ---- one attribute
 
--- the types that a caller cannot add: those by which a check says what the agent is asked to say, and
+-- the types that a caller cannot add: those that the agent itself writes into a check, and
 -- XOR-PEER-ADDRESS, whose value is XORed only in a request of a client
 abbrev pub KEPT_FROM_CHECKS : List ℕ
 KEPT_FROM_CHECKS =
@@ -36,7 +36,7 @@ KEPT_FROM_CHECKS =
 abbrev pub is_kept_from_checks : ℕ → Bool
 is_kept_from_checks kind = list_any (λ other. other == kind) KEPT_FROM_CHECKS
 
--- the refusal for an error of writing a message
+-- the error for a failed write of a message
 abbrev pub refusal_of_page : Option StunWriteError → Option Refusal
 refusal_of_page why = option_map (λ error. refusal_of_write true error) why
 
@@ -50,8 +50,8 @@ with_further page a =
 
 -- ---- all attributes
 
--- what a check comes to with the attributes of these bytes, in their order: the check with all of
--- them, or the first refusal
+-- the result of adding the attributes of these bytes to a check, in their order: the check with all
+-- of them, or the first error
 pub data AddsFurther : List ℕ → List ℕ → Result (List ℕ) Refusal → Type 0 where
   has_all : (page : List ℕ) → AddsFurther page [] (Ok page)
   is_broken : (page bytes : List ℕ) → bytes ≢ [] → has_attribute bytes ≡ false
@@ -65,8 +65,8 @@ pub data AddsFurther : List ℕ → List ℕ → Result (List ℕ) Refusal → T
 
 -- ---- the whole check
 
--- what becomes of a check with all its attributes: it gets its end, or the end is refused, or one of
--- the attributes was
+-- the end of a check with all its attributes: it gets its end, or fails to, or one of the
+-- attributes could not be added
 abbrev pub EndsAs : Agent → Peer → ℕ → SocketAddr → Bool → Result (List ℕ) Refusal
     → Result SentCheck Refusal → Type 0
 EndsAs a peer id to nominate (Err refusal) result = result ≡ Err refusal
@@ -74,8 +74,8 @@ EndsAs a peer id to nominate (Ok page) (Ok check) = check ≡ sent_page a peer i
 EndsAs a peer id to nominate (Ok page) (Err refusal) =
     refusal_of_page (ending_refusal peer.password page) ≡ Some refusal
 
--- the check that an agent writes to a peer: it begins as any other, has the attributes of the body
--- then, and ends as any other
+-- the check that an agent writes to a peer: it begins like any other, then has the attributes of
+-- the body, and ends like any other
 abbrev pub ExtendsTo : Agent → Peer → ℕ → SocketAddr → ℕ → Bool → List ℕ
     → Result SentCheck Refusal → Type 0
 ExtendsTo a peer id to priority nominate body result =
@@ -83,16 +83,16 @@ ExtendsTo a peer id to priority nominate body result =
     × AddsFurther (check_page a peer id priority (can_nominate a.role nominate)) body page
     × EndsAs a peer id to nominate page result
 
--- the check that an agent writes, which has to know its peer. An allocation may fail in place of any
--- other refusal
+-- the check that an agent writes, which must know its peer. An allocation may fail in place of any
+-- other error
 abbrev pub Extends : Agent → ℕ → SocketAddr → ℕ → Bool → List ℕ → Result SentCheck Refusal
     → Type 0
 Extends a id to priority nominate body result =
     MatchOption a.peer (result ≡ Err CannotSign)
     (λ peer. (result ≡ Err OutOfMemory) ⊎ ExtendsTo a peer id to priority nominate body result)
 
--- what a call that writes such a check returns and writes. A handle without an agent is refused
--- first, and then an address that is none
+-- the result of a call that writes such a check, and what it writes. A handle without an agent
+-- fails first, and then an address that is not one
 abbrev pub WritesExtended : Result Agent Refusal → List ℕ → Address → ℕ → Bool → List ℕ → ℤ
     → List ℕ → List ℕ → IceCheck → IceCheck → Type 0
 WritesExtended (Err refusal) id to priority nominate body result out out' k k' =

@@ -1,5 +1,5 @@
--- What a datagram comes to by a user who was found, as a caller in C gets it (RFC 8489, section
--- 9.2.4).
+-- The outcome of a datagram with a user who was found, as a caller in C receives it (RFC 8489,
+-- section 9.2.4).
 use Rattle.std.specs.Prelude.{ℕ, List, Bool, if◌then◌else◌, Option, Result, Ok, Err}
 use Rattle.stun_endpoint.specs.Realm.{table_of}
 use Rattle.stun_endpoint.specs.Settings.{Settings}
@@ -12,17 +12,18 @@ use Rattle.stun_c_endpoint.specs.declared.handle.endpoint.Kept.TheVariants.{Chec
 use Rattle.stun_c_endpoint.specs.declared.handle.endpoint.Kept.TheVariants.{Open, ShortTerm}
 use Rattle.stun_c_endpoint.specs.declared.handle.endpoint.Kept.TheVariants.{Client, ShortTermUsers}
 
--- what is left of a table to which the user is added, with the password or with stored keys
+-- a table after the user is added, with the password or with stored keys
 abbrev pub adding_found : List ℕ → List ℕ → Bool → List ℕ → List ℕ → Kept → Result Kept Refusal
 adding_found name password has_password sha1 sha256 table =
     if has_password then adding name password table else adding_keys name sha1 sha256 table
 
--- a server with the table that is left
+-- a server with this table
 abbrev pub with_left : Settings → Result Kept Refusal → Result Judge Refusal
 with_left s (Ok table) = with_realm s table
 with_left s (Err refusal) = Err refusal
 
--- what judges: a server with long-term credentials, with a table of this one user
+-- the server and the users that judge: a server with long-term credentials, with a table of only
+-- this user
 abbrev pub judge_by_found : List ℕ → List ℕ → Bool → List ℕ → List ℕ → Kept → Result Judge Refusal
 judge_by_found name password has_password sha1 sha256 (Server s) =
     with_left s (adding_found name password has_password sha1 sha256 (Users (table_of s)))
@@ -33,7 +34,7 @@ judge_by_found name password has_password sha1 sha256 (ShortTermUsers t) = Err W
 judge_by_found name password has_password sha1 sha256 (Checker t) = Err WrongHandle
 judge_by_found name password has_password sha1 sha256 (Client t) = Err WrongHandle
 
--- the same of a handle
+-- the server and the users, for a handle
 abbrev pub judge_of_found : List ℕ → List ℕ → Bool → List ℕ → List ℕ → Option Kept
     → Result Judge Refusal
 judge_of_found name password has_password sha1 sha256 server =

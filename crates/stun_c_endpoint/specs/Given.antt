@@ -1,4 +1,4 @@
--- The settings of a server as a caller in C gives them, and the server of them.
+-- The settings of a server as a caller in C passes them, and the server that is built from them.
 use Rattle.std.specs.Prelude.{◌≡◌, ℕ, ℤ, pos, MatchOption, List, ◌++◌, Bool, ◌&&◌, ◌||◌, ◌==◌, not, length, nat_lt}
 use Rattle.std.specs.Prelude.{if◌then◌else◌, Option, Some, None, IfNone, IfSome, false}
 use Rattle.std.specs.Prelude.{replicate, slice_index}
@@ -17,7 +17,8 @@ use Rattle.stun_numbers.specs.declared.refusal.Refusal.TheVariants.{NotText, Tex
 use Rattle.stun_c_endpoint.specs.declared.handle.endpoint.Kept.{Kept}
 use Rattle.stun_c_endpoint.specs.declared.handle.endpoint.Kept.TheVariants.{Open, Server, ShortTerm}
 
--- what a caller gives: texts and keys as bytes, and types, algorithms and the feature as numbers
+-- the arguments of a caller: texts and keys as bytes, and types, algorithms and the feature as
+-- numbers
 pub record Given : Type 0 where
   pub realm : List ℕ
   pub software : List ℕ
@@ -30,18 +31,18 @@ pub record Given : Type 0 where
   pub answers_binding : Bool
   pub requires_fingerprint : Bool
 
--- how long a nonce is sent: an hour, unless another time is given
+-- for how many seconds a nonce is sent: an hour, unless another time is passed
 abbrev pub nonce_seconds : ℕ → ℕ
 nonce_seconds seconds = if seconds == 0 then 3600 else seconds
 
--- which algorithms a number means: 1 is HMAC-SHA1, 2 is HMAC-SHA256, 0 and 3 are both
+-- the algorithms that a number stands for: 1 is HMAC-SHA1, 2 is HMAC-SHA256, 0 and 3 are both
 abbrev pub has_sha1 : ℕ → Bool
 has_sha1 number = not (number == 2)
 
 abbrev pub has_sha256 : ℕ → Bool
 has_sha256 number = not (number == 1)
 
--- whether 32 bytes are one byte that is repeated, and so are none that were drawn at random
+-- whether 32 bytes are one byte that is repeated, and so are not random
 abbrev pub is_repeated : List ℕ → Bool
 is_repeated bytes = bytes_eq bytes (replicate 32 (slice_index bytes 0))
 
@@ -54,18 +55,18 @@ is_wrong_previous secret (Some previous) = is_repeated previous || bytes_eq prev
 abbrev pub LONGEST_NONCE_LIFETIME : ℕ
 LONGEST_NONCE_LIFETIME = 2592000
 
--- whether a number is none that is taken
+-- whether a number is out of range
 abbrev pub is_out_of_range : Given → Bool
 is_out_of_range g =
     nat_lt 3 g.algorithms || (nat_lt 2 g.anonymous_username
     || (nat_lt (nonce_seconds g.nonce_seconds) 30
     || nat_lt LONGEST_NONCE_LIFETIME (nonce_seconds g.nonce_seconds)))
 
--- whether a secret is none that is taken
+-- whether a secret is not accepted
 abbrev pub is_wrong_secret : Given → Bool
 is_wrong_secret g = is_repeated g.secret || is_wrong_previous g.secret g.previous_secret
 
--- why no server is made, the first reason that holds
+-- why no server is built: the first reason that applies
 unfoldable pub given_refusal : Given → Option Refusal
 given_refusal g =
     if is_out_of_range g || is_wrong_secret g then Some BadArgument
@@ -74,11 +75,11 @@ given_refusal g =
     then Some TextTooLong
     else None
 
--- a text that is given, if it has bytes
+-- a text that is passed, if it has bytes
 abbrev pub if_any : List ℕ → Option (List ℕ)
 if_any bytes = if length bytes == 0 then None else Some bytes
 
--- the server of what is given
+-- the server that is built from these arguments
 abbrev pub server_given : Given → Settings
 server_given g = record {
   realm = g.realm;
@@ -93,21 +94,21 @@ server_given g = record {
   requires_fingerprint = g.requires_fingerprint;
 }
 
--- what a caller gives of a server without a realm
+-- the arguments of a caller for a server without a realm
 pub record GivenAlone : Type 0 where
   pub software : List ℕ
   pub understood : List ℕ
   pub answers_binding : Bool
   pub requires_fingerprint : Bool
 
--- why no such server is made, the first reason that holds
+-- why no such server is built: the first reason that applies
 abbrev pub alone_refusal : GivenAlone → Option Refusal
 alone_refusal g =
     if not (is_utf8 g.software) then Some NotText
     else if nat_lt TEXT_LIMIT (length g.software) then Some TextTooLong
     else None
 
--- the server of it, whether it has short-term credentials or none
+-- the server that is built from these arguments, with short-term credentials or without credentials
 abbrev pub responding_given : GivenAlone → Responding
 responding_given g = record {
   known = types_of g.understood ++ STUN_ATTRIBUTES;
@@ -116,32 +117,32 @@ responding_given g = record {
   requires_fingerprint = g.requires_fingerprint;
 }
 
--- a handle that has a value is refused, and left
+-- a call with a handle that has a value fails, and leaves the value
 abbrev pub LeavesFull : Option Kept → Option Kept → ℤ → Type 0
 LeavesFull before now result =
     IfSome before (λ kept. (result ≡ refusal_number FullHandle) × (now ≡ Some kept))
 
--- a call that fills a handle which has no value. Of that, what it returns and leaves
+-- a call that fills a handle without a value: its result, and the handle after it
 pub record Fills (before now : Option Kept) (result : ℤ) (Made : ℤ → Option Kept → Type 0)
     : Type 0 where
   pub full : LeavesFull before now result
   pub made : IfNone before (Made result now)
 
--- a call makes a server in an empty handle and returns 0, or returns the first refusal; or an
+-- a call builds a server in an empty handle and returns 0, or returns the first error; or an
 -- allocation failed
 abbrev pub Makes : Option Refusal → Kept → ℤ → Option Kept → Type 0
 Makes refused made result now =
     MatchOption refused (OrOutOfMemory result None now (pos 0) (Some made))
     (λ refusal. (result ≡ refusal_number refusal) × (now ≡ None))
 
--- the same of a server with short-term credentials
+-- a call does so for a server with short-term credentials
 abbrev pub MakesShortTerm : GivenAlone → ℤ → Option Kept → Type 0
 MakesShortTerm g result now = Makes (alone_refusal g) (ShortTerm (responding_given g)) result now
 
--- the same of one without credentials
+-- a call does so for a server without credentials
 abbrev pub MakesOpen : GivenAlone → ℤ → Option Kept → Type 0
 MakesOpen g result now = Makes (alone_refusal g) (Open (responding_given g)) result now
 
--- the same of one with long-term credentials
+-- a call does so for a server with long-term credentials
 abbrev pub MakesServer : Given → ℤ → Option Kept → Type 0
 MakesServer g result now = Makes (given_refusal g) (Server (server_given g)) result now

@@ -1,4 +1,4 @@
--- What a datagram comes to at an agent of ICE, as a caller in C gets it.
+-- The outcome of a datagram at an ICE agent, as a caller in C receives it.
 use Rattle.std.specs.Prelude.{◌≡◌, ◌⊎◌, ℕ, ℤ, pos, ◌++◌, List, Bool, false, ◌==◌, length}
 use Rattle.std.specs.Prelude.{drop, nat_lt, if◌then◌else◌, Option, Some, None, Result, Ok, Err}
 use Rattle.std.specs.Net.Socket.{IsPlainSocket, socket_ip}
@@ -37,13 +37,13 @@ use Rattle.stun_c_endpoint.specs.declared.handle.endpoint.Kept.TheVariants.{Chec
 use Rattle.stun_c_endpoint.specs.declared.ice.told.IceCheck.{IceCheck}
 use Rattle.stun_c_endpoint.specs.declared.ice.told.IceReceived.{IceReceived}
 
--- ---- why a datagram is not judged, and what one comes to
+-- ---- why a datagram is not judged, and the outcome of one that is
 
--- the bytes of what a caller gets, with which it begins
+-- the number of bytes of the result of a caller, with which it begins
 abbrev pub ICE_RECEIVED_SIZE : ℕ
 ICE_RECEIVED_SIZE = 72
 
--- what a datagram comes to: the agent that it leaves, and what the caller is given
+-- the outcome of a datagram: the agent after it, and what is returned to the caller
 pub record Seen : Type 0 where
   pub agent : Agent
   pub given : Given
@@ -54,13 +54,13 @@ seen_by a check from bytes = record {
   given = given a from (judgement_of a check from bytes);
 }
 
--- with the check that a caller passes, unless the address in it is none
+-- the outcome with the check that a caller passes, unless the address in it is not one
 abbrev pub at_check : Option (Option SentCheck) → (Option SentCheck → Seen) → Result Seen Refusal
 at_check None seen = Err BadArgument
 at_check (Some check) seen = Ok (seen check)
 
--- what is judged: an empty handle, or one of another kind, is refused first, and then a result of
--- another size, and an address that is none
+-- what is judged. The errors come in this order: an empty handle, or one of another kind, a result
+-- of another size, and an address that is not one
 abbrev pub seen_at : Result Agent Refusal → Bool → IceCheck → Address → List ℕ → IceReceived
     → Result Seen Refusal
 seen_at (Err refusal) has k from bytes r = Err refusal
@@ -70,7 +70,7 @@ seen_at (Ok a) has k from bytes r =
     (λ from. at_check (check_given has k) (λ check. seen_by a check from bytes))
     else Err BadArgument
 
--- ---- what is told of it
+-- ---- what is written about it
 
 -- the numbers of the reasons to drop a datagram
 abbrev pub ice_drop_number : DropReason → ℕ
@@ -82,7 +82,7 @@ ice_drop_number OtherMethod = 5
 ice_drop_number NotAsked = 6
 ice_drop_number WrongSignature = 7
 
--- what a caller gets with nothing told but the kind
+-- a result with only its kind
 abbrev pub ice_blank : ℕ → IceReceived → IceReceived
 ice_blank kind r = record {
   size = r.size;
@@ -99,8 +99,9 @@ ice_blank kind r = record {
   mapped = start_for None;
 }
 
--- what a caller gets where a call fails: no kind of before, and no length. Of a struct of another size
--- only these two fields are written, which it has in each release
+-- the result of a caller after a call that failed: it has neither the kind nor the length from
+-- before. In a struct of another size only these two fields are written, which it has in each
+-- release
 abbrev pub ice_failed : IceReceived → IceReceived
 ice_failed r = record (if r.size == ICE_RECEIVED_SIZE then ice_blank FAILED r else r) {
   size = r.size;
@@ -108,7 +109,7 @@ ice_failed r = record (if r.size == ICE_RECEIVED_SIZE then ice_blank FAILED r el
   length = 0;
 }
 
--- what a check of the peer comes to
+-- the outcome of a check of the peer
 abbrev pub judged_told : Judged → IceReceived → IceReceived
 judged_told (Accepted priority nominated switched) r =
     record r { outcome = 1; priority = priority; nominated = nominated; switched = switched }
@@ -122,14 +123,14 @@ failure_told OtherPath r = record r { outcome = 7 }
 failure_told (NotUnderstood kind) r = record r { outcome = 8; not_understood = kind.0 }
 failure_told MalformedResponse r = record r { outcome = 9 }
 
--- what the answer to a check of this agent comes to, with the address in it
+-- the outcome of the answer to a check of this agent, with the address in it
 abbrev pub outcome_told : Outcome → Address → IceReceived → IceReceived
 outcome_told (Valid mapped) told r = record r { outcome = 4; mapped = told }
 outcome_told (RoleConflict switched) told r =
     record r { outcome = 5; code = 487; switched = switched }
 outcome_told (Failed failure) told r = failure_told failure r
 
--- what a caller gets of what a datagram comes to, with the address in it
+-- the result of a caller for the outcome of a datagram, with the address in it
 abbrev pub given_told : Given → Address → IceReceived → IceReceived
 given_told (checked bytes answer judged) told r =
     record (judged_told judged (ice_blank 1 r)) { length = length answer }
@@ -137,13 +138,13 @@ given_told (responded outcome) told r = outcome_told outcome told (ice_blank 4 r
 given_told (indicated bytes) told r = ice_blank 3 r
 given_told (dropped why) told r = record (ice_blank 0 r) { why = ice_drop_number why }
 
--- an address as a caller gets it is the one in a success response
+-- an address as a caller receives it is the one in a success response
 abbrev pub IsMapped : Mapped → Address → Type 0
 IsMapped mapped told =
     (address : SocketAddr) × IsHidden mapped.id mapped.attribute (socket_ip address)
     × IsPlainSocket address (xor_port mapped.attribute.port) × (told ≡ caller_address address)
 
--- the address that is told of a valid pair. Of nothing else one is told
+-- the address that is written for a valid pair. For nothing else one is written
 abbrev pub TellsMapped : Given → Address → Type 0
 TellsMapped (checked bytes answer judged) told = Unit {0}
 TellsMapped (responded (Valid mapped)) told = IsMapped mapped told
@@ -152,16 +153,16 @@ TellsMapped (responded (Failed failure)) told = Unit {0}
 TellsMapped (indicated bytes) told = Unit {0}
 TellsMapped (dropped why) told = Unit {0}
 
--- ---- what a call leaves
+-- ---- after a call
 
--- the number of what a datagram comes to
+-- the number for the outcome of a datagram
 abbrev pub given_number : Given → ℕ
 given_number (checked bytes answer judged) = 1
 given_number (responded outcome) = 4
 given_number (indicated bytes) = 3
 given_number (dropped why) = 0
 
--- the answer of what a datagram comes to, in a buffer
+-- the answer in the outcome of a datagram, in a buffer
 abbrev pub answer_in : Given → List ℕ → List ℕ
 answer_in (checked bytes answer judged) buffer = answer ++ drop (length answer) buffer
 answer_in (responded outcome) buffer = buffer
@@ -176,8 +177,8 @@ missing_room room (responded outcome) = None
 missing_room room (indicated bytes) = None
 missing_room room (dropped why) = None
 
--- a call returns the number of what a datagram comes to, and leaves the agent, the answer and what
--- is told of it; but if the answer has no room, how much it needs is told, and nothing else
+-- a call returns the number for the outcome of a datagram, and leaves the agent, the answer and the
+-- result of the caller. If the answer has no room, only how much it needs is written
 abbrev pub LeavesSeen : Option ℕ → Seen → ℤ → List ℕ → List ℕ → IceReceived → IceReceived
     → Option Kept → Option Kept → Type 0
 LeavesSeen None s result out out' r r' before now =
@@ -193,7 +194,7 @@ abbrev pub LeavesUnseen : Refusal → ℤ → List ℕ → List ℕ → IceRecei
 LeavesUnseen refusal result out out' r r' before now =
     (result ≡ refusal_number refusal) × (out' ≡ out) × (r' ≡ r) × (now ≡ before)
 
--- what a call that judges a datagram returns and leaves
+-- the result of a call that judges a datagram, and what it leaves
 abbrev pub SeesAs : Result Seen Refusal → ℤ → List ℕ → List ℕ → IceReceived → IceReceived
     → Option Kept → Option Kept → Type 0
 SeesAs (Ok s) result out out' r r' before now =

@@ -1,5 +1,5 @@
--- What a handle has: a server, a table of users, an agent of ICE or a client. One that is empty is
--- refused, and one of another kind by another name.
+-- The value of a handle: a server, a table of users, an ICE agent or a client. An empty handle
+-- fails with one error, and one of another kind with another.
 use Rattle.std.specs.Prelude.{Option, Some, None, Result, Ok, Err}
 use Rattle.stun_auth.specs.Validation.{ServerSeen}
 use Rattle.stun_endpoint.specs.Responding.{Responding}
@@ -13,7 +13,7 @@ use Rattle.stun_c_endpoint.specs.declared.handle.endpoint.Kept.TheVariants.{Chec
 use Rattle.stun_c_endpoint.specs.declared.handle.endpoint.Kept.TheVariants.{Open, ShortTerm}
 use Rattle.stun_c_endpoint.specs.declared.handle.endpoint.Kept.TheVariants.{Client, ShortTermUsers}
 
--- what is done with the value of a handle, unless that is empty
+-- a call with the value of a handle, unless that is empty
 abbrev pub at_handle : {V : Type 0} → Option Kept → (Kept → Result V Refusal) → Result V Refusal
 at_handle None answer = Err EmptyHandle
 at_handle (Some kept) answer = answer kept
@@ -44,7 +44,7 @@ with_keys s (ShortTerm t) = Err WrongHandle
 with_keys s (Checker t) = Err WrongHandle
 with_keys s (Client t) = Err WrongHandle
 
--- a server with credentials needs a table of its kind; the table of one without is not looked at
+-- a server with credentials needs a table of its kind; the table of one without is ignored
 abbrev pub judge_with : Option Kept → Kept → Result Judge Refusal
 judge_with users (Server s) = at_handle users (λ u. with_realm s u)
 judge_with users (ShortTerm s) = at_handle users (λ u. with_keys s u)
@@ -54,11 +54,11 @@ judge_with users (ShortTermUsers t) = Err WrongHandle
 judge_with users (Checker t) = Err WrongHandle
 judge_with users (Client t) = Err WrongHandle
 
--- what two handles judge by. That of the server is looked at first
+-- what two handles judge by. That of the server is tested first
 abbrev pub judge_of : Option Kept → Option Kept → Result Judge Refusal
 judge_of server users = at_handle server (λ s. judge_with users s)
 
--- ---- agents of ICE
+-- ---- ICE agents
 
 abbrev pub agent_of : Kept → Result Agent Refusal
 agent_of (Checker a) = Ok a

@@ -1,36 +1,51 @@
--- What the contracts of this crate say, in the order to read it.
+-- What the contracts of this crate say, in reading order.
 
--- which server, which users, which agent of ICE or which client a handle has
+-- which server, which users, which ICE agent or which client a handle has
 pub mod Kept
--- the settings that a caller gives, and the server of them
+-- the settings that a caller passes, and the server that is built from them
 pub mod Given
--- what the calls on a table of users leave
+-- the table of users after a call
 pub mod Users
--- what a datagram comes to, as a caller gets it
+-- the outcome of a datagram, as a caller receives it
 pub mod Told
 -- whose key signs the response to a request
 pub mod Replies
--- what one comes to before its user is looked up
+-- the outcome of a datagram before its user is looked up
 pub mod Lookups
--- what one comes to by a user who was found
+-- the outcome of a datagram with a user who was found
 pub mod Found
--- why one is refused, as a caller gets it
+-- why a datagram is refused, as a caller receives it
 pub mod Causes
--- the agent of ICE that a caller makes
+-- the ICE agent that a caller creates
 pub mod Agents
--- the checks that it writes, as a caller gets them and passes them again
+-- the checks that an agent writes, as a caller receives them and passes them again
 pub mod Checks
--- those to which the caller adds attributes
+-- the checks to which the caller adds attributes
 pub mod Extended
--- what a datagram comes to at an agent of ICE, as a caller gets it
+-- the outcome of a datagram at an ICE agent, as a caller receives it
 pub mod Judged
--- the client that a caller makes
+-- the client that a caller creates
 pub mod ClientsGiven
--- what it is to do next, as a caller gets it
+-- the next thing to do for a client, as a caller receives it
 pub mod Events
--- the body of a request that a caller gives
+-- the body of a request that a caller passes
 pub mod Attributes
--- what the calls on it return, write and leave
+-- how a caller has a single request sent
+pub mod RequestsGiven
+-- the results of the calls on a client, what they write, and the client after them
 pub mod Clients
--- what no clause of a public call cites: what representations and private functions alone use
+-- the statements of the laws over handles
+pub mod HandleLaws
+-- the statements of the laws over ICE agents
+pub mod IceLaws
+-- the statements of the laws over settings
+pub mod SettingLaws
+-- the statements of the laws over calls on a server
+pub mod ServerLaws
+-- the statements of the laws over calls on a client
+pub mod ClientLaws
+-- the statements of the laws over tables of users
+pub mod UserLaws
+-- definitions that no clause of a public call cites: what representations and private functions
+-- alone use
 pub mod code

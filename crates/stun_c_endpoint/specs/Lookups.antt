@@ -1,5 +1,5 @@
--- What a datagram comes to before its user is looked up, as a caller in C gets it (RFC 8489, section
--- 9.2.4).
+-- The outcome of a datagram before its user is looked up, as a caller in C receives it (RFC 8489,
+-- section 9.2.4).
 use Rattle.std.specs.Prelude.{◌≡◌, ◌⊎◌, ℕ, ℤ, pos, List, ◌||◌, ◌==◌, true, not, length, nat_lt}
 use Rattle.std.specs.Prelude.{if◌then◌else◌, Option, Result, Ok, Err}
 use Rattle.stun_auth.specs.Handed.{Named, by_hash, by_name}
@@ -22,8 +22,8 @@ use Rattle.stun_c_endpoint.specs.declared.handle.endpoint.Kept.TheVariants.{Open
 use Rattle.stun_c_endpoint.specs.declared.handle.endpoint.Kept.TheVariants.{Client, ShortTermUsers}
 use Rattle.stun_c_endpoint.specs.declared.received.Received.{Received}
 
--- what is judged without users: one of another kind than a server with long-term credentials has no
--- users to be looked up, and is refused
+-- what is judged without users: a server of another kind than one with long-term credentials has no
+-- users to be looked up, and fails
 abbrev pub long_term_of : Kept → Result Settings Refusal
 long_term_of (Server s) = Ok s
 long_term_of (Users t) = Err WrongHandle
@@ -36,8 +36,8 @@ long_term_of (Client t) = Err WrongHandle
 abbrev pub long_term_in : Option Kept → Result Settings Refusal
 long_term_in handle = at_handle handle (λ kept. long_term_of kept)
 
--- the refusals of the handle come first, and then a result of another size, a time that is none of
--- seconds, and an address that is none
+-- the errors of the handle come first, and then a result of another size, a time that is not one of
+-- seconds, and an address that is not one
 abbrev pub identified_at : Result Settings Refusal → Address → ℕ → List ℕ → Received
     → Result Identification Refusal
 identified_at (Err refusal) from seconds bytes r = Err refusal
@@ -45,7 +45,7 @@ identified_at (Ok s) from seconds bytes r =
     if not (r.size == RECEIVED_SIZE) || nat_lt LAST_SECOND seconds then Err BadArgument
     else at_address (socket_address from) (λ from. Ok (identified_by s from seconds bytes))
 
--- whom a request names, by the name or by its hash
+-- the user whom a request names, by the name or by its hash
 abbrev pub named_told : Named → Received → Received
 named_told (by_name name) r =
     record r { name_length = length name; name = at_front NAME_PLACE NAME_ROOM name }
@@ -55,19 +55,19 @@ named_told (by_hash hash) r = record r {
   is_hash = true;
 }
 
--- what a caller gets of a request that waits for its user
+-- the result of a caller for a request that waits for its user
 abbrev pub lookup_told : LookupSeen → Received → Received
 lookup_told l r =
     named_told l.user (record (blank 5 r) { method = method_of (type_field l.message) })
 
--- a call returns the number of what a datagram comes to, or 5 of a request that waits, and writes
--- what is told of it
+-- a call returns the number for the outcome of a datagram, or 5 for a request that waits, and
+-- writes the result
 abbrev pub IsIdentified : Identification → ℤ → List ℕ → List ℕ → Received → Received → Type 0
 IsIdentified (done outcome) result out out' r r' = IsTold (of_realm outcome) result out out' r r'
 IsIdentified (looked_up l) result out out' r r' =
     (result ≡ pos 5) × (out' ≡ out) × (r' ≡ lookup_told l r)
 
--- what a call that identifies the user of a datagram returns and writes
+-- the result of a call that identifies the user of a datagram, and what it writes
 abbrev pub IdentifiesAs : Result Identification Refusal → ℤ → List ℕ → List ℕ → Received → Received
     → Type 0
 IdentifiesAs (Ok i) result out out' r r' =

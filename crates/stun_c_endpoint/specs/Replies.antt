@@ -13,8 +13,9 @@ use Rattle.stun_c_endpoint.specs.Told.{NAME_ROOM}
 use Rattle.stun_c_endpoint.specs.declared.received.Received.{Received}
 use Rattle.stun_c_endpoint.specs.declared.received.Reply.{Reply}
 
--- the key that the user of a name has for the algorithm that was agreed on: of long-term credentials
--- that of the table (section 9.2.2), and of short-term credentials the password (section 9.1.1)
+-- the key that the user of a name has for the algorithm that was agreed on: with long-term
+-- credentials that of the table (section 9.2.2), and with short-term credentials the password
+-- (section 9.1.1)
 abbrev pub key_of_user : Judge → List ℕ → IntegrityAlgorithm → Option (List ℕ)
 key_of_user (by_realm s u) name agreed = key_at u.registered name agreed
 key_of_user (by_users s u) name agreed = map.get u name
@@ -28,16 +29,16 @@ told_name r = take r.name_length r.name
 abbrev pub reply_key : Reply → List ℕ
 reply_key y = take y.key_length y.key
 
--- each response that is signed by what a reply has verifies under a key, by the algorithm that the
--- reply names. A response has room for the attribute, or is not signed (section 5)
+-- each response that is signed with what a reply has verifies under a key, with the algorithm that
+-- the reply names. A response has room for the attribute, or is not signed (section 5)
 abbrev pub SignsUnder : List ℕ → Reply → Type 0
 SignsUnder key y =
     (by : IntegrityAlgorithm) × (algorithm_numbered y.integrity ≡ Some by)
     × ((page : List ℕ) → IsOpen page → length_with page (digest_length by) ≤ max_length
     → verified_algorithm (with_integrity page by (reply_key y)) key ≡ Some by)
 
--- what answers a request signs under the key of the user whose name the result has. No name in a
--- message is longer than what a result has room for (section 14.3)
+-- the responses to a request are signed under the key of the user whose name the result has. No
+-- name in a message is longer than the room in a result (section 14.3)
 abbrev pub SignsForUser : Judge → Received → Type 0
 SignsForUser judge r =
     (agreed : IntegrityAlgorithm) (key : List ℕ) → algorithm_numbered r.algorithm ≡ Some agreed

@@ -1,4 +1,4 @@
--- What a datagram comes to, as a caller in C gets it.
+-- The outcome of a datagram, as a caller in C receives it.
 use Rattle.std.specs.Prelude.{◌≡◌, ◌⊎◌, ℕ, ℤ, pos, ◌++◌, List, [], ◌||◌, ◌==◌, false, not, length, min}
 use Rattle.std.specs.Prelude.{drop, take, nat_lt, if◌then◌else◌, Option, Some, None, Result, Ok, Err}
 use Rattle.std.specs.Prelude.{replicate}
@@ -41,10 +41,11 @@ use Rattle.stun_c_endpoint.specs.Kept.{Judge, by_realm, by_users, openly}
 use Rattle.stun_c_endpoint.specs.declared.received.Received.{Received}
 use Rattle.stun_c_endpoint.specs.declared.received.Reply.{Reply}
 
--- ---- what a datagram comes to
+-- ---- the outcome of a datagram
 
--- at any server: a datagram that is dropped has the number of the reason, and the code by which a
--- request like it would be refused, or 0; and whoever signed a message is the client of it
+-- the outcome at any server: a datagram that is dropped has the number of the reason, and the code
+-- with which a request with the same attributes would be refused, or 0; and the signer of a message
+-- is its client
 pub data AnyOutcome : Type 0 where
   answered : Answer → AnyOutcome
   requested : Option ClientSeen → TheReply → AnyOutcome
@@ -60,11 +61,11 @@ drop_number WrongFingerprint = 3
 drop_number UnknownAttribute = 4
 drop_number MissingFingerprint = 13
 
--- the number of one more: an indication that no user has signed (section 9.1.3)
+-- the number of one more reason: an indication that is not signed by a user (section 9.1.3)
 abbrev pub NOT_SIGNED : ℕ
 NOT_SIGNED = 8
 
--- with long-term credentials, where indications are not signed (section 9.2)
+-- the outcome with long-term credentials, with which indications are not signed (section 9.2)
 abbrev pub of_realm : Outcome → AnyOutcome
 of_realm (realm.answered a) = answered a
 of_realm (realm.requested q) = requested (Some q.client) q.reply
@@ -72,7 +73,7 @@ of_realm (realm.indicated m) = indicated None m
 of_realm (realm.responded m) = responded m
 of_realm (realm.dropped why) = dropped (drop_number why) 0
 
--- with short-term credentials
+-- the outcome with short-term credentials
 abbrev pub of_users : ShortTermOutcome → AnyOutcome
 of_users (short.answered a) = answered a
 of_users (short.requested q) = requested (Some q.client) q.reply
@@ -81,7 +82,7 @@ of_users (short.responded m) = responded m
 of_users (short.not_signed refusal) = dropped NOT_SIGNED (code_of refusal)
 of_users (short.dropped why) = dropped (drop_number why) 0
 
--- without credentials
+-- the outcome without credentials
 abbrev pub of_open : OpenOutcome → AnyOutcome
 of_open (plain.answered a) = answered a
 of_open (plain.requested q) = requested None q.reply
@@ -97,7 +98,7 @@ outcome_by (openly s) from seconds bytes = of_open (received_openly s from bytes
 
 -- ---- why a datagram is not judged
 
--- the bytes of what a caller gets, with which it begins
+-- the number of bytes of the result of a caller, with which it begins
 abbrev pub RECEIVED_SIZE : ℕ
 RECEIVED_SIZE = 648
 
@@ -105,8 +106,8 @@ RECEIVED_SIZE = 648
 abbrev pub LAST_SECOND : ℕ
 LAST_SECOND = 1099511627776
 
--- what a datagram comes to by what two handles have. Their refusals come first, and then a result of
--- another size, a time that is none of seconds, and an address that is none
+-- the outcome of a datagram, given the values of two handles. Their errors come first, and then a
+-- result of another size, a time that is not one of seconds, and an address that is not one
 abbrev pub outcome_at : Result Judge Refusal → Address → ℕ → List ℕ → Received
     → Result AnyOutcome Refusal
 outcome_at (Err refusal) from seconds bytes r = Err refusal
@@ -114,31 +115,31 @@ outcome_at (Ok judge) from seconds bytes r =
     if not (r.size == RECEIVED_SIZE) || nat_lt LAST_SECOND seconds then Err BadArgument
     else at_address (socket_address from) (λ from. Ok (outcome_by judge from seconds bytes))
 
--- ---- what is told of it
+-- ---- what is written about it
 
--- the code of an error response, and 0 of a success
+-- the code of an error response, or 0 for a success
 abbrev pub code_told : Option Refused → ℕ
 code_told None = 0
 code_told (Some refusal) = code_of refusal
 
--- the longest name that is told, and the place for it
+-- the longest name that is written, and the room for it
 abbrev pub NAME_ROOM : ℕ
 NAME_ROOM = 513
 
 abbrev pub NAME_PLACE : ℕ
 NAME_PLACE = 516
 
--- bytes at the front of a place, no more than a number of them, and zeros after them
+-- bytes at the front of memory, at most this many, and zeros after them
 abbrev pub at_front : ℕ → ℕ → List ℕ → List ℕ
 at_front place most bytes =
     take (min (length bytes) most) bytes ++ drop (min (length bytes) most) (replicate place 0)
 
--- the number of an integrity attribute, and 0 of none
+-- the number of an integrity attribute, or 0 for none
 abbrev pub integrity_number : Option IntegrityAlgorithm → ℕ
 integrity_number None = 0
 integrity_number (Some algorithm) = algorithm_number algorithm
 
--- the integrity attribute and the key by which a response is signed
+-- the integrity attribute and the key with which a response is signed
 abbrev pub integrity_of : Option Signature → Option IntegrityAlgorithm
 integrity_of by = option_map (λ (s : Signature). s.algorithm) by
 
@@ -150,8 +151,8 @@ abbrev pub hash_by : IntegrityAlgorithm → List ℕ → List ℕ
 hash_by Sha1 bytes = sha1 bytes
 hash_by Sha256 bytes = sha256 bytes
 
--- the key as one block of HMAC, which is what a reply has room for: the hash of a key that is longer
--- than a block stands for it (RFC 2104, section 2). Without a signature there is no key
+-- the key as one block of HMAC, which is what a reply has room for: a key that is longer than a
+-- block is replaced by its hash (RFC 2104, section 2). Without a signature there is no key
 abbrev pub block_told : Option IntegrityAlgorithm → List ℕ → List ℕ
 block_told None key = block_of []
 block_told (Some algorithm) key = key_block (hash_by algorithm) key
@@ -161,7 +162,7 @@ abbrev pub key_length_told : Option IntegrityAlgorithm → List ℕ → ℕ
 key_length_told None key = 0
 key_length_told (Some algorithm) key = length (short_key (hash_by algorithm) key)
 
--- the reply as a caller gets it: plain data
+-- the reply as a caller receives it: plain data
 abbrev pub reply_told : TheReply → Reply
 reply_told y = record {
   id = big_bytes 12 y.id;
@@ -172,7 +173,7 @@ reply_told y = record {
   has_fingerprint = y.ending.has_fingerprint;
 }
 
--- what a caller gets with nothing told but the kind
+-- a result with only its kind
 abbrev pub blank : ℕ → Received → Received
 blank kind r = record r {
   kind = kind;
@@ -186,12 +187,13 @@ blank kind r = record r {
   is_hash = false;
 }
 
--- the kind of what a caller gets where a call fails
+-- the kind of the result after a call that failed
 abbrev pub FAILED : ℕ
 FAILED = 7
 
--- what a caller gets where a call fails: no kind of before, and no length. Of a struct of another size
--- only these two fields are written, which it has in each release
+-- the result of a caller after a call that failed: it has neither the kind nor the length from
+-- before. In a struct of another size only these two fields are written, which it has in each
+-- release
 abbrev pub failed : Received → Received
 failed r = record (if r.size == RECEIVED_SIZE then blank FAILED r else r) {
   size = r.size;
@@ -208,7 +210,7 @@ signer_told (Some client) r = record r {
   name = at_front NAME_PLACE NAME_ROOM client.name;
 }
 
--- what a caller gets of what a datagram comes to
+-- the result of a caller for the outcome of a datagram
 abbrev pub told_of : AnyOutcome → Received → Received
 told_of (dropped why code) r = record (blank 0 r) { why = why; code = code }
 told_of (answered a) r =
@@ -221,7 +223,7 @@ told_of (indicated client m) r =
     signer_told client (record (blank 3 r) { method = method_of (type_field m) })
 told_of (responded m) r = record (blank 4 r) { method = method_of (type_field m) }
 
--- the numbers of what a datagram comes to
+-- the number for the outcome of a datagram
 abbrev pub kind_number : AnyOutcome → ℕ
 kind_number (dropped why code) = 0
 kind_number (answered a) = 1
@@ -229,7 +231,7 @@ kind_number (requested client reply) = 2
 kind_number (indicated client m) = 3
 kind_number (responded m) = 4
 
--- a response that has no room is refused
+-- a response that has no room fails
 abbrev pub room_refusal : ℕ → AnyOutcome → Option Refusal
 room_refusal room (dropped why code) = None
 room_refusal room (answered a) = if nat_lt room (length a.bytes) then Some BufferTooSmall else None
@@ -237,7 +239,7 @@ room_refusal room (requested client reply) = None
 room_refusal room (indicated client m) = None
 room_refusal room (responded m) = None
 
--- how many bytes a response has that has no room; nothing else is told
+-- the number of bytes of a response that has no room; nothing else is written
 abbrev pub need_told : AnyOutcome → Received → Received
 need_told (dropped why code) r = r
 need_told (answered a) r = record r { needed = length a.bytes }
@@ -249,7 +251,7 @@ abbrev pub told_unless : Option Refusal → AnyOutcome → Received → Received
 told_unless None outcome r = told_of outcome r
 told_unless (Some refusal) outcome r = need_told outcome r
 
--- the response of what a datagram comes to
+-- the response in the outcome of a datagram
 abbrev pub response_of : AnyOutcome → List ℕ → List ℕ
 response_of (dropped why code) buffer = buffer
 response_of (answered a) buffer = a.bytes ++ drop (length a.bytes) buffer
@@ -265,8 +267,8 @@ abbrev pub number_unless : Option Refusal → AnyOutcome → ℤ
 number_unless None outcome = pos (kind_number outcome)
 number_unless (Some refusal) outcome = refusal_number refusal
 
--- a call returns the number of an outcome and writes what is told of it; or an allocation failed:
--- it returns the number of that, and writes nothing
+-- a call returns the number of an outcome and writes the result; or an allocation failed: it
+-- returns the number of that, and writes nothing
 pub record IsTold (outcome : AnyOutcome) (result : ℤ) (out out' : List ℕ) (r r' : Received)
     : Type 0 where
   pub number : result ≡ number_unless (room_refusal (length out) outcome) outcome
@@ -277,7 +279,7 @@ abbrev pub LeavesAll : Refusal → ℤ → List ℕ → List ℕ → Received �
 LeavesAll refusal result out out' r r' =
     (result ≡ refusal_number refusal) × (out' ≡ out) × (r' ≡ r)
 
--- what a call that judges a datagram returns and writes
+-- the result of a call that judges a datagram, and what it writes
 abbrev pub ReceivesAs : Result AnyOutcome Refusal → ℤ → List ℕ → List ℕ → Received → Received
     → Type 0
 ReceivesAs (Ok outcome) result out out' r r' =

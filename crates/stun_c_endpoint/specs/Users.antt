@@ -1,4 +1,4 @@
--- What the calls on a table of users leave, and why they refuse (RFC 8489, section 9.2.2).
+-- The table of users after a call, and why a call fails (RFC 8489, section 9.2.2).
 use Rattle.std.specs.Prelude.{◌≡◌, ◌==◌, ℕ, ℤ, pos, List, length, nat_lt, if◌then◌else◌, Option}
 use Rattle.std.specs.Prelude.{Some, None}
 use Rattle.std.specs.Prelude.{Result, Ok, Err}
@@ -28,19 +28,20 @@ name_refusal name = if nat_lt USERNAME_LIMIT (length name) then Some TextTooLong
 abbrev pub password_refusal : List ℕ → Option Refusal
 password_refusal password = if length password == 0 then Some BadArgument else None
 
--- a table with a user of a password
+-- a table with a user with a password
 abbrev pub added : ServerSeen → List ℕ → List ℕ → ServerSeen
 added u name password = record u {
   registered = with_user u.registered (record { username = name; password = password });
 }
 
--- what is left of a table to which a user is added, unless the texts are refused, the password last
+-- a table after a user is added, unless the texts are refused, the password last
 abbrev pub unless_refused : List ℕ → List ℕ → Kept → Result Kept Refusal
 unless_refused name password table =
     refusal_or (texts_refusal name password)
     (refusal_or (name_refusal name) (refusal_or (password_refusal password) (Ok table)))
 
--- the same of each kind of table. With short-term credentials the key is the password (section 9.1.1)
+-- a table of each kind after a user is added. With short-term credentials the key is the password
+-- (section 9.1.1)
 abbrev pub adding : List ℕ → List ℕ → Kept → Result Kept Refusal
 adding name password (Users u) = unless_refused name password (Users (added u name password))
 adding name password (ShortTermUsers u) =
@@ -51,22 +52,22 @@ adding name password (ShortTerm s) = Err WrongHandle
 adding name password (Checker a) = Err WrongHandle
 adding name password (Client c) = Err WrongHandle
 
--- a table with a user of stored keys
+-- a table with a user with stored keys
 abbrev pub keys_added : ServerSeen → List ℕ → Result StoredKeys Refusal → Result Kept Refusal
 keys_added u name (Ok keys) = Ok (Users (record u {
   registered = with_user_by_keys u.registered name keys;
 }))
 keys_added u name (Err refusal) = Err refusal
 
--- what is left of a table to which a user of stored keys is added: a name that is no text or is too
--- long is refused, and then a key of another length
+-- a table after a user with stored keys is added: a name that is not a text or is too long fails,
+-- and then a key of another length
 abbrev pub with_stored : ServerSeen → List ℕ → List ℕ → List ℕ → Result Kept Refusal
 with_stored u name sha1 sha256 =
     refusal_or (text_refusal name)
     (refusal_or (name_refusal name)
     (keys_added u name (keys_given (key_given 16 sha1) (key_given 32 sha256))))
 
--- only users of a realm have keys that are stored
+-- only users of a realm have stored keys
 abbrev pub adding_keys : List ℕ → List ℕ → List ℕ → Kept → Result Kept Refusal
 adding_keys name sha1 sha256 (Users u) = with_stored u name sha1 sha256
 adding_keys name sha1 sha256 (Server s) = Err WrongHandle
@@ -76,7 +77,7 @@ adding_keys name sha1 sha256 (ShortTermUsers u) = Err WrongHandle
 adding_keys name sha1 sha256 (Checker a) = Err WrongHandle
 adding_keys name sha1 sha256 (Client c) = Err WrongHandle
 
--- what is left once a user is removed
+-- a table after a user is removed
 abbrev pub removing : List ℕ → Kept → Result Kept Refusal
 removing name (Users u) = refusal_or (text_refusal name)
     (Ok (Users (record u { registered = without_user u.registered name })))
@@ -98,12 +99,12 @@ table_for (ShortTermUsers u) = Err WrongHandle
 table_for (Checker a) = Err WrongHandle
 table_for (Client c) = Err WrongHandle
 
--- a call leaves this table in its handle and returns 0, or it is refused and leaves what was there
+-- a call leaves this table in its handle and returns 0, or it fails and leaves the handle unchanged
 abbrev pub LeavesTable : Result Kept Refusal → ℤ → Option Kept → Option Kept → Type 0
 LeavesTable (Ok left) result before now = (result ≡ pos 0) × (now ≡ Some left)
 LeavesTable (Err refusal) result before now = (result ≡ refusal_number refusal) × (now ≡ before)
 
--- the same of a call for which an allocation may fail
+-- a call does so, and an allocation may fail
 abbrev pub LeavesTableOr : Result Kept Refusal → ℤ → Option Kept → Option Kept → Type 0
 LeavesTableOr (Ok left) result before now =
     OrOutOfMemory result before now (pos 0) (Some left)

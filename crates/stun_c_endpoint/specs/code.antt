@@ -5,7 +5,7 @@
 pub mod Handle
 -- the user who was found, as the code reads one
 pub mod Found
--- what is built of the settings that a caller gives
+-- what is built from the settings that a caller passes
 pub mod Building
--- the refusal of a check that is not written
+-- the error for a check that is not written
 pub mod Unwritten

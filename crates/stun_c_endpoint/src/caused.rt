@@ -1,4 +1,5 @@
-//! What a datagram comes to at a server, and why it is refused, by one judgement.
+//! Writes the outcome of a datagram at a server together with the cause of its refusal, and judges
+//! the datagram only once.
 
 ghost use Rattle.std.specs.Prelude.{◌≡◌, Ok, Some};
 ghost use Rattle.stun_handles.specs.Numbers.{number_answer};
@@ -16,8 +17,8 @@ use stun_endpoint::users::Users;
 use stun_handles::address::Address;
 use stun_numbers::refusal::Refusal;
 
-/// Judges a datagram with a server and a table of users, and writes the result and the cause. The
-/// caller has set the cause to 0.
+/// Judges a datagram with a server and a table of users, and writes the outcome to `received` and
+/// the `stunp_cause` to `cause`. The caller has set `cause` to 0.
 pub fn receive(
     server: &Kept,
     users: &Kept,
@@ -58,8 +59,8 @@ pub fn receive(
     }
 }
 
-/// Judges a datagram with a server with long-term credentials and its table, and writes the result
-/// and the cause.
+/// Judges a datagram with a server and a table of users with long-term credentials, and writes the
+/// outcome and the cause.
 fn judge(
     server: &Server<Global>,
     users: &Users<Global>,

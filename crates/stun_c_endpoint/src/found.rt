@@ -1,4 +1,4 @@
-//! A user who was found for a request, as the caller passes one, and what the request comes to.
+//! Judges a request with the user whom the caller has found for it.
 
 ghost use Rattle.std.specs.Prelude.{◌≡◌, Ok};
 ghost use Rattle.stun_handles.specs.Numbers.{number_answer};
@@ -20,7 +20,7 @@ use stun_handles::keys::keys_of;
 use stun_numbers::refusal::Refusal;
 use stun_numbers::text::text;
 
-/// A user who was found: a name with a password, or with stored keys.
+/// A user whom the caller has found: a name, with a password or with stored keys.
 #[derive(Clone, Copy)]
 pub struct Found<'f> {
     pub name: &'f [u8],
@@ -30,7 +30,8 @@ pub struct Found<'f> {
     pub sha256: &'f [u8],
 }
 
-/// Converts a user with a password.
+/// Converts a user with a password. Fails with `NotText` if a text is not UTF-8, then with
+/// `TextTooLong` if the name is too long, then with `BadArgument` if the password has no bytes.
 fn by_password<'f>(name: &'f [u8], password: &'f [u8]) -> Result<FoundUser<'f>, Refusal>
     ensures { result ≡ password_user name.entry.now password.entry.now }
 {
@@ -41,7 +42,8 @@ fn by_password<'f>(name: &'f [u8], password: &'f [u8]) -> Result<FoundUser<'f>, 
     Ok(FoundUser::with_password(name, password))
 }
 
-/// Converts a user with stored keys.
+/// Converts a user with stored keys. Fails with `NotText` if the name is not UTF-8, then with
+/// `TextTooLong` if the name is too long, then with `BadArgument` if a key has a wrong length.
 fn by_keys<'f>(name: &'f [u8], sha1: &[u8], sha256: &[u8]) -> Result<FoundUser<'f>, Refusal>
     ensures { result ≡ key_user name.entry.now sha1.now sha256.now }
 {
@@ -52,7 +54,7 @@ fn by_keys<'f>(name: &'f [u8], sha1: &[u8], sha256: &[u8]) -> Result<FoundUser<'
 }
 
 impl<'f> Found<'f> {
-    /// Converts the user. It does not allocate.
+    /// Converts the user to the type of the library. This does not allocate.
     fn user(&self) -> Result<FoundUser<'f>, Refusal>
         ensures { result ≡ found_user self.now.name.now self.now.password.now self.now.has_password
             self.now.sha1.now self.now.sha256.now }
@@ -65,7 +67,8 @@ impl<'f> Found<'f> {
     }
 }
 
-/// Judges a datagram with a server and the user who was found, and writes the result.
+/// Judges a datagram with a server and the user whom the caller has found, and writes the outcome.
+/// Fails with `WrongHandle` if the value is not a server with long-term credentials.
 #[tactic(auto, using(crate::proofs::FoundLemmas::judged_by_user, crate::proofs::FoundLemmas::judged_by_none))]
 pub fn resume(
     server: &Kept,
@@ -90,7 +93,7 @@ pub fn resume(
     }
 }
 
-/// Judges a datagram with this server and this user.
+/// Judges a datagram with this server and this user, and writes the outcome.
 fn resume_at(
     server: &Server<Global>,
     user: &FoundUser<'_>,

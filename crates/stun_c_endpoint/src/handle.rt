@@ -1,4 +1,5 @@
-//! The handle with which a program in C holds a server, a table of users, a client or an agent of ICE
-//! on the heap.
+//! The handle through which a program in C uses a server, a table of users, a client or an ICE
+//! agent on the heap.
 
 pub mod endpoint;
+pub mod laws;

@@ -1,4 +1,4 @@
-//! Laws over the definitions that the contracts of this crate cite. They do nothing when they run.
+//! Laws about the definitions that the contracts of this crate cite. They do nothing when they run.
 
 ghost use Rattle.std.specs.Prelude.{◌≡◌, ℕ, ℤ, pos, Bool, true, List, [], Option};
 ghost use Rattle.std.specs.Prelude.{if◌then◌else◌, Result, Ok, Err};
@@ -19,9 +19,9 @@ ghost use Rattle.stun_numbers.specs.declared.refusal.Refusal.{Refusal};
 ghost use Rattle.stun_numbers.specs.declared.refusal.Refusal.TheVariants.{NotAllowed};
 ghost use Rattle.stun_types.specs.Attribute.{first_attribute, has_attribute};
 
-/// A call that returns `STUNP_IS_REQUEST` writes a reply whose responses verify under the key of the
-/// user in `name`: `stunp_verify` accepts what `stunp_reply_finish` signs, whatever the length of the
-/// user's password.
+/// A call that returns `STUNP_IS_REQUEST` writes a reply whose signatures are valid under the key
+/// of the user in `name`: `stunp_verify` accepts what `stunp_reply_finish` signs, whatever the
+/// length of the user's password.
 pub fn replies_sign_for_the_user()
     ensures { (judge : Judge) (from : SocketAddr) (seconds : ℕ) (bytes : List ℕ) (result : ℤ)
         (out out' : List ℕ) (r r' : Received)
@@ -30,16 +30,16 @@ pub fn replies_sign_for_the_user()
 {}
 
 /// After `stunp_ice_checker_set_role` on a handle with an agent, `stunp_ice_checker_is_controlling`
-/// returns 1 if the agent was to control, and else 0.
+/// returns 1 if that call set the controlling role, and otherwise 0.
 pub fn set_roles_are_told()
     ensures { (a : Agent) (controls : Bool) (result : ℤ) (before now : Option Kept)
         → SetsRole (Ok a) controls result before now
         → controlling_answer (agent_in now) ≡ (if controls then pos 1 else pos 0) }
 {}
 
-/// A check with a body that has no attributes is the one that `stunp_ice_checker_check_with` writes,
-/// to the byte. A body never says what the agent is asked to say: its attribute USE-CANDIDATE or one
-/// of the roles is refused.
+/// A check with an empty body has the same bytes as the check that `stunp_ice_checker_check_with`
+/// writes. USE-CANDIDATE, ICE-CONTROLLING and ICE-CONTROLLED in a body are refused, because the
+/// agent itself writes them, and XOR-PEER-ADDRESS is refused too.
 pub fn bodies_say_nothing_of_ice()
     ensures nothing { (a : Agent) (peer : Peer) (id : ℕ) (to : SocketAddr) (priority : ℕ)
         (nominate : Bool) (check : SentCheck)
@@ -50,8 +50,8 @@ pub fn bodies_say_nothing_of_ice()
         → AddsFurther page bytes result → result ≡ Err NotAllowed }
 {}
 
-/// The cause that a call writes beside what a datagram comes to is the one that the call for the cause
-/// alone names.
+/// The call that writes the outcome of a datagram and its cause writes the same cause as the call
+/// that returns only the cause.
 pub fn both_calls_name_one_cause()
     ensures { (server users : Option Kept) (from : Address) (seconds : ℕ) (bytes : List ℕ)
         (r : Received) (cause : Option Cause) (result : ℤ) (told : ℕ) → r.size ≡ RECEIVED_SIZE

@@ -1,7 +1,7 @@
 //! The calls on endpoints for programs in C, which `include/stunp_endpoint.h` declares.
 //!
 //! Each call takes the value out of its handle, calls the crates below with it, and puts it back.
-//! The clauses say what a call returns, writes and changes in the terms of those crates.
+//! The contracts state in the terms of those crates what a call returns, writes and changes.
 #![tactic(auto)]
 
 mod calls;

@@ -1,4 +1,5 @@
-//! The result of judging a datagram, as a caller in C receives it.
+//! The outcome of a datagram at a server, in the struct that a caller in C receives
+//! (`stunp_received`).
 
 ghost use Rattle.std.specs.Prelude.{◌≡◌, ◌≤◌, None, Some, length};
 ghost use Rattle.byteorder.specs.Endian.{big_bytes};
@@ -27,31 +28,31 @@ use stun_endpoint::reply::Reply as EndpointReply;
 use stun_endpoint::short_term::ShortTermIndication;
 use stun_types::message::{IntegrityAlgorithm, Message, TransactionId};
 
-/// The size of a block of HMAC, which is the longest key for which a reply has room.
+/// The number of bytes of a block of HMAC. A reply has no room for a longer key.
 const KEY_ROOM: usize = 64;
 
-/// The reason for an indication that no user has signed.
+/// The `stunp_drop` of an indication that no user has signed.
 const NOT_SIGNED: u32 = 8;
 
-/// The longest name for which a result has room.
+/// The greatest length of a user name for which the caller's struct has room, in bytes.
 pub const NAME_ROOM: usize = 513;
 
-/// The size of the caller's struct, which begins with this number.
+/// The size of `Received` in bytes, which its first field must state.
 pub const RECEIVED_SIZE: usize = 648;
 
-/// The kind of a result after a call that failed.
+/// The kind of an outcome or an event after a call that failed.
 pub const FAILED: u32 = 7;
 
-/// The means to respond to one request. It is plain data, and owns nothing.
+/// The data with which to answer one request. It is plain data, and owns nothing.
 #[repr(C)]
 #[derive(Clone, Copy)]
 pub struct Reply {
     /// The transaction ID.
     pub id: [u8; 12],
-    /// The key that signs a response, in the first bytes: that of the user, or its hash if it is
-    /// longer than a block of HMAC.
+    /// The key that signs a response, followed by zeros: the key of the user, or the hash of that
+    /// key if it is longer than a block of HMAC.
     pub key: [u8; 64],
-    /// The method.
+    /// The method of the request.
     pub method: u16,
     /// The length of the key.
     pub key_length: u8,
@@ -62,28 +63,30 @@ pub struct Reply {
     pub has_fingerprint: bool,
 }
 
-/// The result of judging a datagram.
+/// The outcome of a datagram.
 #[repr(C)]
 pub struct Received {
     /// The size of this struct in the caller's program.
     pub size: usize,
-    /// The number of the result.
+    /// The outcome, a `stunp_kind`.
     pub kind: u32,
-    /// The number of the reason, if the datagram is dropped.
+    /// The reason, a `stunp_drop`, if the datagram is dropped.
     pub why: u32,
-    /// The code of an error response.
+    /// The code of an error response that was written, or 0 for a success. For an indication that
+    /// no user has signed, the code with which a request would be refused.
     pub code: u32,
     /// The method of the message.
     pub method: u16,
-    /// The algorithm of the user's key.
+    /// The algorithm that both sides agreed on: 1 is HMAC-SHA1, and 2 is HMAC-SHA256. With
+    /// short-term credentials, it is the algorithm of the signature.
     pub algorithm: u16,
-    /// The length of the response.
+    /// The length of the response that was written.
     pub length: usize,
-    /// The length of a response that the buffer had no room for.
+    /// The length of the response, if the buffer had no room for it.
     pub needed: usize,
     /// The length of the name.
     pub name_length: usize,
-    /// The means to respond to the request.
+    /// The data with which to answer an accepted request.
     pub reply: Reply,
     /// The name of the user with a terminating zero, or the hash of the name.
     pub name: [u8; 516],
@@ -91,7 +94,7 @@ pub struct Received {
     pub is_hash: bool,
 }
 
-/// Copies at most `most` bytes to the front of an array, after which zeros follow.
+/// Copies at most `most` bytes to the front of an array, and fills the rest of it with zeros.
 pub fn front<const N: usize>(bytes: &[u8], most: usize) -> [u8; N]
     requires { most ≤ N }
     ensures { result ≡ at_front N most bytes.now }
@@ -111,7 +114,8 @@ pub fn id_bytes(id: TransactionId) -> [u8; 12]
     bytes
 }
 
-/// Returns the number of an integrity attribute, or 0 for none.
+/// Returns the number that represents the integrity attribute of an algorithm, or 0 if there is no
+/// algorithm.
 pub fn integrity_number(algorithm: Option<IntegrityAlgorithm>) -> u8
     ensures { result ≡ integrity_number algorithm }
 {
@@ -140,7 +144,7 @@ fn sha256_of(bytes: &[u8]) -> [u8; 32]
     hasher.finalize()
 }
 
-/// A key as one block of HMAC, and how many bytes of it are the key.
+/// A key, filled up with zeros to one block of HMAC, and the length of the key.
 #[derive(Clone, Copy)]
 struct KeyBlock {
     bytes: [u8; 64],
@@ -148,7 +152,7 @@ struct KeyBlock {
 }
 
 impl KeyBlock {
-    /// Fills up the block with zeros.
+    /// Fills up a key with zeros.
     fn filled(key: &[u8]) -> KeyBlock
         requires { length key.now ≤ 64 }
         ensures bytes { result.bytes ≡ block_of key.now }
@@ -162,7 +166,7 @@ impl KeyBlock {
         }
     }
 
-    /// Converts the key of an algorithm. A key that is longer than a block is replaced by its hash
+    /// Converts the key for an algorithm. A key that is longer than a block is replaced by its hash
     /// (RFC 2104, section 2).
     fn of(algorithm: IntegrityAlgorithm, key: &[u8]) -> KeyBlock
         ensures bytes { result.bytes ≡ key_block (hash_by algorithm) key.now }
@@ -177,7 +181,7 @@ impl KeyBlock {
         }
     }
 
-    /// Converts the key that signs a response, if one does.
+    /// Converts the key that signs a response. Returns an empty key if the response is not signed.
     fn of_signature(algorithm: Option<IntegrityAlgorithm>, key: &[u8]) -> KeyBlock
         ensures bytes { result.bytes ≡ block_told algorithm key.now }
         ensures length { result.length ≡ key_length_told algorithm key.now }
@@ -190,7 +194,7 @@ impl KeyBlock {
 }
 
 impl Reply {
-    /// Converts the means to respond to a request.
+    /// Converts a reply of the library to the struct that a caller receives.
     fn of(reply: &EndpointReply<Global>) -> Reply
         ensures { result ≡ reply_told reply.now }
     {
@@ -207,7 +211,7 @@ impl Reply {
     }
 }
 
-/// Returns the number of a reason to drop a datagram.
+/// Returns the `stunp_drop` of a reason to drop a datagram.
 pub fn drop_number(why: DropReason) -> u32
     ensures { result ≡ drop_number why }
 {
@@ -217,13 +221,13 @@ pub fn drop_number(why: DropReason) -> u32
         DropReason::WrongFingerprint => 3,
         DropReason::UnknownAttribute => 4,
         DropReason::MissingFingerprint => 13,
-        // There is no other one in this release.
+        // There is no other variant in this release.
         _ => 0,
     }
 }
 
 impl Received {
-    /// Resets the result, and sets its number.
+    /// Sets the kind, and resets all other fields except the size, the reply and the name.
     fn begin(&mut self, kind: u32)
         ensures { self.new ≡ blank kind self.old }
     {
@@ -238,8 +242,8 @@ impl Received {
         self.is_hash = false;
     }
 
-    /// Sets that the call has failed, which holds until the result is set. A struct of another size
-    /// may lack the fields behind the length.
+    /// Sets the kind to `FAILED`, until another outcome is set. If the size is wrong, sets only the
+    /// kind and the length, because the struct may lack the fields after them.
     pub fn fails(&mut self)
         ensures { self.new ≡ failed self.old }
     {
@@ -251,7 +255,7 @@ impl Received {
         }
     }
 
-    /// Sets the result for a datagram that is dropped.
+    /// Sets the outcome to a datagram that is dropped for this reason.
     pub fn dropped(&mut self, why: DropReason)
         ensures { self.new ≡ told_of (dropped (drop_number why) 0) self.old }
     {
@@ -259,7 +263,8 @@ impl Received {
         self.why = drop_number(why);
     }
 
-    /// Sets the result for a response to send: its length, and its code if it is an error response.
+    /// Sets the outcome to a response to send, with its length, and with its code if it is an error
+    /// response.
     pub fn answered(&mut self, code: u16, length: usize)
         ensures { self.new ≡ record (blank 1 self.old) { code = code; length = length } }
     {
@@ -268,8 +273,8 @@ impl Received {
         self.length = length;
     }
 
-    /// Sets the result for an indication that no user has signed, with the code with which a
-    /// request would be refused.
+    /// Sets the outcome to an indication that is dropped because no user has signed it, with the
+    /// code with which a request would be refused.
     pub fn not_signed(&mut self, refusal: Refused)
         ensures { self.new ≡ told_of (dropped NOT_SIGNED (code_of refusal)) self.old }
     {
@@ -287,7 +292,7 @@ impl Received {
         self.set_name(name.as_bytes());
     }
 
-    /// Sets the name, or the hash of one.
+    /// Sets the name of a user, or the hash of a name, and its length.
     fn set_name(&mut self, name: &[u8])
         ensures { self.new ≡ record self.old {
           name_length = length name.now;
@@ -298,14 +303,14 @@ impl Received {
         self.name = front(name, NAME_ROOM);
     }
 
-    /// Sets that no user is known to have signed the message.
+    /// Clears the name, for a message that is accepted without a signature.
     fn signed_by_nobody(&mut self)
         ensures { self.new ≡ signer_told None self.old }
     {
         self.name = [0; 516];
     }
 
-    /// Sets the result for an accepted request.
+    /// Sets the outcome to an accepted request of a user.
     pub fn requested(&mut self, request: &Request<'_, Global>)
         ensures { self.new ≡ told_of (requested (Some request.now.client) request.now.reply)
             self.old }
@@ -316,7 +321,7 @@ impl Received {
         self.signed(request.user(), request.algorithm());
     }
 
-    /// Sets the result for an accepted request to a server without credentials, which anybody may
+    /// Sets the outcome to an accepted request to a server without credentials, which anybody may
     /// have sent.
     pub fn requested_openly(&mut self, request: &OpenRequest<'_, Global>)
         ensures { self.new ≡ told_of (requested None request.now.reply) self.old }
@@ -327,7 +332,7 @@ impl Received {
         self.signed_by_nobody();
     }
 
-    /// Sets the result for a request whose user must be looked up.
+    /// Sets the outcome to a request whose user must be looked up.
     pub fn looked_up(&mut self, lookup: &Lookup<'_>)
         ensures { self.new ≡ lookup_told lookup.now self.old }
     {
@@ -336,7 +341,7 @@ impl Received {
         self.named(lookup.user_id());
     }
 
-    /// Sets the user whom a request names.
+    /// Sets the name of the user whom a request names, or the hash of the name.
     fn named(&mut self, user: NamedUser<'_>)
         ensures { self.new ≡ named_told (named_seen user.entry) self.old }
     {
@@ -349,8 +354,8 @@ impl Received {
         }
     }
 
-    /// Sets the result for an indication to a server without credentials, which anybody may have
-    /// sent.
+    /// Sets the outcome to an indication whose signature is not checked, so anybody may have sent
+    /// it.
     pub fn indicated(&mut self, message: &Message<'_>)
         ensures { self.new ≡ told_of (indicated None message.now) self.old }
     {
@@ -359,7 +364,7 @@ impl Received {
         self.signed_by_nobody();
     }
 
-    /// Sets the result for an indication that a user has signed.
+    /// Sets the outcome to an indication that a user has signed.
     pub fn indicated_by(&mut self, indication: &ShortTermIndication<'_>)
         ensures { self.new ≡ told_of (indicated (Some indication.now.client) indication.now.message)
             self.old }
@@ -369,7 +374,7 @@ impl Received {
         self.signed(indication.user(), indication.algorithm());
     }
 
-    /// Sets the result for a response, which is for a client.
+    /// Sets the outcome to a response, which is for a client on the same socket.
     pub fn responded(&mut self, message: &Message<'_>)
         ensures { self.new ≡ told_of (responded message.now) self.old }
     {

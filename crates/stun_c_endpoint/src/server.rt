@@ -26,10 +26,13 @@ use stun_handles::address::Address;
 use stun_numbers::buffer::put;
 use stun_numbers::refusal::Refusal;
 
-/// The greatest time, in seconds. A greater number must be one of nanoseconds.
+pub mod laws;
+
+/// The greatest time that a call accepts, in seconds. A greater number is probably in other units,
+/// such as nanoseconds.
 pub const LAST_SECOND: u64 = 1_099_511_627_776;
 
-/// Returns the code of a response, or 0 for a success.
+/// Returns the error code of a response, or 0 if it is a success response.
 fn code(refusal: Option<Refused>) -> u16
     ensures { result ≡ code_told refusal }
 {
@@ -39,8 +42,8 @@ fn code(refusal: Option<Refused>) -> u16
     }
 }
 
-/// Writes a response to the front of the buffer, and its length to the result. If the buffer has no
-/// room for it, only the room that it needs is written.
+/// Copies a response to the front of `out`, and writes its code and length to `received`. If `out`
+/// is too small, sets only `received.needed`, and fails with `BufferTooSmall`.
 fn answered(
     answer: &Answer<Global>,
     out: &mut [u8],
@@ -59,7 +62,8 @@ fn answered(
     Ok(1)
 }
 
-/// Writes the result of a server with long-term credentials.
+/// Writes the outcome of a datagram at a server with long-term credentials to `received`, and a
+/// response to `out`. Returns the `stunp_kind`.
 pub fn tell(
     outcome: &Outcome<'_, Global>,
     out: &mut [u8],
@@ -86,12 +90,13 @@ pub fn tell(
             received.dropped(*why);
             Ok(0)
         }
-        // There is no other outcome in this release.
+        // There is no other variant in this release.
         _ => Err(Refusal::BadArgument),
     }
 }
 
-/// Writes the result of a server with short-term credentials.
+/// Writes the outcome of a datagram at a server with short-term credentials to `received`, and a
+/// response to `out`. Returns the `stunp_kind`.
 fn tell_short_term(
     outcome: &ShortTermReceived<'_, Global>,
     out: &mut [u8],
@@ -122,12 +127,13 @@ fn tell_short_term(
             received.dropped(*why);
             Ok(0)
         }
-        // There is no other outcome in this release.
+        // There is no other variant in this release.
         _ => Err(Refusal::BadArgument),
     }
 }
 
-/// Writes the result of a server without credentials.
+/// Writes the outcome of a datagram at a server without credentials to `received`, and a response
+/// to `out`. Returns the `stunp_kind`.
 fn tell_openly(
     outcome: &OpenReceived<'_, Global>,
     out: &mut [u8],
@@ -154,12 +160,14 @@ fn tell_openly(
             received.dropped(*why);
             Ok(0)
         }
-        // There is no other outcome in this release.
+        // There is no other variant in this release.
         _ => Err(Refusal::BadArgument),
     }
 }
 
-/// Judges a datagram with a server and a table of users, and writes the result.
+/// Judges a datagram with a server and a table of users, and writes the outcome. A server without
+/// credentials ignores the table. Fails with `WrongHandle` if `server` is not a server, or if
+/// `users` is not a table of users with the server's kind of credentials.
 pub fn receive(
     server: &Kept,
     users: &Kept,
@@ -187,7 +195,9 @@ pub fn receive(
     }
 }
 
-/// Judges a datagram with a server without credentials, and writes the result.
+/// Judges a datagram with a server and no table of users, and writes the outcome. Fails with
+/// `EmptyHandle` if the server has credentials, because it then needs a table, and with
+/// `WrongHandle` if the value is not a server.
 pub fn receive_alone(
     server: &Kept,
     message: &[u8],
@@ -209,7 +219,8 @@ pub fn receive_alone(
     }
 }
 
-/// Judges a datagram with a server with long-term credentials and its table, and writes the result.
+/// Judges a datagram with a server and a table of users with long-term credentials, and writes the
+/// outcome.
 fn judge(
     server: &Server<Global>,
     users: &Users<Global>,
@@ -231,8 +242,8 @@ fn judge(
     tell(&outcome, out, received)
 }
 
-/// Judges a datagram with a server with short-term credentials and its table, and writes the
-/// result.
+/// Judges a datagram with a server and a table of users with short-term credentials, and writes the
+/// outcome.
 pub fn judge_short_term(
     server: &ShortTermServer<Global>,
     users: &ShortTermUsers<Global>,
@@ -253,7 +264,7 @@ pub fn judge_short_term(
     tell_short_term(&outcome, out, received)
 }
 
-/// Judges a datagram with a server without credentials, and writes the result.
+/// Judges a datagram with a server without credentials, and writes the outcome.
 pub fn judge_openly(
     server: &OpenServer<Global>,
     message: &[u8],
@@ -272,8 +283,8 @@ pub fn judge_openly(
     tell_openly(&outcome, out, received)
 }
 
-/// Judges a datagram with a server as far as that is possible without its user, and writes the
-/// result.
+/// Judges a datagram with a server as far as that is possible without the user, and writes the
+/// outcome. Fails with `WrongHandle` if the value is not a server with long-term credentials.
 pub fn identify(
     server: &Kept,
     message: &[u8],
@@ -291,7 +302,8 @@ pub fn identify(
     }
 }
 
-/// Judges a datagram with this server as far as that is possible without its user.
+/// Judges a datagram with this server as far as that is possible without the user, and writes the
+/// outcome.
 fn identify_at(
     server: &Server<Global>,
     message: &[u8],
@@ -313,12 +325,12 @@ fn identify_at(
             received.looked_up(&lookup);
             Ok(5)
         }
-        // There is no other one in this release.
+        // There is no other variant in this release.
         _ => Err(Refusal::BadArgument),
     }
 }
 
-/// Returns the number of a cause, or 0 for none.
+/// Returns the `stunp_cause` of a cause, or 0 if there is none.
 pub fn cause_number(cause: Option<Cause>) -> u32
     ensures { result ≡ cause_number cause }
 {
@@ -331,12 +343,14 @@ pub fn cause_number(cause: Option<Cause>) -> u32
         Some(Cause::StaleNonce) => 5,
         Some(Cause::WrongCredentials) => 6,
         Some(Cause::UnknownAttribute) => 7,
-        // There is no other one in this release.
+        // There is no other variant in this release.
         Some(_) => 0,
     }
 }
 
-/// Returns why a datagram is refused by a server and its table of users.
+/// Returns the `stunp_cause` for which a server with this table of users refuses a datagram, or 0
+/// if it does not refuse the datagram. Fails with `WrongHandle` if the server or the table is not
+/// one with long-term credentials.
 pub fn cause(
     server: &Kept,
     users: &Kept,
@@ -355,7 +369,8 @@ pub fn cause(
     }
 }
 
-/// The same without a table of users.
+/// Returns the error with which `stunp_endpoint_server_cause_own` fails if the users' handle is
+/// empty.
 pub fn cause_alone(server: &Kept) -> Refusal
     ensures { long_term_with None server.now ≡ Err result }
 {
@@ -365,7 +380,8 @@ pub fn cause_alone(server: &Kept) -> Refusal
     }
 }
 
-/// The same by the server and its table.
+/// Returns the `stunp_cause` for which this server with this table refuses a datagram, or 0 if it
+/// does not refuse the datagram.
 fn cause_at(
     server: &Server<Global>,
     users: &Users<Global>,

@@ -1,4 +1,4 @@
-//! The settings of a server, as a caller passes them.
+//! Creates a server from the arguments that a caller passes.
 
 ghost use Rattle.std.specs.Option.{option_map};
 ghost use Rattle.std.specs.Prelude.{◌≡◌, ◌==◌, IfOk, None, Some};
@@ -14,6 +14,8 @@ ghost use Rattle.stun_c_endpoint.specs.Given.{is_wrong_previous, is_wrong_secret
 ghost use Rattle.stun_c_endpoint.specs.Given.{responding_given, server_given};
 ghost use Rattle.stun_c_endpoint.specs.code.Building.{Builds, RefusedFor};
 
+pub mod laws;
+
 use crate::handle::endpoint::{EndpointHandle, Kept};
 use std::alloc::{AllocError, Global};
 use std::marker::Model;
@@ -28,22 +30,24 @@ use stun_numbers::refusal::Refusal;
 use stun_numbers::text::text;
 use stun_types::limits::TEXT_LIMIT;
 
-/// The number of HMAC-SHA1 alone.
+/// The number for HMAC-SHA1 alone.
 const ONLY_SHA1: u32 = 1;
 
-/// The number of HMAC-SHA256 alone.
+/// The number for HMAC-SHA256 alone.
 const ONLY_SHA256: u32 = 2;
 
-/// The greatest number for algorithms: both.
+/// The greatest number for the algorithms. It means both.
 const MOST_ALGORITHMS: u32 = 3;
 
-/// The greatest number for a feature: names are never hashed.
+/// The greatest number for a feature. It means that names are never hashed.
 const DISABLED: u32 = 2;
 
-/// The longest time in seconds for which a nonce is sent: 30 days.
+/// The longest nonce lifetime, in seconds: 30 days.
 const LONGEST_NONCE_LIFETIME: u64 = 2_592_000;
 
-/// The arguments of a caller. Contracts see bytes and numbers.
+/// The arguments for creating a server with long-term credentials.
+///
+/// Contracts: the texts and the secrets are lists of bytes, and the attribute types are numbers.
 #[derive(Drop)]
 pub struct Given<'a> {
     pub realm: &'a [u8],
@@ -77,7 +81,7 @@ impl<'a> Model for Given<'a> {
     } };
 }
 
-/// Returns the nonce lifetime in seconds: an hour if 0 is passed.
+/// Returns the nonce lifetime in seconds. If the caller passes 0, this is an hour.
 fn nonce_seconds(seconds: u64) -> u64
     ensures { result ≡ nonce_seconds seconds }
 {
@@ -87,14 +91,14 @@ fn nonce_seconds(seconds: u64) -> u64
     seconds
 }
 
-/// Returns `true` if two secrets are the same.
+/// Returns `true` if two secrets are equal.
 fn is_same(one: &[u8; 32], other: &[u8; 32]) -> bool
     ensures { result ≡ bytes_eq one.now other.now }
 {
     is_same_text(one, other)
 }
 
-/// Returns `true` if the bytes are one byte that is repeated, which nobody has drawn at random.
+/// Returns `true` if all bytes are equal. Such bytes do not come from a random generator.
 pub fn is_repeated(bytes: &[u8; 32]) -> bool
     ensures { result ≡ is_repeated bytes.now }
 {
@@ -102,7 +106,8 @@ pub fn is_repeated(bytes: &[u8; 32]) -> bool
     is_same(bytes, &first)
 }
 
-/// Returns `true` if a previous secret was never in use: it is one repeated byte, or the secret.
+/// Returns `true` if a previous secret cannot have been in use, because it is one repeated byte, or
+/// is equal to the secret.
 fn is_wrong_previous(secret: &[u8; 32], previous: &Option<[u8; 32]>) -> bool
     ensures { result ≡ is_wrong_previous secret.now previous.now }
 {
@@ -122,7 +127,7 @@ pub fn types(alloc: Global, numbers: &[u16]) -> Result<Vec<AttributeType, Global
     Ok(types)
 }
 
-/// Converts numbers to attribute types in place.
+/// Converts numbers to attribute types, in an array of the same length.
 fn copy_types(types: &mut [AttributeType], numbers: &[u16])
     requires { length types.old ≡ length numbers.now }
     ensures { types.new ≡ types_of numbers.now }
@@ -132,7 +137,7 @@ fn copy_types(types: &mut [AttributeType], numbers: &[u16])
     }
 }
 
-/// Copies a text, if it has bytes.
+/// Copies a text. Returns `None` if it has no bytes.
 pub fn text_if_any(alloc: Global, text: &str) -> Result<Option<String<Global>>, AllocError>
     ensures { IfOk result (λ copy. option_map string_bytes copy ≡ if_any text.now) }
 {
@@ -142,7 +147,8 @@ pub fn text_if_any(alloc: Global, text: &str) -> Result<Option<String<Global>>, 
     Ok(Some(copied(alloc, text)?))
 }
 
-/// Puts a server into an empty handle, or returns the number of the error.
+/// Moves a value to the heap and puts it into an empty handle. Returns 0, or the code of
+/// `OutOfMemory`.
 pub fn placed(alloc: Global, handle: &mut EndpointHandle, server: Kept) -> i64
     requires { handle.old.kept ≡ None }
     ensures { OrOutOfMemory result None handle.new.kept (pos 0) (Some server) }
@@ -157,7 +163,8 @@ pub fn placed(alloc: Global, handle: &mut EndpointHandle, server: Kept) -> i64
 }
 
 impl<'a> Given<'a> {
-    /// Returns `true` if a number is out of range.
+    /// Returns `true` if the number for the algorithms, the number for the feature or the nonce
+    /// lifetime is out of range.
     fn is_out_of_range(&self) -> bool
         ensures { result ≡ is_out_of_range self.now }
     {
@@ -167,14 +174,14 @@ impl<'a> Given<'a> {
             || nonce_seconds(self.nonce_seconds) > LONGEST_NONCE_LIFETIME
     }
 
-    /// Returns `true` if a secret cannot be one that was drawn at random.
+    /// Returns `true` if a secret is one repeated byte, or if both secrets are equal.
     fn is_wrong_secret(&self) -> bool
         ensures { result ≡ is_wrong_secret self.now }
     {
         is_repeated(&self.secret) || is_wrong_previous(&self.secret, &self.previous_secret)
     }
 
-    /// Creates the settings, with the realm and the SOFTWARE text.
+    /// Creates the settings of the server, with this realm and this SOFTWARE text.
     fn long_term(
         &self,
         alloc: Global,
@@ -217,7 +224,7 @@ impl<'a> Given<'a> {
         })
     }
 
-    /// Builds the server in an empty handle. Returns 0 or the number of the error.
+    /// Creates the server in an empty handle. Returns 0, or a negative error code.
     pub fn place(&self, alloc: Global, handle: &mut EndpointHandle) -> i64
         requires { handle.old.kept ≡ None }
         ensures { MakesServer self.now result handle.new.kept }
@@ -228,7 +235,7 @@ impl<'a> Given<'a> {
         }
     }
 
-    /// Builds the server.
+    /// Creates the server.
     #[tactic(auto, unfolding(crate::specs::Given::given_refusal))]
     fn server(&self, alloc: Global) -> Result<Server<Global>, Refusal>
         ensures { Builds (given_refusal self.now) (server_given self.now) result }
@@ -244,13 +251,16 @@ impl<'a> Given<'a> {
         let settings = self.long_term(alloc, realm, software)?;
         match Server::new(alloc, settings) {
             Ok(server) => Ok(server),
-            // What is wrong with settings is found above, so that an allocation failed.
+            // Wrong settings were refused above, so the cause is a failed allocation.
             Err(_) => Err(Refusal::OutOfMemory),
         }
     }
 }
 
-/// The arguments of a caller for a server without a realm. Contracts see bytes and numbers.
+/// The arguments for creating a server with short-term credentials, or a server without
+/// credentials.
+///
+/// Contracts: the text is a list of bytes, and the attribute types are numbers.
 #[derive(Drop)]
 pub struct GivenAlone<'a> {
     pub software: &'a [u8],
@@ -273,8 +283,8 @@ impl<'a> Model for GivenAlone<'a> {
 }
 
 impl<'a> GivenAlone<'a> {
-    /// Builds a server with short-term credentials in an empty handle. Returns 0 or the number of
-    /// the error.
+    /// Creates a server with short-term credentials in an empty handle. Returns 0, or a negative
+    /// error code.
     pub fn place_short_term(&self, alloc: Global, handle: &mut EndpointHandle) -> i64
         requires { handle.old.kept ≡ None }
         ensures { MakesShortTerm self.now result handle.new.kept }
@@ -285,8 +295,8 @@ impl<'a> GivenAlone<'a> {
         }
     }
 
-    /// Builds a server without credentials in an empty handle. Returns 0 or the number of the
-    /// error.
+    /// Creates a server without credentials in an empty handle. Returns 0, or a negative error
+    /// code.
     pub fn place_open(&self, alloc: Global, handle: &mut EndpointHandle) -> i64
         requires { handle.old.kept ≡ None }
         ensures { MakesOpen self.now result handle.new.kept }
@@ -297,7 +307,7 @@ impl<'a> GivenAlone<'a> {
         }
     }
 
-    /// Creates the settings.
+    /// Creates the settings of the server's responses.
     fn settings(&self, alloc: Global) -> Result<ResponseSettings<Global>, Refusal>
         ensures refused { RefusedFor (alone_refusal self.now) result }
         ensures software { IfOk result (λ made. option_map string_bytes made.software
@@ -321,24 +331,24 @@ impl<'a> GivenAlone<'a> {
         })
     }
 
-    /// Builds a server with short-term credentials.
+    /// Creates a server with short-term credentials.
     fn short_term(&self, alloc: Global) -> Result<ShortTermServer<Global>, Refusal>
         ensures { Builds (alone_refusal self.now) (responding_given self.now) result }
     {
         match ShortTermServer::new(alloc, self.settings(alloc)?) {
             Ok(server) => Ok(server),
-            // What is wrong with settings is found above, so that an allocation failed.
+            // Wrong settings were refused above, so the cause is a failed allocation.
             Err(_) => Err(Refusal::OutOfMemory),
         }
     }
 
-    /// Builds a server without credentials.
+    /// Creates a server without credentials.
     fn without_credentials(&self, alloc: Global) -> Result<OpenServer<Global>, Refusal>
         ensures { Builds (alone_refusal self.now) (responding_given self.now) result }
     {
         match OpenServer::new(alloc, self.settings(alloc)?) {
             Ok(server) => Ok(server),
-            // What is wrong with settings is found above, so that an allocation failed.
+            // Wrong settings were refused above, so the cause is a failed allocation.
             Err(_) => Err(Refusal::OutOfMemory),
         }
     }

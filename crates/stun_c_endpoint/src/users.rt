@@ -8,6 +8,8 @@ ghost use Rattle.stun_c_endpoint.specs.Users.{name_refusal, password_refusal, re
 ghost use Rattle.stun_c_endpoint.specs.Users.{with_stored};
 ghost use Rattle.stun_c_endpoint.specs.declared.handle.endpoint.Kept.TheVariants as kind;
 
+pub mod laws;
+
 use crate::handle::endpoint::Kept;
 use std::alloc::Global;
 use stun_base::credentials::{LongTermCredentials, ShortTermCredentials};
@@ -19,7 +21,7 @@ use stun_numbers::refusal::Refusal;
 use stun_numbers::text::text;
 use stun_types::limits::USERNAME_LIMIT;
 
-/// Fails with `TextTooLong` if the name is too long for a USERNAME.
+/// Fails with `TextTooLong` if the name has more bytes than a USERNAME may have.
 pub fn check_name(name: &str) -> Result<(), Refusal>
     ensures { result ≡ refusal_or (name_refusal name.now) (Ok tt) }
 {
@@ -39,7 +41,8 @@ pub fn check_password(password: &str) -> Result<(), Refusal>
     Ok(())
 }
 
-/// Creates an empty table for the server of a handle.
+/// Creates an empty table of users for a server. Fails with `WrongHandle` if the value is not a
+/// server, or is a server without credentials.
 pub fn table(alloc: Global, server: &Kept) -> Result<Box<Kept, Global>, Refusal>
     ensures none { IfErr (table_for server.now) (λ refusal. result ≡ Err refusal) }
     ensures made { IfOk (table_for server.now) (λ table. MatchResult result
@@ -66,7 +69,7 @@ fn boxed(alloc: Global, table: Kept) -> Result<Box<Kept, Global>, Refusal>
     }
 }
 
-/// Adds a user with a password to a table for a realm.
+/// Adds a user with a password to a table of users with long-term credentials.
 fn add(
     alloc: Global,
     users: &mut Users<Global>,
@@ -104,7 +107,7 @@ fn add_short_term(
     Ok(users.add(copied(alloc, name)?, credentials)?)
 }
 
-/// Adds a user with stored keys.
+/// Adds a user with stored keys to a table of users with long-term credentials.
 fn add_keys(
     alloc: Global,
     users: &mut Users<Global>,
@@ -121,7 +124,7 @@ fn add_keys(
     Ok(users.add_with_keys(copied(alloc, name)?, keys)?)
 }
 
-/// Removes a user from a table for a realm.
+/// Removes a user from a table of users with long-term credentials.
 fn remove(users: &mut Users<Global>, name: &[u8]) -> Result<(), Refusal>
     ensures { LeavesTable (removing name.now (kind.Users users.old)) (done_answer result)
         (Some (kind.Users users.old)) (Some (kind.Users users.new)) }
@@ -141,7 +144,8 @@ fn remove_short_term(users: &mut ShortTermUsers<Global>, name: &[u8]) -> Result<
     Ok(())
 }
 
-/// Adds a user with a password to the table of a handle.
+/// Adds a user with a password to a table of either kind. Fails with `WrongHandle` if the value is
+/// not a table.
 pub fn add_to(alloc: Global, kept: &mut Kept, name: &[u8], password: &[u8]) -> Result<(), Refusal>
     ensures { LeavesTableOr (adding name.now password.now kept.old) (done_answer result)
         (Some kept.old) (Some kept.new) }
@@ -153,7 +157,8 @@ pub fn add_to(alloc: Global, kept: &mut Kept, name: &[u8], password: &[u8]) -> R
     }
 }
 
-/// Adds a user with stored keys to the table of a handle.
+/// Adds a user with stored keys to a table. Fails with `WrongHandle` if the value is not a table of
+/// users with long-term credentials.
 pub fn add_keys_to(
     alloc: Global,
     kept: &mut Kept,
@@ -170,7 +175,8 @@ pub fn add_keys_to(
     }
 }
 
-/// Removes a user from the table of a handle.
+/// Removes a user from a table of either kind. Fails with `WrongHandle` if the value is not a
+/// table.
 pub fn remove_from(kept: &mut Kept, name: &[u8]) -> Result<(), Refusal>
     ensures { LeavesTable (removing name.now kept.old) (done_answer result) (Some kept.old)
         (Some kept.new) }

@@ -1,4 +1,4 @@
--- The definitions that the contracts of this crate use, in the order to read them.
+-- The definitions that the contracts of this crate use, in reading order.
 
 -- how often an input is read, and why reading it fails
 pub mod Input

@@ -4,14 +4,14 @@ ghost use Rattle.stun_cli.specs.declared.failure.Failure.TheVariants.{Memory};
 
 use std::alloc::AllocError;
 
-/// Why something could not be read or written.
+/// Why an input could not be read, or a text could not be written.
 #[derive(Clone, Copy, Debug, PartialEq, Eq)]
 pub enum Failure {
     /// A read or a write failed.
     Io,
     /// An allocation failed.
     Memory,
-    /// The input did not end where it must.
+    /// The input is longer than allowed, or has not ended within the allowed number of reads.
     NoEnd,
 }
 

@@ -1,4 +1,4 @@
-//! Reading: everything that a command reads comes in through this module.
+//! Reading: a command reads every input through this module.
 ghost use Rattle.std.specs.Prelude.{◌≡◌, ◌≢◌, ◌≤◌, ◌+◌, ◌++◌, ◌↔◌, ◌⊎◌, ℕ, Bool, true, IfErr, IfOk};
 ghost use Rattle.std.specs.Prelude.{IfSome, length};
 ghost use Rattle.std.specs.Io.{ReadsAtMost};
@@ -17,11 +17,11 @@ pub const MAX_READS: u32 = 1_048_576;
 /// The greatest number of bytes of one read.
 pub const READ_SIZE: usize = 256;
 
-/// A reader that counts how often it is read, so that contracts can bound it.
+/// A reader that counts its reads, so that contracts can bound their number.
 pub trait CountedRead: Read {
-    // How often the reader has been asked, up to 4294967295 times.
+    // The number of reads so far, at most 4294967295.
     ghost asked: { Self → ℕ };
-    // Whether the last read failed, and was not only interrupted.
+    // Whether the last read failed, other than by an interrupt.
     ghost failed: { Self → Bool };
 
     /// Reads once, like `read`, and counts the read. An interrupted read counts too.
@@ -33,7 +33,7 @@ pub trait CountedRead: Read {
         ensures failed { (failed self.new ≡ true) ↔ IsFailed result };
 }
 
-/// A reader that counts how often it is read.
+/// A reader that counts its reads.
 #[derive(Drop)]
 pub struct Counted<R: Read + Drop> {
     pub reader: R,
@@ -76,9 +76,9 @@ impl<R: Read + Drop> CountedRead for Counted<R> {
     }
 }
 
-/// Reads all bytes that the reader has left, which must be at most `most`.
+/// Reads all bytes that the reader still has, at most `most` bytes.
 ///
-/// A read that is interrupted is tried again, and counts as one read.
+/// An interrupted read is repeated, and counts as a read.
 ///
 /// # Errors
 ///
@@ -119,8 +119,8 @@ pub fn read_to_end<R: CountedRead, A: Allocator>(
     Err(Failure::NoEnd)
 }
 
-/// Appends what the reader returns to the bytes before, until there are `least` bytes. There are
-/// fewer only if the reader has no more. Nothing beyond them is read.
+/// Reads from the reader and appends to `before`, until the result has `least` bytes. The result
+/// has fewer bytes only if the reader has no more. The call reads no further byte.
 ///
 /// Fails if a read or an allocation fails, or if it takes more than 1048576 reads.
 pub fn read_up_to<R: CountedRead, A: Allocator>(
@@ -154,10 +154,11 @@ pub fn read_up_to<R: CountedRead, A: Allocator>(
     Err(Failure::NoEnd)
 }
 
-/// Appends all that the reader has left to the bytes before. Together they must be at most `most`.
+/// Reads all bytes that the reader still has, and appends them to `before`. Together they must be
+/// at most `most` bytes.
 ///
 /// Fails if a read or an allocation fails, if there are more bytes, or if the end does not come
-/// within 1048576 reads. Each of the bytes before counts as a read.
+/// within 1048576 reads. Each byte of `before` counts as a read.
 pub fn read_rest<R: CountedRead, A: Allocator>(
     reader: &mut R,
     before: Vec<u8, A>,

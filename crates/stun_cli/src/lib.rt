@@ -1,5 +1,5 @@
-//! What the programs share: the arguments of a command line, reading and writing, the verdict on a
-//! message, and how a command ends.
+//! The parts that the programs share: the arguments of a command line, reading and writing, the
+//! verdict on a message, and the exit status.
 #![tactic(auto)]
 
 pub mod failure;

@@ -18,7 +18,7 @@ pub struct Line<A: Allocator> {
     ghost unbroken: { has_line_feed (string_bytes text) ≡ false },
 }
 
-/// Returns a digit of hexadecimal.
+/// Returns the character of a hexadecimal digit, in lower case.
 fn glyph(digit: u8) -> char
     requires { digit < 16 }
     ensures { result ≡ digit_glyph false digit }
@@ -50,7 +50,7 @@ impl<A: Allocator + Copy> Line<A> {
         self.text.push_str(text)
     }
 
-    /// Appends a printable character of ASCII.
+    /// Appends a printable ASCII character.
     pub fn push(&mut self, character: char) -> Result<(), AllocError>
         requires { (32 ≤ character) × (character ≤ 126) }
         ensures { OnOk result
@@ -79,7 +79,7 @@ impl<A: Allocator + Copy> Line<A> {
         self.push_str(text.as_str())
     }
 
-    /// Appends a byte as two digits in hexadecimal.
+    /// Appends a byte as two hexadecimal digits.
     pub fn push_byte(&mut self, byte: u8) -> Result<(), AllocError>
         ensures { OnOk result
             (string_bytes self.new.text ≡ string_bytes self.old.text ++ hex_byte byte) }

@@ -1,4 +1,4 @@
-//! Writing: everything that a command writes goes out through this module.
+//! Writing: a command writes every output through this module.
 ghost use Rattle.std.specs.Prelude.{OnOk, OnErr};
 ghost use Rattle.std.specs.Io.KnownBytes.{Appends};
 ghost use Rattle.stun_cli.specs.Output.{AppendsBeginning};
@@ -9,12 +9,12 @@ use std::io::{ErrorKind, Write};
 /// The greatest number of writes of a text.
 const MAX_WRITES: u32 = 1_048_576;
 
-/// Writes the text, in at most 1048576 writes. A write that is interrupted is tried again.
+/// Writes the text, in at most 1048576 writes. An interrupted write is repeated.
 ///
 /// # Errors
 ///
-/// `Io`: a write failed or wrote nothing, or there were not enough writes. A beginning of the text
-/// is then written, but not all of it.
+/// `Io`: a write failed or wrote nothing, or 1048576 writes were not enough. Only a beginning of
+/// the text is then written.
 pub fn write_text<W: Write>(writer: &mut W, text: &[u8]) -> Result<(), Failure>
     ensures ok { OnOk result (Appends (W.contents writer.old) (W.contents writer.new) text.now) }
     ensures err { OnErr result (AppendsBeginning (W.contents writer.old)

@@ -8,13 +8,13 @@ use std::process::ExitCode;
 /// How a command ended.
 #[derive(Clone, Copy, Debug, PartialEq, Eq)]
 pub enum Status {
-    /// The command did what it was asked, and the result is good.
+    /// The command has a result, and it is good.
     Good,
-    /// The result is a refusal: what was asked does not hold.
+    /// The command has a result, and it is a refusal.
     Bad,
     /// The command has no result, and ends with the exit status of a refusal.
     Failed,
-    /// The arguments were wrong, and nothing was judged.
+    /// The arguments were wrong, so the command judged nothing.
     NotJudged,
 }
 

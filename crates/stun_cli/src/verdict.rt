@@ -8,7 +8,7 @@ use stun_types::message::{IntegrityAlgorithm, StunParseError, ValidateError};
 /// The verdict on an input under a key.
 #[derive(Clone, Copy, Debug, PartialEq, Eq)]
 pub enum Verdict {
-    /// The message was signed with this algorithm.
+    /// The signature is valid, and has this algorithm.
     Valid(IntegrityAlgorithm),
     /// The signature is invalid.
     OtherDigest,
@@ -18,12 +18,12 @@ pub enum Verdict {
     MalformedIntegrity,
     /// The bytes are not a message.
     NotAMessage(StunParseError),
-    /// The input does not spell bytes.
+    /// The input is not a text that encodes bytes.
     BadInput,
 }
 
 impl Verdict {
-    /// Returns how a command that prints this verdict ends.
+    /// Returns the status of a command that prints this verdict.
     pub fn status(self) -> Status
         ensures value { result ≡ status_of self }
         ensures judged { (result ≢ Status.NotJudged) × (result ≢ Status.Failed) }
@@ -35,7 +35,7 @@ impl Verdict {
     }
 }
 
-/// Converts the error of a verification to the verdict.
+/// Returns the verdict for an error of the verification.
 pub fn verdict_without_digest(error: ValidateError) -> Verdict
     ensures { result ≡ verdict_without_digest error }
 {

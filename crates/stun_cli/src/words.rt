@@ -4,7 +4,8 @@ use std::alloc::AllocError;
 use std::env;
 use std::io::ErrorKind;
 
-/// Returns the arguments that follow the name of the program, or none of them if one is not a text.
+/// Returns the arguments after the name of the program, or an empty list if one of them is not
+/// UTF-8.
 ///
 /// # Errors
 ///

@@ -42,7 +42,8 @@ both-true : (a b : Bool) → (a && b) ≡ true → (a ≡ true) × (b ≡ true)
 both-true true b is = (refl, is)
 both-true false b is = cc
 
--- ---- the digest is of the deciding attribute, whatever the key is
+-- ---- a digest that verifies is that of the deciding attribute, whatever the key is
+
 verified-decides : (bytes key : List ℕ) (o : Option Member) (a : IntegrityAlgorithm)
     → option_and_then (verified_at (λ _. key) bytes) o ≡ Some a
     → option_map (λ (m : Member). integrity_algorithm m.1) o ≡ Some a
@@ -62,7 +63,7 @@ decides-if : (bytes key : List ℕ) (b : Bool) (a : IntegrityAlgorithm)
 decides-if bytes key true a is = verified-decides bytes key (deciding bytes) a is
 decides-if bytes key false a is = cc
 
-decides : (bytes key : List ℕ) (a : IntegrityAlgorithm)
+pub decides : (bytes key : List ℕ) (a : IntegrityAlgorithm)
     → verified_under (reading_of bytes) key ≡ Some a → deciding_algorithm bytes ≡ Some a
 unfolding reading_of
 decides bytes key a is = decides-if bytes key (has_visible_integrity bytes) a is

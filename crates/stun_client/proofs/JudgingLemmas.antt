@@ -58,7 +58,7 @@ by_key_believed : (v : Option IntegrityAlgorithm) (otherwise : Verdict)
 by_key_believed None otherwise by not is = absurd (not is)
 by_key_believed (Some a) otherwise by not is = (a, (cc, refl))
 
--- what throws doubt, or is dropped, is not believed
+-- what casts doubt, or is dropped, is not believed
 doubt_not_believed : (doubts : Bool) (why : Distrust) (by : Option IntegrityAlgorithm)
     → cond doubts doubted (dropped why) ≡ believed by → ⊥
 doubt_not_believed true why by is = cc

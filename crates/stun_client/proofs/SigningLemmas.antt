@@ -1,7 +1,7 @@
 -- What is read of a message that is signed for a challenge: what was added to it.
 use Rattle.std.proofs.Common.{◌≡◌, ℕ, ◌<◌, ◌≤◌, ◌^◌, true, false, List, [], ◌∷◌, length}
 use Rattle.std.proofs.Common.{refl, sym, ◌∙◌, ap, arith, Ok, Err, Option, Some, None}
-use Rattle.std.specs.Prelude.{IfOk, IsUtf8, ◌==◌, ◌||◌, if◌then◌else◌, map, nat_lt}
+use Rattle.std.specs.Prelude.{IfOk, IsUtf8, ◌||◌, if◌then◌else◌, map, nat_lt}
 use Rattle.std.specs.List.{AllByRecursion}
 use Rattle.std.specs.Option.{IfSome, is_some, option_and_then, option_map, option_or}
 use Rattle.std.specs.declared.result.Result.{Result}
@@ -18,21 +18,18 @@ use Rattle.stun_types.specs.PasswordAlgorithms.{integrity_of, password_algorithm
 use Rattle.stun_types.specs.PasswordAlgorithms.{password_algorithms_in}
 use Rattle.stun_types.specs.Text.{text_of, text_of-written}
 use Rattle.stun_types.specs.Userhash.{hash_of, hash_of-written}
-use Rattle.stun_types.specs.Visible.{has_kind, visible}
-use Rattle.stun_types.specs.Walk.{Member, walk}
-use Rattle.stun_types.specs.Writing.{IsOpen, is_set_apart}
+use Rattle.stun_types.specs.Visible.{visible}
 use Rattle.stun_auth.specs.AddedAttribute.{nonce, password_algorithm, realm, userhash, username}
-use Rattle.stun_auth.specs.Additions.{Addition, Page, UnlessMemory, added_all, is_text_too_long}
-use Rattle.stun_auth.specs.Additions.{page_in, written_page}
+use Rattle.stun_auth.specs.Additions.{Page, UnlessMemory, added_all, page_in, written_page}
 use Rattle.stun_auth.specs.Algorithms.{is_sha256}
 use Rattle.stun_auth.specs.Client.{Naming, hashed, plain}
-use Rattle.stun_auth.specs.Joined.{IsReadBack, IsTyped, Protection, added_last, last_value}
-use Rattle.stun_auth.specs.Joined.{protection_in}
+use Rattle.stun_auth.specs.Joined.{IsTyped, added_last, last_value, protection_in}
 use Rattle.stun_auth.specs.Reading.{error_code, has_visible_integrity, last, last_of, reading_of}
 use Rattle.stun_auth.specs.Signed.{IsText, IsUnsigned, ReadsAs, hashed_name, only_if, plain_name}
-use Rattle.stun_auth.proofs.JoinedLemmas.{IsShort, WritingLaws, all_short, has_added, not_above, or_none}
-use Rattle.stun_auth.proofs.JoinedReading.{or_nothing, read_back}
-use Rattle.stun_auth.proofs.ReadingLemmas.{is_some-cond, last_of-cons}
+use Rattle.stun_auth.proofs.JoinedLemmas.{WritingLaws, all_short, has_added, not_above, or_none}
+use Rattle.stun_auth.proofs.JoinedReading.{read_back}
+use Rattle.stun_auth.proofs.ReadingLemmas.{is_some-cond}
+use Rattle.stun_auth.proofs.SignedReading.{algorithm_again, by_value, none_before, read_added}
 use Rattle.stun_client.specs.Challenge.{Challenge, added_under, challenge_additions, is_listed}
 use Rattle.stun_client.specs.Challenge.{list_read, repeated_list}
 
@@ -171,38 +168,6 @@ lasts_of c = lasts c.naming c.realm c.nonce c.offered c.algorithm c.key
 
 -- ---- what an attribute of a type reads as
 
-by_value : {A : Type 0} (reading : TypedValue → Option A) (found : Option Member)
-    → option_and_then (λ (m : Member). reading m.1) found
-    ≡ option_and_then reading (option_map (λ (m : Member). m.1) found)
-by_value reading None = refl
-by_value reading (Some m) = refl
-
--- a type that is not among attributes has no last one
-none_last : (kind : ℕ) (members : List Member) → has_kind kind members ≡ false
-    → last_of kind members ≡ None
-none_last kind [] none = refl
-none_last kind (m ∷ members) none =
-    let parts = or_none (m.1.kind == kind) (has_kind kind members) none in
-    last_of-cons kind m members ∙ rw (parts.0, none_last kind members parts.1) refl
-
-none_before : WritingLaws → (kind : ℕ) (message : List ℕ) → IsOpen message
-    → has_kind kind (walk message) ≡ false → last_value kind message ≡ None
-none_before laws kind message is_open none =
-    ap (option_map (λ (m : Member). m.1))
-    (ap (last_of kind) (laws.shown message is_open) ∙ none_last kind (walk message) none)
-
--- an attribute that was not there before is read as what was added
-read_added : {A : Type 0} (reading : TypedValue → Option A) (kind : ℕ) (message : List ℕ)
-    (list : List Addition) (bytes : List ℕ) (o : Option TypedValue)
-    → IsReadBack message list bytes → is_set_apart kind ≡ false → last_value kind message ≡ None
-    → added_last kind list ≡ o
-    → last reading kind bytes ≡ option_and_then reading o
-read_added reading kind message list bytes o back apart none is =
-    by_value reading (last_of kind (visible bytes))
-    ∙ ap (option_and_then reading)
-    (back kind apart
-    ∙ (ap (option_or (added_last kind list)) none ∙ (or_nothing (added_last kind list) ∙ is)))
-
 -- what is written is read again
 name_again : (naming : Naming) → IfSome (plain_name naming) IsUtf8
     → IfSome (plain_name naming) (λ name. length name ≤ 513)
@@ -221,13 +186,6 @@ list_again : (offered : List ℕ)
     ≡ (if is_listed offered then list_read offered else None)
 list_again [] = refl
 list_again (byte ∷ list) = refl
-
-algorithm_again : (o : Option IntegrityAlgorithm)
-    → option_map integrity_of
-    (option_and_then password_algorithm_in (option_map password_algorithm o)) ≡ o
-algorithm_again None = refl
-algorithm_again (Some Sha1) = refl
-algorithm_again (Some Sha256) = refl
 
 -- a name that was written is short
 name_short : (naming : Naming) (page done : Page) (realm nonce offered key : List ℕ)

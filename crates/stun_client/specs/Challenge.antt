@@ -1,5 +1,5 @@
 -- A challenge that a client answers, and what a request for it has (RFC 8489, section 9.2.5). The
--- server's list is repeated as it came.
+-- server's list is repeated as it arrived.
 use Rattle.std.specs.Prelude.{ℕ, List, [], ◌∷◌, ◌++◌, map, Bool, true, false, ◌&&◌, ◌||◌}
 use Rattle.std.specs.Prelude.{if◌then◌else◌, Option, Some, None}
 use Rattle.std.specs.Option.{option_map}
@@ -44,15 +44,16 @@ new_challenge feature user realm nonce offered algorithm = record {
 
 -- ---- what is added to a request, in its order
 
--- who asks: nonce, realm and name
+-- the identity in a request: nonce, realm and name
 abbrev pub identity : Challenge → List Addition
 identity c = who_asks c.nonce c.realm c.naming
 
--- PASSWORD-ALGORITHMS with the server's list, as it came
+-- PASSWORD-ALGORITHMS with the server's list, as it arrived
 abbrev pub repeated_list : List ℕ → TypedValue
 repeated_list offered = record { kind = PASSWORD_ALGORITHMS; value = offered }
 
--- the list, if there is one, and the algorithm that was chosen; HMAC-SHA256 is named in any case
+-- the list, if there is one, and the algorithm that was chosen. HMAC-SHA256 is named even without a
+-- list
 abbrev pub algorithm_choice : List ℕ → IntegrityAlgorithm → List Addition
 algorithm_choice [] algorithm =
     if is_sha256 algorithm then attribute (attributes.password_algorithm algorithm) ∷ [] else []
@@ -63,12 +64,12 @@ algorithm_choice (byte ∷ list) algorithm =
 abbrev pub protection : Challenge → List Addition
 protection c = integrity c.algorithm c.key ∷ []
 
--- a request says who asks; messages of every class name the algorithms, and have the digest
+-- a request has the identity; messages of every class name the algorithms, and have the digest
 abbrev pub challenge_additions : Bool → Challenge → List Addition
 challenge_additions request c =
     (if request then identity c else []) ++ (algorithm_choice c.offered c.algorithm ++ protection c)
 
--- ---- what is read of a request
+-- ---- what a server reads in a request
 
 -- whether a list is repeated
 abbrev pub is_listed : List ℕ → Bool

@@ -1,5 +1,5 @@
--- A challenge of one message, by the rule (RFC 8489, section 9.2.5). A 401 and a 438 are read alike,
--- and nonce, list, algorithm, key and name are of that one message.
+-- A challenge of one message, by the rule (RFC 8489, section 9.2.5). A 401 and a 438 are read in
+-- the same way, and nonce, list, algorithm, key and name are those of that one message.
 use Rattle.std.specs.Prelude.{◌≡◌, ℕ, List, [], Bool, true, false, ◌&&◌, ◌||◌, not, if◌then◌else◌, Option, Some, None}
 use Rattle.std.specs.Option.{is_none, is_some, option_map}
 use Rattle.std.specs.Str.{bytes_eq}
@@ -18,12 +18,12 @@ use Rattle.stun_client.specs.Preferences.{supports}
 use Rattle.stun_client.specs.Rule.{chosen, lacks_userhash}
 use Rattle.stun_client.specs.declared.preferences.Preferences.{Preferences}
 
--- a challenge, and the preferences by which it is answered
+-- a challenge, and the preferences with which it is answered
 pub record Answered : Type 0 where
   pub preferences : Preferences
   pub challenge : Challenge
 
--- whether a message is a 438 without a list that is signed by the key of a challenge before
+-- whether a message is a 438 without a list that is signed with the key of a challenge before
 abbrev pub is_renewal : Challenge → List ℕ → Bool
 is_renewal before bytes =
     is_code STALE_NONCE (code_in bytes) && is_none (list_in bytes)
@@ -34,14 +34,15 @@ abbrev pub list_or_none : Option (List ℕ) → List ℕ
 list_or_none None = []
 list_or_none (Some list) = list
 
--- the list that a message is judged by. It is the message's own. For a signed 438 without a list,
--- the list of the challenge before stands in: the server that has the key kept what it offered
+-- the list that a message is judged with. It is the message's own. For a signed 438 without a list,
+-- it is the list of the challenge before, because the server that has the key still offers the same
 abbrev pub list_for : Option Challenge → List ℕ → List ℕ
 list_for None bytes = list_or_none (list_in bytes)
 list_for (Some before) bytes =
     if is_renewal before bytes then before.offered else list_or_none (list_in bytes)
 
--- the list that a request repeats, as it came: none, if the nonce does not ask for a choice
+-- the list that a request repeats, as it arrived, or an empty one if the nonce does not ask for a
+-- choice
 abbrev pub list_kept : List ℕ → List ℕ → List ℕ
 list_kept nonce list = if asks_for_algorithms nonce then list else []
 
@@ -52,14 +53,14 @@ by_rule p who realm nonce list =
     else option_map (new_challenge p.anonymous_username who realm nonce (list_kept nonce list))
     (chosen p nonce list)
 
--- the same where realm and nonce may be missing: then there is no challenge
+-- the challenge if realm and nonce may be missing: then there is none
 abbrev pub by_rule_if : Preferences → NameAndPassword → Option (List ℕ) → Option (List ℕ) → List ℕ
     → Option Challenge
 by_rule_if p who None _ list = None
 by_rule_if p who (Some realm) None list = None
 by_rule_if p who (Some realm) (Some nonce) list = by_rule p who realm nonce list
 
--- the challenge that a message is, given the one before, unless the rule ignores it
+-- the challenge in a message, given the one before, unless the rule ignores it
 abbrev pub challenge_of : Preferences → NameAndPassword → Option Challenge → List ℕ
     → Option Challenge
 challenge_of p who before bytes =
@@ -67,15 +68,16 @@ challenge_of p who before bytes =
     then by_rule_if p who (realm_in bytes) (nonce_in bytes) (list_for before bytes)
     else None
 
--- a challenge is of a message that asks for one: realm, nonce and list are those of the message
+-- a challenge is that of a message that asks for one: realm, nonce and list are those of the
+-- message
 pub record IsOfMessage (before : Option Challenge) (bytes : List ℕ) (c : Challenge) : Type 0 where
   pub asks : is_challenge bytes ≡ true
   pub realm : realm_in bytes ≡ Some c.realm
   pub nonce : nonce_in bytes ≡ Some c.nonce
   pub offered : c.offered ≡ list_kept c.nonce (list_for before bytes)
 
--- whether a challenge offers an algorithm: in its list, if the nonce asks for a choice. Else it offers
--- HMAC-SHA1
+-- whether a challenge offers an algorithm: in its list, if the nonce asks for a choice. Otherwise
+-- it offers HMAC-SHA1
 abbrev pub is_offered : List ℕ → List ℕ → IntegrityAlgorithm → Bool
 is_offered nonce list a =
     if asks_for_algorithms nonce then has a (algorithms_in list) else same_algorithm a Sha1
@@ -93,14 +95,14 @@ pub record IsAnswerable (p : Preferences) (before : Option Challenge) (bytes : L
   pub supported : supports p algorithm ≡ true
   pub offered : is_offered nonce (list_for before bytes) algorithm ≡ true
 
--- whether a request for a challenge is protected by less than one for another: by HMAC-SHA1 in
--- place of HMAC-SHA256, or by a user name in place of a hash
+-- whether a request for a challenge is less protected than one for another: by HMAC-SHA1 in place
+-- of HMAC-SHA256, or with a user name in place of a hash
 abbrev pub is_weaker : Challenge → Challenge → Bool
 is_weaker c other =
     (is_sha256 other.algorithm && not (is_sha256 c.algorithm))
     || (is_none (plain_name other.naming) && not (is_none (plain_name c.naming)))
 
--- whether two nonces have the same security bits, of those that a client knows
+-- whether two nonces have the same security bits, among those that a client knows
 abbrev pub is_same_bit : Bool → Bool → Bool
 is_same_bit one other = if one then other else not other
 
@@ -109,18 +111,18 @@ has_same_bits nonce other =
     is_same_bit (asks_for_algorithms nonce) (asks_for_algorithms other)
     && is_same_bit (asks_for_userhash nonce) (asks_for_userhash other)
 
--- whether two challenges ask for the same credentials: in realm and security bits
+-- whether two challenges ask for the same credentials: they have the same realm and security bits
 abbrev pub is_alike : Challenge → Challenge → Bool
 is_alike c other = bytes_eq c.realm other.realm && has_same_bits c.nonce other.nonce
 
--- whether two challenges are the same: in nonce, realm, list and algorithm. The nonce says whether
--- the user is named by a hash
+-- whether two challenges are the same: they have the same nonce, realm, list and algorithm. The
+-- nonce determines whether the user is named by a hash
 abbrev pub is_same : Challenge → Challenge → Bool
 is_same c other =
     bytes_eq c.nonce other.nonce && bytes_eq c.realm other.realm
     && bytes_eq c.offered other.offered && same_algorithm c.algorithm other.algorithm
 
--- whether one is the other
+-- whether two challenges, each of which may be absent, are the same
 abbrev pub is_one : Option Answered → Option Answered → Bool
 is_one None other = false
 is_one (Some c) None = false

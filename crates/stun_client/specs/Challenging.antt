@@ -1,4 +1,4 @@
--- What a client reads of a challenge: the first visible attribute of each type, where that is well
+-- What a client reads in a challenge: the first visible attribute of each type, if that is well
 -- formed (RFC 8489, section 14).
 use Rattle.std.specs.Prelude.{ℕ, Bool, ◌||◌, if◌then◌else◌, List, Option, None}
 use Rattle.std.specs.Option.{option_and_then, option_map}
@@ -14,7 +14,7 @@ use Rattle.stun_extra.specs.Values.{bytes_of}
 use Rattle.stun_client.specs.Offers.{if_entries}
 use Rattle.stun_auth.specs.ClientStep.{STALE_NONCE, UNAUTHORIZED, is_code}
 
--- what the first visible attribute of a type reads as
+-- the reading of the first visible attribute of a type
 abbrev pub first : {A : Type 0} → (TypedValue → Option A) → ℕ → List ℕ → Option A
 first reading kind bytes = option_and_then (λ m. reading m.1) (first_of kind (visible bytes))
 
@@ -30,7 +30,7 @@ realm_in bytes = first (text_of REALM TEXT_LIMIT) REALM bytes
 abbrev pub nonce_in : List ℕ → Option (List ℕ)
 nonce_in bytes = first (text_of NONCE TEXT_LIMIT) NONCE bytes
 
--- the list of password algorithms, as the bytes of its value, where these are entries
+-- the list of password algorithms, as the bytes of its value, if these are entries
 abbrev pub list_in : List ℕ → Option (List ℕ)
 list_in bytes = option_and_then if_entries (first (bytes_of PASSWORD_ALGORITHMS) PASSWORD_ALGORITHMS bytes)
 

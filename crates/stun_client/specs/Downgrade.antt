@@ -1,4 +1,4 @@
--- No downgrade: what a long-term server accepts of a client that answers challenges by the rule
+-- No downgrade: what a long-term server accepts from a client that answers challenges by the rule
 -- (RFC 8489, sections 9.2.5 and 16.1.3).
 use Rattle.std.specs.Prelude.{◌≡◌, ◌⊎◌, ℕ, List, true, Option, Some, None}
 use Rattle.stun_base.specs.declared.keys.algorithm.IntegrityAlgorithm.{IntegrityAlgorithm}
@@ -22,16 +22,16 @@ pub record IsStrongestOfBoth (p : Preferences) (server : AlgorithmSet)
   pub theirs : contains a server ≡ true
   pub strongest : p.hmac_sha256 ≡ true → contains Sha256 server ≡ true → a ≡ Sha256
 
--- a server's nonce, and what it offered with it, are of the settings that it has
+-- a server's nonce, and what it offered with it, belong to its current settings
 pub record IsUpToDate (users : Registered) (feature : Feature) (nonce : List ℕ)
     (offered : Option AlgorithmSet) : Type 0 where
   pub algorithms : asks_for_algorithms nonce ≡ contains Sha256 users.algorithms
   pub hashes : asks_for_userhash nonce ≡ is_possible feature
   pub offer : (offered ≡ None) ⊎ (offered ≡ Some users.algorithms)
 
--- whoever is accepted by what was read is not bid down. The algorithm is the strongest that both
--- support, a digest that verifies under any key is of that algorithm, and the user is named by a
--- hash alone if both sides take hashes
+-- a client that is accepted by this reading is not bid down. The algorithm is the strongest that
+-- both support, a digest that verifies under any key is of that algorithm, and the user is named by
+-- a hash alone if both sides accept hashes
 pub record IsNotBidDown (p : Preferences) (users : Registered) (feature : Feature)
     (nonce : List ℕ) (offered : Option AlgorithmSet) (r : Reading) : Type 0 where
   pub strongest : (client : ClientSeen) → IsAccepted users feature nonce offered r client
@@ -42,7 +42,7 @@ pub record IsNotBidDown (p : Preferences) (users : Registered) (feature : Featur
   pub hashed : (client : ClientSeen) → IsAccepted users feature nonce offered r client
       → is_possible p.anonymous_username ≡ true → is_possible feature ≡ true → r.username ≡ None
 
--- at each server whose nonce and offer are up to date
+-- a client is not bid down at any server whose nonce and offer are up to date
 abbrev pub IsNowhereBidDown : Preferences → Reading → Type 0
 IsNowhereBidDown p r = (users : Registered) (feature : Feature) (nonce : List ℕ)
     (offered : Option AlgorithmSet) → IsUpToDate users feature nonce offered

@@ -1,4 +1,4 @@
--- What a response to an outstanding request comes to (RFC 8489, sections 9.1.4 and 9.2.5).
+-- The judgement of a response to an outstanding request (RFC 8489, sections 9.1.4 and 9.2.5).
 use Rattle.std.specs.Prelude.{◌≡◌, ℕ, List, Bool, true, false, if◌then◌else◌, Option, Some, None}
 use Rattle.std.specs.Prelude.{◌&&◌, string_bytes}
 use Rattle.std.specs.Prelude.{◌||◌, ⊤}
@@ -28,9 +28,9 @@ use Rattle.stun_client.specs.declared.judged.Judged.TheVariants.{Believed, Anew,
 use Rattle.stun_client.specs.declared.judged.Judged.TheVariants.{Dropped}
 use Rattle.stun_client.specs.declared.preferences.Preferences.{Preferences}
 
--- how a client proves who it is: not at all; by name and password of a session, with the algorithm of
--- its requests; or as a user of a realm, by these preferences, and whether unsigned responses to
--- unsigned requests are believed
+-- how a client proves who it is: not at all; with the name and password of a session, and the
+-- algorithm of its requests; or as a user of a realm, with these preferences, and whether unsigned
+-- responses to unsigned requests are believed
 pub data Identity : Type 0 where
   unsigned : Identity
   short_term : List ℕ → List ℕ → IntegrityAlgorithm → Identity
@@ -41,9 +41,10 @@ identity_of Unsigned = unsigned
 identity_of (ShortTerm s) = short_term (string_bytes s.name) s.password s.algorithm
 identity_of (LongTerm l) = long_term l.user l.preferences l.accepts_unsigned
 
--- it ends its request and is signed so, its request is sent again for a challenge, it refuses its
--- request, it throws doubt on the message that it answers, or it is dropped. A refusal is the challenge
--- that the request was signed for, or another one that asks for the same credentials
+-- the response ends its request and has this signature, its request is sent again for a challenge,
+-- it refuses its request, it casts doubt on the message that it answers, or it is dropped. A
+-- refusal is the challenge that the request was signed for, or another one that asks for the same
+-- credentials
 pub data Verdict : Type 0 where
   believed : Option IntegrityAlgorithm → Verdict
   anew : Answered → Verdict
@@ -51,7 +52,7 @@ pub data Verdict : Type 0 where
   doubted : Verdict
   dropped : Distrust → Verdict
 
--- what the result of `judge` says
+-- the result of `judge`, as this type
 abbrev pub verdict_of : {A : Type 0} → Judged A → Verdict
 verdict_of (Believed by) = believed by
 verdict_of (Anew challenge) = anew challenge
@@ -61,16 +62,16 @@ verdict_of (Dropped why) = dropped why
 
 -- ---- FINGERPRINT (sections 7.3 and 14.7)
 
--- why a message is dropped by what its FINGERPRINT is. One that is not the last attribute, or has
--- no value of 4 bytes, is as wrong as one with another CRC. There must be one if the client requires
--- it
+-- why a message is dropped because of its FINGERPRINT. One that is not the last attribute, or whose
+-- value does not have 4 bytes, is as wrong as one with another CRC. There must be one if the client
+-- requires it
 abbrev pub fault_of : Bool → Fingerprint → Option Distrust
 fault_of required Right = None
 fault_of required Wrong = Some WrongFingerprint
 fault_of required Misplaced = Some WrongFingerprint
 fault_of required Absent = if required then Some MissingFingerprint else None
 
--- why a message is dropped for its FINGERPRINT
+-- why a message is dropped because of its FINGERPRINT
 abbrev pub fault_in : Bool → List ℕ → Option Distrust
 fault_in required bytes = fault_of required (fingerprint_in bytes)
 
@@ -81,7 +82,7 @@ abbrev pub by_key : Option IntegrityAlgorithm → Verdict → Verdict
 by_key None otherwise = otherwise
 by_key (Some a) otherwise = believed (Some a)
 
--- with short-term credentials it must be by the algorithm of the request (section 9.1.4)
+-- with short-term credentials the signature must have the algorithm of the request (section 9.1.4)
 abbrev pub by_sole_algorithm : IntegrityAlgorithm → Option IntegrityAlgorithm → Verdict
 by_sole_algorithm asked None = dropped NotVerified
 by_sole_algorithm asked (Some a) =
@@ -99,10 +100,10 @@ ALLOCATION_MISMATCH = 437
 abbrev pub WRONG_CREDENTIALS : ℕ
 WRONG_CREDENTIALS = 441
 
--- whether an error without a valid signature throws doubt on a message that was signed for this
--- challenge. Servers answer so, unsigned, a message that was signed for a challenge which is not
--- theirs, and a server of TURN any message under another transaction ID than the one that it has
--- accepted (437)
+-- whether an error without a valid signature casts doubt on a message that was signed for this
+-- challenge. Servers send such an error, unsigned, for a message that was signed for a challenge
+-- which is not theirs, and a TURN server for any message under another transaction ID than the one
+-- that it has accepted (437)
 abbrev pub is_doubt : Option Answered → Option ℕ → Bool
 is_doubt None code = is_code ALLOCATION_MISMATCH code
 is_doubt (Some c) code =
@@ -113,8 +114,8 @@ abbrev pub unbelieved : Option Answered → Distrust → List ℕ → Verdict
 unbelieved before why bytes =
     if is_doubt before (code_in bytes) then doubted else dropped why
 
--- with long-term credentials by the key that the message was signed with. The response to a message
--- that was not signed is believed only if unsigned responses are accepted
+-- with long-term credentials, the judgement with the key that the message was signed with. The
+-- response to a message that was not signed is believed only if unsigned responses are accepted
 abbrev pub by_signature : Bool → Option Answered → Distrust → List ℕ → Verdict
 by_signature accepts_unsigned None why bytes =
     if accepts_unsigned then believed None else unbelieved None why bytes
@@ -123,7 +124,7 @@ by_signature accepts_unsigned (Some c) why bytes =
 
 -- ---- challenges (section 9.2.5)
 
--- the challenge that a message is, with the preferences by which it is answered
+-- the challenge in a message, with the preferences with which it is answered
 abbrev pub answered_in : Preferences → NameAndPassword → Option Answered → List ℕ → Option Answered
 answered_in p who before bytes =
     option_map (λ c. record { preferences = p; challenge = c })
@@ -135,19 +136,19 @@ is_refusal None bytes c = false
 is_refusal (Some before) bytes c =
     is_code UNAUTHORIZED (code_in bytes) && is_alike c.challenge before.challenge
 
--- a challenge that the request is sent again for
+-- a challenge for which the request is sent again
 abbrev pub sent_for : Option Answered → List ℕ → Answered → Verdict
 sent_for before bytes c = if is_refusal before bytes c then refused (Some c) else anew c
 
--- the challenge that the request was signed for is not answered again. One that is weaker than what a
--- success has confirmed is dropped
+-- the challenge that the request was signed for is not answered again. One that is weaker than what
+-- a success has confirmed is dropped
 abbrev pub judged_challenge : StandingSeen → Option Answered → List ℕ → Answered → Verdict
 judged_challenge standing before bytes c =
     if is_one (Some c) before then refused None
     else if is_ignored standing c then dropped WeakerChallenge
     else sent_for before bytes c
 
--- a 401 or a 438 that is no challenge by the rule is judged by its signature, as other errors are
+-- a 401 or a 438 that is not a challenge by the rule is judged by its signature, like other errors
 abbrev pub judged_read : Bool → StandingSeen → Option Answered → List ℕ → Option Answered → Verdict
 judged_read accepts_unsigned standing before bytes None =
     by_signature accepts_unsigned before UnanswerableChallenge bytes
@@ -163,9 +164,9 @@ judged_by_long_term accepts_unsigned p who standing before bytes =
 
 -- ---- earlier messages
 
--- a response to a message of the request that is not the current one is believed if it is signed with
--- the key of that message. Nothing else comes of it, whatever it says. A 401 or a 438 is dropped even
--- if it is signed, because the request was sent again since
+-- a response to a message of the request that is not the current one is believed if it is signed
+-- with the key of that message. Otherwise it has no effect, whatever it says. A 401 or a 438 is
+-- dropped even if it is signed, because the request was sent again since then
 abbrev pub by_own_key : Option Answered → List ℕ → Verdict
 by_own_key None bytes = dropped NotVerified
 by_own_key (Some c) bytes = by_key (verified_algorithm bytes c.challenge.key) (dropped NotVerified)
@@ -180,8 +181,8 @@ judged_earlier (long_term who p accepts_unsigned) before bytes =
 
 -- ---- memory
 
--- whether judging a response to the current message needs memory: with long-term credentials, if it is
--- a challenge that the rule does not ignore, and is not dropped for its FINGERPRINT
+-- whether judging a response to the current message needs memory: with long-term credentials, if it
+-- is a challenge that the rule does not ignore, and that is not dropped because of its FINGERPRINT
 abbrev pub needs_memory : Bool → Identity → Option Answered → List ℕ → Bool
 needs_memory required unsigned before bytes = false
 needs_memory required (short_term name password algorithm) before bytes = false
@@ -197,28 +198,30 @@ judged_by (short_term name password algorithm) standing before bytes =
 judged_by (long_term who p accepts_unsigned) standing before bytes =
     judged_by_long_term accepts_unsigned p who standing before bytes
 
--- a fault of the FINGERPRINT comes first
+-- a fault of the FINGERPRINT is tested first
 abbrev pub unless_faulty : Verdict → Option Distrust → Verdict
 unless_faulty verdict None = verdict
 unless_faulty verdict (Some why) = dropped why
 
--- of the current message of a request, or of an earlier one
+-- the judgement of a response to the current message of a request, or to an earlier one
 abbrev pub judged_as : Bool → Identity → StandingSeen → Option Answered → List ℕ → Verdict
 judged_as is_current identity standing before bytes =
     if is_current then judged_by identity standing before bytes
     else judged_earlier identity before bytes
 
--- what a response comes to at a client that requires FINGERPRINT or does not. It answers a message that
--- was signed for this challenge, and that is the current one of its request or an earlier one
+-- the judgement of a response at a client that requires FINGERPRINT or does not. It answers a
+-- message that was signed for this challenge, and that is the current one of its request or an
+-- earlier one
 abbrev pub judged : Bool → Bool → Identity → StandingSeen → Option Answered → List ℕ → Verdict
 judged required is_current identity standing before bytes =
     unless_faulty (judged_as is_current identity standing before bytes) (fault_in required bytes)
 
 -- ---- what follows
 
--- a response may be believed, signed so. Without credentials each may. With short-term credentials
--- it is signed with the password, by the algorithm of the request. With long-term credentials it is
--- signed with the key of the request, or nobody signed the two of them and that is accepted
+-- a response may be believed, with this signature. Without credentials each may. With short-term
+-- credentials it must be signed with the password, with the algorithm of the request. With
+-- long-term credentials it must be signed with the key of the request, or neither is signed and
+-- that is accepted
 abbrev pub IsBelievable : Identity → Option Answered → List ℕ → Option IntegrityAlgorithm → Type 0
 IsBelievable unsigned before bytes by = by ≡ None
 IsBelievable (short_term name password algorithm) before bytes by =
@@ -237,15 +240,15 @@ signed_with (long_term who p accepts_unsigned) None bytes = None
 signed_with (long_term who p accepts_unsigned) (Some c) bytes =
     verified_algorithm bytes c.challenge.key
 
--- whether an unsigned response to a message is accepted: without credentials, or if the message was not
--- signed and the client accepts unsigned responses
+-- whether an unsigned response to a message is accepted: without credentials, or if the message was
+-- not signed and the client accepts unsigned responses
 abbrev pub takes_unsigned : Identity → Option Answered → Bool
 takes_unsigned unsigned before = true
 takes_unsigned (short_term name password algorithm) before = false
 takes_unsigned (long_term who p accepts_unsigned) None = accepts_unsigned
 takes_unsigned (long_term who p accepts_unsigned) (Some c) = false
 
--- a response ends its request, or nothing comes of it
+-- a response ends its request, or has no effect
 abbrev pub IsEndOrNothing : Verdict → Type 0
 IsEndOrNothing (believed by) = ⊤
 IsEndOrNothing (anew challenge) = ⊥
@@ -253,7 +256,7 @@ IsEndOrNothing (refused challenge) = ⊥
 IsEndOrNothing doubted = ⊥
 IsEndOrNothing (dropped why) = ⊤
 
--- a request is to be sent again for a challenge
+-- a request must be sent again for a challenge
 abbrev pub IsSentAgain : Verdict → Answered → Type 0
 IsSentAgain (believed by) c = ⊥
 IsSentAgain (anew challenge) c = challenge ≡ c
@@ -261,9 +264,9 @@ IsSentAgain (refused challenge) c = challenge ≡ Some c
 IsSentAgain doubted c = ⊥
 IsSentAgain (dropped why) c = ⊥
 
--- a request is sent again for a challenge: the one of the response by the rule and by the client's own
--- preferences, which is not the one that the request was signed for, nor weaker than what a success
--- has confirmed
+-- a request is sent again for a challenge: the one that the rule reads in the response, with the
+-- client's own preferences. It is not the one that the request was signed for, nor weaker than what
+-- a success has confirmed
 pub record IsAnsweredAnew (p : Preferences) (who : NameAndPassword) (standing : StandingSeen)
     (before : Option Answered) (bytes : List ℕ) (c : Answered) : Type 0 where
   pub challenge : answered_in p who before bytes ≡ Some c

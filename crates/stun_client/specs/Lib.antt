@@ -1,4 +1,4 @@
--- What the contracts of this crate say, in the order to read it.
+-- What the contracts of this crate say, in reading order.
 
 -- what a client supports
 pub mod Preferences
@@ -6,30 +6,26 @@ pub mod Preferences
 pub mod Offers
 -- a challenge, and what a request for it has
 pub mod Challenge
--- the rule: which algorithm a challenge is answered with, and whether by a hashed name (RFC 8489,
--- section 9.2.5)
+-- the rule: the algorithm with which a challenge is answered, and whether with a hashed name (RFC
+-- 8489, section 9.2.5)
 pub mod Rule
--- what is read of a challenge
+-- what is read in a challenge
 pub mod Challenging
 -- a challenge of one message, by the rule
 pub mod Challenges
--- no server accepts less than the strongest that both sides support
+-- no server accepts less than the strongest algorithm that both sides support
 pub mod Downgrade
 -- which challenge new requests are signed for
 pub mod Standing
--- what a response to an outstanding request comes to
+-- the judgement of a response to an outstanding request
 pub mod Judging
 -- what a client adds to a request to sign it
 pub mod Signing
 -- how a response that is believed ends its request
 pub mod Outcomes
--- the outstanding requests, each under its transaction ID
-pub mod Requests
--- a client, what a datagram comes to, and what each call makes of it
-pub mod Clients
+-- which message answers a request
+pub mod Answers
 -- the transaction IDs of a client
 pub mod Ids
--- the clauses that several calls share
-pub mod Calls
--- what no clause of a public call cites: views of the code's own structs
+-- definitions that no clause of a public call cites: views of the code's own structs
 pub mod code

@@ -1,6 +1,6 @@
--- The list of password algorithms in a challenge (RFC 8489, section 14.11), as it came: the bytes of
--- its value. An entry is the number of an algorithm and the length of its parameters, of 2 bytes each,
--- and the parameters with their padding.
+-- The list of password algorithms in a challenge (RFC 8489, section 14.11), as it arrived: the
+-- bytes of its value. An entry is the number of an algorithm and the length of its parameters, of 2
+-- bytes each, and the parameters with their padding.
 use Rattle.std.specs.Prelude.{ℕ, Bool, ◌==◌, List, [], ◌∷◌, length, if◌then◌else◌, Option, Some, None}
 use Rattle.std.specs.Option.{option_map}
 use Rattle.stun_base.specs.declared.keys.algorithm.IntegrityAlgorithm.{IntegrityAlgorithm}
@@ -12,7 +12,7 @@ use Rattle.stun_extra.specs.AlgorithmList.{are_filled, entries_in}
 abbrev pub are_entries : List ℕ → Bool
 are_entries bytes = are_filled bytes
 
--- the list, where the bytes are entries
+-- the list, if the bytes are entries
 abbrev pub if_entries : List ℕ → Option (List ℕ)
 if_entries bytes = if are_entries bytes then Some bytes else None
 
@@ -25,11 +25,11 @@ abbrev pub in_front : Option IntegrityAlgorithm → List IntegrityAlgorithm → 
 in_front None others = others
 in_front (Some algorithm) others = algorithm ∷ others
 
--- the known algorithms of entries, in their order: the others are passed over
+-- the known algorithms of entries, in their order. The others are skipped
 abbrev pub known_of : List TypedValue → List IntegrityAlgorithm
 known_of [] = []
 known_of (entry ∷ others) = in_front (known entry) (known_of others)
 
--- those of a list
+-- the known algorithms of a list
 abbrev pub algorithms_in : List ℕ → List IntegrityAlgorithm
 algorithms_in list = known_of (entries_in list)

@@ -30,27 +30,27 @@ is_weaker_than c (Some other) = is_weaker c.challenge other.challenge
 abbrev pub is_ignored : StandingSeen → Answered → Bool
 is_ignored s c = is_weaker_than c (confirmed s)
 
--- whether a challenge is stronger than another one: that one is weaker, and it is not weaker itself.
--- Each is stronger than none
+-- whether a challenge is stronger than another one: that one is weaker, and it is not weaker
+-- itself. Each is stronger than none
 abbrev pub is_stronger_than : Answered → Option Answered → Bool
 is_stronger_than c None = true
 is_stronger_than c (Some other) =
     is_weaker other.challenge c.challenge && not (is_weaker c.challenge other.challenge)
 
--- whether the current challenge gives way to a confirmed one: it is weaker, or there is none
+-- whether the current challenge is replaced by a confirmed one: it is weaker, or there is none
 abbrev pub gives_way : Option Answered → Answered → Bool
 gives_way None c = true
 gives_way (Some current) c = is_weaker current.challenge c.challenge
 
--- after another challenge than the current one is confirmed
+-- the state after another challenge than the current one is confirmed
 abbrev pub after_confirming : StandingSeen → Answered → StandingSeen
 after_confirming s c =
     if gives_way s.current c
     then record { current = Some c; is_validated = true; validated = None }
     else record { current = s.current; is_validated = false; validated = Some c }
 
--- after a success of a message that is signed for a challenge. That one is confirmed if it is the
--- current one, or is stronger than the one that was confirmed last
+-- the state after a success of a message that is signed for a challenge. That one is confirmed if
+-- it is the current one, or is stronger than the one that was confirmed last
 abbrev pub after_success : StandingSeen → Option Answered → StandingSeen
 after_success s None = s
 after_success s (Some c) =
@@ -58,8 +58,8 @@ after_success s (Some c) =
     else if is_stronger_than c (confirmed s) then after_confirming s c
     else s
 
--- after a timeout under a challenge. From the current one the client goes back to the one that was
--- confirmed last, and from there to none
+-- the state after a timeout under a challenge. From the current one the client goes back to the one
+-- that was confirmed last, and from there to none
 abbrev pub after_timeout : StandingSeen → Option Answered → StandingSeen
 after_timeout s c =
     if is_standing s c
@@ -70,11 +70,22 @@ after_timeout s c =
     }
     else s
 
--- after a challenge is answered, which is then the current one
+-- the state after a challenge is answered, which is then the current one
 abbrev pub after_answer : StandingSeen → Answered → StandingSeen
 after_answer s c =
     if is_one (Some c) s.current then s
     else record { current = Some c; is_validated = false; validated = confirmed s }
+
+-- the state after a request is sent by another message, which is signed for a challenge or is not
+-- signed
+abbrev pub answering : StandingSeen → Option Answered → StandingSeen
+answering s None = s
+answering s (Some c) = after_answer s c
+
+-- the state after a response has ended its request by answering a message that is signed for a
+-- challenge. A success confirms the challenge
+abbrev pub confirming : Bool → StandingSeen → Option Answered → StandingSeen
+confirming is_success s c = if is_success then after_success s c else s
 
 -- ---- what follows
 
@@ -99,7 +110,7 @@ IsUsualEvent s (answers c) = is_ignored s c ≡ false
 IsUsualEvent s (succeeds c) = ⊤
 IsUsualEvent s (times_out c) = (s.is_validated && is_standing s c) ≡ false
 
--- the same of each event after those before it
+-- this holds for each event after those before it
 abbrev pub AreUsualEvents : StandingSeen → List StandingEvent → Type 0
 AreUsualEvents s [] = ⊤
 AreUsualEvents s (e ∷ es) = IsUsualEvent s e × AreUsualEvents (standing_after s e) es

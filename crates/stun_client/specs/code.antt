@@ -1,5 +1,4 @@
 -- Definitions that no clause of a public call cites: views of the code's own structs.
 pub mod Kept
-pub mod Requests
 pub mod Signing
 pub mod Offers

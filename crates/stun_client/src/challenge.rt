@@ -30,35 +30,37 @@ use std::fmt;
 use std::marker::Model;
 use stun_auth::answering::{LimitedText, UserNaming};
 use stun_base::key::long_term_key;
+use stun_base::memory::Memory;
 use stun_types::attribute::ErrorCode;
 use stun_types::message::{IntegrityAlgorithm, LongTermCredentials, Message, PreparedKey};
 
 /// A server's challenge with the key that answers it: realm, nonce, the server's list of
 /// algorithms, the algorithm, the name of the user, and the key (RFC 8489, section 9.2.5).
 ///
-/// All of it comes from one message, a 401 or a 438, by one rule:
+/// A client makes the challenge from one message, a 401 or a 438, by one rule:
 ///
-/// 1. If the nonce asks for password algorithms, the algorithm is the first of the message's list
-///    that the client supports. Numbers that are unknown here are passed over, and requests repeat
-///    the list byte for byte. A message without a list, or without a supported algorithm in it, is
-///    ignored.
-/// 2. Otherwise the algorithm is HMAC-SHA1, and the list is not looked at. If the client does not
+/// 1. If the nonce has the security bit *Password algorithms*, the algorithm is the first one in
+///    the message's list that the client supports. Unknown algorithm numbers are skipped, and each
+///    request repeats the list byte for byte. A message without a list, or whose list has no
+///    supported algorithm, is ignored.
+/// 2. Otherwise the algorithm is HMAC-SHA1, and the list is not read. If the client does not
 ///    support HMAC-SHA1, the message is ignored.
-/// 3. The user name is sent as a hash if the nonce allows it and the client does it. A client that
-///    must do it ignores a nonce that does not allow it.
+/// 3. The user name is sent as a hash if the nonce allows hashes and the client's preferences do
+///    too. A client that must send a hash ignores a nonce that does not allow hashes.
 ///
-/// Earlier messages count in one case only: a 438 without a list that is signed with the key of the
-/// challenge before is read with the list of that challenge. So an attacker who forges challenges
-/// cannot make a request that the real server accepts by less than the strongest algorithm that
-/// both sides support.
+/// An earlier message counts in one case only: if a 438 has no list, and is signed with the key of
+/// the challenge before it, the list of that earlier challenge is used. So an attacker who forges
+/// challenges cannot make the client send a request that the real server accepts with a weaker
+/// algorithm than the strongest one that both sides support.
 ///
 /// `Debug` shows nothing of the contents.
 ///
-/// Contracts: they see the preferences and the challenge.
+/// Contracts: the value is a record of the preferences and the challenge.
 #[derive(Drop)]
 pub struct Challenge<A: Allocator = Global> {
     preferences: Preferences,
-    /// In a box, because it is long, and each request has room for one, signed or not.
+    /// The parts are in a box, because they are long, and every request reserves room for a
+    /// challenge, whether it is signed or not.
     kept: Box<KeptChallenge<A>, A>,
 }
 
@@ -84,7 +86,7 @@ impl<A: Allocator> fmt::Debug for Challenge<A> {
         ensures writes { WritesOnOk W.write_str_gives f.old result
             (codes "Challenge { .. }") f.new }
 
-        // It writes the same with every width, precision and other option.
+        // The options of the formatter, such as the width, do not change the text.
         ensures styled { WritesStyledOnOk W.write_str_gives f.old result
             (codes "Challenge { .. }") f.new }
     {
@@ -92,9 +94,9 @@ impl<A: Allocator> fmt::Debug for Challenge<A> {
     }
 }
 
-impl<A: Allocator + Copy> Challenge<A> {
+impl<A: Memory> Challenge<A> {
     /// Reads a challenge: a 401 or a 438 with REALM and NONCE (RFC 8489, section 9.2.5). Returns
-    /// `None` if the message is another one, or is ignored by the rule (see `Challenge`).
+    /// `None` if the message is not a challenge, or if the rule ignores it (see `Challenge`).
     ///
     /// `before` is the challenge that the request was signed for. It matters only to a 438 without
     /// a list of algorithms: if the message is signed with that challenge's key, the list of that
@@ -118,6 +120,7 @@ impl<A: Allocator + Copy> Challenge<A> {
         ensures no_memory { challenge_of preferences credentials.now
             (option_map (λ (b : Answered). b.challenge) (option_copied before.entry)) message.now
             ≡ None → IsOk result }
+        ensures granted { A.grants → IsOk result }
     {
         if !is_challenge(message) {
             return Ok(None);
@@ -133,7 +136,8 @@ impl<A: Allocator + Copy> Challenge<A> {
         Ok(read)
     }
 
-    /// Returns the challenge with this realm, nonce and list, unless the rule ignores it.
+    /// Returns the challenge with this realm, this nonce and this list, or `None` if the rule
+    /// ignores it. Fails if an allocation fails.
     #[tactic(auto, using(crate::proofs::ChosenLemmas::chosen_new))]
     fn by_rule(
         alloc: A,
@@ -151,6 +155,7 @@ impl<A: Allocator + Copy> Challenge<A> {
             (λ c. c.preferences ≡ preferences)) }
         ensures no_memory { by_rule preferences credentials.now realm.now nonce.now list.now
             ≡ None → IsOk result }
+        ensures granted { A.grants → IsOk result }
     {
         if lacks_userhash(preferences, nonce) {
             return Ok(None);
@@ -167,13 +172,14 @@ impl<A: Allocator + Copy> Challenge<A> {
             list,
             algorithm,
         )?;
-        let kept = Box::new(alloc, kept)?;
+        let kept = A::boxed(alloc, kept)?;
         Ok(Some(Challenge { preferences, kept }))
     }
 }
 
-/// Makes the parts of a challenge for which an algorithm was chosen.
-fn parts_of<A: Allocator + Copy>(
+/// Makes the parts of a challenge that is answered with this algorithm. Fails if an allocation
+/// fails.
+fn parts_of<A: Memory>(
     alloc: A,
     preferences: Preferences,
     credentials: &LongTermCredentials<A>,
@@ -184,9 +190,10 @@ fn parts_of<A: Allocator + Copy>(
 ) -> Result<KeptChallenge<A>, AllocError>
     requires realm { length realm.now ≤ TEXT_LIMIT }
     requires nonce { length nonce.now ≤ TEXT_LIMIT }
-    ensures { IfOk result (λ kept. challenge_seen kept
+    ensures kept { IfOk result (λ kept. challenge_seen kept
         ≡ new_challenge preferences.anonymous_username credentials.now realm.now nonce.now
         (list_kept nonce.now list.now) algorithm) }
+    ensures granted { A.grants → IsOk result }
 {
     let username = credentials.username();
     let naming = UserNaming::new(alloc, is_hashed(preferences, nonce), username, realm)?;
@@ -204,19 +211,22 @@ fn parts_of<A: Allocator + Copy>(
     })
 }
 
-/// Copies the list that a request repeats: none, if the nonce does not ask for a choice.
-fn list_kept<A: Allocator>(alloc: A, nonce: &str, list: &[u8]) -> Result<Vec<u8, A>, AllocError>
-    ensures { IfOk result (λ copy. copy.items ≡ list_kept nonce.now list.now) }
+/// Copies the server's PASSWORD-ALGORITHMS, which later requests must repeat. The copy is empty if
+/// the nonce does not have the security bit *Password algorithms*.
+fn list_kept<A: Memory>(alloc: A, nonce: &str, list: &[u8]) -> Result<Vec<u8, A>, AllocError>
+    ensures list { IfOk result (λ copy. copy.items ≡ list_kept nonce.now list.now) }
+    ensures granted { A.grants → IsOk result }
 {
     if asks_for_algorithms(nonce) {
-        Vec::from_slice(alloc, list)
+        A::copied(alloc, list)
     } else {
         Ok(Vec::new(alloc))
     }
 }
 
-/// Returns the list that a message is judged by: its own, or if it is a signed 438 without a list
-/// the one of the challenge before.
+/// Returns the list from which the algorithm is chosen. This is the list of the message, with one
+/// exception: if the message is a 438 without a list, and is signed with the key of the challenge
+/// `before`, it is the list of that challenge.
 fn list_for<'a, A: Allocator>(before: Option<&'a Challenge<A>>, message: &Message<'a>) -> &'a [u8]
     ensures { result.now
         ≡ list_for (option_map (λ (b : Answered). b.challenge) (option_copied before.entry)) message.now }
@@ -227,7 +237,8 @@ fn list_for<'a, A: Allocator>(before: Option<&'a Challenge<A>>, message: &Messag
     }
 }
 
-/// Returns the list that a message is judged by after a challenge.
+/// Returns the list from which the algorithm is chosen for a message that follows the challenge
+/// `before`.
 fn list_after<'a, A: Allocator>(before: &'a Challenge<A>, message: &Message<'a>) -> &'a [u8]
     ensures { result.now ≡ list_for (Some before.now.challenge) message.now }
 {
@@ -248,7 +259,8 @@ fn own_list<'a>(message: &Message<'a>) -> &'a [u8]
     }
 }
 
-/// Returns whether a message is a 438 without a list that is signed by the key of a challenge.
+/// Returns whether a message is a 438 without a list, and is signed with the key of the challenge
+/// `before`.
 fn is_renewal<A: Allocator>(before: &Challenge<A>, message: &Message<'_>) -> bool
     ensures { result ≡ is_renewal before.now.challenge message.now }
 {
@@ -286,16 +298,16 @@ impl<A: Allocator> Challenge<A> {
         matches!(&self.kept.naming, UserNaming::Hashed(_))
     }
 
-    /// Returns the server's list as the bytes of its value, which is empty if the nonce does not ask
-    /// for a choice.
+    /// Returns the server's list of algorithms as the bytes of its value. It is empty if the nonce
+    /// does not have the security bit *Password algorithms*.
     fn list(&self) -> &[u8]
         ensures { result.now ≡ self.now.challenge.offered }
     {
         self.kept.offered.as_slice()
     }
 
-    /// Returns the algorithm of a message's signature if it is valid under the key, and `None`
-    /// otherwise. Does not allocate.
+    /// Returns the algorithm of a message's signature if the signature is valid under the key of
+    /// the challenge, or `None` otherwise. It does not allocate.
     pub fn verifies(&self, message: &Message<'_>) -> Option<IntegrityAlgorithm>
         ensures { result ≡ verified_algorithm message.now self.now.challenge.key }
     {
@@ -307,7 +319,8 @@ impl<A: Allocator> Challenge<A> {
 }
 
 impl<A: Allocator + Copy> Challenge<A> {
-    /// Returns whether a challenge is this one: it has the same nonce, realm, list and algorithm.
+    /// Returns whether `other` is the same challenge as this one, with the same nonce, realm, list
+    /// and algorithm. Returns `false` for `None`.
     pub fn is_same_as(&self, other: &Option<Challenge<A>>) -> bool
         ensures { result ≡ is_one (Some self.now) other.now }
     {
@@ -317,7 +330,7 @@ impl<A: Allocator + Copy> Challenge<A> {
         }
     }
 
-    /// Returns whether a challenge is this one.
+    /// Returns whether `other` is the same challenge as this one.
     fn is_one(&self, other: &Challenge<A>) -> bool
         ensures { result ≡ is_same self.now.challenge other.now.challenge }
     {
@@ -327,7 +340,7 @@ impl<A: Allocator + Copy> Challenge<A> {
             && is_same_algorithm(self.algorithm(), other.algorithm())
     }
 
-    /// Returns whether this challenge asks for the same credentials as another one: it has the same
+    /// Returns whether this challenge asks for the same credentials as `other`: it has the same
     /// realm and the same security bits.
     pub fn is_alike(&self, other: &Challenge<A>) -> bool
         ensures { result ≡ is_alike self.now.challenge other.now.challenge }
@@ -335,9 +348,9 @@ impl<A: Allocator + Copy> Challenge<A> {
         self.realm() == other.realm() && has_same_bits(self.nonce(), other.nonce())
     }
 
-    /// Returns whether a request for this challenge is protected by less than a request for the
-    /// other one: by HMAC-SHA1 instead of HMAC-SHA256, or with the user name in clear instead of a
-    /// hash.
+    /// Returns whether a request that is signed for this challenge is less protected than a request
+    /// that is signed for `other`: by HMAC-SHA1 instead of HMAC-SHA256, or with the user name in
+    /// clear instead of a hash.
     pub fn is_weaker_than(&self, other: &Challenge<A>) -> bool
         ensures { result ≡ is_weaker self.now.challenge other.now.challenge }
     {
@@ -369,17 +382,17 @@ fn is_same_algorithm(one: IntegrityAlgorithm, other: IntegrityAlgorithm) -> bool
 }
 
 /// Copies the challenge. Fails if an allocation fails.
-impl<A: Allocator + Copy> Clone for Challenge<A> {
+impl<A: Memory> Clone for Challenge<A> {
     ghost is_clone = { λ it copy. copy ≡ it };
 
-    ghost is_infallible = { λ _. ⊥ };
+    ghost is_infallible = { λ _. A.grants };
 
     #[tactic(auto, using(crate::proofs::ChosenLemmas::chosen_copy))]
     fn clone(&self) -> Result<Self, AllocError> {
         let kept = self.kept.copied()?;
         Ok(Challenge {
             preferences: self.preferences,
-            kept: Box::new(*self.kept.offered.allocator(), kept)?,
+            kept: A::boxed(*self.kept.offered.allocator(), kept)?,
         })
     }
 }

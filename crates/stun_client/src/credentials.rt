@@ -1,5 +1,5 @@
-//! How a client proves who it is, and which responses it believes (RFC 8489, sections 9.1.4 and
-//! 9.2.5).
+//! The credentials of a client, and the judgement of responses by them (RFC 8489, sections 9.1.4
+//! and 9.2.5).
 ghost use Rattle.std.specs.Prelude.{◌≡◌, false, IfOk, IsOk, None, Some};
 ghost use Rattle.std.specs.String.{string_bytes};
 ghost use Rattle.stun_types.specs.Integrity.{verified_algorithm};
@@ -17,14 +17,15 @@ use crate::preferences::Preferences;
 use crate::standing::Standing;
 use std::alloc::{AllocError, Allocator, Global};
 use stun_base::key::IntegrityKey;
+use stun_base::memory::Memory;
 use stun_extra::fingerprint::{Fingerprint, check_fingerprint};
 use stun_types::attribute::ErrorCode;
 use stun_types::message::{IntegrityAlgorithm, LongTermCredentials, Message, PreparedKey};
 
-/// Allocation Mismatch (RFC 8656, section 19).
+/// The code of Allocation Mismatch (RFC 8656, section 19).
 const ALLOCATION_MISMATCH: u16 = 437;
 
-/// Wrong Credentials (RFC 8656, section 19).
+/// The code of Wrong Credentials (RFC 8656, section 19).
 const WRONG_CREDENTIALS: u16 = 441;
 
 /// A name and a password that client and server have agreed on for one session (RFC 8489, section
@@ -44,25 +45,25 @@ pub struct ShortTerm<A: Allocator = Global> {
 pub struct LongTerm<A: Allocator = Global> {
     /// The name and the password.
     pub user: LongTermCredentials<A>,
-    /// What is supported of the algorithms and of hashed names.
+    /// The supported algorithms, and whether the user name is sent as a hash.
     pub preferences: Preferences,
-    /// Whether a response to a request that was not signed is believed.
+    /// Whether the client believes a response to a request that was not signed.
     pub accepts_unsigned: bool,
 }
 
-/// How a client proves who it is.
+/// The credentials with which a client signs its requests, or none.
 #[derive(Drop)]
 pub enum Credentials<A: Allocator = Global> {
     /// Requests are not signed.
     Unsigned,
     /// Each request is signed.
     ShortTerm(ShortTerm<A>),
-    /// Requests are signed once the server asks for it.
+    /// Requests are signed once the server has sent a challenge.
     LongTerm(LongTerm<A>),
 }
 
-/// Returns why a message is dropped for its FINGERPRINT, if it is. `is_required` says whether it
-/// must have one.
+/// Returns the reason to drop a message because of its FINGERPRINT, or `None` if there is no such
+/// reason. If `is_required` is true, the message must have a FINGERPRINT.
 fn fault_in(message: &Message<'_>, is_required: bool) -> Option<Distrust>
     ensures { result ≡ fault_in is_required message.now }
 {
@@ -75,17 +76,18 @@ fn fault_in(message: &Message<'_>, is_required: bool) -> Option<Distrust>
     }
 }
 
-impl<A: Allocator + Copy> Credentials<A> {
-    /// Creates short-term credentials: each request is signed with this password, as the key, and
-    /// this algorithm (RFC 8489, section 9.1). Fails if an allocation fails.
+impl<A: Memory> Credentials<A> {
+    /// Creates short-term credentials: each request is signed with this password, which is the key,
+    /// and this algorithm (RFC 8489, section 9.1). Fails if an allocation fails.
     pub fn short_term(
         alloc: A,
         name: String<A>,
         password: &str,
         algorithm: IntegrityAlgorithm,
     ) -> Result<Credentials<A>, AllocError>
-        ensures { IfOk result (λ made. identity_of made
+        ensures identity { IfOk result (λ made. identity_of made
             ≡ short_term (string_bytes name) password.now algorithm) }
+        ensures granted { A.grants → IsOk result }
     {
         let key = IntegrityKey::from_bytes(alloc, password.as_bytes())?;
         Ok(Credentials::ShortTerm(ShortTerm {
@@ -95,29 +97,32 @@ impl<A: Allocator + Copy> Credentials<A> {
         }))
     }
 
-    /// Judges a response to a message of an outstanding request, which was signed for this challenge.
-    /// `is_current` says whether the message is the one that the request sent last.
+    /// Judges a response to a message of an outstanding request. `signed_for` is the challenge that
+    /// this message was signed for, or `None` if it was not signed. `is_current` is true if the
+    /// message is the current one of the request, and false if it is an earlier one.
     ///
-    /// - A response is dropped if its FINGERPRINT is wrong, is not the last attribute or does not
-    ///   have 4 bytes, or if it has none and `requires_fingerprint` is true.
-    /// - Without credentials every other response is believed.
-    /// - With short-term credentials a response is believed if it is signed with the password, by
-    ///   the algorithm of the request (RFC 8489, section 9.1.4).
-    /// - With long-term credentials a 401 or a 438 is a challenge, which the request is sent again
-    ///   for. The challenge that the request was signed for is a refusal, and so is a 401 for the
-    ///   same realm and security bits. A challenge that is weaker than the one which a success has
-    ///   confirmed is dropped. One that the rule ignores is judged as any other response.
-    /// - Any other response is believed if it is signed with the key that the request was signed
-    ///   with (section 9.2.5). If the request was not signed, the response is dropped, unless
-    ///   unsigned responses are accepted. A 400, a 437 or a 441 that would be dropped throws doubt on
-    ///   a signed message, and a 437 on an unsigned one.
+    /// A response is dropped if its FINGERPRINT is wrong, is not the last attribute or does not
+    /// have 4 bytes, or if it has no FINGERPRINT and `requires_fingerprint` is true. Any other
+    /// response to the current message is judged by the credentials:
     ///
-    /// A response to an earlier message of the request is believed if it is signed with the key of that
-    /// message and is neither a 401 nor a 438. Otherwise it is dropped.
+    /// - Without credentials, it is believed.
+    /// - With short-term credentials, it is believed if it is signed with the password and the
+    ///   algorithm of the request (RFC 8489, section 9.1.4). Otherwise it is dropped.
+    /// - With long-term credentials, a 401 or a 438 is a challenge, unless the rule ignores it (see
+    ///   `Challenge`), and the request is sent again for it. But if it is the challenge that the
+    ///   message was signed for, or a 401 with the same realm and security bits, it is a refusal. A
+    ///   challenge that is weaker than the challenge that a success has confirmed is dropped.
+    /// - With long-term credentials, a response that is not such a challenge is believed if it is
+    ///   signed with the key of the message (section 9.2.5), or if the message was not signed and
+    ///   unsigned responses are accepted. Otherwise a 400, a 437 or a 441 casts doubt on a signed
+    ///   message, and a 437 on an unsigned message. Every other response is dropped.
     ///
-    /// Fails if an allocation fails. It allocates only with long-term credentials, for a challenge to
-    /// the current message that is not dropped for its FINGERPRINT and that the rule does not ignore
-    /// (see `Challenge`).
+    /// A response to an earlier message is believed if it is signed with the key of that message
+    /// and, with long-term credentials, is neither a 401 nor a 438. Otherwise it is dropped.
+    ///
+    /// Fails if an allocation fails. It allocates only with long-term credentials, and only if the
+    /// response is a challenge to the current message that is neither dropped because of its
+    /// FINGERPRINT nor ignored by the rule.
     pub fn judge(
         &self,
         alloc: A,
@@ -133,6 +138,7 @@ impl<A: Allocator + Copy> Credentials<A> {
         ensures no_memory { needs_memory requires_fingerprint (identity_of self.now) signed_for.now
             response.now ≡ false → IsOk result }
         ensures no_memory_earlier { is_current ≡ false → IsOk result }
+        ensures granted { A.grants → IsOk result }
     {
         if let Some(why) = fault_in(response, requires_fingerprint) {
             return Ok(Judged::Dropped(why));
@@ -155,7 +161,8 @@ impl<A: Allocator + Copy> Credentials<A> {
         match self {
             Credentials::Unsigned => Judged::Dropped(Distrust::NotVerified),
             Credentials::ShortTerm(short) => short.judge(response),
-            // The request was sent again since, so another challenge would only send it back and forth.
+            // The request was sent again after that message, so answering another challenge could
+            // alternate between two messages without end.
             Credentials::LongTerm(_) if is_challenge(response) => {
                 Judged::Dropped(Distrust::NotVerified)
             }
@@ -165,7 +172,7 @@ impl<A: Allocator + Copy> Credentials<A> {
 }
 
 impl<A: Allocator> ShortTerm<A> {
-    /// Judges a response by its signature.
+    /// Judges a response by its signature alone.
     fn judge(&self, response: &Message<'_>) -> Judged<A>
         ensures { verdict_of result ≡ by_sole_algorithm self.now.algorithm
             (verified_algorithm response.now self.now.password) }
@@ -177,7 +184,7 @@ impl<A: Allocator> ShortTerm<A> {
     }
 }
 
-/// Judges a response with a valid signature: it must be by the algorithm of the request.
+/// Judges a response with a valid signature, which must have the algorithm of the request.
 fn by_sole_algorithm<A: Allocator>(
     asked: IntegrityAlgorithm,
     signed: IntegrityAlgorithm,
@@ -196,7 +203,7 @@ fn by_sole_algorithm<A: Allocator>(
     }
 }
 
-impl<A: Allocator + Copy> LongTerm<A> {
+impl<A: Memory> LongTerm<A> {
     /// Judges a response to a request that was signed for this challenge.
     fn judge(
         &self,
@@ -210,6 +217,7 @@ impl<A: Allocator + Copy> LongTerm<A> {
             standing.now signed_for.now response.now) }
         ensures no_memory { answered_in self.now.preferences self.now.user signed_for.now
             response.now ≡ None → IsOk result }
+        ensures granted { A.grants → IsOk result }
     {
         if !is_challenge(response) {
             return Ok(self.by_signature(signed_for, response, Distrust::NotVerified));
@@ -220,7 +228,8 @@ impl<A: Allocator + Copy> LongTerm<A> {
         }
     }
 
-    /// Reads the challenge that a message is, unless the rule ignores it.
+    /// Reads the challenge in a message. Returns `None` if the message is not a challenge, or if
+    /// the rule ignores it. Fails if an allocation fails.
     #[tactic(auto, using(crate::proofs::JudgingLemmas::answered))]
     fn challenge_in(
         &self,
@@ -232,13 +241,15 @@ impl<A: Allocator + Copy> LongTerm<A> {
             ≡ answered_in self.now.preferences self.now.user signed_for.now message.now) }
         ensures no_memory { answered_in self.now.preferences self.now.user signed_for.now
             message.now ≡ None → IsOk result }
+        ensures granted { A.grants → IsOk result }
     {
         let before = signed_for.as_ref();
         let read = Challenge::of(alloc, self.preferences, &self.user, before, message)?;
         Ok(read)
     }
 
-    /// Judges a response by its signature alone, and says why it is dropped otherwise.
+    /// Judges a response by its signature alone. `otherwise` is the reason to drop it if the
+    /// signature is not valid.
     fn by_signature(
         &self,
         signed_for: &Option<Challenge<A>>,
@@ -259,7 +270,8 @@ impl<A: Allocator + Copy> LongTerm<A> {
     }
 }
 
-/// Judges a response by the algorithm that its signature is valid by, if it is.
+/// Returns `Believed` with the algorithm of a response's valid signature, or `otherwise` if
+/// `signed_by` is `None`.
 fn by_key<A: Allocator>(signed_by: Option<IntegrityAlgorithm>, otherwise: Judged<A>) -> Judged<A>
     ensures { verdict_of result ≡ by_key signed_by (verdict_of otherwise) }
 {
@@ -269,7 +281,7 @@ fn by_key<A: Allocator>(signed_by: Option<IntegrityAlgorithm>, otherwise: Judged
     }
 }
 
-/// Judges a response to an earlier message by the key of that message.
+/// Judges a response to an earlier message with the key of that message.
 fn by_own_key<A: Allocator>(signed_for: &Option<Challenge<A>>, response: &Message<'_>) -> Judged<A>
     ensures { verdict_of result ≡ by_own_key signed_for.now response.now }
 {
@@ -282,7 +294,8 @@ fn by_own_key<A: Allocator>(signed_for: &Option<Challenge<A>>, response: &Messag
     }
 }
 
-/// Judges a response whose signature is not valid: it throws doubt on its message, or is dropped.
+/// Judges a response without a valid signature: it casts doubt on the message that it answers, or
+/// is dropped.
 fn unbelieved<A: Allocator>(
     signed_for: &Option<Challenge<A>>,
     response: &Message<'_>,
@@ -297,7 +310,8 @@ fn unbelieved<A: Allocator>(
     }
 }
 
-/// Returns whether an error throws doubt on a message that was signed for this challenge.
+/// Returns whether an unsigned error casts doubt on the message that it answers. That message was
+/// signed for the challenge `signed_for`, or was not signed if this is `None`.
 fn is_doubt<A: Allocator>(signed_for: &Option<Challenge<A>>, response: &Message<'_>) -> bool
     ensures { result ≡ is_doubt signed_for.now (code_in response.now) }
 {
@@ -335,8 +349,8 @@ fn judged_challenge<A: Allocator + Copy>(
     }
 }
 
-/// Returns whether a challenge is a 401 to a request that was signed for the same realm and security
-/// bits.
+/// Returns whether a response is a 401 to a request that was signed for a challenge with the same
+/// realm and security bits.
 fn is_refusal<A: Allocator + Copy>(
     signed_for: &Option<Challenge<A>>,
     response: &Message<'_>,

@@ -1,4 +1,4 @@
-//! The transaction IDs of a client: a function of its seed.
+//! The transaction IDs of a client, which are derived from its seed.
 ghost use Rattle.std.specs.Prelude.{◌≡◌};
 ghost use Rattle.stun_client.specs.Ids.{id_of};
 
@@ -6,8 +6,9 @@ use byteorder::{BigEndian, ByteOrder};
 use std::alloc::Allocator;
 use stun_types::message::{PreparedKey, TransactionId};
 
-/// Returns a transaction ID of a seed: the first 96 bits of the HMAC-SHA1 of its number under the
-/// seed. Without the seed nobody can predict the next ID, if HMAC-SHA1 is a pseudorandom function.
+/// Returns the transaction ID with this number: the first 96 bits of the HMAC-SHA1 of the number
+/// under the seed. Without the seed nobody can predict the next ID, if HMAC-SHA1 is a pseudorandom
+/// function.
 pub fn id_of<A: Allocator>(seed: &PreparedKey<A>, number: u64) -> TransactionId
     ensures { result ≡ id_of seed.now number }
 {

@@ -1,4 +1,4 @@
-//! What a response to an outstanding request comes to.
+//! The judgement of a response to an outstanding request.
 ghost use Rattle.std.specs.Prelude.{◌≡◌};
 ghost use Rattle.stun_client.specs.Outcomes.{by_class, outcome_of};
 
@@ -9,39 +9,39 @@ use stun_extra::unknown::unknown_types;
 use stun_types::attribute::AttributeType;
 use stun_types::message::{IntegrityAlgorithm, Message, MessageClass};
 
-/// Why a response to an outstanding request is dropped. The request goes on.
+/// Why a response to an outstanding request is dropped. The request continues.
 #[derive(Clone, Copy, Debug, PartialEq, Eq)]
 #[non_exhaustive]
 pub enum Distrust {
-    /// The FINGERPRINT is wrong, is not the last attribute, or its value does not have 4 bytes: the
+    /// The FINGERPRINT is wrong, is not the last attribute, or does not have 4 bytes. So the
     /// response is damaged, or belongs to another protocol (RFC 8489, section 14.7).
     WrongFingerprint,
     /// The client requires a FINGERPRINT, and the response has none (RFC 8489, section 7.3).
     MissingFingerprint,
-    /// The response is not signed with the key of the message that it answers, or it is a 401 or a 438
-    /// to an earlier message of the request.
+    /// The response is not signed with the key of the message that it answers, or it is a 401 or a
+    /// 438 to an earlier message of the request.
     NotVerified,
     /// The response is a 401 or a 438 that the client cannot answer, and is not signed.
     UnanswerableChallenge,
-    /// The response is a challenge that is weaker than the one which a success has confirmed.
+    /// The response is a challenge that is weaker than the challenge that a success has confirmed.
     WeakerChallenge,
 }
 
-/// What a response to an outstanding request comes to.
+/// The judgement of a response to an outstanding request.
 #[derive(Drop)]
 pub enum Judged<A: Allocator = Global> {
-    /// The response is believed and ends the request. It is signed with this algorithm, or not
-    /// signed.
+    /// The response is believed and ends the request. The algorithm is that of its signature, or
+    /// `None` if it is not signed.
     Believed(Option<IntegrityAlgorithm>),
     /// Send the request again under another transaction ID, signed for this challenge.
     Anew(Challenge<A>),
     /// The response refuses the request: it is the challenge that the request was signed for
     /// (`None`), or a 401 for the same realm and security bits with another nonce or list. The
-    /// password is wrong, or somebody forges challenges.
+    /// password is wrong, or an attacker forges challenges.
     Refused(Option<Challenge<A>>),
-    /// The response is a 400, a 437 or a 441 without a valid signature to a signed message, or such a
-    /// 437 to an unsigned one. It is not believed, but the message may be signed for a forged
-    /// challenge.
+    /// The response has no valid signature, and is a 400, a 437 or a 441 to a signed message, or a
+    /// 437 to an unsigned message. It is not believed, but the message that it answers may be
+    /// signed for a forged challenge.
     Doubted,
     /// The response is dropped, for this reason.
     Dropped(Distrust),
@@ -57,15 +57,15 @@ pub enum Outcome {
     Refused(u16),
     /// The response names another server (300; RFC 8489, section 10).
     Redirected,
-    /// The response has an attribute of this type, which must be understood and is not (RFC 8489,
-    /// sections 6.3.3 and 6.3.4).
+    /// The response has a comprehension-required attribute of this type, which the client does not
+    /// understand (RFC 8489, sections 6.3.3 and 6.3.4).
     NotUnderstood(AttributeType),
-    /// The response is an error without a code.
+    /// The response is an error without a well-formed ERROR-CODE.
     Malformed,
 }
 
 impl Outcome {
-    /// Returns how a response ends its request, if these types of attributes are understood.
+    /// Returns how a response ends its request, at a client that understands these attribute types.
     pub fn of(response: &Message<'_>, understood: &[AttributeType]) -> Outcome
         ensures { result ≡ outcome_of understood.now response.now }
     {

@@ -1,7 +1,6 @@
 //! Laws over the definitions that the contracts of this crate cite. They do nothing when they run.
 ghost use Rattle.std.specs.Option.{IfSome, IsSome};
 ghost use Rattle.std.specs.Prelude.{◌≡◌, ◌++◌, ℕ, Bool, List, None, Option, Some, false, true};
-ghost use Rattle.std.specs.declared.net.socket_addr.SocketAddr.{SocketAddr};
 ghost use Rattle.stun_base.specs.Credentials.{NameAndPassword};
 ghost use Rattle.stun_base.specs.declared.keys.algorithm.IntegrityAlgorithm.{IntegrityAlgorithm};
 ghost use Rattle.stun_base.specs.declared.wire.message_type.MessageClass.{MessageClass};
@@ -14,7 +13,6 @@ ghost use Rattle.stun_auth.specs.declared.feature.Feature.{Feature as TheFeature
 ghost use Rattle.stun_client.specs.Challenge.{Challenge, added_under};
 ghost use Rattle.stun_client.specs.Challenges.{Answered, IsAnswerable, IsOfMessage};
 ghost use Rattle.stun_client.specs.Challenges.{challenge_of, is_one};
-ghost use Rattle.stun_client.specs.Clients.{EndpointClient, IsAnswer, heard, responded};
 ghost use Rattle.stun_client.specs.Downgrade.{IsNowhereBidDown, IsUpToDate};
 ghost use Rattle.stun_client.specs.Judging.{IsAnsweredAnew, IsBelievable, IsEndOrNothing, IsSentAgain};
 ghost use Rattle.stun_client.specs.Judging.{Identity, answered_in, believed, fault_in, judged, long_term};
@@ -26,8 +24,9 @@ ghost use Rattle.stun_client.specs.Standing.{is_standing, is_stronger_than, new_
 ghost use Rattle.stun_client.specs.Standing.{standing_after_all};
 ghost use Rattle.stun_client.specs.declared.preferences.Preferences.{Preferences as ThePreferences};
 
-/// Each challenge is made by the rule from one message, whatever challenge came before: its realm,
-/// nonce and list are those of the message.
+/// Each challenge is made by the rule from one message, whatever challenge came before. Its realm,
+/// nonce and list are those of the message, with one exception: if a 438 has no list, the list of
+/// the challenge before may be used.
 pub fn challenges_are_by_the_rule()
     ensures by_rule { (p : ThePreferences) (who : NameAndPassword) (before : Option Challenge)
         (bytes : List ℕ) (c : Challenge) → challenge_of p who before bytes ≡ Some c
@@ -37,10 +36,10 @@ pub fn challenges_are_by_the_rule()
         → IsOfMessage before bytes c }
 {}
 
-/// A client answers each challenge that offers an algorithm which it supports, whatever other
-/// algorithms the list has beside it: the challenge is read, and a request that was signed for another
-/// one, or not at all, is to be sent again for it, unless it is weaker than what a success has
-/// confirmed.
+/// A client answers each challenge that offers an algorithm that the client supports, whatever
+/// other algorithms the list has. The client reads the challenge (`read`). If a request was signed
+/// for another challenge, or not signed, the client sends it again for this one, unless this one is
+/// weaker than the challenge that a success has confirmed (`sent`).
 pub fn answerable_challenges_are_answered()
     ensures read { (p : ThePreferences) (who : NameAndPassword) (before : Option Challenge)
         (bytes : List ℕ) → IsAnswerable p before bytes → IsSome (challenge_of p who before bytes) }
@@ -53,10 +52,11 @@ pub fn answerable_challenges_are_answered()
         ≡ sent_for before bytes c }
 {}
 
-/// No downgrade. A message that reads as one signed for a challenge by the rule is not bid down:
-/// whatever server accepts it, by a nonce and an offer that are up to date, accepts it by the
-/// strongest algorithm that both sides support (RFC 8489, section 9.2.5). Nothing is assumed of
-/// users, passwords, or HMAC, nor of what the client has read before.
+/// No downgrade. Take a message in which a reader finds the attributes that a client adds to sign
+/// for a challenge by the rule. If any server whose nonce and offer are up to date accepts the
+/// message, it accepts it with the strongest algorithm that both sides support (RFC 8489, section
+/// 9.2.5). The law assumes nothing about users, passwords or HMAC, nor about the messages that the
+/// client has read before.
 pub fn signed_requests_are_not_bid_down()
     ensures { (p : ThePreferences) (c : Challenge) (class : MessageClass) (error : Option ℕ)
         (bytes : List ℕ) → IsChosen p c
@@ -64,9 +64,10 @@ pub fn signed_requests_are_not_bid_down()
         → IsNowhereBidDown p (reading_of bytes) }
 {}
 
-/// The nonces that a server makes are up to date, with an offer of all its algorithms: those of
-/// `LongTermServerAuth` (`made`), and all that begin with the nonce cookie and the security bits of
-/// the server's settings, such as those of `stun_endpoint` (`marked`).
+/// The nonces that a server makes are up to date, with an offer of all its algorithms: their
+/// security bits are those of the server's current settings (`IsUpToDate`). This holds for the
+/// nonces of `LongTermServerAuth` (`made`), and for all nonces that begin with the nonce cookie and
+/// these security bits, such as the nonces of `stun_endpoint` (`marked`).
 pub fn nonces_of_a_server_are_up_to_date()
     ensures made { (users : Registered) (feature : TheFeature) (words : List ℕ)
         → IsUpToDate users feature (nonce_of users.algorithms feature words)
@@ -78,8 +79,9 @@ pub fn nonces_of_a_server_are_up_to_date()
     stun_auth::laws::nonces_ask_for_what_is_supported();
 }
 
-/// A response is believed only if it may be: without credentials, or signed as its request was
-/// (`signed`). Its FINGERPRINT is right, or it has none and the client requires none (`whole`).
+/// A response is believed only if the client has no credentials, or accepts this response unsigned,
+/// or the response is signed like its request (`signed`). Its FINGERPRINT is valid, or it has none
+/// and the client requires none (`whole`).
 pub fn believed_responses_are_believable()
     ensures signed { (required is_current : Bool) (identity : Identity) (standing : StandingSeen)
         (before : Option Answered) (bytes : List ℕ) (by : Option IntegrityAlgorithm)
@@ -91,10 +93,10 @@ pub fn believed_responses_are_believable()
         → fault_in required bytes ≡ None }
 {}
 
-/// A response to an earlier message of a request, which the request has been sent again after, is
-/// believed only if it is signed with the key of that message (`signed`). Otherwise nothing comes of
-/// it, whatever it says: the request is not sent again, is not refused, and no message is doubted
-/// (`only`).
+/// A response to an earlier message of a request, after which the request has been sent again, is
+/// believed only if it is signed with the key of that message (`signed`). Otherwise it has no
+/// effect, whatever its contents are: the request is not sent again and not refused, and no message
+/// is doubted (`only`).
 pub fn earlier_messages_end_by_signature_alone()
     ensures signed { (required : Bool) (identity : Identity) (standing : StandingSeen)
         (before : Option Answered) (bytes : List ℕ) (by : Option IntegrityAlgorithm)
@@ -105,9 +107,10 @@ pub fn earlier_messages_end_by_signature_alone()
         → IsEndOrNothing (judged required false identity standing before bytes) }
 {}
 
-/// A response that is not signed with the key of the message which it answers is not believed, be it
-/// an error or a success. The exception is a response to the current message that the client accepts
-/// unsigned: it has no credentials, or it accepts unsigned responses and the message was not signed.
+/// A response that is not signed with the key of the message that it answers is not believed,
+/// whether it is an error or a success. The exception is a response to the current message that the
+/// client accepts unsigned: either the client has no credentials, or it accepts unsigned responses
+/// and the message was not signed.
 pub fn unsigned_errors_end_nothing()
     ensures { (required is_current : Bool) (identity : Identity) (standing : StandingSeen)
         (before : Option Answered) (bytes : List ℕ) (by : Option IntegrityAlgorithm)
@@ -116,8 +119,9 @@ pub fn unsigned_errors_end_nothing()
         → (takes_unsigned identity before ≡ true) × (is_current ≡ true) }
 {}
 
-/// A request is sent again only for the challenge that its response is by the rule, also if that is a
-/// refusal. That challenge is neither the one that the request was signed for nor one that is ignored.
+/// A request is sent again only for the challenge that the rule reads in the response, even if the
+/// response is a refusal. That challenge is not the challenge that the request was signed for, and
+/// is not ignored.
 pub fn requests_are_sent_again_for_new_challenges()
     ensures { (required is_current : Bool) (who : NameAndPassword) (p : ThePreferences)
         (accepts_unsigned : Bool) (standing : StandingSeen) (before : Option Answered)
@@ -127,10 +131,10 @@ pub fn requests_are_sent_again_for_new_challenges()
         → IsAnsweredAnew p who standing before bytes c }
 {}
 
-/// With long-term credentials a response that nobody signed ends no request by what it says: it is not
-/// believed if the request was signed (`signed`), nor if unsigned responses are not accepted
-/// (`first`). The request is sent again for it, or it is a refusal, or it throws doubt on its message,
-/// or it is dropped.
+/// With long-term credentials, an unsigned response is not believed if the request was signed
+/// (`signed`), nor if the client does not accept unsigned responses (`first`). Instead the request
+/// is sent again for it, or it is a refusal, or it casts doubt on the message that it answers, or
+/// it is dropped.
 pub fn unsigned_responses_are_not_believed()
     ensures signed { (required is_current : Bool) (who : NameAndPassword) (p : ThePreferences)
         (accepts_unsigned : Bool) (standing : StandingSeen) (before : Answered) (bytes : List ℕ)
@@ -144,7 +148,8 @@ pub fn unsigned_responses_are_not_believed()
 {}
 
 /// From a success until a request under the confirmed challenge times out, a challenge that is
-/// weaker than the confirmed one stays ignored, whatever else is answered, succeeds or times out.
+/// weaker than the confirmed one stays ignored, whatever other challenges are answered and whatever
+/// other requests succeed or time out.
 pub fn weaker_challenges_stay_ignored()
     ensures { (s : StandingSeen) (events : List StandingEvent) (c : Answered) → s.is_validated ≡ true
         → is_ignored s c ≡ true → AreUsualEvents s events
@@ -152,11 +157,11 @@ pub fn weaker_challenges_stay_ignored()
 {}
 
 /// A success confirms the challenge of the message that it answers, if new requests are signed for
-/// that one (`standing`), or if it is stronger than the one that was confirmed last (`stronger`).
-/// Nothing gets weaker by a success at a client that answers no challenge which it is to ignore: what
-/// was ignored before stays ignored (`ignored`). And whatever is answered, succeeds and times out
-/// there, new requests are signed for a challenge that is not weaker than the one that was confirmed
-/// last, if there is one (`signed`).
+/// that challenge (`standing`), or if it is stronger than the challenge that was confirmed last
+/// (`stronger`). If a client answers no challenge that it must ignore, a success weakens nothing:
+/// challenges that were ignored before stay ignored (`ignored`). Whatever challenges such a client
+/// answers, and whatever requests succeed and time out, new requests are signed for a challenge
+/// that is not weaker than the challenge that was confirmed last, if there is one (`signed`).
 pub fn successes_weaken_nothing()
     ensures standing { (s : StandingSeen) (c : Answered) → is_standing s (Some c) ≡ true
         → confirmed (after_success s (Some c)) ≡ s.current }
@@ -170,12 +175,4 @@ pub fn successes_weaken_nothing()
         → let s = standing_after_all new_standing events in
         (IsSome (confirmed s) → IsSome s.current)
         × IfSome s.current (λ c. is_ignored s c ≡ false) }
-{}
-
-/// A datagram ends a request only if it answers it: it came from the server, it has the transaction
-/// ID and the method of the outstanding request, and it may be believed.
-pub fn datagrams_end_only_what_they_answer()
-    ensures { (c : EndpointClient) (from : SocketAddr) (bytes : List ℕ) (number : ℕ)
-        (by : Option IntegrityAlgorithm) → heard c from bytes ≡ responded bytes number (believed by)
-        → IsAnswer c from bytes number by }
 {}

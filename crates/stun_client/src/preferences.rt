@@ -1,4 +1,4 @@
-//! What a client supports.
+//! The algorithms that a client supports, and its use of hashed user names.
 ghost use Rattle.std.specs.Prelude.{◌≡◌};
 
 use stun_auth::auth::Feature;
@@ -7,9 +7,9 @@ use stun_types::message::IntegrityAlgorithm;
 /// The algorithms that a client supports, and whether it sends its user name as a hash.
 #[derive(Clone, Copy, Debug, PartialEq, Eq)]
 pub struct Preferences {
-    /// Whether HMAC-SHA1 is supported, whose keys are made by MD5.
+    /// Whether HMAC-SHA1, with keys that are made by MD5, is supported.
     pub hmac_sha1: bool,
-    /// Whether HMAC-SHA256 is supported, whose keys are made by SHA-256.
+    /// Whether HMAC-SHA256, with keys that are made by SHA-256, is supported.
     pub hmac_sha256: bool,
     /// Whether the user name is sent as a hash (RFC 8489, section 14.4): never, if the server
     /// allows it, or always.

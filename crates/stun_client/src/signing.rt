@@ -1,6 +1,6 @@
-//! Signing a request by the credentials of a client (RFC 8489, sections 9.1.2 and 9.2.5).
+//! Signs a request with the credentials of a client (RFC 8489, sections 9.1.2 and 9.2.5).
 ghost use Rattle.std.specs.Option.{IfSome, option_copied};
-ghost use Rattle.std.specs.Prelude.{◌≡◌, ◌≤◌, IfOk, length};
+ghost use Rattle.std.specs.Prelude.{◌≡◌, ◌≤◌, ⊤, IfOk, length};
 ghost use Rattle.stun_auth.specs.Additions.{UnlessMemory, WantsMemory, added_all, page_in};
 ghost use Rattle.stun_auth.specs.Additions.{written_page};
 ghost use Rattle.stun_auth.specs.Outcome.{IsOutcome};
@@ -22,20 +22,23 @@ impl<A: Allocator> ShortTerm<A> {
     /// Adds USERNAME and the integrity attribute.
     fn add_all<W: MessageWrite>(&self, writer: &mut W) -> Result<(), StunWriteError>
         requires { 20 ≤ length (W.bytes writer.old) }
-        ensures { IsOutcome (short_term_additions self.now) (page_in W.bytes W.room writer.old)
-            (W.reserved writer.old) result (page_in W.bytes W.room writer.new) }
+        ensures outcome { IsOutcome (short_term_additions self.now)
+            (page_in W.bytes W.room writer.old) (W.reserved writer.old) result
+            (page_in W.bytes W.room writer.new) }
+        ensures granted { W.grants → UnlessMemory result ⊤ ⊥ }
     {
         add(writer, AddedAttribute::Username(self.name.as_str()))?;
         add_integrity(writer, &self.password, self.algorithm)
     }
 
-    /// Returns the message with USERNAME and the integrity attribute.
+    /// Adds USERNAME and the integrity attribute to a message, and returns the writer.
     fn signed<W: MessageWrite>(&self, writer: W) -> Result<W, StunWriteError>
         requires { 20 ≤ length (W.bytes writer) }
-        ensures { UnlessMemory result (written_page W.bytes W.room result
+        ensures outcome { UnlessMemory result (written_page W.bytes W.room result
             ≡ added_all (short_term_additions self.now) (page_in W.bytes W.room writer))
             (WantsMemory (short_term_additions self.now) (page_in W.bytes W.room writer)
             (W.reserved writer)) }
+        ensures granted { W.grants → UnlessMemory result ⊤ ⊥ }
     {
         let mut writer = writer;
         self.add_all(&mut writer)?;
@@ -44,12 +47,12 @@ impl<A: Allocator> ShortTerm<A> {
 }
 
 impl<A: Allocator> Credentials<A> {
-    /// Signs a request: with short-term credentials by USERNAME and the integrity attribute, and
-    /// with long-term credentials for this challenge (see `Challenge::sign`). Without credentials,
-    /// or without a challenge, it adds nothing.
+    /// Signs a request: with short-term credentials it adds USERNAME and the integrity attribute,
+    /// and with long-term credentials it signs the request for this challenge (see
+    /// `Challenge::sign`). Without credentials, or without a challenge, it adds nothing.
     ///
     /// The writer must hold a request without FINGERPRINT. Fails with the errors of
-    /// `Challenge::sign`. An error drops the writer.
+    /// `Challenge::sign`, and then drops the writer.
     pub fn sign<W: MessageWrite>(
         &self,
         signed_for: Option<&Challenge<A>>,
@@ -61,6 +64,7 @@ impl<A: Allocator> Credentials<A> {
             (page_in W.bytes W.room request))
             (WantsMemory (additions_of (identity_of self.now) (option_copied signed_for.entry))
             (page_in W.bytes W.room request) (W.reserved request)) }
+        ensures granted { W.grants → UnlessMemory result ⊤ ⊥ }
         ensures not_bid_down { IfOk result (λ signed. IsUnsigned (W.bytes request)
             → IfSome (challenge_for (identity_of self.now) (option_copied signed_for.entry))
             (λ c. IsNowhereBidDown c.preferences (reading_of (W.bytes signed)))) }

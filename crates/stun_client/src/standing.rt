@@ -1,4 +1,4 @@
-//! Which challenge new requests are signed for, and which one a success has confirmed.
+//! The challenge that new requests are signed for, and the challenge that a success has confirmed.
 ghost use Rattle.std.specs.Prelude.{◌≡◌, Some};
 ghost use Rattle.stun_client.specs.Standing.{after_answer, after_confirming, after_success};
 ghost use Rattle.stun_client.specs.Standing.{after_timeout, confirmed, gives_way, is_ignored};
@@ -9,19 +9,21 @@ use std::alloc::Allocator;
 use std::marker::Model;
 use std::mem;
 
-/// The challenge that new requests are signed for, and the last one that a success has confirmed.
+/// The challenge that new requests are signed for, and the last challenge that a success has
+/// confirmed.
 ///
-/// A forged challenge can make all requests time out that were signed for it. The first of these
-/// timeouts takes the client back to the challenge that was confirmed last. If a request that is
-/// signed for that one times out too, the client goes back to none, and starts afresh. From a
-/// success until a request under the confirmed challenge times out, a challenge that is weaker than
-/// the confirmed one is ignored.
+/// If a challenge is forged, all requests that are signed for it time out. At the first of these
+/// timeouts, the client signs new requests for the challenge that was confirmed last. If a request
+/// that is signed for the confirmed challenge times out too, the client drops that challenge and
+/// starts from the beginning. From a success until a request under the confirmed challenge times
+/// out, a challenge that is weaker than the confirmed one is ignored.
 ///
-/// A success may answer a message that is signed for an earlier challenge. It confirms that one if
-/// it is stronger than what was confirmed before, and new requests are signed for it if the
-/// current challenge is weaker.
+/// A success may answer a message that is signed for an earlier challenge. It confirms the earlier
+/// challenge if this challenge is stronger than the one that was confirmed before. New requests are
+/// then signed for the earlier challenge if the current one is weaker.
 ///
-/// Contracts: they see the two challenges.
+/// Contracts: the value is a record of the current challenge, whether a success has confirmed it,
+/// and the challenge that was confirmed before it.
 #[derive(Drop)]
 pub struct Standing<A: Allocator> {
     current: Option<Challenge<A>>,
@@ -60,7 +62,7 @@ impl<A: Allocator + Copy> Standing<A> {
         &self.current
     }
 
-    /// Returns whether a challenge is weaker than the one that was confirmed last.
+    /// Returns whether a challenge is weaker than the challenge that was confirmed last.
     pub fn ignores(&self, challenge: &Challenge<A>) -> bool
         ensures { result ≡ is_ignored self.now challenge.now }
     {
@@ -81,7 +83,8 @@ impl<A: Allocator + Copy> Standing<A> {
         }
     }
 
-    /// Returns whether a challenge is stronger than the one that was confirmed last, or none was.
+    /// Returns whether a challenge is stronger than the challenge that was confirmed last, or no
+    /// challenge was confirmed.
     fn is_stronger(&self, challenge: &Challenge<A>) -> bool
         ensures { result ≡ is_stronger_than challenge.now (confirmed self.now) }
     {
@@ -91,7 +94,8 @@ impl<A: Allocator + Copy> Standing<A> {
         }
     }
 
-    /// Returns whether the current challenge is weaker than a confirmed one, or there is none.
+    /// Returns whether a confirmed challenge replaces the current one: the current challenge is
+    /// weaker, or there is none.
     fn gives_way(&self, confirmed: &Challenge<A>) -> bool
         ensures { result ≡ gives_way self.now.current confirmed.now }
     {
@@ -111,9 +115,10 @@ impl<A: Allocator + Copy> Standing<A> {
         }
     }
 
-    /// Records a success of a message that is signed for a challenge. The challenge is confirmed if
-    /// it is the current one, or is stronger than the one that was confirmed last. A current one that
-    /// is weaker gives way to it.
+    /// Confirms a challenge, because a message that is signed for it was answered with a success.
+    /// Confirms it only if it is the current one, if it is stronger than the challenge that was
+    /// confirmed last, or if none was confirmed. A confirmed challenge replaces the current one if
+    /// the current one is weaker or there is none.
     pub fn confirm(&mut self, challenge: Option<Challenge<A>>)
         ensures { self.new ≡ after_success self.old challenge }
     {
@@ -128,7 +133,7 @@ impl<A: Allocator + Copy> Standing<A> {
         }
     }
 
-    /// Confirms another challenge than the current one.
+    /// Confirms a challenge that is not the current one.
     fn confirm_other(&mut self, challenge: Challenge<A>)
         ensures { self.new ≡ after_confirming self.old challenge }
     {
@@ -142,8 +147,9 @@ impl<A: Allocator + Copy> Standing<A> {
         }
     }
 
-    /// Records that a request under a challenge has timed out: goes back to the challenge that was
-    /// confirmed last, and from there to none.
+    /// Steps back from a challenge, because a request that is signed for it has timed out. If it is
+    /// the current challenge, the challenge that was confirmed before it becomes the current one
+    /// again. If none was confirmed before it, there is no current challenge any more.
     pub fn step_back(&mut self, challenge: &Option<Challenge<A>>)
         ensures { self.new ≡ after_timeout self.old challenge.now }
     {
@@ -154,7 +160,8 @@ impl<A: Allocator + Copy> Standing<A> {
         }
     }
 
-    /// Makes a challenge the current one.
+    /// Makes this challenge the current one, because the client answers it. If a success has
+    /// confirmed the former one, that challenge is still stored as the one that was confirmed last.
     pub fn answer(&mut self, challenge: Challenge<A>)
         ensures { self.new ≡ after_answer self.old challenge }
     {
@@ -169,8 +176,8 @@ impl<A: Allocator + Copy> Standing<A> {
     }
 }
 
-/// Returns whether a challenge is stronger than another one, which is weaker then, while it is not
-/// weaker itself.
+/// Returns whether `challenge` is stronger than `other`: `other` is weaker than it, and it is not
+/// weaker than `other`.
 fn is_stronger<A: Allocator + Copy>(challenge: &Challenge<A>, other: &Challenge<A>) -> bool
     ensures { result ≡ is_stronger_than challenge.now (Some other.now) }
 {

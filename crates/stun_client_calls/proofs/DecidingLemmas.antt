@@ -511,7 +511,7 @@ repeated_refusal limits standing now a code unreliable unrefused =
 
 -- ---- earlier messages
 
-answers_or_drops : (limits : Limits) (standing : StandingSeen) (now : ℕ) (a : AskedSeen)
+pub answers_or_drops : (limits : Limits) (standing : StandingSeen) (now : ℕ) (a : AskedSeen)
     (v : Verdict) → IsEndOrNothing v → IsAnswerOrDrop (decided limits standing now a v)
 answers_or_drops limits standing now a (believed by) ends = tt
 answers_or_drops limits standing now a (anew d) ends = absurd ends

@@ -28,14 +28,16 @@ use Rattle.stun_client_calls.specs.Bounds.{HasPlan, IsPunctual, two_plans_after}
 use Rattle.stun_client_calls.specs.Clients.{Client, Poll, by_polled, chosen, first_message}
 use Rattle.stun_client_calls.specs.Clients.{new_client, refusal_of_number, refusal_of_page}
 use Rattle.stun_client_calls.specs.Clients.{refusal_to_start, started, started_at, started_with}
-use Rattle.stun_client_calls.specs.Clients.{told, waits, with_requests}
+use Rattle.stun_client_calls.specs.Clients.{plan_for, told, waits, with_requests}
+use Rattle.stun_client_calls.specs.Options.{Options, plan_by}
 use Rattle.stun_client_calls.specs.Endpoints.{EndSeen}
 use Rattle.stun_client_calls.specs.Messages.{AskedSeen}
 use Rattle.stun_client_calls.specs.Runs.{Call, Calls, Event, call, next_number, no_call, polls}
 use Rattle.stun_client_calls.specs.Runs.{requests}
 use Rattle.stun_client_calls.proofs.BoundLemmas.{begins_punctual, client_waits, not_told}
 use Rattle.stun_client_calls.proofs.BoundLemmas.{stays_punctual}
-use Rattle.stun_client_calls.proofs.KeepingLemmas.{keeps_plan, starts_plan}
+use Rattle.stun_client_calls.proofs.KeepingLemmas.{HasOptions, keeps_options, keeps_plan}
+use Rattle.stun_client_calls.proofs.KeepingLemmas.{starts_options, starts_plan}
 use Rattle.stun_client_calls.proofs.StoredLemmas.{call_goes_on, stays_stored}
 use Rattle.stun_client_calls.proofs.TurnLemmas.{All}
 
@@ -127,11 +129,12 @@ crossed : (x y : ℕ) → x < y → y ≤ x → ⊥
 crossed x y low high = omega (arith, low, high)
 
 -- a request whose two plans are over is over
-over_then : (n until now : ℕ) (at_last : Option ℕ) (later last : Client)
+over_then : (n until now : ℕ) (options : Option Options) (at_last : Option ℕ) (later last : Client)
     → IsRequests later.requests → IsPunctual later → IsRequests last.requests
-    → HasPlan n until last → n < last.requests.next → told now later ≡ (waits at_last, last)
-    → moment_after until (plan_of later.plan) ≤ now → IsOver n last.requests
-over_then n until now at_last later last i is j has low said end = record {
+    → HasPlan n until last → HasOptions n options last → n < last.requests.next
+    → told now later ≡ (waits at_last, last)
+    → moment_after until (plan_of (plan_by options later.plan)) ≤ now → IsOver n last.requests
+over_then n until now options at_last later last i is j has opted low said end = record {
   started = low;
   gone = by (known_at n last.requests.numbers.known) refl;
 }
@@ -141,9 +144,11 @@ over_then n until now at_last later last i is j has low said end = record {
 
     in_time : (q : Request AskedSeen) → datum_of n last.requests ≡ Some q.datum → ⊥
     in_time q stored =
-        crossed now (moment_after until (plan_of later.plan))
-        (subst (λ k. now < moment_after k (plan_of later.plan)) (has q.datum stored)
-        (client_waits now at_last later last n q.datum is said stored).early)
+        crossed now (moment_after until (plan_of (plan_by options later.plan)))
+        (subst (λ (o : Option Options). now < moment_after until (plan_of (plan_by o later.plan)))
+        (opted q.datum stored)
+        (subst (λ k. now < moment_after k (plan_of (plan_for later q.datum))) (has q.datum stored)
+        (client_waits now at_last later last n q.datum is said stored).early))
         end
 
     at_id : (id : ℕ) → id_at n last.requests.numbers ≡ Some id → (o : Option (Request AskedSeen))
@@ -188,29 +193,33 @@ kept_calls plan c after events k (no_call _) = k
 kept_calls plan c after events k (call _ next _ event others made rest) =
     kept_calls plan next after others (kept_call plan c next event k made) rest
 
--- the request with this number was started, and its first plan ends then
-record IsPlanned (plan : Settings) (n until : ℕ) (c : Client) : Type 0 where
+-- the request with this number was started with these options, and its first plan ends then
+record IsPlanned (plan : Settings) (n until : ℕ) (options : Option Options) (c : Client) : Type 0 where
   pub kept : IsKept plan c
   pub low : n < c.requests.next
   pub has : HasPlan n until c
+  pub opted : HasOptions n options c
 
 up_to : (n x y : ℕ) → n < x → x ≤ y → n < y
 up_to n x y low high = omega (arith, low, high)
 
-planned_call : (plan : Settings) (n until : ℕ) (c after : Client) (event : Event)
-    → IsPlanned plan n until c → Call c event after → IsPlanned plan n until after
-planned_call plan n until c after event p made = record {
+planned_call : (plan : Settings) (n until : ℕ) (options : Option Options) (c after : Client)
+    (event : Event) → IsPlanned plan n until options c → Call c event after
+    → IsPlanned plan n until options after
+planned_call plan n until options c after event p made = record {
   kept = kept_call plan c after event p.kept made;
   low = up_to n c.requests.next after.requests.next p.low (call_goes_on c after event made).next;
   has = keeps_plan c after event n until p.kept.stored p.kept.punctual p.low made p.has;
+  opted = keeps_options c after event n options p.kept.stored p.kept.punctual p.low made p.opted;
 }
 
-planned_calls : (plan : Settings) (n until : ℕ) (c after : Client) (events : List Event)
-    → IsPlanned plan n until c → Calls c events after → IsPlanned plan n until after
-planned_calls plan n until c after events p (no_call _) = p
-planned_calls plan n until c after events p (call _ next _ event others made rest) =
-    planned_calls plan n until next after others (planned_call plan n until c next event p made)
-    rest
+planned_calls : (plan : Settings) (n until : ℕ) (options : Option Options) (c after : Client)
+    (events : List Event) → IsPlanned plan n until options c → Calls c events after
+    → IsPlanned plan n until options after
+planned_calls plan n until options c after events p (no_call _) = p
+planned_calls plan n until options c after events p (call _ next _ event others made rest) =
+    planned_calls plan n until options next after others
+    (planned_call plan n until options c next event p made) rest
 
 -- ---- law
 
@@ -240,33 +249,34 @@ one_more : (n : ℕ) → n < n + 1
 one_more n = omega arith
 
 -- a request that is started has the next number
-started_low : (c : Client) (method : ℕ) (body : Body) (now : ℕ)
-    → refusal_to_start c method body ≡ None
-    → c.requests.next < (started method body now c).requests.next
-started_low c method body now none = by (chosen c) none
+started_low : (c : Client) (method : ℕ) (body : Body) (options : Option Options) (now : ℕ)
+    → refusal_to_start c method body options ≡ None
+    → c.requests.next < (started method body options now c).requests.next
+started_low c method body options now none = by (chosen c) none
   where
     written : (number : ℕ) (page : Page?) → refusal_of_page c number page ≡ None
-        → c.requests.next < (started_with c number method body now page).requests.next
+        → c.requests.next < (started_with c number method body options now page).requests.next
     written number (Err why) none = cc
     written number (Ok bytes) none = one_more c.requests.next
 
-    by : (o : Option ℕ) → refusal_of_number c method body o ≡ None
-        → c.requests.next < (started_at c method body now o).requests.next
+    by : (o : Option ℕ) → refusal_of_number c method body options o ≡ None
+        → c.requests.next < (started_at c method body options now o).requests.next
     by None none = cc
-    by (Some number) none = written number (first_message c method number body) none
+    by (Some number) none = written number (first_message c method number body options) none
 
 pub ends_within : (transport : TransportType) (server : SocketAddr)
     (counts requires_fingerprint : Bool) (identity : Identity) (form : Form)
     (understood : List AttributeType) (turns : ℕ) (plan : Settings) (seed : List ℕ)
     (c later last : Client) (before between : List Event) (method : ℕ) (body : Body)
-    (start now : ℕ) (until : Option ℕ)
+    (options : Option Options) (start now : ℕ) (until : Option ℕ)
     → Calls (new_client transport server counts requires_fingerprint identity form understood turns
     plan seed) before c
-    → start ≤ last_moment → refusal_to_start c method body ≡ None
-    → Calls (started method body start c) between later → two_plans_after plan start ≤ now
+    → start ≤ last_moment → refusal_to_start c method body options ≡ None
+    → Calls (started method body options start c) between later
+    → two_plans_after (plan_by options plan) start ≤ now
     → told now later ≡ (waits until, last) → IsOver (next_number c) last.requests
 ends_within transport server counts requires_fingerprint identity form understood turns plan seed c
-    later last before between method body start now until calls low none rest over_at said =
+    later last before between method body options start now until calls low none rest over_at said =
     let k : IsKept plan c =
     kept_calls plan (new_client transport server counts requires_fingerprint identity form
     understood turns plan seed) c before (record {
@@ -276,22 +286,27 @@ ends_within transport server counts requires_fingerprint identity form understoo
           understood turns plan seed;
       planned = refl;
     }) calls in
-    let p = planned_calls plan (next_number c) (moment_after start (plan_of plan))
-    (started method body start c) later between (begun k) rest in
-    let q = planned_call plan (next_number c) (moment_after start (plan_of plan)) later last _ p
+    let p = planned_calls plan (next_number c) first_end options
+    (started method body options start c) later between (begun k) rest in
+    let q = planned_call plan (next_number c) first_end options later last _ p
     (polls later last now (waits until) said) in
-    over_then (next_number c) (moment_after start (plan_of plan)) now until later last p.kept.stored
-    p.kept.punctual q.kept.stored q.has q.low said
-    (subst (λ (s : Settings). moment_after (moment_after start (plan_of plan)) (plan_of s) ≤ now)
+    over_then (next_number c) first_end now options until later last p.kept.stored p.kept.punctual
+    q.kept.stored q.has q.opted q.low said
+    (subst (λ (s : Settings). moment_after first_end (plan_of (plan_by options s)) ≤ now)
     (sym p.kept.planned) over_at)
   where
-    begun : IsKept plan c → IsPlanned plan (next_number c) (moment_after start (plan_of plan))
-        (started method body start c)
+    first_end : ℕ
+    first_end = moment_after start (plan_of (plan_by options plan))
+
+    begun : IsKept plan c
+        → IsPlanned plan (next_number c) first_end options (started method body options start c)
     begun k = record {
-      kept = kept_call plan c (started method body start c) _ k
-          (requests c (started method body start c) method body start low none refl);
-      low = started_low c method body start none;
-      has = subst (λ (s : Settings). HasPlan (next_number c) (moment_after start (plan_of s))
-          (started method body start c)) k.planned
-          (starts_plan c method body start k.stored);
+      kept = kept_call plan c (started method body options start c) _ k
+          (requests c (started method body options start c) method body options start low none refl);
+      low = started_low c method body options start none;
+      has = subst (λ (s : Settings).
+          HasPlan (next_number c) (moment_after start (plan_of (plan_by options s)))
+          (started method body options start c)) k.planned
+          (starts_plan c method body options start k.stored);
+      opted = starts_options c method body options start k.stored;
     }

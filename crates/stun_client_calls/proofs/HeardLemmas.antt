@@ -1,7 +1,8 @@
 -- What holds of a client once it has received a datagram, from what holds after each of its steps.
-use Rattle.std.proofs.Common.{◌≡◌, ◌≤◌, ◌+◌, ◌||◌, ℕ, zero, suc, Bool, true, false, List, []}
+use Rattle.std.proofs.Common.{◌≡◌, ◌≤◌, ◌+◌, ◌||◌, ℕ, zero, suc, Bool, true, false, List, [], ap}
 use Rattle.std.proofs.Common.{Option}
 use Rattle.std.proofs.Common.{Some, None, Ok, Err, cond, length, refl, subst, sym}
+use Rattle.std.specs.Prelude.{⊤, find}
 use Rattle.std.specs.Option.{is_some, option_map}
 use Rattle.std.specs.declared.net.socket_addr.SocketAddr.{SocketAddr}
 use Rattle.stun_base.specs.Header.{transaction_id_field}
@@ -13,29 +14,34 @@ use Rattle.stun_extra.specs.CanonicalAddress.{is_same_address}
 use Rattle.stun_client.specs.Challenges.{Answered}
 use Rattle.stun_client.specs.Challenging.{code_in}
 use Rattle.stun_client.specs.Ids.{id_of}
-use Rattle.stun_client.specs.Judging.{judged}
+use Rattle.stun_client.specs.Judging.{Verdict, judged}
 use Rattle.stun_client.specs.Standing.{StandingSeen}
 use Rattle.stun_client_endpoint.specs.Written.{Page?}
 use Rattle.stun_client_endpoint.specs.declared.ended.DropReason.TheVariants as Reasons
-use Rattle.stun_client_endpoint.specs.declared.told.Received.TheVariants.{NotOurs}
+use Rattle.stun_client_endpoint.specs.declared.told.Received.TheVariants.{Indication, NotOurs}
 use Rattle.stun_client_requests.specs.Requests.{Answering, datum_of, number_at}
-use Rattle.stun_client_calls.specs.Clients.{Client, changed_at, chosen, with_requests}
+use Rattle.stun_client_calls.specs.Clients.{Client, changed_at, chosen, identity_for}
+use Rattle.stun_client_calls.specs.Clients.{with_requests}
 use Rattle.stun_client_calls.specs.Deciding.{DecisionSeen, Place, answered, drops, refuses, turns}
 use Rattle.stun_client_calls.specs.Deciding.{unauthorized}
 use Rattle.stun_client_calls.specs.Endpoints.{EndSeen}
+use Rattle.stun_client_calls.specs.Laws.{IsAnswerOrDrop, Judge, decision_on}
 use Rattle.stun_client_calls.specs.Ids.{first_free, is_taken, number_in}
-use Rattle.stun_client_calls.specs.Messages.{AskedSeen, counted_on, new_asked, rank_after, turned}
-use Rattle.stun_client_calls.specs.Receiving.{Answer, Memory, Met, Spot, UnlessMemory, answered_in}
+use Rattle.stun_client_calls.specs.Messages.{AskedSeen, SentSeen, counted_on, new_asked, rank_after}
+use Rattle.stun_client_calls.specs.Messages.{turned}
+use Rattle.stun_client_calls.specs.Receiving.{Answer, Memory, Met, Spot, UnlessMemory, heard_in}
 use Rattle.stun_client_calls.specs.Receiving.{as_expected, by_class, by_decision, by_met}
-use Rattle.stun_client_calls.specs.Receiving.{decision_for, ended_by, forgone, judge_of, received}
+use Rattle.stun_client_calls.specs.Receiving.{decision_for, ended_by, forgone, indicated, judge_for}
+use Rattle.stun_client_calls.specs.Receiving.{met, received}
 use Rattle.stun_client_calls.specs.Receiving.{spot_of, turn_to, turned_at, turned_by, turned_to}
 use Rattle.stun_client_calls.specs.Receiving.{without_memory}
 use Rattle.stun_client_calls.specs.Writing.{message_bytes}
 use Rattle.stun_client_calls.specs.declared.asked.Change.{Change}
-use Rattle.stun_client_calls.specs.declared.asked.Change.TheVariants.{Noted, Refused}
+use Rattle.stun_client_calls.specs.declared.asked.Change.TheVariants.{Noted, Refused, SentOut}
 use Rattle.stun_client_calls.specs.declared.turning.Why.{Why}
-use Rattle.stun_client_calls.proofs.DecidingLemmas.{within}
-use Rattle.stun_client_calls.proofs.ReceivingLemmas.{met_is_stored}
+use Rattle.stun_client_calls.proofs.DecidingLemmas.{earlier_answers_or_drops, within}
+use Rattle.stun_client_calls.proofs.PlaceLemmas.{IsFound, IsPlace, IsPlaced, found_there}
+use Rattle.stun_client_calls.proofs.ReceivingLemmas.{heard_is, if_method_is, met_is_stored}
 use Rattle.stun_client_calls.proofs.TurnLemmas.{some_is}
 
 -- ---- the transaction ID of another message
@@ -71,7 +77,7 @@ chosen_is_free c number some =
     not_some (Some k) is = cc
 
 -- nor is that of an earlier message that becomes the current one
-spot_is_free : (c : Client) (a : AskedSeen) (place : Option Place) (s : Spot)
+pub spot_is_free : (c : Client) (a : AskedSeen) (place : Option Place) (s : Spot)
     → spot_of c a place ≡ Some s → number_at s.id c.requests.table.attached ≡ None
 spot_is_free c a (Some p) s is = by (number_at p.1 c.requests.table.attached) refl is
   where
@@ -101,6 +107,45 @@ spot_is_free c a None s is = by (chosen c) refl is
           next_id = number + 1;
         }) s is) (chosen_is_free c number some)
 
+-- another message is a new one, or an earlier one
+pub data IsOrigin (c : Client) (a : AskedSeen) (s : Spot) : Type 0 where
+  new_one : (number : ℕ) → chosen c ≡ Some number → s.id ≡ id_of c.seed number
+      → s.next_id ≡ number + 1 → IsOrigin c a s
+  earlier_one : (e : ℕ × SentSeen) (f : ℕ × SentSeen → Bool) → find f a.earlier ≡ Some e
+      → s.rank ≡ e.0 → s.id ≡ e.1.id → s.next_id ≡ c.next_id → IsOrigin c a s
+
+spot_origin : (c : Client) (a : AskedSeen) (place : Option Place) (s : Spot)
+    → IsPlace (IsFound a) place → spot_of c a place ≡ Some s → IsOrigin c a s
+spot_origin c a (Some p) s there is = by (number_at p.1 c.requests.table.attached) is
+  where
+    by : (o : Option ℕ)
+        → cond (is_some o) None (Some (record { id = p.1; rank = p.0; next_id = c.next_id }))
+        ≡ Some s
+        → IsOrigin c a s
+    by None is =
+        subst (λ (y : Spot). IsOrigin c a y)
+        (some_is (record { id = p.1; rank = p.0; next_id = c.next_id }) s is)
+        (earlier_one there.0 there.1 there.2 (ap (λ (x : Place). x.0) (sym there.3))
+        (ap (λ (x : Place). x.1) (sym there.3)) refl)
+    by (Some k) is = cc
+spot_origin c a None s there is = by (chosen c) refl is
+  where
+    by : (o : Option ℕ) → chosen c ≡ o
+        → option_map (λ number. record {
+          id = id_of c.seed number;
+          rank = rank_after (counted_on a.turns);
+          next_id = number + 1;
+        }) o ≡ Some s
+        → IsOrigin c a s
+    by None some is = cc
+    by (Some number) some is =
+        subst (λ (y : Spot). IsOrigin c a y)
+        (some_is (record {
+          id = id_of c.seed number;
+          rank = rank_after (counted_on a.turns);
+          next_id = number + 1;
+        }) s is) (new_one number some refl refl)
+
 -- ---- what is stored of a request then
 
 abbrev pub answering_of : ℕ → List ℕ → Answering
@@ -108,7 +153,7 @@ answering_of now bytes = record { count = length bytes; moment = Some now }
 
 -- nothing is stored of it for a moment
 abbrev pub nothing_of : Met → AskedSeen
-nothing_of m = new_asked m.asked.method [] 0 None
+nothing_of m = new_asked m.asked.method [] None 0 None
 
 abbrev pub turned_of : Memory → List ℕ → Met → Why → Option Answered → Spot → AskedSeen
 turned_of memory bytes m why d s =
@@ -119,81 +164,135 @@ turned_of memory bytes m why d s =
 abbrev not_ours : Client → Answer
 not_ours c = (NotOurs, c)
 
--- another message becomes the current one only within the first plan of the request, and its ID is
--- that of no current message
-pub record IsTurn (c : Client) (now : ℕ) (m : Met) (s : Spot) : Type 0 where
+abbrev indication_of : List ℕ → Client → Answer
+indication_of bytes c = (Indication bytes, c)
+
+-- another message becomes the current one only in place of the current one, by a response to that,
+-- within the first plan of the request. Its ID is that of no current message, and it is a new one or an
+-- earlier one
+pub record IsTurn (c : Client) (now : ℕ) (bytes : List ℕ) (m : Met) (s : Spot) : Type 0 where
   pub there : datum_of m.number c.requests ≡ Some m.asked
+  pub met_so : met (transaction_id_field bytes) c ≡ Some m
+  pub is_current : m.is_current ≡ true
   pub in_time : now ≤ m.asked.until
   pub free : number_at s.id c.requests.table.attached ≡ None
+  pub origin : IsOrigin c m.asked s
+
+-- a message other than the current one is never left for another one
+on_current : (j : Judge) (b : Bool) (now : ℕ) (a : AskedSeen) (before : Option Answered)
+    (bytes : List ℕ) (why : Why) (place : Option Place) (e : Option Answered)
+    → decision_on j b now a before bytes ≡ turns why place e → b ≡ true
+on_current j true now a before bytes why place e is = refl
+on_current j false now a before bytes why place e is =
+    absurd (subst IsAnswerOrDrop is (earlier_answers_or_drops j now a before bytes))
+
+-- a response is dropped
+abbrev pub IsDrop : Change → Type 0
+IsDrop (SentOut now) = ⊥
+IsDrop (Noted why code) = ⊤
+IsDrop (Refused code) = ⊤
 
 module _ (P : Client → Type 0) (c : Client) (now : ℕ) (bytes : List ℕ) (same : P c)
-    (changed : (change : Change) (n : ℕ) → P (with_requests (changed_at change n c.requests) c))
+    (changed : (change : Change) (n : ℕ) → IsDrop change
+    → P (with_requests (changed_at change n c.requests) c))
     (ended : (end : EndSeen) (m : Met) (standing : StandingSeen)
     → P (ended_by end bytes now m (record c { standing = standing })))
     (turned : (memory : Memory) (m : Met) (why : Why) (d : Option Answered) (s : Spot)
-    (page : List ℕ) → IsTurn c now m s → P (turned_to memory c now bytes m why d s page).1) where
+    (page : List ℕ) → IsTurn c now bytes m s → P (turned_to memory c now bytes m why d s page).1) where
+  -- what allows another message to become the current one
+  record MayTurn (m : Met) (place : Option Place) : Type 0 where
+    in_time : now ≤ m.asked.until
+    is_current : m.is_current ≡ true
+    found : IsPlace (IsFound m.asked) place
+
   by_spot : (memory : Memory) (m : Met) (why : Why) (d : Option Answered) (place : Option Place)
-      → datum_of m.number c.requests ≡ Some m.asked → now ≤ m.asked.until → (o : Option Spot)
-      → spot_of c m.asked place ≡ o → P (turned_at memory c now bytes m why d o).1
-  by_spot memory m why d place there in_time None stands =
-      changed (Noted Reasons.OutOfMemory (code_in bytes)) m.number
-  by_spot memory m why d place there in_time (Some s) stands =
+      → datum_of m.number c.requests ≡ Some m.asked → met (transaction_id_field bytes) c ≡ Some m
+      → MayTurn m place → (o : Option Spot) → spot_of c m.asked place ≡ o
+      → P (turned_at memory c now bytes m why d o).1
+  by_spot memory m why d place there met_so may None stands =
+      changed (Noted Reasons.OutOfMemory (code_in bytes)) m.number tt
+  by_spot memory m why d place there met_so may (Some s) stands =
       by (message_bytes c.form c.identity d s.id m.asked)
     where
       by : (page : Page?) → P (turned_by memory c now bytes m why d s page).1
-      by (Err error) = changed (Noted _ (code_in bytes)) m.number
+      by (Err error) = changed (Noted _ (code_in bytes)) m.number tt
       by (Ok page) =
           turned memory m why d s page (record {
             there = there;
-            in_time = in_time;
+            met_so = met_so;
+            is_current = may.is_current;
+            in_time = may.in_time;
             free = spot_is_free c m.asked place s stands;
+            origin = spot_origin c m.asked place s may.found stands;
           })
 
   by_its_decision : (memory : Memory) (m : Met) → datum_of m.number c.requests ≡ Some m.asked
-      → (d : DecisionSeen)
+      → met (transaction_id_field bytes) c ≡ Some m → (d : DecisionSeen)
       → ((why : Why) (place : Option Place) (e : Option Answered) → d ≡ turns why place e
-      → now ≤ m.asked.until)
+      → MayTurn m place)
       → P (by_decision memory c now bytes m d).1
-  by_its_decision memory m there (answered by) in_time = ended _ m _
-  by_its_decision memory m there unauthorized in_time = ended _ m c.standing
-  by_its_decision memory m there (turns why place e) in_time =
-      by_spot memory m why e place there (in_time why place e refl) (spot_of c m.asked place) refl
-  by_its_decision memory m there refuses in_time = changed (Refused (code_in bytes)) m.number
-  by_its_decision memory m there (drops why) in_time = changed (Noted why (code_in bytes)) m.number
+  by_its_decision memory m there met_so (answered by) may = ended _ m _
+  by_its_decision memory m there met_so unauthorized may = ended _ m c.standing
+  by_its_decision memory m there met_so (turns why place e) may =
+      by_spot memory m why e place there met_so (may why place e refl) (spot_of c m.asked place) refl
+  by_its_decision memory m there met_so refuses may = changed (Refused (code_in bytes)) m.number tt
+  by_its_decision memory m there met_so (drops why) may =
+      changed (Noted why (code_in bytes)) m.number tt
 
-  by_answered : (memory : Memory) (o : Option Met) → answered_in bytes c ≡ o
+  by_heard : (memory : Memory) (from : SocketAddr) (o : Option Met) → heard_in from bytes c ≡ o
       → P (by_met memory c now bytes o).1
-  by_answered memory None found = same
-  by_answered memory (Some m) found =
-      by_its_decision memory m (met_is_stored bytes c m m.number found refl)
+  by_heard memory from None found = same
+  by_heard memory from (Some m) found =
+      by_its_decision memory m
+      (met_is_stored bytes c m m.number (heard_is from bytes c m found) refl)
+      (if_method_is bytes (met (transaction_id_field bytes) c) m (heard_is from bytes c m found))
       (decision_for c now bytes m)
-      (λ why place e is. (within (judge_of c).limits c.standing now m.asked
-      (judged c.requires_fingerprint m.is_current c.identity c.standing m.signed_for bytes) why place
-      e is).in_time)
+      (λ why place e is. record {
+        in_time =
+            (within (judge_for c m.asked).limits c.standing now m.asked (verdict m) why place e
+            is).in_time;
+        is_current =
+            on_current (judge_for c m.asked) m.is_current now m.asked m.signed_for bytes why place e
+            is;
+        found = subst (IsPlaced (IsFound m.asked)) is
+            (found_there (judge_for c m.asked).limits c.standing now m.asked (verdict m));
+      })
+    where
+      verdict : (m : Met) → Verdict
+      verdict m =
+          judged c.requires_fingerprint m.is_current (identity_for c m.asked) c.standing m.signed_for
+          bytes
 
-  by_its_class : (memory : Memory) (class : MessageClass) → P (by_class memory c now bytes class).1
-  by_its_class memory Classes.Request = same
-  by_its_class memory Classes.Indication = same
-  by_its_class memory Classes.Success = by_answered memory (answered_in bytes c) refl
-  by_its_class memory Classes.Error = by_answered memory (answered_in bytes c) refl
+  by_indicated : (from : SocketAddr) → P (indicated from bytes c).1
+  by_indicated from = by (is_same_address from c.server)
+    where
+      by : (b : Bool) → P (cond b (indication_of bytes c) (not_ours c)).1
+      by true = same
+      by false = same
+
+  by_its_class : (memory : Memory) (from : SocketAddr) (class : MessageClass)
+      → P (by_class memory from c now bytes class).1
+  by_its_class memory from Classes.Request = same
+  by_its_class memory from Classes.Indication = by_indicated from
+  by_its_class memory from Classes.Success = by_heard memory from (heard_in from bytes c) refl
+  by_its_class memory from Classes.Error = by_heard memory from (heard_in from bytes c) refl
 
   by_received : (memory : Memory) (from : SocketAddr) → P (received memory from bytes now c).1
-  by_received memory from = by (is_some (refusal bytes)) (is_same_address from c.server)
+  by_received memory from = by (is_some (refusal bytes))
     where
-      by : (is_refused is_from_server : Bool)
-          → P (cond is_refused (not_ours c)
-          (cond is_from_server (by_class memory c now bytes (class_in bytes)) (not_ours c))).1
-      by true b = same
-      by false true = by_its_class memory (class_in bytes)
-      by false false = same
+      by : (is_refused : Bool) → P (cond is_refused (not_ours c)
+          (by_class memory from c now bytes (class_in bytes))).1
+      by true = same
+      by false = by_its_class memory from (class_in bytes)
 
   forgotten : (o : Option Met) → P (without_memory bytes c o).1
   forgotten None = same
-  forgotten (Some m) = changed (Noted Reasons.OutOfMemory (code_in bytes)) m.number
+  forgotten (Some m) = changed (Noted Reasons.OutOfMemory (code_in bytes)) m.number tt
 
   pub heard : (from : SocketAddr) (answer : Answer)
-      → UnlessMemory (λ memory. received memory from bytes now c) bytes c answer → P answer.1
+      → UnlessMemory (λ memory. received memory from bytes now c) bytes (heard_in from bytes c) c answer
+      → P answer.1
   heard from answer (as_expected memory is) =
       subst (λ (x : Answer). P x.1) (sym is) (by_received memory from)
   heard from answer (forgone is) =
-      subst (λ (x : Answer). P x.1) (sym is) (forgotten (answered_in bytes c))
+      subst (λ (x : Answer). P x.1) (sym is) (forgotten (heard_in from bytes c))

@@ -1,253 +1,49 @@
--- An outstanding request keeps the end of its first plan over each call.
-use Rattle.std.proofs.Common.{◌≡◌, ◌∙◌, ◌⊎◌, ◌<◌, ℕ, Bool, true, false, List, [], ◌∷◌, Option, Some}
-use Rattle.std.proofs.Common.{None, Ok, Err, ap, arith, cond, inl, inr, length, refl, subst, sym}
-use Rattle.std.specs.BTreeMap.{is_at}
-use Rattle.std.specs.Map.{lookup, set_value}
+-- An outstanding request keeps its options and the end of its first plan over each call.
+use Rattle.std.proofs.Common.{◌≡◌, ◌∙◌, ◌<◌, ℕ, Bool, true, false, List, Option, Some, None, Ok}
+use Rattle.std.proofs.Common.{Err, ap, arith, cond, length, refl, subst, sym}
 use Rattle.std.specs.Option.{option_and_then, option_map, option_map_or}
-use Rattle.std.specs.Ordering.{nat_cmp}
 use Rattle.std.specs.Prelude.{◌==◌}
 use Rattle.std.specs.declared.net.socket_addr.SocketAddr.{SocketAddr}
 use Rattle.std.proofs.lemmas.Bool.{eqb-true}
 use Rattle.stun_base.specs.Moments.{moment_after}
-use Rattle.stun_agent.specs.Agent.{tally_of_end}
-use Rattle.stun_agent.specs.Statistics.{Tally, request_cancelled, response_received}
-use Rattle.stun_agent.specs.Tables.{Attached, TableSeen, after_answer, after_cancel, after_sending}
-use Rattle.stun_agent.specs.Tables.{after_transmission, counted, datum_at, over_in, set_datum}
-use Rattle.stun_agent.specs.Tables.{with_datum, with_other_datum}
-use Rattle.stun_agent.specs.Tables.{without_datum, without_request}
+use Rattle.stun_agent.specs.Tables.{datum_at}
 use Rattle.stun_agent.specs.Timing.{Settings}
-use Rattle.stun_agent.specs.Transactions.{Transaction, at, round_trip}
-use Rattle.stun_agent.proofs.Ascending.{IsAscending-insert}
+use Rattle.stun_client.specs.Challenges.{Answered}
 use Rattle.stun_client.specs.Ids.{id_of}
 use Rattle.stun_client_endpoint.specs.Bodies.{Body}
 use Rattle.stun_client_endpoint.specs.Settings.{plan_of}
 use Rattle.stun_client_endpoint.specs.Written.{Page?}
 use Rattle.stun_client_requests.specs.Laws.{IsRequests}
-use Rattle.stun_client_requests.specs.Numbers.{after_end, after_mark, after_removal, after_rename}
-use Rattle.stun_client_requests.specs.Numbers.{end_of_first, first_unsent, id_at, id_in, known_at}
+use Rattle.stun_client_requests.specs.Numbers.{id_at, id_in, known_at}
 use Rattle.stun_client_requests.specs.Requests.{Answering, Poll as PollOf, after_again}
-use Rattle.stun_client_requests.specs.Requests.{after_answering, after_canceling, after_removing}
-use Rattle.stun_client_requests.specs.Requests.{after_replacing, after_start}
-use Rattle.stun_client_requests.specs.Requests.{datum_of, ends_or, over, over_or, polled, repeated}
-use Rattle.stun_client_requests.specs.Requests.{repeats_or, unsent_or}
+use Rattle.stun_client_requests.specs.Requests.{after_replacing, datum_of, polled}
 use Rattle.stun_client_requests.specs.declared.requests.Polled.TheVariants as Of
 use Rattle.stun_client_requests.specs.declared.requests.Request.{Request}
-use Rattle.stun_client_requests.proofs.NumberLemmas.{Ascend, eqb-same}
-use Rattle.stun_client_requests.proofs.RequestLemmas.{at_insert, at_remove, attached_sent}
+use Rattle.stun_client_requests.proofs.NumberLemmas.{eqb-same}
 use Rattle.stun_client_requests.proofs.TimelyLemmas.{named_is_one}
 use Rattle.stun_client_calls.specs.Bounds.{HasPlan, IsPunctual}
 use Rattle.stun_client_calls.specs.Clients.{Client, Poll, by_polled, changed, changed_at, chosen}
 use Rattle.stun_client_calls.specs.Clients.{first_asked, first_message, given_up, handed_out_of}
-use Rattle.stun_client_calls.specs.Clients.{sent_by}
+use Rattle.stun_client_calls.specs.Clients.{plan_for, sent_by}
 use Rattle.stun_client_calls.specs.Clients.{started, started_at, started_with, told, with_requests}
 use Rattle.stun_client_calls.specs.Endpoints.{EndSeen}
 use Rattle.stun_client_calls.specs.Messages.{AskedSeen, is_late}
-use Rattle.stun_client_calls.specs.Receiving.{Answer, UnlessMemory, moment_of, received}
+use Rattle.stun_client_calls.specs.Options.{Options, plan_by}
+use Rattle.stun_client_calls.specs.Receiving.{Answer, Memory, Met, Spot, UnlessMemory, heard_in}
+use Rattle.stun_client_calls.specs.Receiving.{moment_of, received}
 use Rattle.stun_client_calls.specs.Runs.{Call, Event, changes_nothing, ends_one, polls, receives}
 use Rattle.stun_client_calls.specs.Runs.{next_number, requests}
 use Rattle.stun_client_calls.specs.declared.asked.Change.{Change}
 use Rattle.stun_client_calls.specs.declared.asked.Change.TheVariants.{SentOut}
-use Rattle.stun_client_calls.proofs.BoundLemmas.{changed_until}
+use Rattle.stun_client_calls.specs.declared.turning.Why.{Why}
+use Rattle.stun_client_calls.proofs.BoundLemmas.{changed_options, changed_until}
+use Rattle.stun_client_calls.proofs.EachLemmas.{Each, again_each, answer_each, cancel_each}
+use Rattle.stun_client_calls.proofs.EachLemmas.{polls_each, remove_each, replace_each, start_each}
 use Rattle.stun_client_calls.proofs.HeardLemmas.{answering_of, heard, nothing_of, turned_of}
 use Rattle.stun_client_calls.proofs.StoredLemmas.{started_stored, stays_stored}
 use Rattle.stun_client_calls.proofs.TurnLemmas.{All, IsOne, datum_after, no_more, one_after}
 use Rattle.stun_client_calls.proofs.TurnLemmas.{some_is}
 use Rattle.stun_client_calls.proofs.TurnLemmas.{stored_one}
-
-abbrev Stored : Type 0
-Stored = Attached (Request AskedSeen)
-
--- ---- each request of a table
-
-abbrev Each : (Request AskedSeen → Type 0) → Stored → Type 0
-Each P all = (id : ℕ) (q : Request AskedSeen) → datum_at id all ≡ Some q → P q
-
-set_from : {X : Type 0} (t p : ℕ → Bool) (es : List (ℕ × X)) (w q : X)
-    → lookup t (set_value p es w) ≡ Some q → (w ≡ q) ⊎ (lookup t es ≡ Some q)
-set_from t p [] w q there = cc
-set_from {X} t p (e ∷ es) w q there = by (p e.0) there (set_from t p es w q)
-  where
-    first : (c : Bool) → cond c (Some w) (lookup t es) ≡ Some q
-        → (w ≡ q) ⊎ (cond c (Some e.1) (lookup t es) ≡ Some q)
-    first true is = inl (some_is w q is)
-    first false is = inr is
-
-    other : (c : Bool) → cond c (Some e.1) (lookup t (set_value p es w)) ≡ Some q
-        → (lookup t (set_value p es w) ≡ Some q → (w ≡ q) ⊎ (lookup t es ≡ Some q))
-        → (w ≡ q) ⊎ (cond c (Some e.1) (lookup t es) ≡ Some q)
-    other true is rest = inr is
-    other false is rest = rest is
-
-    by : (b : Bool) → lookup t (cond b ((e.0, w) ∷ es) (e ∷ set_value p es w)) ≡ Some q
-        → (lookup t (set_value p es w) ≡ Some q → (w ≡ q) ⊎ (lookup t es ≡ Some q))
-        → (w ≡ q) ⊎ (cond (t e.0) (Some e.1) (lookup t es) ≡ Some q)
-    by true is rest = first (t e.0) is
-    by false is rest = other (t e.0) is rest
-
-module _ (P : Request AskedSeen → Type 0) (all : Stored) (each : Each P all) where
-  put_each : (k : ℕ) (w : Request AskedSeen) → P w → Each P (with_datum k w all)
-  put_each k w own id q there = by (is_at (nat_cmp k) id) refl
-    where
-      by : (b : Bool) → is_at (nat_cmp k) id ≡ b → P q
-      by true is =
-          subst P (some_is w q
-          (sym (at_insert k w all id ∙ ap (λ b. cond b (Some w) (datum_at id all)) is) ∙ there)) own
-      by false is =
-          each id q
-          (sym (at_insert k w all id ∙ ap (λ b. cond b (Some w) (datum_at id all)) is) ∙ there)
-
-  left_each : Ascend all → (k : ℕ) → Each P (without_datum k all)
-  left_each sorted k id q there = by (is_at (nat_cmp k) id) refl
-    where
-      by : (b : Bool) → is_at (nat_cmp k) id ≡ b → P q
-      by true is =
-          let none : datum_at id (without_datum k all) ≡ None =
-          at_remove k all sorted id ∙ ap (λ b. cond b None (datum_at id all)) is in
-          cc
-      by false is =
-          each id q
-          (sym (at_remove k all sorted id ∙ ap (λ b. cond b None (datum_at id all)) is) ∙ there)
-
-  set_each : (k : ℕ) (w : Request AskedSeen) → P w → Each P (set_datum k w all)
-  set_each k w own id q there =
-      by (set_from (is_at (nat_cmp id)) (is_at (nat_cmp k)) all w q there)
-    where
-      by : (w ≡ q) ⊎ (datum_at id all ≡ Some q) → P q
-      by (inl same) = subst P same own
-      by (inr here) = each id q here
-
--- ---- each request over a call of the table
-
-module _ (P : Request AskedSeen → Type 0) (r : All) (each : Each P r.table.attached) where
-  start_each : (id : ℕ) (bytes : List ℕ) (plan : Settings) (datum : AskedSeen) (now : ℕ)
-      → P (record { number = r.next; datum = datum })
-      → Each P (after_start id bytes plan datum now r).table.attached
-  start_each id bytes plan datum now own =
-      put_each P r.table.attached each id (record { number = r.next; datum = datum }) own
-
-  replace_each : (n : ℕ) (datum : AskedSeen) → P (record { number = n; datum = datum })
-      → Each P (after_replacing n datum r).table.attached
-  replace_each n datum own = by (id_at n r.numbers)
-    where
-      by : (o : Option ℕ) → Each P (option_map_or (λ id. record r {
-        table = with_other_datum id (record { number = n; datum = datum }) r.table;
-      }) o r).table.attached
-      by None = each
-      by (Some id) =
-          set_each P r.table.attached each id (record { number = n; datum = datum }) own
-
-  out_each : Ascend r.table.attached → (id : ℕ) (tally : Tally)
-      → Each P
-      (option_map_or (λ t. counted tally (without_request id r.table)) (at id r.table.requests)
-      r.table).attached
-  out_each sorted id tally = by (at id r.table.requests)
-    where
-      by : (o : Option Transaction)
-          → Each P
-          (option_map_or (λ t. counted tally (without_request id r.table)) o r.table).attached
-      by None = each
-      by (Some t) = left_each P r.table.attached each sorted id
-
-  cancel_each : Ascend r.table.attached → (n : ℕ) (end : EndSeen)
-      → Each P (after_canceling n end r).table.attached
-  cancel_each sorted n end = by (id_at n r.numbers)
-    where
-      by : (o : Option ℕ) → Each P (option_map_or (λ id. record r {
-        table = after_cancel id r.table;
-        numbers = after_end n end r.numbers;
-      }) o r).table.attached
-      by None = each
-      by (Some id) = out_each sorted id request_cancelled
-
-  remove_each : Ascend r.table.attached → (n : ℕ) → Each P (after_removing n r).table.attached
-  remove_each sorted n = by (id_at n r.numbers)
-    where
-      by : (o : Option ℕ) → Each P (option_map_or (λ id. record r {
-        table = after_cancel id r.table;
-        numbers = after_removal n r.numbers;
-      }) o r).table.attached
-      by None = each
-      by (Some id) = out_each sorted id request_cancelled
-
-  -- a response ends a request
-  answered_each : (t : TableSeen (Request AskedSeen)) → Each P t.attached → Ascend t.attached
-      → (id count : ℕ) (moment : Option ℕ) → Each P (after_answer id count moment t).attached
-  answered_each t still sorted id count moment = by (at id t.requests)
-    where
-      by : (o : Option Transaction) → Each P (option_map_or
-          (λ x. counted (response_received count (round_trip moment x)) (without_request id t)) o
-          t).attached
-      by None = still
-      by (Some x) = left_each P t.attached still sorted id
-
-  answer_each : Ascend r.table.attached → (n count : ℕ) (moment : Option ℕ) (end : EndSeen)
-      → Each P (after_answering n count moment end r).table.attached
-  answer_each sorted n count moment end = by (id_at n r.numbers)
-    where
-      by : (o : Option ℕ) → Each P (option_map_or (λ id. record r {
-        table = after_answer id count moment r.table;
-        numbers = after_end n end r.numbers;
-      }) o r).table.attached
-      by None = each
-      by (Some id) = answered_each r.table each sorted id count moment
-
-  -- a request is sent by another message
-  again_each : Ascend r.table.attached → (n : ℕ) (x : Answering) (id : ℕ) (bytes : List ℕ)
-      (plan : Settings) (datum : AskedSeen) (now : ℕ) → P (record { number = n; datum = datum })
-      → Each P (after_again n x id bytes plan datum now r).table.attached
-  again_each sorted n x id bytes plan datum now own = by (id_at n r.numbers)
-    where
-      sent : TableSeen (Request AskedSeen)
-      sent = after_sending id bytes plan (record { number = n; datum = datum }) now r.table
-
-      by : (o : Option ℕ) → Each P (option_map_or (λ former. record r {
-        table = after_answer former x.count x.moment sent;
-        numbers = after_rename n id (after_mark n r.numbers);
-      }) o r).table.attached
-      by None = each
-      by (Some former) =
-          answered_each sent
-          (put_each P r.table.attached each id (record { number = n; datum = datum }) own)
-          (IsAscending-insert r.table.attached id (record { number = n; datum = datum }) sorted)
-          former x.count x.moment
-
-  over_each : Ascend r.table.attached → (now : ℕ) (o : Option (Request AskedSeen))
-      → Each P (over_or now r o).1.table.attached
-  over_each sorted now None = each
-  over_each sorted now (Some q) = by (over_in now r.table)
-    where
-      by : (o : Option (ℕ × Transaction))
-          → Each P
-          (option_map_or (λ e. counted (tally_of_end e.1) (without_request e.0 r.table)) o
-          r.table).attached
-      by None = each
-      by (Some e) = left_each P r.table.attached each sorted e.0
-
-polls_each : (P : Request AskedSeen → Type 0) (r : All) → Each P r.table.attached
-    → Ascend r.table.attached → (now : ℕ) → Each P (polled now r).1.table.attached
-unfolding polled
-polls_each P r each sorted now = unsent (first_unsent r.numbers)
-  where
-    again_at : All
-    again_at = record r { table = after_transmission now r.table }
-
-    still : Each P again_at.table.attached
-    still = subst (λ (es : Stored). Each P es) (sym (attached_sent r.table now)) each
-
-    ordered : Ascend again_at.table.attached
-    ordered = subst Ascend (sym (attached_sent r.table now)) sorted
-
-    ended : (o : Option (ℕ × EndSeen)) → Each P (ends_or now again_at o).1.table.attached
-    ended None = over_each P again_at still ordered now (over now again_at.table)
-    ended (Some p) = still
-
-    again : (o : Option ℕ) → Each P (repeats_or now again_at o).1.table.attached
-    again (Some k) = still
-    again None = ended (end_of_first again_at.numbers)
-
-    unsent : (o : Option ℕ) → Each P (unsent_or now r o).1.table.attached
-    unsent (Some k) = each
-    unsent None = again (repeated now r.table)
 
 -- ---- one request
 
@@ -263,52 +59,61 @@ next_is_free r one id q there number =
     let some = stored_one r.next id q r one there number in
     cc
 
-module _ (n until : ℕ) where
-  -- the request with this number has this end of its first plan
+-- this part of what is stored of the request with a number is this
+abbrev HasPart : {X : Type 0} → (AskedSeen → X) → ℕ → X → Client → Type 0
+HasPart part n value c = (a : AskedSeen) → datum_of n c.requests ≡ Some a → part a ≡ value
+
+-- a part that no change and no other message changes
+module _ {X : Type 0} (part : AskedSeen → X)
+    (still : (change : Change) (a : AskedSeen) → part (changed change a) ≡ part a)
+    (as_before : (memory : Memory) (bytes : List ℕ) (m : Met) (why : Why) (d : Option Answered)
+    (s : Spot) → part (turned_of memory bytes m why d s) ≡ part m.asked) (n : ℕ) (value : X) where
+  -- this is of the request with this number
   abbrev Own : Request AskedSeen → Type 0
-  Own q = q.number ≡ n → q.datum.until ≡ until
+  Own q = q.number ≡ n → part q.datum ≡ value
 
   abbrev EachOf : Client → Type 0
   EachOf c = Each Own c.requests.table.attached
 
-  own_each : (c : Client) → IsOne c.requests → HasPlan n until c → EachOf c
+  own_each : (c : Client) → IsOne c.requests → HasPart part n value c → EachOf c
   own_each c one has id q there number =
       has q.datum (stored_one n id q c.requests one there number)
 
   own_back : (r : All) → IsOne r → Each Own r.table.attached → (b : AskedSeen)
-      → datum_of n r ≡ Some b → b.until ≡ until
+      → datum_of n r ≡ Some b → part b ≡ value
   own_back r one each b some = by (id_at n r.numbers) refl some
     where
       found : (id : ℕ) → id_at n r.numbers ≡ Some id → (o : Option (Request AskedSeen))
           → datum_at id r.table.attached ≡ o → option_map (λ x. x.datum) o ≡ Some b
-          → b.until ≡ until
+          → part b ≡ value
       found id named None there is = cc
       found id named (Some q) there is =
           let numbered : Some q.number ≡ Some n =
           sym (ap (λ (o : Option (Request AskedSeen)). option_map (λ x. x.number) o) there)
           ∙ one.timed n id named in
-          sym (ap (λ (x : AskedSeen). x.until) (some_is q.datum b is))
+          sym (ap part (some_is q.datum b is))
           ∙ each id q there (some_is q.number n numbered)
 
       by : (o : Option ℕ) → id_at n r.numbers ≡ o
           → option_map (λ x. x.datum) (option_and_then (λ id. datum_at id r.table.attached) o)
           ≡ Some b
-          → b.until ≡ until
+          → part b ≡ value
       by None named is = cc
       by (Some id) named is = found id named (datum_at id r.table.attached) refl is
 
   -- a request is started, which may be this one
-  started_each : (c : Client) (method : ℕ) (body : Body) (now : ℕ) → EachOf c
-      → (c.requests.next ≡ n → (first_asked c method body now).until ≡ until) → (o : Option ℕ)
-      → EachOf (started_at c method body now o)
-  started_each c method body now each own None = each
-  started_each c method body now each own (Some number) = by (first_message c method number body)
+  started_each : (c : Client) (method : ℕ) (body : Body) (options : Option Options) (now : ℕ)
+      → EachOf c → (c.requests.next ≡ n → part (first_asked c method body options now) ≡ value)
+      → (o : Option ℕ) → EachOf (started_at c method body options now o)
+  started_each c method body options now each own None = each
+  started_each c method body options now each own (Some number) =
+      by (first_message c method number body options)
     where
-      by : (page : Page?) → EachOf (started_with c number method body now page)
+      by : (page : Page?) → EachOf (started_with c number method body options now page)
       by (Err why) = each
       by (Ok bytes) =
-          start_each Own c.requests each (id_of c.seed number) bytes c.plan
-          (first_asked c method body now) now own
+          start_each Own c.requests each (id_of c.seed number) bytes (plan_by options c.plan)
+          (first_asked c method body options now) now own
 
   -- what is stored of a request changes, but not when its first plan ends
   changed_each : (change : Change) (m : ℕ) (c : Client) → IsOne c.requests → EachOf c
@@ -321,7 +126,7 @@ module _ (n until : ℕ) where
       by None found = each
       by (Some y) found =
           replace_each Own c.requests each m (changed change y)
-          (λ same. changed_until change y
+          (λ same. still change y
           ∙ own_back c.requests one each y (subst (λ k. datum_of k c.requests ≡ Some y) same found))
 
   handed_each : (now m : ℕ) (c : Client) → IsOne c.requests → EachOf c → (o : Option AskedSeen)
@@ -329,9 +134,9 @@ module _ (n until : ℕ) where
   handed_each now m c one each None = each
   handed_each now m c one each (Some x) = by (is_late now x)
     where
-      by : (b : Bool) → EachOf (cond b (given_up m x c) (sent_by m c)).1
+      by : (b : Bool) → EachOf (cond b (given_up m x c) (sent_by now m c)).1
       by true = remove_each Own c.requests each one.in_order m
-      by false = changed_each SentOut m c one each
+      by false = changed_each (SentOut now) m c one each
 
   told_each : (now : ℕ) (c : Client) → IsOne c.requests → EachOf c → EachOf (told now c).1
   told_each now c one each = by (polled now c.requests) refl
@@ -358,7 +163,7 @@ module _ (n until : ℕ) where
       (empty b d : AskedSeen) → IsOne r → Each Own r.table.attached → datum_of m r ≡ Some b
       → IsOne (after_replacing m d (after_again m x id bytes plan empty now r))
       → datum_of m (after_replacing m d (after_again m x id bytes plan empty now r)) ≡ Some d
-      → d.until ≡ b.until
+      → part d ≡ part b
       → Each Own (after_replacing m d (after_again m x id bytes plan empty now r)).table.attached
   turned_each r plan now m id x bytes empty b d one each there one_then there_then same =
       by (m == n) refl
@@ -373,7 +178,7 @@ module _ (n until : ℕ) where
           let kept : datum_of n then_of ≡ Some d =
           subst (λ j. datum_of j then_of ≡ Some d) is_one there_then in
           let before : datum_of n r ≡ Some b = subst (λ j. datum_of j r ≡ Some b) is_one there in
-          ap (λ (y : AskedSeen). y.until)
+          ap part
           (some_is q.datum d (sym (stored_one n k q then_of one_then found number) ∙ kept))
           ∙ same ∙ own_back r one each b before
       by false other =
@@ -389,25 +194,28 @@ module _ (n until : ℕ) where
 
   heard_each : (from : SocketAddr) (bytes : List ℕ) (now : ℕ) (c : Client) (answer : Answer)
       → IsOne c.requests → IsPunctual c → EachOf c
-      → UnlessMemory (λ memory. received memory from bytes now c) bytes c answer → EachOf answer.1
+      → UnlessMemory (λ memory. received memory from bytes now c) bytes (heard_in from bytes c) c answer
+      → EachOf answer.1
   heard_each from bytes now c answer one is each =
-      heard EachOf c now bytes each (λ change m. changed_each change m c one each)
+      heard EachOf c now bytes each (λ change m drop. changed_each change m c one each)
       (λ end m standing. answer_each Own c.requests each one.in_order m.number (length bytes)
       (moment_of now m) end)
-      (λ memory m why d s page t. turned_each c.requests c.plan now m.number s.id
+      (λ memory m why d s page t. turned_each c.requests (plan_for c m.asked) now m.number s.id
       (answering_of now bytes) page (nothing_of m) m.asked (turned_of memory bytes m why d s) one each
       t.there
-      (one_after c.requests c.plan now m.number s.id (answering_of now bytes) page (nothing_of m)
-      m.asked (turned_of memory bytes m why d s) one is t.there t.free t.in_time refl)
-      (datum_after c.requests c.plan now m.number s.id (answering_of now bytes) page (nothing_of m)
-      m.asked (turned_of memory bytes m why d s) one is t.there t.free t.in_time refl) refl)
+      (one_after c.requests (plan_for c) now m.number s.id (answering_of now bytes) page (nothing_of m)
+      m.asked (turned_of memory bytes m why d s) one is t.there t.free t.in_time refl refl)
+      (datum_after c.requests (plan_for c) now m.number s.id (answering_of now bytes) page
+      (nothing_of m) m.asked (turned_of memory bytes m why d s) one is t.there t.free t.in_time refl
+      refl)
+      (as_before memory bytes m why d s))
       from answer
 
   call_each : (c after : Client) (event : Event) → IsOne c.requests → IsPunctual c
       → n < c.requests.next → EachOf c → Call c event after → EachOf after
-  call_each c after event one is low each (requests _ _ method body now early none made) =
+  call_each c after event one is low each (requests _ _ method body options now early none made) =
       subst EachOf (sym made)
-      (started_each c method body now each (λ next. absurd (lower next)) (chosen c))
+      (started_each c method body options now each (λ next. absurd (lower next)) (chosen c))
     where
       lower : c.requests.next ≡ n → ⊥
       lower next = omega (arith, low, next)
@@ -421,18 +229,64 @@ module _ (n until : ℕ) where
 
 -- ---- law
 
+-- a part that is kept is kept over each call
+keeps_part : {X : Type 0} (part : AskedSeen → X)
+    → ((change : Change) (a : AskedSeen) → part (changed change a) ≡ part a)
+    → ((memory : Memory) (bytes : List ℕ) (m : Met) (why : Why) (d : Option Answered) (s : Spot)
+    → part (turned_of memory bytes m why d s) ≡ part m.asked)
+    → (n : ℕ) (value : X) (c after : Client) (event : Event) → IsRequests c.requests → IsPunctual c
+    → n < c.requests.next → Call c event after → HasPart part n value c → HasPart part n value after
+keeps_part part still as_before n value c after event i is low call has =
+    own_back part still as_before n value after.requests (stays_stored c after event i is call).one
+    (call_each part still as_before n value c after event i.one is low
+    (own_each part still as_before n value c i.one has) call)
+
+-- and it is that of the request which starts
+starts_part : {X : Type 0} (part : AskedSeen → X)
+    → ((change : Change) (a : AskedSeen) → part (changed change a) ≡ part a)
+    → ((memory : Memory) (bytes : List ℕ) (m : Met) (why : Why) (d : Option Answered) (s : Spot)
+    → part (turned_of memory bytes m why d s) ≡ part m.asked)
+    → (c : Client) (method : ℕ) (body : Body) (options : Option Options) (now : ℕ)
+    → IsRequests c.requests
+    → HasPart part (next_number c) (part (first_asked c method body options now))
+    (started method body options now c)
+starts_part part still as_before c method body options now i =
+    own_back part still as_before c.requests.next (part (first_asked c method body options now))
+    (started method body options now c).requests
+    (started_stored c method body options now i (chosen c) refl).one
+    (started_each part still as_before c.requests.next (part (first_asked c method body options now)) c
+    method body options now
+    (λ id q there number. absurd (next_is_free c.requests i.one id q there number)) (λ next. refl)
+    (chosen c))
+
 pub keeps_plan : (c after : Client) (event : Event) (number until : ℕ) → IsRequests c.requests
     → IsPunctual c → number < c.requests.next → Call c event after → HasPlan number until c
     → HasPlan number until after
-keeps_plan c after event number until i is low call has =
-    own_back number until after.requests (stays_stored c after event i is call).one
-    (call_each number until c after event i.one is low (own_each number until c i.one has) call)
+keeps_plan c after event number until =
+    keeps_part (λ (a : AskedSeen). a.until) changed_until (λ memory bytes m why d s. refl) number until c after event
 
-pub starts_plan : (c : Client) (method : ℕ) (body : Body) (now : ℕ) → IsRequests c.requests
-    → HasPlan (next_number c) (moment_after now (plan_of c.plan)) (started method body now c)
-starts_plan c method body now i =
-    own_back c.requests.next (moment_after now (plan_of c.plan))
-    (started method body now c).requests (started_stored c method body now i (chosen c) refl).one
-    (started_each c.requests.next (moment_after now (plan_of c.plan)) c method body now
-    (λ id q there number. absurd (next_is_free c.requests i.one id q there number)) (λ next. refl)
-    (chosen c))
+pub starts_plan : (c : Client) (method : ℕ) (body : Body) (options : Option Options) (now : ℕ)
+    → IsRequests c.requests
+    → HasPlan (next_number c) (moment_after now (plan_of (plan_by options c.plan)))
+    (started method body options now c)
+starts_plan c method body options now i =
+    starts_part (λ (a : AskedSeen). a.until) changed_until (λ memory bytes m why d s. refl) c method body options
+    now i
+
+-- the options of the request with a number
+abbrev pub HasOptions : ℕ → Option Options → Client → Type 0
+HasOptions n options c = (a : AskedSeen) → datum_of n c.requests ≡ Some a → a.options ≡ options
+
+pub keeps_options : (c after : Client) (event : Event) (number : ℕ) (options : Option Options)
+    → IsRequests c.requests → IsPunctual c → number < c.requests.next → Call c event after
+    → HasOptions number options c → HasOptions number options after
+keeps_options c after event number options =
+    keeps_part (λ (a : AskedSeen). a.options) changed_options (λ memory bytes m why d s. refl) number options c
+    after event
+
+pub starts_options : (c : Client) (method : ℕ) (body : Body) (options : Option Options) (now : ℕ)
+    → IsRequests c.requests
+    → HasOptions (next_number c) options (started method body options now c)
+starts_options c method body options now i =
+    starts_part (λ (a : AskedSeen). a.options) changed_options (λ memory bytes m why d s. refl) c method body
+    options now i

@@ -1,13 +1,17 @@
 pub mod BoundLemmas
 pub mod ChangeLemmas
 pub mod DecidingLemmas
+pub mod EachLemmas
 pub mod EndLemmas
+pub mod GrantedLemmas
 pub mod HeaderLemmas
 pub mod HeardLemmas
 pub mod IdLemmas
 pub mod KeepingLemmas
+pub mod OptionLawLemmas
 pub mod OptionLemmas
 pub mod PassingLemmas
+pub mod PlaceLemmas
 pub mod ReceivingLemmas
 pub mod RequestingLemmas
 pub mod StoredLemmas

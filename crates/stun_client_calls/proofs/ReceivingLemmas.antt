@@ -18,93 +18,129 @@ use Rattle.stun_base.specs.declared.wire.message_type.MessageClass.TheVariants a
 use Rattle.stun_types.specs.Message.{refusal}
 use Rattle.stun_extra.specs.CanonicalAddress.{is_same_address}
 use Rattle.stun_client.specs.Challenges.{Answered}
-use Rattle.stun_client.specs.Clients.{answering, confirming}
-use Rattle.stun_client.specs.Judging.{Verdict, judged}
+use Rattle.stun_client.specs.Standing.{answering, confirming}
+use Rattle.stun_client.specs.Judging.{Identity, Verdict, judged}
 use Rattle.stun_client.specs.Outcomes.{outcome_of}
-use Rattle.stun_client.specs.Requests.{is_answer}
+use Rattle.stun_client.specs.Answers.{is_answer}
 use Rattle.stun_client.specs.Standing.{StandingSeen, after_success}
 use Rattle.stun_client_endpoint.specs.Written.{Page?}
 use Rattle.stun_client_endpoint.specs.declared.ended.DropReason.{DropReason}
 use Rattle.stun_client_endpoint.specs.declared.ended.DropReason.TheVariants as Reasons
 use Rattle.stun_client_endpoint.specs.declared.ended.RequestEnd.{RequestEnd}
 use Rattle.stun_client_endpoint.specs.declared.ended.RequestEnd.TheVariants as how
-use Rattle.stun_client_endpoint.specs.declared.told.Received.TheVariants.{Consumed, Indication}
+use Rattle.stun_client_endpoint.specs.declared.told.Received.TheVariants.{Consumed}
 use Rattle.stun_client_endpoint.specs.declared.told.Received.TheVariants.{NotOurs}
 use Rattle.stun_client_requests.specs.Requests.{RequestsSeen, after_again, after_answering}
 use Rattle.stun_client_requests.specs.Requests.{after_replacing, datum_of, number_at}
-use Rattle.stun_client_calls.specs.Clients.{Client, with_requests}
+use Rattle.stun_agent.specs.Timing.{Settings}
+use Rattle.stun_client_calls.specs.Clients.{Client, address_for, identity_for, plan_for}
+use Rattle.stun_client_calls.specs.Clients.{with_requests}
 use Rattle.stun_client_calls.specs.Deciding.{DecisionSeen, Place, answered, decided, drops, refuses}
 use Rattle.stun_client_calls.specs.Deciding.{unauthorized}
-use Rattle.stun_client_calls.specs.Endpoints.{EndSeen, without_all}
+use Rattle.stun_client_calls.specs.Endpoints.{EndSeen, bare_end, without_all}
 use Rattle.stun_client_calls.specs.Ids.{Earlier, number_in}
 use Rattle.stun_client_calls.specs.Messages.{AskedSeen, SentSeen, TurnSeen, message_at, new_asked}
 use Rattle.stun_client_calls.specs.Messages.{turned}
-use Rattle.stun_client_calls.specs.Receiving.{Answer, Memory, Met, Spot, UnlessMemory, answered_in}
+use Rattle.stun_client_calls.specs.Receiving.{Answer, Memory, Met, Spot, UnlessMemory, all_memory}
+use Rattle.stun_client_calls.specs.Receiving.{answered_in}
 use Rattle.stun_client_calls.specs.Receiving.{is_success_class}
 use Rattle.stun_client_calls.specs.Receiving.{as_current, as_earlier, as_expected, by_class}
 use Rattle.stun_client_calls.specs.Receiving.{by_decision, by_met}
 use Rattle.stun_client_calls.specs.Receiving.{current_of, decision_for, dropping, dropping_refusal}
 use Rattle.stun_client_calls.specs.Receiving.{earlier_of, received, unwritten}
-use Rattle.stun_client_calls.specs.Receiving.{exchanged_ids, forgone, if_method, judge_of, met}
+use Rattle.stun_client_calls.specs.Options.{round_trip}
+use Rattle.stun_client_calls.specs.Receiving.{exchanged_ids, forgone, heard_in, if_from, if_method}
+use Rattle.stun_client_calls.specs.Receiving.{indicated, judge_for, met, round_trip_of}
 use Rattle.stun_client_calls.specs.Receiving.{met_by}
 use Rattle.stun_client_calls.specs.Receiving.{moment_of, notes, spot_of, turned_at, turned_by}
 use Rattle.stun_client_calls.specs.Receiving.{turned_to}
-use Rattle.stun_client_calls.specs.Receiving.{without_memory}
 use Rattle.stun_client_calls.specs.Writing.{message_bytes}
-use Rattle.stun_client_calls.specs.code.Acting.{IsExchanged, confirmed_in}
+use Rattle.stun_client_calls.specs.code.Acting.{IsExchanged, confirmed_in, exchanging}
 use Rattle.stun_client_calls.specs.declared.deciding.Limits.{Limits}
 use Rattle.stun_client_calls.specs.declared.turning.Why.{Why}
 
--- whatever there is memory for
-abbrev all_kept : Memory
-all_kept = record { is_kept = true; is_noted = true }
-
 -- what does not need memory for the former message
-pub always : (expected : Memory → Answer) (bytes : List ℕ) (c : Client) (answer : Answer)
-    → ((memory : Memory) → answer ≡ expected memory) → UnlessMemory expected bytes c answer
-always expected bytes c answer is = as_expected all_kept (is all_kept)
+pub always : (expected : Memory → Answer) (bytes : List ℕ) (o : Option Met) (c : Client)
+    (answer : Answer) → ((memory : Memory) → answer ≡ expected memory)
+    → UnlessMemory expected bytes o c answer
+always expected bytes o c answer is = as_expected all_memory (is all_memory)
 
 -- what is expected is the same by another name
-pub renamed : (expected other : Memory → Answer) (bytes : List ℕ) (c : Client) (answer : Answer)
-    → ((memory : Memory) → other memory ≡ expected memory) → UnlessMemory other bytes c answer
-    → UnlessMemory expected bytes c answer
-renamed expected other bytes c answer same (as_expected memory is) =
+pub renamed : (expected other : Memory → Answer) (bytes : List ℕ) (o : Option Met) (c : Client)
+    (answer : Answer) → ((memory : Memory) → other memory ≡ expected memory)
+    → UnlessMemory other bytes o c answer → UnlessMemory expected bytes o c answer
+renamed expected other bytes o c answer same (as_expected memory is) =
     as_expected memory (is ∙ same memory)
-renamed expected other bytes c answer same (forgone is) = forgone is
+renamed expected other bytes o c answer same (forgone is) = forgone is
 
 -- a response for which there is no memory is dropped
 pub forgone_for : (expected : Memory → Answer) (bytes : List ℕ) (c : Client) (m : Met) (number : ℕ)
     (answer : Answer) → answered_in bytes c ≡ Some m → number ≡ m.number
-    → answer ≡ dropping number Reasons.OutOfMemory bytes c → UnlessMemory expected bytes c answer
+    → answer ≡ dropping number Reasons.OutOfMemory bytes c
+    → UnlessMemory expected bytes (Some m) c answer
 forgone_for expected bytes c m number answer found same is =
-    forgone (is ∙ ap (λ n. dropping n Reasons.OutOfMemory bytes c) same
-    ∙ sym (ap (λ o. without_memory bytes c o) found))
+    forgone (is ∙ ap (λ n. dropping n Reasons.OutOfMemory bytes c) same)
+
+-- ---- the address that a response comes from
+
+from_its_address : (from : SocketAddr) (c : Client) (o : Option Met) (m : Met)
+    → if_from from c o ≡ Some m → o ≡ Some m
+from_its_address from c None m is = cc
+from_its_address from c (Some n) m is = by (is_same_address from (address_for c n.asked)) is
+  where
+    by : (b : Bool) → ◌≡◌ {A = Option Met} (cond b (Some n) None) (Some m)
+        → ◌≡◌ {A = Option Met} (Some n) (Some m)
+    by true is = is
+    by false is = cc
+
+-- what is heard from an address is answered
+pub heard_is : (from : SocketAddr) (bytes : List ℕ) (c : Client) (m : Met)
+    → heard_in from bytes c ≡ Some m → answered_in bytes c ≡ Some m
+heard_is from bytes c m = from_its_address from c (answered_in bytes c) m
+
+-- what is heard from an address, by the message that is answered
+pub heard_so : (from : SocketAddr) (bytes : List ℕ) (c : Client) (m n : Met) (address : SocketAddr)
+    (b : Bool) → Some n ≡ answered_in bytes c → n ≡ m → address ≡ address_for c m.asked
+    → is_same_address from address ≡ b → cond b (Some m) None ≡ heard_in from bytes c
+heard_so from bytes c m n address b found meets there is =
+    ap (λ (x : Bool). cond_met x) (sym is)
+    ∙ ap (λ (a : SocketAddr). cond_met (is_same_address from a)) there
+    ∙ ap (λ (o : Option Met). if_from from c o) (ap (λ (y : Met). Some y) (sym meets) ∙ found)
+  where
+    cond_met : Bool → Option Met
+    cond_met x = cond x (Some m) None
 
 -- a response to no message is not for this client
-pub unanswered : (bytes : List ℕ) (c : Client) (now : ℕ) → answered_in bytes c ≡ None
-    → UnlessMemory (λ memory. by_met memory c now bytes (answered_in bytes c)) bytes c (NotOurs, c)
-unanswered bytes c now none =
-    always (λ memory. by_met memory c now bytes (answered_in bytes c)) bytes c (NotOurs, c)
+pub unanswered : (from : SocketAddr) (bytes : List ℕ) (c : Client) (now : ℕ)
+    → heard_in from bytes c ≡ None
+    → UnlessMemory (λ memory. by_met memory c now bytes (heard_in from bytes c)) bytes
+    (heard_in from bytes c) c (NotOurs, c)
+unanswered from bytes c now none =
+    always (λ memory. by_met memory c now bytes (heard_in from bytes c)) bytes
+    (heard_in from bytes c) c (NotOurs, c)
     (λ memory. sym (ap (λ o. by_met memory c now bytes o) none))
 
 -- a response comes to what is decided on it
-pub by_its_decision : (bytes : List ℕ) (c : Client) (now : ℕ) (m : Met) (d : DecisionSeen)
-    (answer : Answer) → answered_in bytes c ≡ Some m → d ≡ decision_for c now bytes m
-    → UnlessMemory (λ memory. by_decision memory c now bytes m d) bytes c answer
-    → UnlessMemory (λ memory. by_met memory c now bytes (answered_in bytes c)) bytes c answer
-by_its_decision bytes c now m d answer found decides =
-    renamed (λ memory. by_met memory c now bytes (answered_in bytes c))
-    (λ memory. by_decision memory c now bytes m d) bytes c answer
-    (λ memory. ap (λ x. by_decision memory c now bytes m x) decides
-    ∙ sym (ap (λ o. by_met memory c now bytes o) found))
+pub by_its_decision : (from : SocketAddr) (bytes : List ℕ) (c : Client) (now : ℕ) (m : Met)
+    (d : DecisionSeen) (answer : Answer) → heard_in from bytes c ≡ Some m
+    → d ≡ decision_for c now bytes m
+    → UnlessMemory (λ memory. by_decision memory c now bytes m d) bytes (Some m) c answer
+    → UnlessMemory (λ memory. by_met memory c now bytes (heard_in from bytes c)) bytes
+    (heard_in from bytes c) c answer
+by_its_decision from bytes c now m d answer found decides said =
+    subst (λ (o : Option Met).
+    UnlessMemory (λ memory. by_met memory c now bytes o) bytes o c answer) (sym found)
+    (renamed (λ memory. by_met memory c now bytes (Some m))
+    (λ memory. by_decision memory c now bytes m d) bytes (Some m) c answer
+    (λ memory. ap (λ x. by_decision memory c now bytes m x) decides) said)
 
 -- ---- another message
 
 pub without_spot : (bytes : List ℕ) (c : Client) (now : ℕ) (m : Met) (number : ℕ) (why : Why)
     (d : Option Answered) (place : Option Place) (answer : Answer) → answered_in bytes c ≡ Some m
     → number ≡ m.number → answer ≡ dropping number Reasons.OutOfMemory bytes c
-    → UnlessMemory (λ memory. turned_at memory c now bytes m why d (spot_of c m.asked place)) bytes c
-    answer
+    → UnlessMemory (λ memory. turned_at memory c now bytes m why d (spot_of c m.asked place)) bytes
+    (Some m) c answer
 without_spot bytes c now m number why d place answer =
     forgone_for (λ memory. turned_at memory c now bytes m why d (spot_of c m.asked place)) bytes c m
     number answer
@@ -113,18 +149,18 @@ pub with_spot : (bytes : List ℕ) (c : Client) (now : ℕ) (m : Met) (why : Why
     (place : Option Place) (s : Spot) (page : Page?) (answer : Answer)
     → spot_of c m.asked place ≡ Some s
     → message_bytes c.form c.identity d s.id m.asked ≡ page
-    → UnlessMemory (λ memory. turned_by memory c now bytes m why d s page) bytes c answer
-    → UnlessMemory (λ memory. turned_at memory c now bytes m why d (spot_of c m.asked place)) bytes c
-    answer
+    → UnlessMemory (λ memory. turned_by memory c now bytes m why d s page) bytes (Some m) c answer
+    → UnlessMemory (λ memory. turned_at memory c now bytes m why d (spot_of c m.asked place)) bytes
+    (Some m) c answer
 with_spot bytes c now m why d place s page answer stands written =
     renamed (λ memory. turned_at memory c now bytes m why d (spot_of c m.asked place))
-    (λ memory. turned_by memory c now bytes m why d s page) bytes c answer
+    (λ memory. turned_by memory c now bytes m why d s page) bytes (Some m) c answer
     (λ memory. ap (λ p. turned_by memory c now bytes m why d s p) (sym written)
     ∙ sym (ap (λ o. turned_at memory c now bytes m why d o) stands))
 
 -- ---- the message that is answered
 
-if_method_is : (bytes : List ℕ) (o : Option Met) (m : Met) → if_method bytes o ≡ Some m
+pub if_method_is : (bytes : List ℕ) (o : Option Met) (m : Met) → if_method bytes o ≡ Some m
     → o ≡ Some m
 if_method_is bytes None m is = cc
 if_method_is bytes (Some n) m is = by (is_answer n.asked.method bytes) is
@@ -214,22 +250,26 @@ earlier_is id c number a e noted stored is =
 -- ---- decisions
 
 pub decided_so : (c : Client) (now : ℕ) (bytes : List ℕ) (m : Met) (limits : Limits) (v : Verdict)
-    (d : DecisionSeen) → limits ≡ (judge_of c).limits
-    → v ≡ judged c.requires_fingerprint m.is_current c.identity c.standing m.signed_for bytes
+    (d : DecisionSeen) (i : Identity) → limits ≡ (judge_for c m.asked).limits
+    → i ≡ identity_for c m.asked
+    → v ≡ judged c.requires_fingerprint m.is_current i c.standing m.signed_for bytes
     → d ≡ decided limits c.standing now m.asked v → d ≡ decision_for c now bytes m
-decided_so c now bytes m limits v d same verdict is =
+decided_so c now bytes m limits v d i same who verdict is =
     is ∙ ap (λ (l : Limits). decided l c.standing now m.asked v) same
-    ∙ ap (λ (x : Verdict). decided (judge_of c).limits c.standing now m.asked x) verdict
+    ∙ ap (λ (x : Verdict). decided (judge_for c m.asked).limits c.standing now m.asked x) verdict
+    ∙ ap (λ (x : Identity). decided (judge_for c m.asked).limits c.standing now m.asked
+    (judged c.requires_fingerprint m.is_current x c.standing m.signed_for bytes)) who
 
 pub decided_at : (c e : Client) (now : ℕ) (bytes : List ℕ) (m n : Met) (limits : Limits)
-    (v : Verdict) (d : DecisionSeen) → e ≡ c → n ≡ m → limits ≡ (judge_of c).limits
-    → v ≡ judged e.requires_fingerprint n.is_current e.identity e.standing n.signed_for bytes
+    (v : Verdict) (d : DecisionSeen) (i : Identity) → e ≡ c → n ≡ m
+    → limits ≡ (judge_for c n.asked).limits → i ≡ identity_for e n.asked
+    → v ≡ judged e.requires_fingerprint n.is_current i e.standing n.signed_for bytes
     → d ≡ decided limits e.standing now n.asked v → d ≡ decision_for c now bytes m
-decided_at c e now bytes m n limits v d opens meets same verdict is =
+decided_at c e now bytes m n limits v d i opens meets same who verdict is =
     subst (λ (x : Client). d ≡ decision_for x now bytes m) opens
     (subst (λ (y : Met). d ≡ decision_for e now bytes y) meets
-    (decided_so e now bytes n limits v d (same ∙ ap (λ (x : Client). (judge_of x).limits) (sym opens))
-    verdict is))
+    (decided_so e now bytes n limits v d i
+    (same ∙ ap (λ (x : Client). (judge_for x n.asked).limits) (sym opens)) who verdict is))
 
 -- ---- ends
 
@@ -267,13 +307,23 @@ ended_so c new now bytes m number is_current end other standing its a same curre
 abbrev consumed : Client → Answer
 consumed c = (Consumed, c)
 
-abbrev pub end_of : RequestEnd → List ℕ → EndSeen
-end_of end response = record { end = end; response = response }
+abbrev pub end_of : RequestEnd → List ℕ → Option ℕ → EndSeen
+end_of end response trip = record { end = end; response = response; round_trip = trip }
 
-pub end_so : (end other : RequestEnd) (response bytes : List ℕ) → end ≡ other → response ≡ bytes
-    → end_of end response ≡ end_of other bytes
-end_so end other response bytes is same =
-    ap (λ (x : RequestEnd). end_of x response) is ∙ ap (λ (x : List ℕ). end_of other x) same
+pub end_so : (end other : RequestEnd) (response bytes : List ℕ) (trip its : Option ℕ) → end ≡ other
+    → response ≡ bytes → trip ≡ its → end_of end response trip ≡ end_of other bytes its
+end_so end other response bytes trip its is same took =
+    ap (λ (x : RequestEnd). end_of x response trip) is
+    ∙ ap (λ (x : List ℕ). end_of other x trip) same
+    ∙ ap (λ (x : Option ℕ). end_of other bytes x) took
+
+-- the round trip of a response, from what is stored of its request
+pub trip_so : (bytes : List ℕ) (c : Client) (now : ℕ) (m : Met) (is_current : Bool)
+    (trip : Option ℕ) → is_current ≡ m.is_current
+    → trip ≡ (if is_current then round_trip now m.asked.handed_out else None)
+    → trip ≡ round_trip_of now m
+trip_so bytes c now m is_current trip current is =
+    is ∙ ap (λ (b : Bool). if b then round_trip now m.asked.handed_out else None) current
 
 pub page_so : {T : Type 0} (r : Result T StunWriteError) (page other : Page?) → page ≡ other
     → IfErr r (λ why. (why ≡ OutOfMemory) ⊎ (page ≡ Err why))
@@ -294,24 +344,23 @@ ending_so c mid number moment end bytes standing a earlier mid_is is =
     record x { standing = standing; earlier = without_all a.earlier x.earlier }) mid_is
 
 -- a response that is believed has ended its request
-pub answered_so : (c mid : Client) (now : ℕ) (bytes : List ℕ) (m : Met) (number : ℕ)
+pub answered_as : (c mid : Client) (now : ℕ) (bytes : List ℕ) (m : Met) (number : ℕ)
     (is_current : Bool) (by : Option IntegrityAlgorithm) (end : EndSeen)
     (confirmed : Option Answered) (a : AskedSeen) (standing : StandingSeen) (earlier : Earlier)
     → answered_in bytes c ≡ Some m → number ≡ m.number → is_current ≡ m.is_current
-    → end ≡ record { end = how.Answered (outcome_of c.understood bytes) by; response = bytes }
+    → end ≡ end_of (how.Answered (outcome_of c.understood bytes) by) bytes (round_trip_of now m)
     → confirmed ≡ confirmed_in (class_in bytes) m → Some a ≡ datum_of number c.requests
     → mid ≡ with_requests (after_answering number (length bytes)
     (if is_current then Some now else None) end c.requests) c
     → standing ≡ after_success mid.standing confirmed → earlier ≡ without_all a.earlier mid.earlier
-    → UnlessMemory (λ memory. by_decision memory c now bytes m (answered by)) bytes c
-    (Consumed, record mid { standing = standing; earlier = earlier })
-answered_so c mid now bytes m number is_current by end confirmed a standing earlier found same current
-    ends confirms stored mid_is standing_is earlier_is =
-    always (λ memory. by_decision memory c now bytes m (answered by)) bytes c
-    (Consumed, record mid { standing = standing; earlier = earlier })
-    (λ memory. ap (λ (x : Client). consumed x)
+    → (memory : Memory)
+    → (Consumed, record mid { standing = standing; earlier = earlier })
+    ≡ by_decision memory c now bytes m (answered by)
+answered_as c mid now bytes m number is_current by end confirmed a standing earlier found same current
+    ends confirms stored mid_is standing_is earlier_is memory =
+    ap (λ (x : Client). consumed x)
     (ended_so c (record mid { standing = standing; earlier = earlier }) now bytes m number is_current
-    end (record { end = how.Answered (outcome_of c.understood bytes) by; response = bytes })
+    end (end_of (how.Answered (outcome_of c.understood bytes) by) bytes (round_trip_of now m))
     standing (confirming (is_success_class (class_in bytes)) c.standing m.signed_for) a same current
     ends
     (standing_is ∙ ap (λ (x : Client). after_success x.standing confirmed) mid_is
@@ -319,28 +368,59 @@ answered_so c mid now bytes m number is_current by end confirmed a standing earl
     ∙ confirming_is (is_success_class (class_in bytes)) c.standing m.signed_for)
     (same_asked bytes c m number a found same stored)
     (ending_so c mid number (if is_current then Some now else None) end bytes standing a earlier mid_is
-    earlier_is)))
+    earlier_is))
+
+pub answered_so : (c mid : Client) (now : ℕ) (bytes : List ℕ) (m : Met) (number : ℕ)
+    (is_current : Bool) (by : Option IntegrityAlgorithm) (end : EndSeen)
+    (confirmed : Option Answered) (a : AskedSeen) (standing : StandingSeen) (earlier : Earlier)
+    → answered_in bytes c ≡ Some m → number ≡ m.number → is_current ≡ m.is_current
+    → end ≡ end_of (how.Answered (outcome_of c.understood bytes) by) bytes (round_trip_of now m)
+    → confirmed ≡ confirmed_in (class_in bytes) m → Some a ≡ datum_of number c.requests
+    → mid ≡ with_requests (after_answering number (length bytes)
+    (if is_current then Some now else None) end c.requests) c
+    → standing ≡ after_success mid.standing confirmed → earlier ≡ without_all a.earlier mid.earlier
+    → UnlessMemory (λ memory. by_decision memory c now bytes m (answered by)) bytes (Some m) c
+    (Consumed, record mid { standing = standing; earlier = earlier })
+answered_so c mid now bytes m number is_current by end confirmed a standing earlier found same current
+    ends confirms stored mid_is standing_is earlier_is =
+    always (λ memory. by_decision memory c now bytes m (answered by)) bytes (Some m) c
+    (Consumed, record mid { standing = standing; earlier = earlier })
+    (answered_as c mid now bytes m number is_current by end confirmed a standing earlier found same current ends confirms stored mid_is standing_is earlier_is)
 
 -- a request has ended that was challenged or refused as often as it may be
-pub unauthorized_so : (c mid : Client) (now : ℕ) (bytes : List ℕ) (m : Met) (number : ℕ)
+pub unauthorized_as : (c mid : Client) (now : ℕ) (bytes : List ℕ) (m : Met) (number : ℕ)
     (is_current : Bool) (end : EndSeen) (a : AskedSeen) (earlier : Earlier)
     → answered_in bytes c ≡ Some m → number ≡ m.number → is_current ≡ m.is_current
-    → end ≡ record { end = how.Unauthorized; response = [] } → Some a ≡ datum_of number c.requests
+    → end ≡ bare_end how.Unauthorized → Some a ≡ datum_of number c.requests
     → mid ≡ with_requests (after_answering number (length bytes)
     (if is_current then Some now else None) end c.requests) c
     → earlier ≡ without_all a.earlier mid.earlier
-    → UnlessMemory (λ memory. by_decision memory c now bytes m unauthorized) bytes c
+    → (memory : Memory)
+    → (Consumed, record mid { earlier = earlier })
+    ≡ by_decision memory c now bytes m unauthorized
+unauthorized_as c mid now bytes m number is_current end a earlier found same current ends stored
+    mid_is earlier_is memory =
+    ap (λ (x : Client). consumed x)
+    (ended_so c (record mid { earlier = earlier }) now bytes m number is_current end
+    (bare_end how.Unauthorized) mid.standing c.standing a same current ends
+    (ap (λ (x : Client). x.standing) mid_is) (same_asked bytes c m number a found same stored)
+    (ending_so c mid number (if is_current then Some now else None) end bytes mid.standing a earlier
+    mid_is earlier_is))
+
+pub unauthorized_so : (c mid : Client) (now : ℕ) (bytes : List ℕ) (m : Met) (number : ℕ)
+    (is_current : Bool) (end : EndSeen) (a : AskedSeen) (earlier : Earlier)
+    → answered_in bytes c ≡ Some m → number ≡ m.number → is_current ≡ m.is_current
+    → end ≡ bare_end how.Unauthorized → Some a ≡ datum_of number c.requests
+    → mid ≡ with_requests (after_answering number (length bytes)
+    (if is_current then Some now else None) end c.requests) c
+    → earlier ≡ without_all a.earlier mid.earlier
+    → UnlessMemory (λ memory. by_decision memory c now bytes m unauthorized) bytes (Some m) c
     (Consumed, record mid { earlier = earlier })
 unauthorized_so c mid now bytes m number is_current end a earlier found same current ends stored
     mid_is earlier_is =
-    always (λ memory. by_decision memory c now bytes m unauthorized) bytes c
+    always (λ memory. by_decision memory c now bytes m unauthorized) bytes (Some m) c
     (Consumed, record mid { earlier = earlier })
-    (λ memory. ap (λ (x : Client). consumed x)
-    (ended_so c (record mid { earlier = earlier }) now bytes m number is_current end
-    (record { end = how.Unauthorized; response = [] }) mid.standing c.standing a same current ends
-    (ap (λ (x : Client). x.standing) mid_is) (same_asked bytes c m number a found same stored)
-    (ending_so c mid number (if is_current then Some now else None) end bytes mid.standing a earlier
-    mid_is earlier_is)))
+    (unauthorized_as c mid now bytes m number is_current end a earlier found same current ends stored mid_is earlier_is)
 
 -- ---- the message that was the current one
 
@@ -354,44 +434,41 @@ ids_so is_noted former id number old removed new is noted =
     ∙ ap (λ (y : Earlier). if is_noted then insert_entry nat_cmp y former number else y) is
 
 -- another message is stored as the current one
-pub exchanged_so : (old : Client) (number former next id : ℕ) (a b : AskedSeen) (t : TurnSeen)
+pub exchanged_as : (c old : Client) (number former next id : ℕ) (a b : AskedSeen) (t : TurnSeen)
     (memory : Memory) (standing : StandingSeen) (requests : RequestsSeen AskedSeen EndSeen)
-    (earlier : Earlier) → next ≡ t.next_id → id ≡ t.id → b ≡ turned memory.is_kept former t a
-    → standing ≡ answering old.standing t.answered
+    (earlier : Earlier) → old ≡ c → next ≡ t.next_id → id ≡ t.id
+    → b ≡ turned memory.is_kept former t a → standing ≡ answering old.standing t.answered
     → requests ≡ after_replacing number b old.requests
     → earlier ≡ exchanged_ids (notes memory) former id number old.earlier
-    → IsExchanged number former a t old
-    (record old { next_id = next; standing = standing; requests = requests; earlier = earlier })
-exchanged_so old number former next id a b t memory standing requests earlier next_is id_is turns_to
-    stands stored noted =
-    record {
-      memory = memory;
-      after =
-          ap (λ (x : ℕ). record old {
-            next_id = x;
-            standing = standing;
-            requests = requests;
-            earlier = earlier;
-          }) next_is
-          ∙ ap (λ (x : StandingSeen). record old {
-            next_id = t.next_id;
-            standing = x;
-            requests = requests;
-            earlier = earlier;
-          }) stands
-          ∙ ap (λ (x : RequestsSeen AskedSeen EndSeen). record old {
-            next_id = t.next_id;
-            standing = answering old.standing t.answered;
-            requests = x;
-            earlier = earlier;
-          }) (stored ∙ ap (λ (y : AskedSeen). after_replacing number y old.requests) turns_to)
-          ∙ ap (λ (x : Earlier). record old {
-            next_id = t.next_id;
-            standing = answering old.standing t.answered;
-            requests = after_replacing number (turned memory.is_kept former t a) old.requests;
-            earlier = x;
-          }) (noted ∙ ap (λ (y : ℕ). exchanged_ids (notes memory) former y number old.earlier) id_is);
-    }
+    → record old { next_id = next; standing = standing; requests = requests; earlier = earlier }
+    ≡ exchanging memory number former a t c
+exchanged_as c old number former next id a b t memory standing requests earlier is next_is id_is
+    turns_to stands stored noted =
+    ap (λ (x : ℕ). record old {
+      next_id = x;
+      standing = standing;
+      requests = requests;
+      earlier = earlier;
+    }) next_is
+    ∙ ap (λ (x : StandingSeen). record old {
+      next_id = t.next_id;
+      standing = x;
+      requests = requests;
+      earlier = earlier;
+    }) stands
+    ∙ ap (λ (x : RequestsSeen AskedSeen EndSeen). record old {
+      next_id = t.next_id;
+      standing = answering old.standing t.answered;
+      requests = x;
+      earlier = earlier;
+    }) (stored ∙ ap (λ (y : AskedSeen). after_replacing number y old.requests) turns_to)
+    ∙ ap (λ (x : Earlier). record old {
+      next_id = t.next_id;
+      standing = answering old.standing t.answered;
+      requests = after_replacing number (turned memory.is_kept former t a) old.requests;
+      earlier = x;
+    }) (noted ∙ ap (λ (y : ℕ). exchanged_ids (notes memory) former y number old.earlier) id_is)
+    ∙ ap (λ (x : Client). exchanging memory number former a t x) is
 
 pub exchanged_at : (c old : Client) (number former next id : ℕ) (a b : AskedSeen) (t : TurnSeen)
     (memory : Memory) (standing : StandingSeen) (requests : RequestsSeen AskedSeen EndSeen)
@@ -403,19 +480,30 @@ pub exchanged_at : (c old : Client) (number former next id : ℕ) (a b : AskedSe
     (record old { next_id = next; standing = standing; requests = requests; earlier = earlier })
 exchanged_at c old number former next id a b t memory standing requests earlier is next_is id_is
     turns_to stands stored noted =
-    subst (λ (x : Client). IsExchanged number former a t x
-    (record old { next_id = next; standing = standing; requests = requests; earlier = earlier })) is
-    (exchanged_so old number former next id a b t memory standing requests earlier next_is id_is
-    turns_to stands stored noted)
+    record {
+      memory = memory;
+      after =
+          exchanged_as c old number former next id a b t memory standing requests earlier is next_is
+          id_is turns_to stands stored noted;
+    }
 
--- a client once another message is stored as the current one of a request
-abbrev exchanging : Memory → ℕ → ℕ → AskedSeen → TurnSeen → Client → Client
-exchanging memory number former a t c = record c {
-  next_id = t.next_id;
-  standing = answering c.standing t.answered;
-  requests = after_replacing number (turned memory.is_kept former t a) c.requests;
-  earlier = exchanged_ids (notes memory) former t.id number c.earlier;
-}
+-- with all memory granted the former message is kept and noted
+kept_and_noted : (kept noted : Bool) → kept ≡ true → noted ≡ true
+    → ◌≡◌ {A = Memory} (record { is_kept = kept; is_noted = noted }) all_memory
+kept_and_noted kept noted is_kept is_noted =
+    ap (λ (b : Bool). memory_of b noted) is_kept ∙ ap (λ (b : Bool). memory_of true b) is_noted
+  where
+    memory_of : Bool → Bool → Memory
+    memory_of b d = record { is_kept = b; is_noted = d }
+
+pub all_exchanged : (number former : ℕ) (a : AskedSeen) (t : TurnSeen) (c new : Client)
+    (kept noted : Bool) → kept ≡ true → noted ≡ true
+    → new ≡ exchanging (record { is_kept = kept; is_noted = noted }) number former a t c
+    → new ≡ exchanging all_memory number former a t c
+all_exchanged number former a t c new kept noted is_kept is_noted is =
+    is
+    ∙ ap (λ (m : Memory). exchanging m number former a t c)
+    (kept_and_noted kept noted is_kept is_noted)
 
 abbrev pub turn_with : Spot → Why → Option Answered → Option Answered → TurnSeen
 turn_with s why d o = record {
@@ -427,69 +515,91 @@ turn_with s why d o = record {
   why = why;
 }
 
-abbrev pub sent_again : ℕ → ℕ → List ℕ → Spot → List ℕ → ℕ → Client → Client
-sent_again number method response s bytes now c =
+abbrev pub sent_again : ℕ → AskedSeen → List ℕ → Spot → List ℕ → ℕ → Client → Client
+sent_again number a response s bytes now c =
     with_requests (after_again number (record { count = length response; moment = Some now }) s.id
-    bytes c.plan (new_asked method [] 0 None) now c.requests) c
+    bytes (plan_for c a) (new_asked a.method [] None 0 None) now c.requests) c
 
 -- another message has become the current one
-pub turned_so : (c before new : Client) (now : ℕ) (response : List ℕ) (m : Met) (number : ℕ)
+pub turned_as : (memory : Memory) (c before new : Client) (now : ℕ) (response : List ℕ) (m : Met) (number : ℕ)
     (why : Why) (d o : Option Answered) (s : Spot) (bytes : List ℕ) (a kept : AskedSeen)
     → answered_in response c ≡ Some m → number ≡ m.number → o ≡ d
     → datum_of number c.requests ≡ Some a → Some kept ≡ datum_of number c.requests
-    → before ≡ sent_again number kept.method response s bytes now c
-    → IsExchanged number (transaction_id_field response) a (turn_with s why d o) before new
-    → UnlessMemory (λ memory. turned_to memory c now response m why d s bytes) response c
-    (Consumed, new)
-turned_so c before new now response m number why d o s bytes a kept found same answers stored keeps
+    → before ≡ sent_again number kept response s bytes now c
+    → new ≡ exchanging memory number (transaction_id_field response) a (turn_with s why d o) before
+    → (Consumed, new) ≡ turned_to memory c now response m why d s bytes
+turned_as memory c before new now response m number why d o s bytes a kept found same answers stored keeps
     before_is x =
-    as_expected x.memory
-    (ap (λ (e : Client). consumed e)
-    (x.after
-    ∙ ap (λ (y : Client). exchanging x.memory number (transaction_id_field response) a
+    ap (λ (e : Client). consumed e)
+    (x
+    ∙ ap (λ (y : Client). exchanging memory number (transaction_id_field response) a
     (turn_with s why d o) y) before_is
-    ∙ ap (λ (y : AskedSeen). exchanging x.memory number (transaction_id_field response) a
-    (turn_with s why d o) (sent_again number y.method response s bytes now c))
+    ∙ ap (λ (y : AskedSeen). exchanging memory number (transaction_id_field response) a
+    (turn_with s why d o) (sent_again number y response s bytes now c))
     (same_asked response c m number kept found same keeps)
-    ∙ ap (λ (y : Option Answered). exchanging x.memory number
+    ∙ ap (λ (y : Option Answered). exchanging memory number
     (transaction_id_field response) a (turn_with s why d y)
-    (sent_again number m.asked.method response s bytes now c)) answers
-    ∙ ap (λ (y : AskedSeen). exchanging x.memory number (transaction_id_field response) y
-    (turn_with s why d d) (sent_again number m.asked.method response s bytes now c))
+    (sent_again number m.asked response s bytes now c)) answers
+    ∙ ap (λ (y : AskedSeen). exchanging memory number (transaction_id_field response) y
+    (turn_with s why d d) (sent_again number m.asked response s bytes now c))
     (same_asked response c m number a found same (sym stored))
-    ∙ ap (λ (y : ℕ). exchanging x.memory y (transaction_id_field response) m.asked
-    (turn_with s why d d) (sent_again y m.asked.method response s bytes now c)) same))
+    ∙ ap (λ (y : ℕ). exchanging memory y (transaction_id_field response) m.asked
+    (turn_with s why d d) (sent_again y m.asked response s bytes now c)) same)
 
-pub turned_from : (c e new : Client) (requests : RequestsSeen AskedSeen EndSeen) (now : ℕ)
+pub turned_from_as : (memory : Memory) (c e new : Client) (requests : RequestsSeen AskedSeen EndSeen) (now : ℕ)
     (response : List ℕ) (m : Met) (number former method count : ℕ) (why : Why)
     (d o : Option Answered) (s t : Spot) (bytes : List ℕ) (a kept empty : AskedSeen)
-    → answered_in response c ≡ Some m → number ≡ m.number → e ≡ c → t ≡ s → o ≡ d
+    (settings : Settings) → answered_in response c ≡ Some m → number ≡ m.number → e ≡ c → t ≡ s → o ≡ d
     → datum_of number e.requests ≡ Some a → Some kept ≡ datum_of number e.requests
-    → method ≡ kept.method → empty ≡ new_asked method [] 0 None → count ≡ length response
-    → requests ≡ after_again number (record { count = count; moment = Some now }) t.id bytes e.plan
+    → method ≡ kept.method → settings ≡ plan_for e kept → empty ≡ new_asked method [] None 0 None
+    → count ≡ length response
+    → requests ≡ after_again number (record { count = count; moment = Some now }) t.id bytes settings
     empty now e.requests
     → former ≡ transaction_id_field response
-    → IsExchanged number former a (turn_with t why d o) (with_requests requests e) new
-    → UnlessMemory (λ memory. turned_to memory c now response m why d s bytes) response c
-    (Consumed, new)
-turned_from c e new requests now response m number former method count why d o s t bytes a kept empty
-    found same opens stands answers stored keeps method_is empty_is count_is requests_is former_is x =
-    turned_so c (with_requests requests e) new now response m number why d o s bytes a kept found same
+    → new ≡ exchanging memory number former a (turn_with t why d o) (with_requests requests e)
+    → (Consumed, new) ≡ turned_to memory c now response m why d s bytes
+turned_from_as memory c e new requests now response m number former method count why d o s t bytes a kept empty
+    settings found same opens stands answers stored keeps method_is plan_is empty_is count_is
+    requests_is former_is x =
+    turned_as memory c (with_requests requests e) new now response m number why d o s bytes a kept found same
     answers (sym (ap (λ (y : Client). datum_of number y.requests) opens) ∙ stored)
     (keeps ∙ ap (λ (y : Client). datum_of number y.requests) opens)
     (ap (λ (r : RequestsSeen AskedSeen EndSeen). with_requests r e)
     (requests_is
-    ∙ ap (λ (k : ℕ). after_again number (record { count = k; moment = Some now }) t.id bytes e.plan
+    ∙ ap (λ (k : ℕ). after_again number (record { count = k; moment = Some now }) t.id bytes settings
     empty now e.requests) count_is
+    ∙ ap (λ (p : Settings). after_again number
+    (record { count = length response; moment = Some now }) t.id bytes p empty now e.requests) plan_is
     ∙ ap (λ (y : AskedSeen). after_again number (record { count = length response; moment = Some now })
-    t.id bytes e.plan y now e.requests)
-    (empty_is ∙ ap (λ (k : ℕ). new_asked k [] 0 None) method_is))
-    ∙ ap (λ (y : Spot). sent_again number kept.method response y bytes now e) stands
-    ∙ ap (λ (y : Client). sent_again number kept.method response s bytes now y) opens)
-    (subst (λ (y : Spot). IsExchanged number (transaction_id_field response) a (turn_with y why d o)
-    (with_requests requests e) new) stands
-    (subst (λ (k : ℕ). IsExchanged number k a (turn_with t why d o) (with_requests requests e) new)
+    t.id bytes (plan_for e kept) y now e.requests)
+    (empty_is ∙ ap (λ (k : ℕ). new_asked k [] None 0 None) method_is))
+    ∙ ap (λ (y : Spot). sent_again number kept response y bytes now e) stands
+    ∙ ap (λ (y : Client). sent_again number kept response s bytes now y) opens)
+    (subst (λ (y : Spot). new ≡ exchanging memory number (transaction_id_field response) a
+    (turn_with y why d o) (with_requests requests e)) stands
+    (subst (λ (k : ℕ). new ≡ exchanging memory number k a (turn_with t why d o)
+    (with_requests requests e))
     former_is x))
+
+pub turned_from : (c e new : Client) (requests : RequestsSeen AskedSeen EndSeen) (now : ℕ)
+    (response : List ℕ) (m : Met) (number former method count : ℕ) (why : Why)
+    (d o : Option Answered) (s t : Spot) (bytes : List ℕ) (a kept empty : AskedSeen)
+    (settings : Settings) → answered_in response c ≡ Some m → number ≡ m.number → e ≡ c → t ≡ s → o ≡ d
+    → datum_of number e.requests ≡ Some a → Some kept ≡ datum_of number e.requests
+    → method ≡ kept.method → settings ≡ plan_for e kept → empty ≡ new_asked method [] None 0 None
+    → count ≡ length response
+    → requests ≡ after_again number (record { count = count; moment = Some now }) t.id bytes settings
+    empty now e.requests
+    → former ≡ transaction_id_field response
+    → IsExchanged number former a (turn_with t why d o) (with_requests requests e) new
+    → UnlessMemory (λ memory. turned_to memory c now response m why d s bytes) response (Some m) c
+    (Consumed, new)
+turned_from c e new requests now response m number former method count why d o s t bytes a kept empty
+    settings found same opens stands answers stored keeps method_is plan_is empty_is count_is
+    requests_is former_is x =
+    as_expected x.memory
+    (turned_from_as x.memory c e new requests now response m number former method count why d o s t bytes a kept empty settings found same opens stands answers stored keeps method_is plan_is empty_is count_is requests_is former_is
+    x.after)
 
 -- the bytes cannot be written
 pub unwritten_so : (bytes : List ℕ) (c : Client) (now : ℕ) (m : Met) (number : ℕ) (why : Why)
@@ -497,11 +607,11 @@ pub unwritten_so : (bytes : List ℕ) (c : Client) (now : ℕ) (m : Met) (number
     (answer : Answer) → number ≡ m.number → spot_of c m.asked place ≡ Some s
     → message_bytes c.form c.identity d s.id m.asked ≡ Err error
     → answer ≡ dropping number (unwritten why) bytes c
-    → UnlessMemory (λ memory. turned_at memory c now bytes m why d (spot_of c m.asked place)) bytes c
-    answer
+    → UnlessMemory (λ memory. turned_at memory c now bytes m why d (spot_of c m.asked place)) bytes
+    (Some m) c answer
 unwritten_so bytes c now m number why d place s error answer same stands written is =
     with_spot bytes c now m why d place s (Err error) answer stands written
-    (always (λ memory. turned_by memory c now bytes m why d s (Err error)) bytes c answer
+    (always (λ memory. turned_by memory c now bytes m why d s (Err error)) bytes (Some m) c answer
     (λ memory. is ∙ ap (λ (n : ℕ). dropping n (unwritten why) bytes c) same))
 
 -- writing the bytes fails
@@ -512,15 +622,15 @@ pub not_written : (bytes : List ℕ) (c : Client) (now : ℕ) (m : Met) (number 
     → (error ≡ OutOfMemory) ⊎ (message_bytes c.form c.identity d t.id m.asked ≡ Err error)
     → (error ≡ OutOfMemory → reason ≡ Reasons.OutOfMemory)
     → (error ≡ OutOfMemory) ⊎ (reason ≡ unwritten why) → answer ≡ dropping number reason bytes c
-    → UnlessMemory (λ memory. turned_at memory c now bytes m why d (spot_of c m.asked place)) bytes c
-    answer
+    → UnlessMemory (λ memory. turned_at memory c now bytes m why d (spot_of c m.asked place)) bytes
+    (Some m) c answer
 not_written bytes c now m number why d place s t error reason answer found same stands opens refused
     memory other is =
     by refused other
   where
     forgets : error ≡ OutOfMemory
         → UnlessMemory (λ memory. turned_at memory c now bytes m why d (spot_of c m.asked place))
-        bytes c answer
+        bytes (Some m) c answer
     forgets fails =
         forgone_for (λ memory. turned_at memory c now bytes m why d (spot_of c m.asked place)) bytes c
         m number answer found same
@@ -529,7 +639,7 @@ not_written bytes c now m number why d place s t error reason answer found same 
     by : (error ≡ OutOfMemory) ⊎ (message_bytes c.form c.identity d t.id m.asked ≡ Err error)
         → (error ≡ OutOfMemory) ⊎ (reason ≡ unwritten why)
         → UnlessMemory (λ memory. turned_at memory c now bytes m why d (spot_of c m.asked place))
-        bytes c answer
+        bytes (Some m) c answer
     by (inl fails) o = forgets fails
     by (inr page) (inl fails) = forgets fails
     by (inr page) (inr reasoned) =
@@ -539,95 +649,84 @@ not_written bytes c now m number why d place s t error reason answer found same 
 
 -- ---- all of it
 
--- what a datagram comes to, by whether it is not a message and whether it is from the server
-abbrev by_parts : Memory → SocketAddr → List ℕ → ℕ → Client → Bool → Bool → Answer
-by_parts memory from bytes now c is_refused is_from_server =
-    if is_refused then (NotOurs, c)
-    else if is_from_server then by_class memory c now bytes (class_in bytes) else (NotOurs, c)
+-- what a datagram comes to, by whether it is not a message
+abbrev by_parts : Memory → SocketAddr → List ℕ → ℕ → Client → Bool → Answer
+by_parts memory from bytes now c is_refused =
+    if is_refused then (NotOurs, c) else by_class memory from c now bytes (class_in bytes)
 
 -- what is decided, by another name
 pub decided_as : (bytes : List ℕ) (c : Client) (now : ℕ) (m : Met) (d other : DecisionSeen)
     (answer : Answer) → d ≡ other
-    → UnlessMemory (λ memory. by_decision memory c now bytes m other) bytes c answer
-    → UnlessMemory (λ memory. by_decision memory c now bytes m d) bytes c answer
+    → UnlessMemory (λ memory. by_decision memory c now bytes m other) bytes (Some m) c answer
+    → UnlessMemory (λ memory. by_decision memory c now bytes m d) bytes (Some m) c answer
 decided_as bytes c now m d other answer is =
     renamed (λ memory. by_decision memory c now bytes m d)
-    (λ memory. by_decision memory c now bytes m other) bytes c answer
+    (λ memory. by_decision memory c now bytes m other) bytes (Some m) c answer
     (λ memory. ap (λ (x : DecisionSeen). by_decision memory c now bytes m x) (sym is))
 
 pub dropped_so : (bytes : List ℕ) (c : Client) (now : ℕ) (m : Met) (d : DecisionSeen) (number : ℕ)
     (why : DropReason) (answer : Answer) → d ≡ drops why → number ≡ m.number
     → answer ≡ dropping number why bytes c
-    → UnlessMemory (λ memory. by_decision memory c now bytes m d) bytes c answer
+    → UnlessMemory (λ memory. by_decision memory c now bytes m d) bytes (Some m) c answer
 dropped_so bytes c now m d number why answer is same said =
     decided_as bytes c now m d (drops why) answer is
-    (always (λ memory. by_decision memory c now bytes m (drops why)) bytes c answer
+    (always (λ memory. by_decision memory c now bytes m (drops why)) bytes (Some m) c answer
     (λ memory. said ∙ ap (λ (n : ℕ). dropping n why bytes c) same))
 
 pub refused_so : (bytes : List ℕ) (c : Client) (now : ℕ) (m : Met) (d : DecisionSeen) (number : ℕ)
     (answer : Answer) → d ≡ refuses → number ≡ m.number
     → answer ≡ dropping_refusal number bytes c
-    → UnlessMemory (λ memory. by_decision memory c now bytes m d) bytes c answer
+    → UnlessMemory (λ memory. by_decision memory c now bytes m d) bytes (Some m) c answer
 refused_so bytes c now m d number answer is same said =
     decided_as bytes c now m d refuses answer is
-    (always (λ memory. by_decision memory c now bytes m refuses) bytes c answer
+    (always (λ memory. by_decision memory c now bytes m refuses) bytes (Some m) c answer
     (λ memory. said ∙ ap (λ (n : ℕ). dropping_refusal n bytes c) same))
 
-pub class_so : (bytes : List ℕ) (c : Client) (now : ℕ) (class : MessageClass) (answer : Answer)
-    → class_in bytes ≡ class
-    → UnlessMemory (λ memory. by_class memory c now bytes class) bytes c answer
-    → UnlessMemory (λ memory. by_class memory c now bytes (class_in bytes)) bytes c answer
-class_so bytes c now class answer is =
-    renamed (λ memory. by_class memory c now bytes (class_in bytes))
-    (λ memory. by_class memory c now bytes class) bytes c answer
-    (λ memory. ap (λ (x : MessageClass). by_class memory c now bytes x) (sym is))
+pub class_so : (from : SocketAddr) (bytes : List ℕ) (o : Option Met) (c : Client) (now : ℕ)
+    (class : MessageClass) (answer : Answer) → class_in bytes ≡ class
+    → UnlessMemory (λ memory. by_class memory from c now bytes class) bytes o c answer
+    → UnlessMemory (λ memory. by_class memory from c now bytes (class_in bytes)) bytes o c answer
+class_so from bytes o c now class answer is =
+    renamed (λ memory. by_class memory from c now bytes (class_in bytes))
+    (λ memory. by_class memory from c now bytes class) bytes o c answer
+    (λ memory. ap (λ (x : MessageClass). by_class memory from c now bytes x) (sym is))
 
-pub not_ours_so : (bytes : List ℕ) (c : Client) (now : ℕ) → class_in bytes ≡ Classes.Request
-    → UnlessMemory (λ memory. by_class memory c now bytes (class_in bytes)) bytes c (NotOurs, c)
-not_ours_so bytes c now is =
-    class_so bytes c now Classes.Request (NotOurs, c) is
-    (always (λ memory. by_class memory c now bytes Classes.Request) bytes c (NotOurs, c)
+pub not_ours_so : (from : SocketAddr) (bytes : List ℕ) (o : Option Met) (c : Client) (now : ℕ)
+    → class_in bytes ≡ Classes.Request
+    → UnlessMemory (λ memory. by_class memory from c now bytes (class_in bytes)) bytes o c
+    (NotOurs, c)
+not_ours_so from bytes o c now is =
+    class_so from bytes o c now Classes.Request (NotOurs, c) is
+    (always (λ memory. by_class memory from c now bytes Classes.Request) bytes o c (NotOurs, c)
     (λ memory. refl))
 
-pub indication_so : (bytes : List ℕ) (c : Client) (now : ℕ) → class_in bytes ≡ Classes.Indication
-    → UnlessMemory (λ memory. by_class memory c now bytes (class_in bytes)) bytes c
-    (Indication bytes, c)
-indication_so bytes c now is =
-    class_so bytes c now Classes.Indication (Indication bytes, c) is
-    (always (λ memory. by_class memory c now bytes Classes.Indication) bytes c (Indication bytes, c)
-    (λ memory. refl))
+pub indication_so : (from : SocketAddr) (bytes : List ℕ) (o : Option Met) (c : Client) (now : ℕ)
+    (answer : Answer) → class_in bytes ≡ Classes.Indication → answer ≡ indicated from bytes c
+    → UnlessMemory (λ memory. by_class memory from c now bytes (class_in bytes)) bytes o c answer
+indication_so from bytes o c now answer is said =
+    class_so from bytes o c now Classes.Indication answer is
+    (always (λ memory. by_class memory from c now bytes Classes.Indication) bytes o c answer
+    (λ memory. said))
 
-pub unread_so : (from : SocketAddr) (bytes : List ℕ) (now : ℕ) (c : Client) (why : StunParseError)
-    → refusal bytes ≡ Some why
-    → UnlessMemory (λ memory. received memory from bytes now c) bytes c (NotOurs, c)
-unread_so from bytes now c why is =
-    always (λ memory. received memory from bytes now c) bytes c (NotOurs, c)
-    (λ memory. sym (ap (λ (o : Option StunParseError). by_parts memory from bytes now c (is_some o)
-    (is_same_address from c.server)) is))
-
-pub elsewhere_so : (from : SocketAddr) (bytes : List ℕ) (now : ℕ) (c : Client)
-    → is_same_address from c.server ≡ false
-    → UnlessMemory (λ memory. received memory from bytes now c) bytes c (NotOurs, c)
-elsewhere_so from bytes now c is =
-    always (λ memory. received memory from bytes now c) bytes c (NotOurs, c)
-    (λ memory. sym (ap (λ (b : Bool). by_parts memory from bytes now c (is_some (refusal bytes)) b) is
-    ∙ nothing (is_some (refusal bytes)) memory))
-  where
-    nothing : (b : Bool) (memory : Memory) → by_parts memory from bytes now c b false ≡ (NotOurs, c)
-    nothing true memory = refl
-    nothing false memory = refl
+pub unread_so : (from : SocketAddr) (bytes : List ℕ) (o : Option Met) (now : ℕ) (c : Client)
+    (why : StunParseError) → refusal bytes ≡ Some why
+    → UnlessMemory (λ memory. received memory from bytes now c) bytes o c (NotOurs, c)
+unread_so from bytes o now c why is =
+    always (λ memory. received memory from bytes now c) bytes o c (NotOurs, c)
+    (λ memory. sym (ap (λ (x : Option StunParseError). by_parts memory from bytes now c (is_some x))
+    is))
 
 pub received_so : (from : SocketAddr) (bytes message : List ℕ) (now : ℕ) (c : Client)
     (answer : Answer) → message ≡ bytes → refusal bytes ≡ None
-    → is_same_address from c.server ≡ true
-    → UnlessMemory (λ memory. by_class memory c now message (class_in message)) message c answer
-    → UnlessMemory (λ memory. received memory from bytes now c) bytes c answer
-received_so from bytes message now c answer same read address said =
+    → UnlessMemory (λ memory. by_class memory from c now message (class_in message)) message
+    (heard_in from message c) c answer
+    → UnlessMemory (λ memory. received memory from bytes now c) bytes (heard_in from bytes c) c answer
+received_so from bytes message now c answer same read said =
     renamed (λ memory. received memory from bytes now c)
-    (λ memory. by_class memory c now bytes (class_in bytes)) bytes c answer
+    (λ memory. by_class memory from c now bytes (class_in bytes)) bytes (heard_in from bytes c) c
+    answer
     (λ memory. sym
-    (ap (λ (o : Option StunParseError). by_parts memory from bytes now c (is_some o)
-    (is_same_address from c.server)) read
-    ∙ ap (λ (b : Bool). by_parts memory from bytes now c false b) address))
+    (ap (λ (o : Option StunParseError). by_parts memory from bytes now c (is_some o)) read))
     (subst (λ (x : List ℕ).
-    UnlessMemory (λ memory. by_class memory c now x (class_in x)) x c answer) same said)
+    UnlessMemory (λ memory. by_class memory from c now x (class_in x)) x (heard_in from x c) c answer)
+    same said)

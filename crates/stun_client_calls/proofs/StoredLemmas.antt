@@ -1,5 +1,5 @@
 -- Each request stays stored once over each call, and the number of the next one does not go back.
-use Rattle.std.proofs.Common.{◌≡◌, ◌∙◌, ◌≤◌, ◌+◌, ℕ, Bool, true, false, List, [], Option, Some}
+use Rattle.std.proofs.Common.{◌≡◌, ◌∙◌, ◌≤◌, ◌+◌, ℕ, Bool, true, false, List, Option, Some}
 use Rattle.std.proofs.Common.{None, Ok, Err, ap, arith, cond, length, refl, subst, sym}
 use Rattle.std.specs.BTreeMap.{is_at}
 use Rattle.std.specs.Map.{remove_entry}
@@ -19,10 +19,8 @@ use Rattle.stun_client_endpoint.specs.Written.{Page?}
 use Rattle.stun_client_endpoint.specs.declared.ended.RequestEnd.TheVariants as how
 use Rattle.stun_client_requests.specs.Laws.{IsRequests}
 use Rattle.stun_client_requests.specs.Numbers.{NumbersSeen, after_end, after_mark, after_put}
-use Rattle.stun_client_requests.specs.Numbers.{after_removal, after_rename}
-use Rattle.stun_client_requests.specs.Numbers.{end_in, end_of_first, first_ended, first_unsent}
-use Rattle.stun_client_requests.specs.Numbers.{id_at}
-use Rattle.stun_client_requests.specs.Numbers.{known_at, without_first}
+use Rattle.stun_client_requests.specs.Numbers.{after_removal, after_rename, end_of_first}
+use Rattle.stun_client_requests.specs.Numbers.{first_unsent, id_at, without_first}
 use Rattle.stun_client_requests.specs.OneTable.{IsOneTable}
 use Rattle.stun_client_requests.specs.Requests.{Answering, Poll as PollOf, after_again}
 use Rattle.stun_client_requests.specs.Requests.{after_answering}
@@ -30,30 +28,32 @@ use Rattle.stun_client_requests.specs.Requests.{after_canceling, after_removing,
 use Rattle.stun_client_requests.specs.Requests.{after_start, datum_of, ends_or, number_at, over}
 use Rattle.stun_client_requests.specs.Requests.{over_or, polled, repeated, repeats_or, unsent_or}
 use Rattle.stun_client_requests.specs.Timely.{IsTimely, bound_after}
-use Rattle.stun_client_requests.specs.declared.numbers.Known.{Known}
 use Rattle.stun_client_requests.specs.declared.numbers.Known.TheVariants.{Ended, Outstanding}
 use Rattle.stun_client_requests.specs.declared.requests.Polled.TheVariants as Of
 use Rattle.stun_client_requests.specs.declared.requests.Request.{Request}
 use Rattle.stun_client_requests.proofs.IndexLemmas.{without_some}
+use Rattle.stun_client_requests.proofs.LawLemmas.{first_end}
 use Rattle.stun_client_requests.proofs.RequestLemmas.{at_insert, at_remove, attached_answer}
 use Rattle.stun_client_requests.proofs.RequestLemmas.{attached_cancel, attached_over, attached_sent}
 use Rattle.stun_client_requests.proofs.RequestLemmas.{one_handed_out, one_out, one_replaced}
 use Rattle.stun_client_requests.proofs.RequestLemmas.{one_started}
 use Rattle.stun_client_requests.proofs.TimelyLemmas.{polls_keep_time}
-use Rattle.stun_client_calls.specs.Bounds.{IsPunctual, until_of}
+use Rattle.stun_client_calls.specs.Bounds.{IsPunctual, plan_in, until_of}
 use Rattle.stun_client_calls.specs.Clients.{Client, Poll, by_polled, changed, changed_at, chosen}
 use Rattle.stun_client_calls.specs.Clients.{first_asked, first_message, given_up, handed_out_of}
+use Rattle.stun_client_calls.specs.Clients.{plan_for}
 use Rattle.stun_client_calls.specs.Clients.{sent_by, started_at, started_with, told, with_requests}
-use Rattle.stun_client_calls.specs.Endpoints.{EndSeen}
+use Rattle.stun_client_calls.specs.Endpoints.{EndSeen, bare_end}
 use Rattle.stun_client_calls.specs.Messages.{AskedSeen, is_late}
-use Rattle.stun_client_calls.specs.Receiving.{Answer, UnlessMemory, moment_of, received}
+use Rattle.stun_client_calls.specs.Options.{Options, plan_by}
+use Rattle.stun_client_calls.specs.Receiving.{Answer, UnlessMemory, heard_in, moment_of, received}
 use Rattle.stun_client_calls.specs.Runs.{Call, Event, changes_nothing, ends_one, polls, receives}
 use Rattle.stun_client_calls.specs.Runs.{requests}
 use Rattle.stun_client_calls.specs.declared.asked.Change.{Change}
 use Rattle.stun_client_calls.specs.declared.asked.Change.TheVariants.{SentOut}
 use Rattle.stun_client_calls.proofs.HeardLemmas.{answering_of, chosen_is_free, heard, nothing_of}
 use Rattle.stun_client_calls.proofs.HeardLemmas.{turned_of}
-use Rattle.stun_client_calls.proofs.TurnLemmas.{All, no_more, requests_after, some_is}
+use Rattle.stun_client_calls.proofs.TurnLemmas.{All, no_more, requests_after}
 
 -- ---- calls of the table
 
@@ -95,8 +95,8 @@ module _ (r : All) (i : IsRequests r) where
       by (Some a) = replace_stored n (changed change a)
 
 -- a request is outstanding no more
-module _ (r : All) (plan : Settings) (bound : Request AskedSeen → ℕ) (i : IsRequests r)
-    (a : IsTimely plan bound r) where
+module _ (r : All) (plan : Request AskedSeen → Settings) (bound : Request AskedSeen → ℕ)
+    (i : IsRequests r) (a : IsTimely plan bound r) where
   -- it has a timer
   bytes_of : (n id : ℕ) → id_at n r.numbers ≡ Some id
       → (bytes : List ℕ) × (Some bytes ≡ option_map (λ t. t.bytes) (at id r.table.requests))
@@ -167,31 +167,6 @@ module _ (r : All) (plan : Settings) (bound : Request AskedSeen → ℕ) (i : Is
           }
 
 -- ---- polling
-
--- the first end is that of a request that has ended
-record IsFirstEnd (s : NumbersSeen EndSeen) (p : ℕ × EndSeen) : Type 0 where
-  pub first : first_ended s ≡ Some p.0
-  pub there : known_at p.0 s.known ≡ Some (Ended p.1)
-
-first_end : (s : NumbersSeen EndSeen) (p : ℕ × EndSeen) → end_of_first s ≡ Some p → IsFirstEnd s p
-first_end s p some = by (first_ended s) refl some
-  where
-    at_first : (k : ℕ) (o : Option (Known EndSeen)) → known_at k s.known ≡ o
-        → first_ended s ≡ Some k
-        → option_map (λ end. (k, end)) (option_and_then end_in o) ≡ Some p → IsFirstEnd s p
-    at_first k None is first some = cc
-    at_first k (Some (Outstanding id)) is first some = cc
-    at_first k (Some (Ended end)) is first some =
-        let same : (k, end) ≡ p = some_is (k, end) p some in
-        subst (λ (x : ℕ × EndSeen). IsFirstEnd s x) same (record { first = first; there = is })
-
-    by : (o : Option ℕ) → first_ended s ≡ o
-        → option_and_then
-        (λ k. option_map (λ end. (k, end)) (option_and_then end_in (known_at k s.known))) o
-        ≡ Some p
-        → IsFirstEnd s p
-    by None is some = cc
-    by (Some k) is some = at_first k (known_at k s.known) refl is some
 
 module _ (r : All) (i : IsRequests r) where
   ended_stored : (p : ℕ × EndSeen) → end_of_first r.numbers ≡ Some p
@@ -275,10 +250,11 @@ told_stored now c i is = by (polled now c.requests) refl
         (polls_stored now c.requests i)
 
     timely : (p : PollOf AskedSeen EndSeen) → polled now c.requests ≡ p
-        → IsTimely c.plan (bound_after now p.0 until_of) p.1
+        → IsTimely (plan_in c) (bound_after now p.0 until_of) p.1
     timely p same =
-        subst (λ (x : PollOf AskedSeen EndSeen). IsTimely c.plan (bound_after now x.0 until_of) x.1)
-        same (polls_keep_time c.plan until_of now c.requests i is)
+        subst (λ (x : PollOf AskedSeen EndSeen).
+        IsTimely (plan_in c) (bound_after now x.0 until_of) x.1) same
+        (polls_keep_time (plan_in c) until_of now c.requests i is)
 
     handed : (m : ℕ) (r : All) → polled now c.requests ≡ (Of.Transmit m, r)
         → (o : Option AskedSeen)
@@ -287,11 +263,11 @@ told_stored now c i is = by (polled now c.requests) refl
     handed m r same (Some x) = at_hand (is_late now x)
       where
         at_hand : (b : Bool) → IsRequests (cond b (given_up m x (with_requests r c))
-            (sent_by m (with_requests r c))).1.requests
+            (sent_by now m (with_requests r c))).1.requests
         at_hand true =
-            remove_stored r c.plan (bound_after {E = EndSeen} now (Of.Transmit m) until_of)
+            remove_stored r (plan_in c) (bound_after {E = EndSeen} now (Of.Transmit m) until_of)
             (stored (Of.Transmit m, r) same) (timely (Of.Transmit m, r) same) m
-        at_hand false = changed_stored r (stored (Of.Transmit m, r) same) SentOut m
+        at_hand false = changed_stored r (stored (Of.Transmit m, r) same) (SentOut now) m
 
     by : (p : PollOf AskedSeen EndSeen) → polled now c.requests ≡ p
         → IsRequests (by_polled now (with_requests p.1 c) p.0).1.requests
@@ -305,39 +281,42 @@ told_stored now c i is = by (polled now c.requests) refl
 abbrev IsStored : Client → Type 0
 IsStored c = IsRequests c.requests
 
-pub started_stored : (c : Client) (method : ℕ) (body : Body) (now : ℕ) → IsStored c → (o : Option ℕ)
-    → chosen c ≡ o → IsStored (started_at c method body now o)
-started_stored c method body now i None some = i
-started_stored c method body now i (Some number) some = by (first_message c method number body)
+pub started_stored : (c : Client) (method : ℕ) (body : Body) (options : Option Options) (now : ℕ)
+    → IsStored c → (o : Option ℕ) → chosen c ≡ o
+    → IsStored (started_at c method body options now o)
+started_stored c method body options now i None some = i
+started_stored c method body options now i (Some number) some =
+    by (first_message c method number body options)
   where
-    by : (page : Page?) → IsStored (started_with c number method body now page)
+    by : (page : Page?) → IsStored (started_with c number method body options now page)
     by (Err why) = i
     by (Ok bytes) =
-        start_stored c.requests i (id_of c.seed number) bytes c.plan (first_asked c method body now)
-        now (chosen_is_free c number some)
+        start_stored c.requests i (id_of c.seed number) bytes (plan_by options c.plan)
+        (first_asked c method body options now) now (chosen_is_free c number some)
 
 heard_stored : (from : SocketAddr) (bytes : List ℕ) (now : ℕ) (c : Client) (answer : Answer)
     → IsStored c → IsPunctual c
-    → UnlessMemory (λ memory. received memory from bytes now c) bytes c answer → IsStored answer.1
+    → UnlessMemory (λ memory. received memory from bytes now c) bytes (heard_in from bytes c) c answer
+    → IsStored answer.1
 heard_stored from bytes now c answer i is =
-    heard IsStored c now bytes i (λ change n. changed_stored c.requests i change n)
-    (λ end m standing. answer_stored c.requests c.plan until_of i is m.number (length bytes)
+    heard IsStored c now bytes i (λ change n drop. changed_stored c.requests i change n)
+    (λ end m standing. answer_stored c.requests (plan_in c) until_of i is m.number (length bytes)
     (moment_of now m) end)
-    (λ memory m why d s page t. requests_after c.requests c.plan now m.number s.id
+    (λ memory m why d s page t. requests_after c.requests (plan_for c) now m.number s.id
     (answering_of now bytes) page (nothing_of m) m.asked (turned_of memory bytes m why d s) i.one is
-    t.there t.free t.in_time refl i.ascending)
+    t.there t.free t.in_time refl refl i.ascending)
     from answer
 
 pub stays_stored : (c after : Client) (event : Event) → IsRequests c.requests → IsPunctual c
     → Call c event after → IsRequests after.requests
-stays_stored c after event i is (requests _ _ method body now low none made) =
-    subst IsStored (sym made) (started_stored c method body now i (chosen c) refl)
+stays_stored c after event i is (requests _ _ method body options now low none made) =
+    subst IsStored (sym made) (started_stored c method body options now i (chosen c) refl)
 stays_stored c after event i is (receives _ _ from bytes now answer low hears made) =
     subst IsStored (sym made) (heard_stored from bytes now c answer i is hears)
 stays_stored c after event i is (polls _ _ now says said) =
     subst IsStored (ap (λ (p : Poll). p.1) said) (told_stored now c i is)
 stays_stored c after event i is (ends_one _ _ number a some made) =
-    subst IsStored (sym made) (cancel_stored c.requests c.plan until_of i is number _)
+    subst IsStored (sym made) (cancel_stored c.requests (plan_in c) until_of i is number _)
 stays_stored c after event i is (changes_nothing _) = i
 
 -- ---- the plan of all messages, and the number of the next request
@@ -407,21 +386,22 @@ goes_on c after plan next = record {
 up_one : (n : ℕ) → n ≤ n + 1
 up_one n = omega arith
 
-started_goes_on : (c : Client) (method : ℕ) (body : Body) (now : ℕ) (o : Option ℕ)
-    → GoesOn c (started_at c method body now o)
-started_goes_on c method body now None = goes_on c c refl refl
-started_goes_on c method body now (Some number) = by (first_message c method number body)
+started_goes_on : (c : Client) (method : ℕ) (body : Body) (options : Option Options) (now : ℕ)
+    (o : Option ℕ) → GoesOn c (started_at c method body options now o)
+started_goes_on c method body options now None = goes_on c c refl refl
+started_goes_on c method body options now (Some number) =
+    by (first_message c method number body options)
   where
-    by : (page : Page?) → GoesOn c (started_with c number method body now page)
+    by : (page : Page?) → GoesOn c (started_with c number method body options now page)
     by (Err why) = goes_on c c refl refl
     by (Ok bytes) = record { plan = refl; next = up_one c.requests.next }
 
 heard_goes_on : (from : SocketAddr) (bytes : List ℕ) (now : ℕ) (c : Client) (answer : Answer)
-    → UnlessMemory (λ memory. received memory from bytes now c) bytes c answer
+    → UnlessMemory (λ memory. received memory from bytes now c) bytes (heard_in from bytes c) c answer
     → GoesOn c answer.1
 heard_goes_on from bytes now c answer =
     heard (λ (x : Client). GoesOn c x) c now bytes (goes_on c c refl refl)
-    (λ change n. goes_on c _ refl (next_changed change n c.requests))
+    (λ change n drop. goes_on c _ refl (next_changed change n c.requests))
     (λ end m standing. goes_on c _ refl
     (next_kept (λ id. record c.requests {
       table = after_answer id (length bytes) (moment_of now m) c.requests.table;
@@ -429,8 +409,10 @@ heard_goes_on from bytes now c answer =
     }) (id_at m.number c.requests.numbers) c.requests (λ id. refl)))
     (λ memory m why d s page t. goes_on c _ refl
     (next_replaced m.number (turned_of memory bytes m why d s)
-    (after_again m.number (answering_of now bytes) s.id page c.plan (nothing_of m) now c.requests)
-    ∙ next_again m.number (answering_of now bytes) s.id page c.plan (nothing_of m) now c.requests))
+    (after_again m.number (answering_of now bytes) s.id page (plan_for c m.asked) (nothing_of m) now
+    c.requests)
+    ∙ next_again m.number (answering_of now bytes) s.id page (plan_for c m.asked) (nothing_of m) now
+    c.requests))
     from answer
 
 told_goes_on : (now : ℕ) (c : Client) → GoesOn c (told now c).1
@@ -442,14 +424,14 @@ told_goes_on now c = by (polled now c.requests) (next_polled now c.requests)
     handed m r (Some x) next = at_hand (is_late now x)
       where
         at_hand : (b : Bool) → GoesOn c (cond b (given_up m x (with_requests r c))
-            (sent_by m (with_requests r c))).1
+            (sent_by now m (with_requests r c))).1
         at_hand true =
             goes_on c _ refl
             (next_kept (λ id. record r {
               table = after_cancel id r.table;
               numbers = after_removal m r.numbers;
             }) (id_at m r.numbers) r (λ id. refl) ∙ next)
-        at_hand false = goes_on c _ refl (next_changed SentOut m r ∙ next)
+        at_hand false = goes_on c _ refl (next_changed (SentOut now) m r ∙ next)
 
     by : (p : PollOf AskedSeen EndSeen) → p.1.next ≡ c.requests.next
         → GoesOn c (by_polled now (with_requests p.1 c) p.0).1
@@ -459,8 +441,9 @@ told_goes_on now c = by (polled now c.requests) (next_polled now c.requests)
     by (Of.Wait until, r) next = goes_on c _ refl next
 
 pub call_goes_on : (c after : Client) (event : Event) → Call c event after → GoesOn c after
-call_goes_on c after event (requests _ _ method body now low none made) =
-    subst (λ (x : Client). GoesOn c x) (sym made) (started_goes_on c method body now (chosen c))
+call_goes_on c after event (requests _ _ method body options now low none made) =
+    subst (λ (x : Client). GoesOn c x) (sym made)
+    (started_goes_on c method body options now (chosen c))
 call_goes_on c after event (receives _ _ from bytes now answer low hears made) =
     subst (λ (x : Client). GoesOn c x) (sym made) (heard_goes_on from bytes now c answer hears)
 call_goes_on c after event (polls _ _ now says said) =
@@ -470,7 +453,6 @@ call_goes_on c after event (ends_one _ _ number a some made) =
     (goes_on c _ refl
     (next_kept (λ id. record c.requests {
       table = after_cancel id c.requests.table;
-      numbers = after_end number (record { end = how.Cancelled; response = [] })
-          c.requests.numbers;
+      numbers = after_end number (bare_end how.Cancelled) c.requests.numbers;
     }) (id_at number c.requests.numbers) c.requests (λ id. refl)))
 call_goes_on c after event (changes_nothing _) = goes_on c c refl refl

@@ -18,7 +18,7 @@ use Rattle.stun_client_requests.specs.Numbers.{after_mark, after_rename, id_at}
 use Rattle.stun_client_requests.specs.OneTable.{IsOneTable}
 use Rattle.stun_client_requests.specs.Requests.{Answering, RequestsSeen, after_again}
 use Rattle.stun_client_requests.specs.Requests.{after_replacing, datum_of, number_at, stored_at}
-use Rattle.stun_client_requests.specs.Timely.{IsTimely}
+use Rattle.stun_client_requests.specs.Timely.{HasTimer, IsTimely}
 use Rattle.stun_client_requests.specs.declared.numbers.Known.TheVariants.{Outstanding}
 use Rattle.stun_client_requests.specs.declared.requests.Request.{Request}
 use Rattle.stun_client_requests.proofs.NumberLemmas.{eqb-same, own_key}
@@ -67,15 +67,26 @@ stored_number n q r one there = by (id_at n r.numbers) refl there
         (sym (ap (λ (o : Option (Request AskedSeen)). option_map (λ x. x.number) o) is)
         ∙ one.timed n id named)
 
+-- the requests are timely by another plan that says the same of them
+all_planned : (plan other : Request AskedSeen → Settings) (bound : Request AskedSeen → ℕ) (r : All)
+    → ((id : ℕ) (q : Request AskedSeen) → datum_at id r.table.attached ≡ Some q → plan q ≡ other q)
+    → IsTimely plan bound r → IsTimely other bound r
+all_planned plan other bound r same a = record {
+  ordered = a.ordered;
+  timed = λ id q there.
+      subst (λ s. HasTimer s (bound q) id r.table.requests) (same id q there) (a.timed id q there);
+  owned = a.owned;
+}
+
 -- ---- another message
 
 -- the request with number n is sent under another ID, and b is stored of it
-module _ (r : All) (plan : Settings) (now n id : ℕ) (x : Answering) (bytes : List ℕ)
-    (empty a b : AskedSeen) (one : IsOne r) (timely : IsTimely plan until_of r)
+module _ (r : All) (plan : AskedSeen → Settings) (now n id : ℕ) (x : Answering) (bytes : List ℕ)
+    (empty a b : AskedSeen) (one : IsOne r) (timely : IsTimely (λ q. plan q.datum) until_of r)
     (there : datum_of n r ≡ Some a) (free : number_at id r.table.attached ≡ None)
-    (in_time : now ≤ a.until) (same : b.until ≡ a.until) where
+    (in_time : now ≤ a.until) (same : b.until ≡ a.until) (as_planned : plan b ≡ plan a) where
   abbrev again : All
-  again = after_again n x id bytes plan empty now r
+  again = after_again n x id bytes (plan a) empty now r
 
   abbrev after : All
   after = after_replacing n b again
@@ -84,7 +95,7 @@ module _ (r : All) (plan : Settings) (now n id : ℕ) (x : Answering) (bytes : L
   kept = record { number = n; datum = b }
 
   abbrev sent : TableSeen (Request AskedSeen)
-  sent = after_sending id bytes plan (record { number = n; datum = empty }) now r.table
+  sent = after_sending id bytes (plan a) (record { number = n; datum = empty }) now r.table
 
   abbrev moved : ℕ → All
   moved former = record r {
@@ -119,10 +130,10 @@ module _ (r : All) (plan : Settings) (now n id : ℕ) (x : Answering) (bytes : L
     where
       in_sent : (t : Transaction) (c : Bool)
           → at former_of.0 sent.requests
-          ≡ cond c (Some (request_in r.table bytes plan now)) (at former_of.0 r.table.requests)
+          ≡ cond c (Some (request_in r.table bytes (plan a) now)) (at former_of.0 r.table.requests)
           → at former_of.0 r.table.requests ≡ Some t
           → (u : Transaction) × (at former_of.0 sent.requests ≡ Some u)
-      in_sent t true is found = (request_in r.table bytes plan now, is)
+      in_sent t true is found = (request_in r.table bytes (plan a) now, is)
       in_sent t false is found = (t, is ∙ found)
 
       by : (o : Option (Request AskedSeen)) → datum_at former_of.0 r.table.attached ≡ o
@@ -132,7 +143,7 @@ module _ (r : All) (plan : Settings) (now n id : ℕ) (x : Answering) (bytes : L
       by (Some q) is some =
           let h = timely.timed former_of.0 q is in
           in_sent h.timer (is_at (nat_cmp id) former_of.0)
-          (at_insert id (request_in r.table bytes plan now) r.table.requests former_of.0) h.there
+          (at_insert id (request_in r.table bytes (plan a) now) r.table.requests former_of.0) h.there
 
   one_again_then : IsOne others
   one_again_then =
@@ -189,20 +200,41 @@ module _ (r : All) (plan : Settings) (now n id : ℕ) (x : Answering) (bytes : L
   pub datum_after : datum_of n after ≡ Some b
   datum_after = ap (λ (s : All). datum_of n s) after_is ∙ stored_there
 
-  -- when each request was sent for the last time at the latest, while nothing is stored of this one
+  abbrev planned : Request AskedSeen → Settings
+  planned q = plan q.datum
+
+  -- when each request was sent for the last time at the latest, and its plan, while nothing is stored of
+  -- this one
   abbrev early : Request AskedSeen → ℕ
   early q = cond (q.number == n) a.until q.datum.until
+
+  abbrev early_plan : Request AskedSeen → Settings
+  early_plan q = cond (q.number == n) (plan a) (plan q.datum)
+
+  early_plan_own : (q : Request AskedSeen) → q.number ≡ n → early_plan q ≡ plan a
+  early_plan_own q number =
+      ap (λ k. cond (k == n) (plan a) (plan q.datum)) number
+      ∙ ap (λ c. cond c (plan a) (plan q.datum)) (eqb-same n)
 
   early_own : (q : Request AskedSeen) → q.number ≡ n → early q ≡ a.until
   early_own q number =
       ap (λ k. cond (k == n) a.until q.datum.until) number
       ∙ ap (λ c. cond c a.until q.datum.until) (eqb-same n)
 
-  early_before : IsTimely plan early r
+  early_before : IsTimely early_plan early r
   early_before =
-      all_no_later plan until_of early r.table.requests r.table.attached
-      (λ k q found. by k q found (q.number == n) refl) timely
+      all_no_later early_plan until_of early r.table.requests r.table.attached
+      (λ k q found. by k q found (q.number == n) refl)
+      (all_planned planned early_plan until_of r
+      (λ k q found. as_before k q found (q.number == n) refl) timely)
     where
+      as_before : (k : ℕ) (q : Request AskedSeen) → datum_at k r.table.attached ≡ Some q → (c : Bool)
+          → (q.number == n) ≡ c → plan q.datum ≡ cond c (plan a) (plan q.datum)
+      as_before k q found true is =
+          ap plan (some_is q.datum a
+          (sym (stored_one n k q r one found (eqb-true q.number n is)) ∙ there))
+      as_before k q found false is = refl
+
       by : (k : ℕ) (q : Request AskedSeen) → datum_at k r.table.attached ≡ Some q → (c : Bool)
           → (q.number == n) ≡ c → q.datum.until ≤ cond c a.until q.datum.until
       by k q found true is =
@@ -211,22 +243,35 @@ module _ (r : All) (plan : Settings) (now n id : ℕ) (x : Answering) (bytes : L
           (sym (stored_one n k q r one found (eqb-true q.number n is)) ∙ there)))
       by k q found false is = no_more q.datum.until q.datum.until refl
 
-  early_after : IsTimely plan early after
+  early_after : IsTimely early_plan early after
   early_after =
-      replace_timely plan early again
-      (again_timely plan early r early_before one.in_order n x id bytes empty now
+      replace_timely early_plan early again
+      (again_timely early_plan early r early_before one.in_order n x id bytes (plan a) empty now
+      (sym (early_plan_own (record { number = n; datum = empty }) refl))
       (subst (λ t. now ≤ t) (sym (early_own (record { number = n; datum = empty }) refl)) in_time))
       n b
+      (λ q found.
+      early_plan_own q (stored_number n q again (subst IsOne (sym again_is) one_again_then) found)
+      ∙ sym (early_plan_own kept refl))
       (λ q found. no_more (early q) (early kept)
       (early_own q (stored_number n q again (subst IsOne (sym again_is) one_again_then) found)
       ∙ sym (early_own kept refl)))
 
-  timely_stored : IsTimely plan until_of stored
+  timely_stored : IsTimely planned until_of stored
   timely_stored =
-      all_no_later plan early until_of stored.table.requests stored.table.attached
+      all_no_later planned early until_of stored.table.requests stored.table.attached
       (λ k q found. by k q found (q.number == n) refl)
-      (subst (λ (s : All). IsTimely plan early s) after_is early_after)
+      (all_planned early_plan planned early stored
+      (λ k q found. as_after k q found (q.number == n) refl)
+      (subst (λ (s : All). IsTimely early_plan early s) after_is early_after))
     where
+      as_after : (k : ℕ) (q : Request AskedSeen) → datum_at k stored.table.attached ≡ Some q
+          → (c : Bool) → (q.number == n) ≡ c → cond c (plan a) (plan q.datum) ≡ plan q.datum
+      as_after k q found true is =
+          sym as_planned ∙ ap plan (some_is b q.datum
+          (sym stored_there ∙ stored_one n k q stored one_stored found (eqb-true q.number n is)))
+      as_after k q found false is = refl
+
       by : (k : ℕ) (q : Request AskedSeen) → datum_at k stored.table.attached ≡ Some q → (c : Bool)
           → (q.number == n) ≡ c → cond c a.until q.datum.until ≤ q.datum.until
       by k q found true is =
@@ -235,5 +280,5 @@ module _ (r : All) (plan : Settings) (now n id : ℕ) (x : Answering) (bytes : L
           (sym stored_there ∙ stored_one n k q stored one_stored found (eqb-true q.number n is))))
       by k q found false is = no_more q.datum.until q.datum.until refl
 
-  pub timely_after : IsTimely plan until_of after
-  timely_after = subst (λ (s : All). IsTimely plan until_of s) (sym after_is) timely_stored
+  pub timely_after : IsTimely planned until_of after
+  timely_after = subst (λ (s : All). IsTimely planned until_of s) (sym after_is) timely_stored

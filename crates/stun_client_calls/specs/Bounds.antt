@@ -13,23 +13,28 @@ use Rattle.stun_client_requests.specs.Laws.{IsOver, IsRequests}
 use Rattle.stun_client_requests.specs.Requests.{datum_of}
 use Rattle.stun_client_requests.specs.Timely.{IsInTime, IsTimely}
 use Rattle.stun_client_requests.specs.declared.requests.Request.{Request}
-use Rattle.stun_client_calls.specs.Clients.{Client, new_client, refusal_to_start, started, told}
-use Rattle.stun_client_calls.specs.Clients.{waits}
+use Rattle.stun_client_calls.specs.Clients.{Client, new_client, plan_for, refusal_to_start, started}
+use Rattle.stun_client_calls.specs.Clients.{told, waits}
 use Rattle.stun_client_calls.specs.Messages.{AskedSeen}
+use Rattle.stun_client_calls.specs.Options.{Options, plan_by}
 use Rattle.stun_client_calls.specs.Runs.{Call, Calls, Event, next_number}
 
 -- when the first plan of a request ends
 abbrev pub until_of : Request AskedSeen → ℕ
 until_of q = q.datum.until
 
--- each outstanding request has a timer by the client's plan, and was sent for the last time no later than
--- when its first plan ends
+-- the plan of each message of a request
+abbrev pub plan_in : Client → Request AskedSeen → Settings
+plan_in c q = plan_for c q.datum
+
+-- each outstanding request has a timer by its plan, and was sent for the last time no later than
+-- the end of its first plan
 abbrev pub IsPunctual : Client → Type 0
-IsPunctual c = IsTimely c.plan until_of c.requests
+IsPunctual c = IsTimely (plan_in c) until_of c.requests
 
--- ---- what each call keeps
+-- ---- what each call preserves
 
--- each request of a client that has asked nothing is stored once, since there is none
+-- each request of a new client is stored once, since there is none
 abbrev pub BeginsStored : Type 0
 BeginsStored = (transport : TransportType) (server : SocketAddr) (counts requires_fingerprint : Bool)
     (identity : Identity) (form : Form) (understood : List AttributeType) (turns : ℕ) (plan : Settings)
@@ -38,12 +43,12 @@ BeginsStored = (transport : TransportType) (server : SocketAddr) (counts require
     (new_client transport server counts requires_fingerprint identity form understood turns plan
     seed).requests
 
--- and each call keeps it so
+-- and each call preserves this
 abbrev pub StaysStored : Type 0
 StaysStored = (c after : Client) (event : Event) → IsRequests c.requests → IsPunctual c
     → Call c event after → IsRequests after.requests
 
--- the requests of a client that has asked nothing are punctual
+-- the requests of a new client are punctual
 abbrev pub BeginsPunctual : Type 0
 BeginsPunctual = (transport : TransportType) (server : SocketAddr) (counts requires_fingerprint : Bool)
     (identity : Identity) (form : Form) (understood : List AttributeType) (turns : ℕ) (plan : Settings)
@@ -51,51 +56,54 @@ BeginsPunctual = (transport : TransportType) (server : SocketAddr) (counts requi
     → IsPunctual
     (new_client transport server counts requires_fingerprint identity form understood turns plan seed)
 
--- and they stay so over each call
+-- and each call preserves this
 abbrev pub StaysPunctual : Type 0
 StaysPunctual = (c after : Client) (event : Event) → IsRequests c.requests → IsPunctual c
     → Call c event after → IsPunctual after
 
--- the first plan of the request with this number ends then, if the request is outstanding
+-- the first plan of the request with this number ends at this time, if the request is outstanding
 abbrev pub HasPlan : ℕ → ℕ → Client → Type 0
 HasPlan number until c = (a : AskedSeen) → datum_of number c.requests ≡ Some a → a.until ≡ until
 
 -- the first plan of a request ends once a whole plan has passed since its start
 abbrev pub StartsPlan : Type 0
-StartsPlan = (c : Client) (method : ℕ) (body : Body) (now : ℕ) → IsRequests c.requests
-    → HasPlan (next_number c) (moment_after now (plan_of c.plan)) (started method body now c)
+StartsPlan = (c : Client) (method : ℕ) (body : Body) (options : Option Options) (now : ℕ)
+    → IsRequests c.requests
+    → HasPlan (next_number c) (moment_after now (plan_of (plan_by options c.plan)))
+    (started method body options now c)
 
--- and over each call it ends then as before
+-- and no call changes when it ends
 abbrev pub KeepsPlan : Type 0
 KeepsPlan = (c after : Client) (event : Event) (number until : ℕ) → IsRequests c.requests
     → IsPunctual c → number < c.requests.next → Call c event after → HasPlan number until c
     → HasPlan number until after
 
--- a request that a poll leaves outstanding, when it says to wait, is not older than two plans, and the
--- wait ends no later than when it is
+-- a request that a poll leaves outstanding, when it says to wait, is not older than two plans, and
+-- the wait ends no later than its second plan
 abbrev pub WaitsInTime : Type 0
 WaitsInTime = (now : ℕ) (until : Option ℕ) (c after : Client) (number : ℕ) (a : AskedSeen)
     → IsPunctual c → told now c ≡ (waits until, after)
     → datum_of number after.requests ≡ Some a
-    → IsInTime now (moment_after a.until (plan_of c.plan)) until
+    → IsInTime now (moment_after a.until (plan_of (plan_for c a))) until
 
--- ---- in the words of a caller
+-- ---- for a caller
 
 -- the end of two plans, one after the other, from a time on (section 6.2.1)
 abbrev pub two_plans_after : Settings → ℕ → ℕ
 two_plans_after plan start = moment_after (moment_after start (plan_of plan)) (plan_of plan)
 
--- a request is started after any calls of a new client, and any calls follow. From the end of two plans
--- after its start on, it is over once a poll says to wait: its end was handed out, and nothing is stored
--- of it
+-- a request is started after any calls of a new client, and any calls follow. Once two plans have
+-- passed since its start and a poll says to wait, the request is over: its end was returned, and
+-- nothing is stored of it
 abbrev pub EndsWithinTwoPlans : Type 0
 EndsWithinTwoPlans = (transport : TransportType) (server : SocketAddr)
     (counts requires_fingerprint : Bool) (identity : Identity) (form : Form)
     (understood : List AttributeType) (turns : ℕ) (plan : Settings) (seed : List ℕ)
     (c later last : Client) (before between : List Event) (method : ℕ) (body : Body)
-    (start now : ℕ) (until : Option ℕ)
+    (options : Option Options) (start now : ℕ) (until : Option ℕ)
     → Calls (new_client transport server counts requires_fingerprint identity form understood turns
     plan seed) before c
-    → start ≤ last_moment → refusal_to_start c method body ≡ None
-    → Calls (started method body start c) between later → two_plans_after plan start ≤ now
+    → start ≤ last_moment → refusal_to_start c method body options ≡ None
+    → Calls (started method body options start c) between later
+    → two_plans_after (plan_by options plan) start ≤ now
     → told now later ≡ (waits until, last) → IsOver (next_number c) last.requests

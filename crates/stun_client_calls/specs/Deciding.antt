@@ -1,4 +1,4 @@
--- What a response to a message of an outstanding request comes to, once it is judged (RFC 8489,
+-- What follows from a response to a message of an outstanding request, once it is judged (RFC 8489,
 -- sections 5, 6.2.1 and 9.2.5).
 use Rattle.std.specs.Prelude.{ℕ, Bool, true, false, ◌||◌, nat_le}
 use Rattle.std.specs.Prelude.{if◌then◌else◌, Option, Some, None}
@@ -30,10 +30,10 @@ Place = ℕ × ℕ
 abbrev pub place_of : ℕ × SentSeen → Place
 place_of e = (e.0, e.1.id)
 
--- a response ends its request, which it answers, signed so; its request ends as unauthorized;
--- another message becomes the current one, an earlier one or a new one, which is signed for this
--- challenge or is not signed; the response is a refusal, which is dropped and counted; or it is
--- dropped
+-- a response ends its request, which it answers with this signature; its request ends as
+-- unauthorized; another message becomes the current one, an earlier one or a new one, which is
+-- signed for this challenge or is not signed; the response is a refusal, which is dropped and
+-- counted; or it is dropped
 pub data DecisionSeen : Type 0 where
   answered : Option IntegrityAlgorithm → DecisionSeen
   unauthorized : DecisionSeen
@@ -41,7 +41,7 @@ pub data DecisionSeen : Type 0 where
   refuses : DecisionSeen
   drops : DropReason → DecisionSeen
 
--- what the result of `decide` says
+-- the result of `decide`, as this type
 abbrev pub decision_of : {A : Type 0} → Decision A → DecisionSeen
 decision_of (AnsweredBy by) = answered by
 decision_of Unauthorized = unauthorized
@@ -49,10 +49,10 @@ decision_of (Turn why place c) = turns why place c
 decision_of Refuse = refuses
 decision_of (Drop why) = drops why
 
--- ---- how long another message may become the current one
+-- ---- until when another message may become the current one
 
--- none does after the first plan of the request, nor once that has happened as often as the limit
--- says
+-- none becomes the current one after the first plan of the request, nor once that has happened as
+-- often as the limit allows
 abbrev pub is_spent : Limits → AskedSeen → Bool
 is_spent limits a = nat_le limits.turns a.turns
 
@@ -62,56 +62,57 @@ is_spent limits a = nat_le limits.turns a.turns
 abbrev pub turns_for : Why → Answered → AskedSeen → DecisionSeen
 turns_for why c a = turns why (option_map place_of (message_for c a.earlier)) (Some c)
 
--- a challenge is answered by the message for it. It comes too late, or ends the request, if that is
--- spent
+-- a challenge is answered with the message for it. If no other message may become the current one,
+-- the challenge is too late, or ends the request
 abbrev pub answered_anew : Limits → ℕ → AskedSeen → Answered → DecisionSeen
 answered_anew limits now a c =
     if is_late now a then drops LateChallenge
     else if is_spent limits a then unauthorized
     else turns_for Challenged c a
 
--- a 401 for the same realm and security bits, with another nonce or list, is answered so twice. The
--- third one ends the request
+-- a 401 for the same realm and security bits, with another nonce or list, is answered in this way
+-- twice. The third one ends the request
 abbrev pub answered_refusal : Limits → ℕ → AskedSeen → Answered → DecisionSeen
 answered_refusal limits now a c =
     if is_late now a then drops LateChallenge
     else if is_spent limits a || nat_le OTHERS a.refusals.others then unauthorized
     else turns_for Refused c a
 
--- the challenge that the message is signed for already: the message goes on. The second one that
--- counts ends the request, and over a reliable transport, where nothing is sent again, the first
--- one does
+-- the challenge that the message is signed for already: the message stays the current one. The
+-- second such challenge that counts ends the request, and over a reliable transport, where nothing
+-- is sent again, the first one does
 abbrev pub refused_again : Limits → AskedSeen → DecisionSeen
 refused_again limits a =
     if limits.is_reliable || a.refusals.is_earlier then unauthorized else refuses
 
 -- ---- doubts
 
--- an earlier message becomes the current one as it was
+-- an earlier message becomes the current one again, unchanged
 abbrev pub back_to : Why → ℕ × SentSeen → DecisionSeen
 back_to why e = turns why (Some (place_of e)) e.1.signed_for
 
--- a signed message gives way to an unsigned one, unless there is one, which is in doubt then
+-- a signed message is replaced by an unsigned one, unless there is one already, which is then in
+-- doubt
 abbrev pub begun_again : AskedSeen → DecisionSeen
 begun_again a =
     if has_unsigned a.earlier then drops NotVerified else turns Doubted None None
 
--- an unsigned message gives way to the last signed one, whatever doubts there are
+-- an unsigned message is replaced by the last signed one, whatever doubts there are
 abbrev pub undoubted : Option (ℕ × SentSeen) → DecisionSeen
 undoubted None = drops NotVerified
 undoubted (Some e) = back_to Undoubted e
 
--- if each other message is in doubt, or too weak
+-- the decision if every other message is in doubt, or too weak
 abbrev pub without_eligible : StandingSeen → AskedSeen → DecisionSeen
 without_eligible standing a =
     if is_none a.signed_for then undoubted (signed_eligible standing a.earlier) else begun_again a
 
--- a message in doubt gives way to the last other one that is not in doubt
+-- a message in doubt is replaced by the last other one that is not in doubt
 abbrev pub giving_way : StandingSeen → AskedSeen → Option (ℕ × SentSeen) → DecisionSeen
 giving_way standing a (Some e) = back_to Doubted e
 giving_way standing a None = without_eligible standing a
 
--- whether a doubt comes too late, or too often
+-- whether a doubt comes too late or too often to have an effect
 abbrev pub is_idle : Limits → ℕ → AskedSeen → Bool
 is_idle limits now a = is_late now a || (is_spent limits a || nat_le DOUBTS a.doubts)
 
@@ -122,7 +123,7 @@ on_doubt limits standing now a =
 
 -- ---- all of it
 
--- what a response comes to that was judged so
+-- what follows from a response, by how it was judged
 abbrev pub decided : Limits → StandingSeen → ℕ → AskedSeen → Verdict → DecisionSeen
 decided limits standing now a (believed by) = answered by
 decided limits standing now a (anew c) = answered_anew limits now a c
@@ -131,7 +132,7 @@ decided limits standing now a (refused (Some c)) = answered_refusal limits now a
 decided limits standing now a doubted = on_doubt limits standing now a
 decided limits standing now a (dropped why) = drops (reason_of why)
 
--- whether a response throws doubt
+-- whether a response casts doubt on its message
 abbrev pub is_doubted : Verdict → Bool
 is_doubted (believed by) = false
 is_doubted (anew c) = false

@@ -18,25 +18,26 @@ Earlier = List (ℕ × ℕ)
 abbrev pub number_in : ℕ → Earlier → Option ℕ
 number_in id earlier = lookup (is_at (nat_cmp id)) earlier
 
--- the number of the outstanding request that the message with a transaction ID belongs to, which is
--- its current message or an earlier one
+-- the number of the outstanding request that has a message with this transaction ID, the current
+-- one or an earlier one
 abbrev pub number_with : ℕ → Attached (Request AskedSeen) → Earlier → Option ℕ
 number_with id all earlier = option_or (number_at id all) (number_in id earlier)
 
--- whether an ID is that of a message of an outstanding request
+-- whether a message of an outstanding request has this ID
 abbrev pub is_message : ℕ → Attached (Request AskedSeen) → Earlier → Bool
 is_message id all earlier = is_some (number_at id all) || is_some (number_in id earlier)
 
 abbrev pub is_taken : List ℕ → Attached (Request AskedSeen) → Earlier → ℕ → Bool
 is_taken seed all earlier number = is_message (id_of seed number) all earlier
 
--- the first of so many numbers that is not taken
+-- the first number that is free, among this many
 abbrev pub first_free : (ℕ → Bool) → ℕ → ℕ → Option ℕ
 first_free taken number zero = None
 first_free taken number (suc many) =
     if taken number then first_free taken (number + 1) many else Some number
 
--- the number whose ID the next message gets: the first one that is not taken. The last is not used
+-- the number whose ID the next message gets: the first one that is free. The last number is not
+-- used
 abbrev pub free_number : List ℕ → Attached (Request AskedSeen) → Earlier → ℕ → Option ℕ
 free_number seed all earlier next =
     first_free (is_taken seed all earlier) next (LAST_NUMBER - next)

@@ -1,4 +1,4 @@
--- What follows of the decisions on responses, in the words of a caller.
+-- What follows from the decisions on responses, for a caller.
 use Rattle.std.specs.Prelude.{◌≡◌, ◌<◌, ◌≤◌, ℕ, Bool, true, false, List, Option, ⊤}
 use Rattle.stun_client.specs.Challenges.{Answered}
 use Rattle.stun_client.specs.Judging.{Identity, judged}
@@ -10,30 +10,30 @@ use Rattle.stun_client_calls.specs.Messages.{AskedSeen, DOUBTS, is_doubt, is_ref
 use Rattle.stun_client_calls.specs.declared.deciding.Limits.{Limits}
 use Rattle.stun_client_calls.specs.declared.turning.Why.{Why}
 
--- what of a client matters to a response: whether it requires FINGERPRINT, how it proves who it is,
--- its limits, and the challenge that new requests are signed for
+-- the parts of a client that matter to a response: whether it requires FINGERPRINT, how it proves
+-- who it is, its limits, and the challenge that new requests are signed for
 pub record Judge : Type 0 where
   pub required : Bool
   pub identity : Identity
   pub limits : Limits
   pub standing : StandingSeen
 
--- what a response to a message comes to, which is the current one or an earlier one, and is signed
--- for this challenge
+-- what follows from a response to a message, which is the current one or an earlier one, and is
+-- signed for this challenge
 abbrev pub decision_on : Judge → Bool → ℕ → AskedSeen → Option Answered → List ℕ → DecisionSeen
 decision_on j is_current now a before bytes =
     decided j.limits j.standing now a
     (judged j.required is_current j.identity j.standing before bytes)
 
--- another message becomes the current one within the first plan of the request, and no more often
--- than it may: at all, for doubts, and for refusals
+-- another message becomes the current one within the first plan of the request, and within the
+-- limits: on all such messages, on those for doubts, and on those for refusals
 pub record IsWithinLimits (limits : Limits) (now : ℕ) (a : AskedSeen) (why : Why) : Type 0 where
   pub in_time : now ≤ a.until
   pub in_limit : a.turns < limits.turns
   pub doubts : is_doubt why ≡ true → a.doubts < DOUBTS
   pub refusals : is_refusal why ≡ true → a.refusals.others < OTHERS
 
--- the request goes on
+-- the request continues
 abbrev pub IsNoEnd : DecisionSeen → Type 0
 IsNoEnd (answered by) = ⊥
 IsNoEnd unauthorized = ⊥
@@ -50,7 +50,7 @@ IsAnswerOrDrop refuses = ⊥
 IsAnswerOrDrop (drops why) = ⊤
 
 -- a request over a transport that is not reliable was not refused before it was sent last, nor by
--- as many other challenges as it may be, and another message may become the current one
+-- as many other challenges as the limit allows, and another message may become the current one
 pub record IsUnspent (limits : Limits) (a : AskedSeen) : Type 0 where
   pub unreliable : limits.is_reliable ≡ false
   pub unrefused : a.refusals.is_earlier ≡ false

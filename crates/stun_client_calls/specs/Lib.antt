@@ -1,8 +1,10 @@
--- What the contracts of this crate say, in the order to read it.
+-- What the contracts of this crate say, in reading order.
 
+-- how a single request is sent, and who answers it
+pub mod Options
 -- the messages of a request, and which of them becomes the current one
 pub mod Messages
--- what a response to one of them comes to
+-- what follows from a response to one of them
 pub mod Deciding
 -- the transaction ID of the next message
 pub mod Ids
@@ -10,12 +12,16 @@ pub mod Ids
 pub mod Writing
 -- how a request ends
 pub mod Endpoints
--- a client, and what each call makes of it
+-- a client, and how each call changes it
 pub mod Clients
--- what a response comes to at a client, and what follows of it
+-- a new client with long-term credentials
+pub mod NewClients
+-- what follows from a response at a client
 pub mod Laws
--- what a datagram comes to at such a client
+-- what follows from a datagram at such a client
 pub mod Receiving
+-- what follows from the options of a request
+pub mod OptionLaws
 -- calls of a client, one after the other
 pub mod Runs
 -- when the requests of a client end

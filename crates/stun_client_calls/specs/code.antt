@@ -1,2 +1,2 @@
--- Definitions that no clause of a public call cites: what private functions make of a client.
+-- Definitions that no clause of a public call cites: how private functions change a client.
 pub mod Acting

@@ -1,5 +1,5 @@
-//! What a response to a message of an outstanding request comes to, once it is judged (RFC 8489,
-//! sections 5, 6.2.1 and 9.2.5).
+//! Decides what happens to an outstanding request after a response to one of its messages was
+//! judged (RFC 8489, sections 5, 6.2.1 and 9.2.5).
 ghost use Rattle.std.specs.Option.{option_map};
 ghost use Rattle.std.specs.Prelude.{◌≡◌, IfOk, IsOk, false};
 ghost use Rattle.stun_client.specs.Judging.{verdict_of};
@@ -13,57 +13,63 @@ use crate::asked::{Asked, Sent};
 use crate::turning::Why;
 use std::alloc::{AllocError, Allocator};
 use stun_base::instant::Instant;
+use stun_base::memory::Memory;
 use stun_client::challenge::Challenge;
 use stun_client::judged::Judged;
 use stun_client::standing::Standing;
 use stun_client_endpoint::ended::{DropReason, reason_of};
 use stun_types::message::{IntegrityAlgorithm, TransactionId};
 
-/// How often a request may be sent by another message.
+/// The limits on the messages of a request.
 #[derive(Clone, Copy)]
 pub struct Limits {
     /// How often another message of a request may become the current one.
     pub turns: u32,
-    /// Whether the transport is reliable, so that nothing is sent again over it.
+    /// Whether the transport is reliable, so that messages are not retransmitted over it.
     pub is_reliable: bool,
 }
 
-/// What a response to a message of an outstanding request comes to.
+/// What happens to an outstanding request after a response to one of its messages.
 #[derive(Drop)]
 pub enum Decision<A: Allocator> {
-    /// It is believed and ends the request. It is signed with this algorithm, or not signed.
+    /// The response is believed and ends the request. The algorithm is that of its signature, or
+    /// `None` if it is not signed.
     Answered(Option<IntegrityAlgorithm>),
     /// The request ends as `Unauthorized`.
     Unauthorized,
-    /// Another message becomes the current one: the earlier one with this rank and this transaction
-    /// ID, or a new one. It is signed for this challenge, or not signed.
+    /// Another message becomes the current one: the earlier message with this rank and this
+    /// transaction ID, or a new message. It is signed for this challenge, or not signed.
     Turn(Why, Option<(u32, TransactionId)>, Option<Challenge<A>>),
-    /// It is the challenge that the request is signed for already. It is dropped, and counts.
+    /// The response repeats the challenge that the request is signed for. It is dropped, and counts
+    /// as a refusal.
     Refuse,
-    /// It is dropped, for this reason.
+    /// The response is dropped, for this reason.
     Drop(DropReason),
 }
 
-/// Returns what a response comes to that was judged so.
+/// Decides what happens after a response, by how it was judged.
 ///
 /// - A response that is believed ends the request.
-/// - A challenge is answered by the message for it, which is an earlier message of the request or a
-///   new one. After the first plan of the request it is dropped as `LateChallenge`, and if another
-///   message became the current one as often as it may, it ends the request.
-/// - A 401 for the same realm and security bits, with another nonce or list, is answered so twice.
-///   The third one ends the request.
-/// - The challenge that the message is signed for already is dropped, and counts once for each time
-///   that the message was sent. The second that counts ends the request. Over a reliable transport
-///   the first one does.
-/// - A doubt is dropped after the first plan, after as many messages as the limit says, and after
-///   three doubts. Otherwise the last other message becomes the current one that is neither in
-///   doubt nor weaker than what a success has confirmed. If there is none, a signed message gives
-///   way to a new unsigned one, unless there is an unsigned one already, and an unsigned message
-///   gives way to the last signed one that is not weaker. If that is not possible either, the doubt
-///   is dropped.
+/// - A challenge is answered with the message for it, which is an earlier message of the request or
+///   a new one. After the first plan of the request, the challenge is dropped as `LateChallenge`.
+///   If another message has become the current one as often as the limit allows, the challenge ends
+///   the request.
+/// - A 401 for the same realm and security bits, with another nonce or list, is answered like a
+///   challenge the first two times. The third such 401 ends the request.
+/// - If the response repeats the challenge that the message is signed for, it is dropped as a
+///   refusal. It counts at most once for each time that the message was sent. The second refusal
+///   that counts ends the request. Over a reliable transport, the first refusal ends it.
+/// - A doubt, which is an error that casts doubt on its message, is dropped after the first plan,
+///   after as many messages as the limit allows, and after three doubts. Otherwise the last
+///   eligible earlier message becomes the current one again. A message is eligible if it is not in
+///   doubt, and is not signed for a challenge that is weaker than the challenge that a success has
+///   confirmed. If there is no eligible message, a signed message is replaced by a new unsigned
+///   message, unless the request has an unsigned message already. An unsigned message is then
+///   replaced by the last signed message that is not too weak, even if it is in doubt. If that is
+///   not possible either, the doubt is dropped.
 ///
 /// Fails if an allocation fails. It allocates only for a doubt.
-pub fn decide<A: Allocator + Copy>(
+pub fn decide<A: Memory>(
     asked: &Asked<A>,
     standing: &Standing<A>,
     limits: Limits,
@@ -73,6 +79,7 @@ pub fn decide<A: Allocator + Copy>(
     ensures decided { IfOk result (λ decision. decision_of decision
         ≡ decided limits standing.now now asked.now (verdict_of judged)) }
     ensures no_memory { is_doubted (verdict_of judged) ≡ false → IsOk result }
+    ensures granted { A.grants → IsOk result }
 {
     match judged {
         Judged::Believed(by) => Ok(Decision::Answered(by)),
@@ -84,7 +91,8 @@ pub fn decide<A: Allocator + Copy>(
     }
 }
 
-/// Decides on a challenge.
+/// Decides on a new challenge: answers it, drops it after the first plan, or ends the request at
+/// the limit.
 fn answered_anew<A: Allocator + Copy>(
     asked: &Asked<A>,
     limits: Limits,
@@ -102,7 +110,8 @@ fn answered_anew<A: Allocator + Copy>(
     turns_for(Why::Challenged, challenge, asked)
 }
 
-/// Decides on a 401 for the same realm and security bits, with another nonce or list.
+/// Decides on a 401 for the same realm and security bits, with another nonce or list: answers it
+/// like a challenge, but only twice.
 fn answered_refusal<A: Allocator + Copy>(
     asked: &Asked<A>,
     limits: Limits,
@@ -120,7 +129,7 @@ fn answered_refusal<A: Allocator + Copy>(
     turns_for(Why::Refused, challenge, asked)
 }
 
-/// Decides on the challenge that the message is signed for already.
+/// Decides on a response that repeats the challenge that the message is signed for.
 fn refused_again<A: Allocator + Copy>(asked: &Asked<A>, limits: Limits) -> Decision<A>
     ensures { decision_of result ≡ refused_again limits asked.now }
 {
@@ -131,7 +140,8 @@ fn refused_again<A: Allocator + Copy>(asked: &Asked<A>, limits: Limits) -> Decis
     }
 }
 
-/// Returns that the message for a challenge becomes the current one.
+/// Decides that the message for a challenge becomes the current one: the earlier message that is
+/// signed for it, or a new message.
 fn turns_for<A: Allocator + Copy>(
     why: Why,
     challenge: Challenge<A>,
@@ -143,7 +153,8 @@ fn turns_for<A: Allocator + Copy>(
     Decision::Turn(why, place, Some(challenge))
 }
 
-/// Returns the rank and the transaction ID of the earlier message for a challenge.
+/// Returns the rank and the transaction ID of the earlier message that is signed for a challenge,
+/// or `None` if there is no such message.
 fn place_for<A: Allocator + Copy>(
     asked: &Asked<A>,
     challenge: &Challenge<A>,
@@ -157,14 +168,15 @@ fn place_for<A: Allocator + Copy>(
 }
 
 /// Decides on a doubt.
-fn on_doubt<A: Allocator + Copy>(
+fn on_doubt<A: Memory>(
     asked: &Asked<A>,
     standing: &Standing<A>,
     limits: Limits,
     now: Instant,
 ) -> Result<Decision<A>, AllocError>
-    ensures { IfOk result (λ decision. decision_of decision
+    ensures value { IfOk result (λ decision. decision_of decision
         ≡ on_doubt limits standing.now now asked.now) }
+    ensures granted { A.grants → IsOk result }
 {
     if is_idle(asked, limits, now) {
         return Ok(Decision::Drop(DropReason::NotVerified));
@@ -175,30 +187,28 @@ fn on_doubt<A: Allocator + Copy>(
     }
 }
 
-/// Returns whether a doubt comes too late, or too often.
+/// Returns whether a doubt comes too late or too often to have an effect.
 fn is_idle<A: Allocator + Copy>(asked: &Asked<A>, limits: Limits, now: Instant) -> bool
     ensures { result ≡ is_idle limits now asked.now }
 {
     asked.is_late(now) || asked.is_spent(limits.turns) || asked.is_doubted_out()
 }
 
-/// Returns that an earlier message becomes the current one.
-fn back_to<A: Allocator + Copy>(
-    why: Why,
-    rank: u32,
-    sent: &Sent<A>,
-) -> Result<Decision<A>, AllocError>
-    ensures { IfOk result (λ decision. decision_of decision ≡ back_to why (rank, sent.now)) }
+/// Decides that an earlier message becomes the current one again. Fails if an allocation fails.
+fn back_to<A: Memory>(why: Why, rank: u32, sent: &Sent<A>) -> Result<Decision<A>, AllocError>
+    ensures value { IfOk result (λ decision. decision_of decision ≡ back_to why (rank, sent.now)) }
+    ensures granted { A.grants → IsOk result }
 {
     let signed_for = copied(sent.signed_for())?;
     Ok(Decision::Turn(why, Some((rank, sent.id())), signed_for))
 }
 
 /// Copies a challenge, if there is one. Fails if an allocation fails.
-pub(crate) fn copied<A: Allocator + Copy>(
+pub(crate) fn copied<A: Memory>(
     challenge: &Option<Challenge<A>>,
 ) -> Result<Option<Challenge<A>>, AllocError>
-    ensures { IfOk result (λ copy. copy ≡ challenge.now) }
+    ensures value { IfOk result (λ copy. copy ≡ challenge.now) }
+    ensures granted { A.grants → IsOk result }
 {
     match challenge {
         Some(challenge) => Ok(Some(challenge.clone()?)),
@@ -206,13 +216,14 @@ pub(crate) fn copied<A: Allocator + Copy>(
     }
 }
 
-/// Decides on a doubt if each other message is in doubt, or too weak.
-fn without_eligible<A: Allocator + Copy>(
+/// Decides on a doubt if every earlier message is in doubt or too weak.
+fn without_eligible<A: Memory>(
     asked: &Asked<A>,
     standing: &Standing<A>,
 ) -> Result<Decision<A>, AllocError>
-    ensures { IfOk result (λ decision. decision_of decision
+    ensures value { IfOk result (λ decision. decision_of decision
         ≡ without_eligible standing.now asked.now) }
+    ensures granted { A.grants → IsOk result }
 {
     if asked.signed_for().is_none() {
         undoubted(asked, standing)
@@ -221,7 +232,7 @@ fn without_eligible<A: Allocator + Copy>(
     }
 }
 
-/// Decides on a doubt about a signed message, if each other message is in doubt, or too weak.
+/// Decides on a doubt about a signed message, if every earlier message is in doubt or too weak.
 fn begun_again<A: Allocator + Copy>(asked: &Asked<A>) -> Decision<A>
     ensures { decision_of result ≡ begun_again asked.now }
 {
@@ -232,13 +243,11 @@ fn begun_again<A: Allocator + Copy>(asked: &Asked<A>) -> Decision<A>
     }
 }
 
-/// Decides on a doubt about an unsigned message, if each other message is in doubt, or too weak.
-fn undoubted<A: Allocator + Copy>(
-    asked: &Asked<A>,
-    standing: &Standing<A>,
-) -> Result<Decision<A>, AllocError>
-    ensures { IfOk result (λ decision. decision_of decision
+/// Decides on a doubt about an unsigned message, if every earlier message is in doubt or too weak.
+fn undoubted<A: Memory>(asked: &Asked<A>, standing: &Standing<A>) -> Result<Decision<A>, AllocError>
+    ensures value { IfOk result (λ decision. decision_of decision
         ≡ undoubted (signed_eligible standing.now asked.now.earlier)) }
+    ensures granted { A.grants → IsOk result }
 {
     match asked.signed_eligible(standing) {
         Some((rank, sent)) => back_to(Why::Undoubted, rank, sent),

@@ -1,6 +1,6 @@
-//! A client of one server as one value, whose requests are each stored once.
+//! A client of one server, as one value that stores each request once.
 ghost use Rattle.std.specs.Option.{is_some, option_copied, option_map};
-ghost use Rattle.std.specs.Prelude.{◌≡◌, IfOk};
+ghost use Rattle.std.specs.Prelude.{◌≡◌, IfOk, IsOk};
 ghost use Rattle.stun_agent.specs.Timing.{settings_of};
 ghost use Rattle.stun_client.specs.Judging.{identity_of};
 ghost use Rattle.stun_client_calls.specs.Clients.{cancelled, new_client};
@@ -15,6 +15,7 @@ use std::marker::Model;
 use std::net::SocketAddr;
 use stun_agent::agent::RequestRto;
 use stun_agent::stats::StunAgentStats;
+use stun_base::memory::Memory;
 use stun_base::transport::TransportType;
 use stun_client::credentials::Credentials;
 use stun_client::standing::Standing;
@@ -33,18 +34,22 @@ mod requesting;
 
 /// A client of one server on one transport, with any number of requests at the same time.
 ///
-/// It retransmits, answers challenges and verifies signatures. `poll` returns the end of a request
-/// once. Take every `now` from one clock that never goes back, because otherwise requests are sent
-/// again too late.
+/// The client retransmits, answers challenges and verifies signatures. `poll` returns the outcome
+/// of each request once. Take every `now` from one clock that never goes back, because otherwise
+/// requests are retransmitted too late.
 ///
-/// A request is sent by one message for each challenge, and at most one unsigned message. Each message
-/// has a plan of its own: it is sent and awaited as `Settings::timeouts` say, by default for 39.5
-/// seconds. After the first plan of a request nothing is sent of it, so `poll` ends a request when twice
-/// the time of a plan has passed, within 79 seconds by default.
+/// With long-term credentials, a request has a message for each challenge that it answers, and at
+/// most one unsigned message. Each message has a plan of its own: the times at which it is sent,
+/// and how long the client waits for its response. The plan is `Settings::timeouts`, 39.5 seconds
+/// by default, unless the options of the request have other timeouts. After the first plan of a
+/// request nothing is sent for it, so `poll` ends the request after at most two plans, 79 seconds
+/// by default.
 ///
 /// If an allocation fails, `request` returns an error. `poll` and `cancel` do not allocate.
 ///
-/// Contracts: they see all of it. There is a password in it, so it has no `Debug`.
+/// The client contains a password, so it has no `Debug`.
+///
+/// Contracts: the value is a record of the client's state.
 #[derive(Drop)]
 pub struct ClientEndpoint<A: Allocator = Global> {
     pub(crate) alloc: A,
@@ -52,7 +57,7 @@ pub struct ClientEndpoint<A: Allocator = Global> {
     pub(crate) requires_fingerprint: bool,
     pub(crate) form: Form<A>,
     pub(crate) understood: Vec<AttributeType, A>,
-    // How often another message of a request becomes the current one.
+    // The limit on how often another message of a request becomes the current one.
     pub(crate) turns: u32,
     pub(crate) plan: RequestRto,
     pub(crate) seed: PreparedKey<A>,
@@ -87,10 +92,10 @@ impl<A: Allocator> Model for ClientEndpoint<A> {
     } };
 }
 
-impl<A: Allocator + Copy> ClientEndpoint<A> {
-    /// Creates a client of this server that has asked nothing. It keeps statistics if `stats` is true.
-    /// The seed is 32 unpredictable bytes that are used for this client alone, because the
-    /// transaction IDs are derived from it.
+impl<A: Memory> ClientEndpoint<A> {
+    /// Creates a client of this server that has no requests yet. It keeps statistics if `stats` is
+    /// true. Pass 32 unpredictable bytes as `seed`, and never use them for another client, because
+    /// the transaction IDs are derived from them.
     ///
     /// Fails if an allocation fails.
     pub fn new(
@@ -102,9 +107,10 @@ impl<A: Allocator + Copy> ClientEndpoint<A> {
         seed: &[u8; 32],
         stats: bool,
     ) -> Result<ClientEndpoint<A>, AllocError>
-        ensures { IfOk result (λ client. client ≡ new_client transport server stats
+        ensures client { IfOk result (λ client. client ≡ new_client transport server stats
             settings.requires_fingerprint (identity_of credentials) settings.form
             settings.understood.items settings.challenges (settings_of settings.timeouts) seed.now) }
+        ensures granted { A.grants → IsOk result }
     {
         let Settings {
             form,
@@ -131,7 +137,21 @@ impl<A: Allocator + Copy> ClientEndpoint<A> {
         })
     }
 
-    /// Returns the statistics, if they are kept.
+    /// Returns the address of the server.
+    pub fn server(&self) -> SocketAddr
+        ensures { result ≡ self.now.server }
+    {
+        self.server
+    }
+
+    /// Returns the timeouts of the requests that have no timeouts of their own.
+    pub fn timeouts(&self) -> RequestRto
+        ensures { settings_of result ≡ self.now.plan }
+    {
+        self.plan
+    }
+
+    /// Returns the statistics, if the client keeps them.
     pub fn stats(&self) -> Option<&StunAgentStats>
         ensures { option_copied result ≡ self.now.requests.table.statistics }
     {
@@ -152,8 +172,8 @@ impl<A: Allocator + Copy> ClientEndpoint<A> {
         self.requests.id_of(number)
     }
 
-    /// Returns the number of the outstanding request that the message with this transaction ID
-    /// belongs to, which is its current message or an earlier one.
+    /// Returns the number of the outstanding request that has a message with this transaction ID,
+    /// the current one or an earlier one.
     pub fn request_of(&self, id: TransactionId) -> Option<u64>
         ensures { result ≡ number_with id self.now.requests.table.attached self.now.earlier }
     {
@@ -163,7 +183,8 @@ impl<A: Allocator + Copy> ClientEndpoint<A> {
         }
     }
 
-    /// Returns what was dropped for a request, while it is outstanding.
+    /// Returns how many responses to a request were dropped, and why the last one was, while the
+    /// request is outstanding.
     pub fn dropped(&self, number: u64) -> Option<Drops>
         ensures { result ≡ option_map (λ a. a.drops) (datum_of number self.now.requests) }
     {
@@ -178,16 +199,13 @@ impl<A: Allocator + Copy> ClientEndpoint<A> {
         self.requests.outstanding()
     }
 
-    /// Ends a request as canceled, which `poll` then returns. Returns `false` if no outstanding
-    /// request has this number. It does not allocate.
+    /// Cancels a request. `poll` then returns `Ended` for it, with `RequestEnd::Cancelled`. Returns
+    /// `false` if no outstanding request has this number. It does not allocate.
     pub fn cancel(&mut self, number: u64) -> bool
         ensures known { result ≡ is_some (datum_of number self.old.requests) }
         ensures after { self.new ≡ cancelled number self.old }
     {
-        let end = End {
-            end: RequestEnd::Cancelled,
-            response: Vec::new(self.alloc),
-        };
+        let end = End::bare(self.alloc, RequestEnd::Cancelled);
         let Some(asked) = self.requests.cancel(number, end) else {
             return false;
         };

@@ -21,8 +21,9 @@ pub struct NumberedId {
     pub id: TransactionId,
 }
 
-/// Returns the first number from `next` on whose ID is that of no message of an outstanding request,
-/// with that ID. The last number, `u64::MAX`, is not used. It does not allocate.
+/// Finds the first number, from `next` on, whose transaction ID no message of an outstanding
+/// request has. Returns the number with that ID, or `None` if no number is left. The last number,
+/// `u64::MAX`, is not used. It does not allocate.
 pub fn free_number<A: Allocator + Copy>(
     seed: &PreparedKey<A>,
     requests: &Requests<A, Asked<A>, End<A>>,
@@ -43,7 +44,7 @@ pub fn free_number<A: Allocator + Copy>(
     None
 }
 
-/// Returns whether a transaction ID is that of a message of an outstanding request.
+/// Returns whether a message of an outstanding request has this transaction ID.
 fn is_taken<A: Allocator + Copy>(
     requests: &Requests<A, Asked<A>, End<A>>,
     earlier: &BTreeMap<TransactionId, u64, A>,

@@ -13,13 +13,15 @@ ghost use Rattle.stun_client_calls.specs.Laws.{IsAnswerOrDrop, IsNoEnd, IsUnspen
 ghost use Rattle.stun_client_calls.specs.Laws.{Judge, decision_on};
 ghost use Rattle.stun_client_calls.specs.Messages.{AskedSeen, TurnSeen, has_unsigned, is_too_weak};
 ghost use Rattle.stun_client_calls.specs.Messages.{message_for, refusing, turned};
+ghost use Rattle.stun_client_calls.specs.OptionLaws.{ConfirmsNothing, IsNotHeardElsewhere};
+ghost use Rattle.stun_client_calls.specs.OptionLaws.{IsNotSentOtherwise, IsWrittenUnsigned, StartsUnsigned};
 ghost use Rattle.stun_client_calls.specs.declared.deciding.Limits.{Limits as TheLimits};
 ghost use Rattle.stun_client_calls.specs.declared.turning.Why.{Why as TheWhy};
 
 /// Another message of a request becomes the current one only within the first plan of the request,
-/// and only if that has happened less often than the limit says. It does so for at most three
-/// doubts, and for at most two refusals by another challenge (`within`). So the count never passes
-/// the limit (`counted`).
+/// and only as often as the limit allows. The reason is a doubt at most three times, and a refusal
+/// with another challenge at most twice (`within`). So the count never exceeds the limit
+/// (`counted`).
 pub fn requests_are_sent_by_a_bounded_number_of_messages()
     ensures within { (limits : TheLimits) (standing : StandingSeen) (now : ℕ) (a : AskedSeen)
         (v : Verdict) (why : TheWhy) (place : Option Place) (c : Option Answered)
@@ -31,7 +33,7 @@ pub fn requests_are_sent_by_a_bounded_number_of_messages()
 {}
 
 /// No downgrade: a message that becomes the current one is not signed for a challenge that is
-/// weaker than what a success has confirmed, whatever anybody sends.
+/// weaker than the challenge that a success has confirmed, whatever anybody sends.
 pub fn requests_never_turn_to_weaker_messages()
     ensures { (j : Judge) (is_current : Bool) (now : ℕ) (a : AskedSeen) (before : Option Answered)
         (bytes : List ℕ) (why : TheWhy) (place : Option Place) (c : Option Answered)
@@ -39,9 +41,10 @@ pub fn requests_never_turn_to_weaker_messages()
         → is_too_weak j.standing c ≡ false }
 {}
 
-/// A request has one message for each challenge, and at most one unsigned message: a new message is
-/// written for a challenge only if none of the request is signed for it (`signed`), and an unsigned
-/// one only if the current message is signed and no earlier one is unsigned (`unsigned`).
+/// A request has one message for each challenge, and at most one unsigned message. A new message is
+/// written for a challenge only if no message of the request is signed for that challenge
+/// (`signed`). A new unsigned message is written only if the current message is signed and no
+/// earlier message is unsigned (`unsigned`).
 pub fn a_request_has_one_message_for_each_challenge()
     ensures signed { (j : Judge) (now : ℕ) (a : AskedSeen) (bytes : List ℕ) (why : TheWhy)
         (c : Answered) → decision_on j true now a a.signed_for bytes ≡ turns why None (Some c)
@@ -51,11 +54,10 @@ pub fn a_request_has_one_message_for_each_challenge()
         → IsSome a.signed_for × (has_unsigned a.earlier ≡ false) }
 {}
 
-/// A response that is not signed with the key of the message which it answers does not answer the
-/// request, unless the client accepts that of the current message (`answers`). Nor does it end the
-/// request at all over UDP, before the request is refused as often as it may be, or sent by as many
-/// messages as it may be (`one`). So no single datagram that an attacker sends ends a signed
-/// request.
+/// A response that is not signed with the key of the message that it answers does not answer the
+/// request, unless the client accepts unsigned responses to the current message (`answers`). Over
+/// UDP it does not end the request either, until the request has reached the limit on refusals or
+/// on messages (`one`). So no single datagram that an attacker sends ends a signed request.
 pub fn one_forged_datagram_ends_no_signed_request()
     ensures answers { (j : Judge) (is_current : Bool) (now : ℕ) (a : AskedSeen)
         (before : Option Answered) (bytes : List ℕ) (by : Option IntegrityAlgorithm)
@@ -68,9 +70,10 @@ pub fn one_forged_datagram_ends_no_signed_request()
         → IsNoEnd (decision_on j is_current now a before bytes) }
 {}
 
-/// The challenge that a request is signed for counts once for each time that the request was sent:
-/// over UDP it ends nothing if it comes for the first time (`first`), nor however often it comes
-/// again before the request is sent again (`repeated`).
+/// A response that repeats the challenge that a request is signed for counts as a refusal at most
+/// once for each time that the request was sent. Over UDP, such a response does not end the request
+/// when it arrives for the first time (`first`), nor when it arrives again before the request is
+/// sent again (`repeated`).
 pub fn the_first_refusal_ends_nothing()
     ensures first { (limits : TheLimits) (standing : StandingSeen) (now : ℕ) (a : AskedSeen)
         → limits.is_reliable ≡ false → a.refusals.is_earlier ≡ false
@@ -80,23 +83,23 @@ pub fn the_first_refusal_ends_nothing()
         → decided limits standing now (refusing code a) (refused None) ≡ refuses }
 {}
 
-/// A response to an earlier message of a request answers the request, or it is dropped: no message
-/// becomes the current one, and nothing is counted.
+/// A response to an earlier message of a request answers the request or is dropped: no other
+/// message becomes the current one, and no refusal or doubt is counted.
 pub fn responses_to_earlier_messages_answer_or_are_dropped()
     ensures { (j : Judge) (now : ℕ) (a : AskedSeen) (before : Option Answered) (bytes : List ℕ)
         → IsAnswerOrDrop (decision_on j false now a before bytes) }
 {}
 
-/// A request is over from the end of two plans after its start on, as soon as
-/// `ClientEndpoint::poll` says to wait, whatever calls come before and between (`ends`; RFC 8489,
-/// sections 6.2.1 and 9.2.5).
+/// Once two plans have passed since a request started, and `ClientEndpoint::poll` returns `Wait`,
+/// the request has ended, whatever calls come before and between (`ends`; RFC 8489, sections 6.2.1
+/// and 9.2.5).
 ///
-/// A request that `poll` leaves outstanding, when it says to wait, is not older than two plans, and
-/// the wait ends no later than when it is (`waits`). This holds however late `poll` is called,
-/// because nothing is sent of a request after its first plan, from the creation of a client on
-/// (`begins`) and over each call (`stays`). The first plan of a request ends once a whole plan has
-/// passed since its start (`starts`), which no call changes (`keeps`). All this is of a client that
-/// stores each request once (`first`, `stored`).
+/// When `poll` returns `Wait`, each outstanding request is at most two plans old, and the wait ends
+/// no later than its second plan (`waits`). This holds however late `poll` is called, because
+/// nothing is sent for a request after its first plan, from the creation of a client on (`begins`)
+/// and over each call (`stays`). The first plan of a request ends once a whole plan has passed
+/// since its start (`starts`), and no call changes that time (`keeps`). All this holds for a client
+/// that stores each request once (`first`, `stored`).
 pub fn a_request_ends_within_two_plans()
     ensures ends { EndsWithinTwoPlans }
     ensures first { BeginsStored }
@@ -106,4 +109,20 @@ pub fn a_request_ends_within_two_plans()
     ensures starts { StartsPlan }
     ensures keeps { KeepsPlan }
     ensures waits { WaitsInTime }
+{}
+
+/// A request that is not signed (see `RequestOptions::is_signed`) is written as a client without
+/// credentials writes it, without USERNAME, USERHASH, REALM, NONCE and a signature (`written`), and
+/// is signed for no challenge (`first`). A response answers the request or is dropped: the request
+/// has no other message, and the client answers no challenge for it (`alone`; RFC 8489, section 9).
+/// A response to a message that is signed for no challenge confirms none (`unconfirmed`).
+///
+/// A response that does not come from the address that answers its request changes nothing
+/// (`elsewhere`).
+pub fn a_request_that_is_not_signed_is_answered_or_dropped()
+    ensures written { IsWrittenUnsigned }
+    ensures first { StartsUnsigned }
+    ensures alone { IsNotSentOtherwise }
+    ensures unconfirmed { ConfirmsNothing }
+    ensures elsewhere { IsNotHeardElsewhere }
 {}

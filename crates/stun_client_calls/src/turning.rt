@@ -1,4 +1,4 @@
-//! Why another message of a request becomes the current one, and which.
+//! The message of a request that becomes the current one, and the reason for it.
 ghost use Rattle.std.specs.Prelude.{◌≡◌};
 ghost use Rattle.stun_client_calls.specs.Messages.{is_doubt, is_refusal, leaves_doubt};
 
@@ -14,14 +14,15 @@ pub enum Why {
     Challenged,
     /// A 401 for the same realm and security bits refused the request.
     Refused,
-    /// An unsigned error has thrown doubt on the current message.
+    /// An unsigned error has cast doubt on the current message.
     Doubted,
-    /// It has, and each other message is in doubt too, so this doubt is not noted.
+    /// An unsigned error has cast doubt on the current message. Every other message is in doubt
+    /// too, so the doubt about the current message is not recorded.
     Undoubted,
 }
 
 impl Why {
-    /// Returns whether the request was refused.
+    /// Returns whether the reason is that the request was refused.
     pub fn is_refusal(self) -> bool
         ensures { result ≡ is_refusal self }
     {
@@ -33,7 +34,7 @@ impl Why {
         }
     }
 
-    /// Returns whether the current message is doubted.
+    /// Returns whether the reason is a doubt about the current message.
     pub fn is_doubt(self) -> bool
         ensures { result ≡ is_doubt self }
     {
@@ -58,20 +59,20 @@ impl Why {
     }
 }
 
-/// The message that becomes the current one of a request.
+/// The message of a request that becomes the current one.
 #[derive(Drop)]
 pub struct Turn<A: Allocator> {
-    /// Its transaction ID.
+    /// The transaction ID of the message.
     pub id: TransactionId,
-    /// Its rank.
+    /// The rank of the message.
     pub rank: u32,
-    /// The challenge that it is signed for.
+    /// The challenge that the message is signed for.
     pub signed_for: Option<Challenge<A>>,
     /// The number of the next transaction ID.
     pub next_id: u64,
-    /// The challenge that it answers.
+    /// The challenge that the message answers.
     pub answered: Option<Challenge<A>>,
-    /// Why it becomes the current one.
+    /// Why the message becomes the current one.
     pub why: Why,
 }
 

@@ -1,27 +1,28 @@
 //! The bytes of a message of a request.
 ghost use Rattle.std.specs.Option.{option_copied};
-ghost use Rattle.std.specs.Prelude.{◌≡◌, ◌⊎◌, Err, IfErr, IfOk, Ok, true};
+ghost use Rattle.std.specs.Prelude.{◌≡◌, ◌⊎◌, ⊤, Err, IfErr, IfOk, Ok, true};
 ghost use Rattle.stun_agent.specs.Transactions.{IsRequestOf};
+ghost use Rattle.stun_auth.specs.Additions.{UnlessMemory};
 ghost use Rattle.stun_client.specs.Judging.{identity_of};
 ghost use Rattle.stun_client_calls.specs.Writing.{message_bytes};
 ghost use Rattle.stun_client_endpoint.specs.Written.{is_text_too_long};
 
 use crate::asked::Asked;
-use std::alloc::Allocator;
+use stun_base::memory::Memory;
 use stun_client::challenge::Challenge;
 use stun_client::credentials::Credentials;
 use stun_client_endpoint::form::Form;
 use stun_types::message::{StunWriteError, TransactionId};
 
-/// Writes a message of a request under a transaction ID, signed for this challenge (see
-/// `Form::written`).
+/// Writes a message of a request with this transaction ID, signed for this challenge (see
+/// `Form::written`), or unsigned if the options of the request say so.
 ///
 /// # Errors
 ///
 /// - `TooLarge`, before anything is allocated: the text of SOFTWARE has more than 763 bytes.
 /// - Otherwise the first reason why one of the parts cannot be added, such as `TooLarge` if the
-///   message would be longer than the longest one, or `OutOfMemory` if an allocation fails before.
-pub fn message<A: Allocator + Copy>(
+///   message would be too long, or `OutOfMemory` if an allocation fails earlier.
+pub fn message<A: Memory>(
     alloc: A,
     form: &Form<A>,
     credentials: &Credentials<A>,
@@ -35,12 +36,15 @@ pub fn message<A: Allocator + Copy>(
     ensures refused { IfErr result (λ why. (why ≡ StunWriteError.OutOfMemory)
         ⊎ (message_bytes form.now (identity_of credentials.now) (option_copied signed_for.entry) id
         asked.now ≡ Err why)) }
+    ensures granted { A.grants → UnlessMemory result ⊤ ⊥ }
     ensures at_once { is_text_too_long form.now.software ≡ true
         → result ≡ Err StunWriteError.TooLarge }
 {
     let method = asked.method();
-    // So the header has both of them as they are.
+    // The method has 12 bits and the ID has 96, so the header contains both unchanged.
     prove!(method.value() < 4096);
     prove!(id.as_u128() < 1 << 96);
+    let unsigned = Credentials::Unsigned;
+    let credentials = asked.credentials(&unsigned, credentials);
     form.written(alloc, credentials, signed_for, method, id, asked.body())
 }

@@ -29,7 +29,7 @@ RESERVED =
 abbrev pub is_reserved : ℕ → Bool
 is_reserved kind = list_any (λ other. other == kind) RESERVED
 
--- the most bytes of a body
+-- the largest number of bytes of a body
 abbrev pub BODY_LIMIT : ℕ
 BODY_LIMIT = 60000
 
@@ -45,7 +45,7 @@ body_length body = sum_by piece_length body
 abbrev pub fits : Body → ℕ → Bool
 fits body n = nat_le (body_length body + attribute_length n) BODY_LIMIT
 
--- why an attribute is not added, the first reason that holds
+-- why an attribute is not added: the first reason that applies
 abbrev pub body_size_refusal : Body → ℕ → Option BodyError
 body_size_refusal body n = if fits body n then None else Some TooLarge
 

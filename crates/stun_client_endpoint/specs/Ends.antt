@@ -10,7 +10,7 @@ use Rattle.stun_client_endpoint.specs.declared.ended.DropReason.TheVariants.{Una
 use Rattle.stun_client_endpoint.specs.declared.ended.DropReason.TheVariants.{WeakerChallenge}
 use Rattle.stun_client_endpoint.specs.declared.ended.Drops.{Drops}
 
--- why a response is dropped that is not believed
+-- why a response is dropped, given why it is not believed
 abbrev pub reason_of : Distrust → DropReason
 reason_of Distrusts.WrongFingerprint = WrongFingerprint
 reason_of Distrusts.MissingFingerprint = MissingFingerprint
@@ -21,7 +21,8 @@ reason_of Distrusts.WeakerChallenge = WeakerChallenge
 abbrev pub no_drops : Drops
 no_drops = record { count = 0; last = None; code = None }
 
--- what was dropped, once one more response is. The count stops at its greatest number
+-- the drops of a request after one more response was dropped. The count stops at its greatest
+-- number
 abbrev pub after_drop : DropReason → Option ℕ → Drops → Drops
 after_drop why code drops =
     record { count = min (drops.count + 1) 4294967295; last = Some why; code = code }

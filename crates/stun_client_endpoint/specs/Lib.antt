@@ -1,14 +1,14 @@
--- What the contracts of this crate say, in the order to read it.
+-- What the contracts of this crate say, in reading order.
 
 -- the body of a request
 pub mod Bodies
--- of which settings no client is to be made, and how long a plan is
+-- why no client can be created from some settings, and how long a plan is
 pub mod Settings
 -- the bytes of a request
 pub mod Written
 -- how requests end, and what is dropped for them
 pub mod Ends
--- what of the refusals of a request counts
+-- the refusals of a request that count
 pub mod Refusals
--- what no clause of a public call cites: views of the code's own structs
+-- definitions that no clause of a public call cites: views of the code's own structs
 pub mod code

@@ -1,20 +1,22 @@
--- What of the refusals of a request counts (RFC 8489, section 9.2.5). A refusal is the challenge that
--- the request was signed for already, or a 401 that asks for the same credentials under another nonce.
+-- The refusals of a request that count (RFC 8489, section 9.2.5). A refusal is the challenge that
+-- the request was signed for already, or a 401 that asks for the same credentials under another
+-- nonce.
 use Rattle.std.specs.Prelude.{ℕ, ◌+◌, min, Bool, true, false, ◌||◌, if◌then◌else◌}
 use Rattle.stun_client_endpoint.specs.declared.refusals.Refusals.{Refusals}
 
--- for how many refusals with another nonce or list a request is sent again. The next one ends it
+-- the number of refusals with another nonce or list that are answered. The next one ends the
+-- request
 abbrev pub OTHERS : ℕ
 OTHERS = 2
 
 abbrev pub no_refusals : Refusals
 no_refusals = record { is_recent = false; is_earlier = false; others = 0 }
 
--- the challenge that the request was signed for came again
+-- the challenge that the request was signed for arrived again
 abbrev pub after_refusal : Refusals → Refusals
 after_refusal r = record { is_recent = true; is_earlier = r.is_earlier; others = r.others }
 
--- the request is sent again, by its timer or for another challenge, which is a refusal or is not. So a
+-- the request is sent again, by its timer or for another challenge, which may be a refusal. So a
 -- refusal counts once for each time that the request was sent
 abbrev pub after_sending : Bool → Refusals → Refusals
 after_sending is_refusal r = record {

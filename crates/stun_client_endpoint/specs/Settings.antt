@@ -1,5 +1,6 @@
--- The settings of a client: of which none is to be made, since each of its requests would be refused, or
--- none could be signed; and how long the plan of a request lasts (RFC 8489, section 6.2).
+-- The settings of a client: why no client can be created from some, since each of its requests
+-- would be refused, or none could be signed; and how long the plan of a request lasts (RFC 8489,
+-- section 6.2).
 use Rattle.std.specs.Prelude.{ℕ, Bool, true, false, List, ◌||◌, length, nat_lt, if◌then◌else◌, Option, Some, None}
 use Rattle.stun_base.specs.declared.wire.transport.TransportType.{TransportType}
 use Rattle.stun_base.specs.declared.wire.transport.TransportType.TheVariants.{Tcp, Udp}
@@ -11,9 +12,9 @@ use Rattle.stun_client_endpoint.specs.declared.settings.SettingsError.TheVariant
 use Rattle.stun_client_endpoint.specs.declared.settings.SettingsError.TheVariants.{NoAlgorithm}
 use Rattle.stun_client_endpoint.specs.declared.settings.SettingsError.TheVariants.{SoftwareTooLong}
 
--- what is wrong with a user name, the text of SOFTWARE and the preferences of a user, the first that
--- holds: the two texts fit into their attributes (RFC 8489, sections 14.3 and 14.14), and one algorithm
--- is supported
+-- what is wrong with a user name, the text of SOFTWARE and the preferences of a user: the first
+-- reason that applies. The two texts must fit into their attributes (RFC 8489, sections 14.3 and
+-- 14.14), and one algorithm must be supported
 abbrev pub settings_refusal : List ℕ → List ℕ → Preferences → Option SettingsError
 settings_refusal name software preferences =
     if nat_lt USERNAME_LIMIT (length name) then Some NameTooLong
@@ -21,8 +22,9 @@ settings_refusal name software preferences =
     else if preferences.hmac_sha1 || preferences.hmac_sha256 then None
     else Some NoAlgorithm
 
--- how long a message that nobody answers is sent and awaited: all its timeouts, and the wait after the
--- last transmission (section 6.2.1). Over a reliable transport it is awaited as long (section 6.2.2)
+-- how long a message is sent and awaited if nobody answers it: all its timeouts, and the wait after
+-- the last transmission (section 6.2.1). Over a reliable transport it is awaited as long (section
+-- 6.2.2)
 abbrev pub plan_of : Settings → ℕ
 plan_of settings = final_wait Tcp settings
 

@@ -16,7 +16,7 @@ use Rattle.stun_client.specs.Judging.{Identity}
 use Rattle.stun_client.specs.Signing.{additions_of}
 use Rattle.stun_client_endpoint.specs.Bodies.{Body, attribute_for}
 
--- what each request has beside its body and its signature: the text of SOFTWARE, and FINGERPRINT
+-- what each request has besides its body and its signature: the text of SOFTWARE, and FINGERPRINT
 pub record Form : Type 0 where
   pub software : Option (List ℕ)
   pub has_fingerprint : Bool
@@ -25,7 +25,7 @@ pub record Form : Type 0 where
 abbrev pub Page? : Type 0
 Page? = Result (List ℕ) StunWriteError
 
--- the next step, unless the one before it is refused
+-- the next step, unless the step before it fails
 abbrev pub and_then : Page? → (List ℕ → Page?) → Page?
 and_then (Err why) next = Err why
 and_then (Ok page) next = next page
@@ -87,7 +87,7 @@ abbrev pub closed_request : Form → Identity → Option Answered → List ℕ �
 closed_request form identity challenge page =
     and_then (with_credentials identity challenge page) (with_own_end form.has_fingerprint)
 
--- SOFTWARE, and then these
+-- SOFTWARE, and then the signature and FINGERPRINT
 abbrev pub completed_request : Form → Identity → Option Answered → List ℕ → Page?
 completed_request form identity challenge page =
     and_then (with_own_software form.software page) (closed_request form identity challenge)
@@ -104,8 +104,8 @@ whole_request form identity challenge method id body =
     and_then (with_body id body (empty_message Request method id))
     (completed_request form identity challenge)
 
--- a request, or why it cannot be written: a text of SOFTWARE that is too long comes first, and then
--- the first part that cannot be added
+-- a request, or why it cannot be written: first that the text of SOFTWARE is too long, and then the
+-- first part that cannot be added
 unfoldable pub request_bytes : Form → Identity → Option Answered → ℕ → ℕ → Body → Page?
 request_bytes form identity challenge method id body =
     if is_text_too_long form.software then Err TooLarge

@@ -1,9 +1,11 @@
 //! The attributes of a request.
-ghost use Rattle.std.specs.Prelude.{◌≡◌, ◌≤◌, ◌++◌, ◌∷◌, ◌⊎◌, [], Err, IfErr, IfOk, IsOkUnless};
-ghost use Rattle.std.specs.Prelude.{IsOk, MatchOption, Ok, OnErr, OnOk, length, true};
+ghost use Rattle.std.specs.Prelude.{◌≡◌, ◌≤◌, ◌++◌, ◌∷◌, ◌⊎◌, ⊤, [], Err, IfErr, IfOk};
+ghost use Rattle.std.specs.Prelude.{IsOk, IsOkUnless, MatchOption, None, Ok, OnErr, OnOk, length, true};
+ghost use Rattle.stun_auth.specs.Additions.{UnlessMemory};
 ghost use Rattle.stun_types.specs.Attribute.{attribute_length};
 ghost use Rattle.stun_client_endpoint.specs.Bodies.{body_refusal, fits, is_reserved, of_peer};
-ghost use Rattle.stun_client_endpoint.specs.Bodies.{body_length, body_size_refusal, piece_length};
+ghost use Rattle.stun_client_endpoint.specs.Bodies.{BODY_LIMIT as limit, body_length};
+ghost use Rattle.stun_client_endpoint.specs.Bodies.{body_size_refusal, piece_length};
 ghost use Rattle.stun_client_endpoint.specs.Bodies.{with_value};
 ghost use Rattle.stun_client_endpoint.specs.Written.{with_body};
 
@@ -11,24 +13,27 @@ use crate::piece::Piece;
 use std::alloc::{AllocError, Allocator, Global};
 use std::marker::Model;
 use std::net::SocketAddr;
+use stun_base::memory::Memory;
 use stun_types::attribute::{AttributeType, attribute_length};
 use stun_types::message::{MessageWriteVec, StunWriteError, TransactionId};
 use stun_types::prelude::*;
 use thiserror::Error;
 
-/// The most bytes of the attributes of a body, where each XOR-PEER-ADDRESS counts as 24. What a
-/// client adds to a request fits after them, unless the server's list of algorithms is very long.
+/// The largest number of bytes that the attributes of a body may have, if each XOR-PEER-ADDRESS
+/// counts as 24. The attributes that a client adds to a request still fit after them, unless the
+/// server's list of algorithms is very long.
 pub const BODY_LIMIT: usize = 60_000;
 
-/// Why an attribute is not added to a body. The body is then as it was.
+/// Why an attribute is not added to a body. The body is then unchanged.
 #[derive(Clone, Copy, Debug, PartialEq, Eq, Error)]
 #[non_exhaustive]
 pub enum BodyError {
-    /// The client writes this type itself, its value depends on the transaction ID, or it is
-    /// ERROR-CODE, which no request has.
+    /// The client itself writes attributes of this type, or the value depends on the transaction
+    /// ID, or the attribute is ERROR-CODE, which no request has.
     #[error("a body cannot have this attribute")]
     NotAllowed,
-    /// The attributes would have more than `BODY_LIMIT` bytes, by the count that is described there.
+    /// The attributes would have more than `BODY_LIMIT` bytes, where each XOR-PEER-ADDRESS counts
+    /// as 24.
     #[error("the body is too large")]
     TooLarge,
     /// An allocation failed.
@@ -43,18 +48,19 @@ const RESERVED: [u16; 14] = [
     0x8028, 0x0009,
 ];
 
-/// Returns whether a body cannot have attributes of this type: the client writes it itself, its
-/// value depends on the transaction ID, or it is ERROR-CODE, which no request has.
+/// Returns whether a body cannot have attributes of this type, because the client itself writes
+/// such attributes, because the value depends on the transaction ID, or because the type is
+/// ERROR-CODE, which no request has.
 pub fn is_reserved(kind: AttributeType) -> bool
     ensures { result ≡ is_reserved kind.0 }
 {
     RESERVED.contains(&kind.value())
 }
 
-/// The attributes of a request, in the order in which they were added. They are stored, because a
-/// request that is challenged is written again under another transaction ID.
+/// The attributes of a request, in the order in which they were added. The client stores them,
+/// because it writes a request again, with another transaction ID, when the server challenges it.
 ///
-/// Contracts: they see the list of them.
+/// Contracts: the value is the list of the attributes.
 #[derive(Drop)]
 pub struct Body<A: Allocator = Global> {
     alloc: A,
@@ -74,7 +80,7 @@ impl<A: Allocator> Model for Body<A> {
     ghost invariant = { λ b. (b.length ≡ body_length b.pieces.items) × (b.length ≤ limit) };
 }
 
-impl<A: Allocator + Copy> Body<A> {
+impl<A: Memory> Body<A> {
     /// Creates a body without attributes. It does not allocate.
     pub fn new(alloc: A) -> Body<A>
         ensures { result ≡ [] }
@@ -86,20 +92,22 @@ impl<A: Allocator + Copy> Body<A> {
         }
     }
 
-    /// Adds an attribute by its type and its value. Types may repeat.
+    /// Adds an attribute by its type and its value. Several attributes may have the same type.
     ///
     /// # Errors
     ///
-    /// The first of these that applies. The body is then as it was.
+    /// Fails with the first of these that applies. The body is then unchanged.
     ///
-    /// - `NotAllowed`: the client writes this type itself, its value depends on the transaction ID
-    ///   (for XOR-PEER-ADDRESS call `add_xor_peer_address`), or it is ERROR-CODE, which no request
-    ///   has.
+    /// - `NotAllowed`: the client itself writes attributes of this type, or the value depends on
+    ///   the transaction ID (for XOR-PEER-ADDRESS call `add_xor_peer_address`), or the attribute is
+    ///   ERROR-CODE, which no request has.
     /// - `TooLarge`: the attributes would have more than `BODY_LIMIT` bytes.
     /// - `OutOfMemory`: an allocation failed.
     pub fn add(&mut self, kind: AttributeType, value: &[u8]) -> Result<(), BodyError>
         ensures refused { MatchOption (body_refusal self.old kind.0 (length value.now))
             (IsOkUnless result BodyError.OutOfMemory) (λ why. result ≡ Err why) }
+        ensures granted { A.grants → body_refusal self.old kind.0 (length value.now) ≡ None
+            → IsOk result }
         ensures after { OnOk result (self.new
             ≡ self.old ++ with_value (record { kind = kind.0; value = value.now }) ∷ []) }
         ensures same { OnErr result (self.new ≡ self.old) }
@@ -120,13 +128,14 @@ impl<A: Allocator + Copy> Body<A> {
     ///
     /// # Errors
     ///
-    /// The first of these that applies. The body is then as it was.
+    /// Fails with the first of these that applies. The body is then unchanged.
     ///
     /// - `TooLarge`: the attributes would have more than `BODY_LIMIT` bytes.
     /// - `OutOfMemory`: an allocation failed.
     pub fn add_xor_peer_address(&mut self, address: SocketAddr) -> Result<(), BodyError>
         ensures refused { MatchOption (body_size_refusal self.old 20)
             (IsOkUnless result BodyError.OutOfMemory) (λ why. result ≡ Err why) }
+        ensures granted { A.grants → body_size_refusal self.old 20 ≡ None → IsOk result }
         ensures after { OnOk result (self.new ≡ self.old ++ of_peer address ∷ []) }
         ensures same { OnErr result (self.new ≡ self.old) }
     {
@@ -139,29 +148,32 @@ impl<A: Allocator + Copy> Body<A> {
         }
     }
 
-    /// Returns whether an attribute whose value has this many bytes still fits.
+    /// Returns whether an attribute whose value has `length` bytes still fits.
     pub fn has_room(&self, length: usize) -> bool
         ensures { result ≡ fits self.now length }
     {
         self.length.saturating_add(attribute_length(length)) <= BODY_LIMIT
     }
 
-    /// Returns how many bytes the attributes have, where each XOR-PEER-ADDRESS counts as 24.
+    /// Returns the number of bytes of the attributes, where each XOR-PEER-ADDRESS counts as 24.
     pub(crate) fn length(&self) -> usize
-        ensures { result ≡ body_length self.now }
+        ensures length { result ≡ body_length self.now }
+        ensures limit { result ≤ limit }
     {
         self.length
     }
 
-    /// Adds an attribute that fits, whose value has at most so many bytes.
+    /// Adds an attribute that fits. `length` is the number of bytes of its value, or 20 for
+    /// XOR-PEER-ADDRESS.
     fn push(&mut self, piece: Piece<A>, length: usize) -> Result<(), BodyError>
         requires fits { fits self.old length ≡ true }
         requires length { piece_length piece ≡ attribute_length length }
         ensures refused { IsOkUnless result BodyError.OutOfMemory }
+        ensures granted { A.grants → IsOk result }
         ensures after { OnOk result (self.new ≡ self.old ++ piece ∷ []) }
         ensures same { OnErr result (self.new ≡ self.old) }
     {
-        if self.pieces.push(piece).is_err() {
+        if A::push(&mut self.pieces, piece).is_err() {
             return Err(BodyError::OutOfMemory);
         }
         self.length += attribute_length(length);
@@ -172,10 +184,11 @@ impl<A: Allocator + Copy> Body<A> {
     pub fn cloned(&self) -> Result<Body<A>, AllocError>
         ensures copied { IfOk result (λ copy. copy ≡ self.now) }
         ensures no_memory { self.now ≡ [] → IsOk result }
+        ensures granted { A.grants → IsOk result }
     {
         let mut pieces = Vec::new(self.alloc);
         for piece in &self.pieces {
-            pieces.push(piece.cloned(self.alloc)?)?;
+            A::push(&mut pieces, piece.cloned(self.alloc)?)?;
         }
         Ok(Body {
             alloc: self.alloc,
@@ -195,6 +208,7 @@ impl<A: Allocator + Copy> Body<A> {
         ensures ok { OnOk result (with_body id self.now page.old.bytes ≡ Ok page.new.bytes) }
         ensures refused { IfErr result (λ why. (why ≡ StunWriteError.OutOfMemory)
             ⊎ (with_body id self.now page.old.bytes ≡ Err why)) }
+        ensures granted { A.grants → UnlessMemory result ⊤ ⊥ }
     {
         for piece in &self.pieces {
             piece.write(id, page)?;

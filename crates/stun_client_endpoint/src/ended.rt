@@ -1,37 +1,37 @@
-//! How requests end, and what is dropped for them.
+//! The outcomes of requests, and the responses that are dropped for them.
 ghost use Rattle.std.specs.Prelude.{◌≡◌};
 ghost use Rattle.stun_client_endpoint.specs.Ends.{after_drop, no_drops, reason_of};
 
 use stun_client::judged::{Distrust, Outcome};
 use stun_types::message::IntegrityAlgorithm;
 
-/// Why a response to an outstanding request is dropped. The request goes on.
+/// Why a response to an outstanding request is dropped. The request continues.
 #[derive(Clone, Copy, Debug, PartialEq, Eq)]
 #[non_exhaustive]
 pub enum DropReason {
-    /// The FINGERPRINT is wrong, is not the last attribute, or its value does not have 4 bytes: the
+    /// The FINGERPRINT is wrong, is not the last attribute, or does not have 4 bytes. So the
     /// response is damaged, or belongs to another protocol (RFC 8489, section 14.7).
     WrongFingerprint,
     /// The client requires a FINGERPRINT, and the response has none (RFC 8489, section 7.3).
     MissingFingerprint,
-    /// The response has not the valid signature that it must have.
+    /// The response must have a valid signature, but does not have one.
     NotVerified,
-    /// The response is a 401 or a 438 that the client cannot answer, and is not signed, or one whose
+    /// The response is an unsigned 401 or 438 that the client cannot answer, or a 401 or 438 whose
     /// list of algorithms is so long that the request would not fit in a message.
     UnanswerableChallenge,
-    /// The response is a challenge that is weaker than the one which a success has confirmed.
+    /// The response is a challenge that is weaker than the challenge that a success has confirmed.
     WeakerChallenge,
-    /// The response is the challenge that the request is signed for, once more. The request is sent
-    /// again by its timer, and ends as `Unauthorized` if one arrives after that.
+    /// The response repeats the challenge that the request is signed for. The request is sent again
+    /// by its timer, and ends as `Unauthorized` if the challenge arrives once more after that.
     Refused,
-    /// The response is a challenge that arrived after the first plan of the request, so the request is
-    /// not sent again for it.
+    /// The response is a challenge that arrived after the first plan of the request, so the request
+    /// is not sent again for it.
     LateChallenge,
     /// An allocation failed, or the seed has no transaction ID left.
     OutOfMemory,
 }
 
-/// Returns why a response is dropped, from why it is not believed.
+/// Returns the reason to drop a response that is not believed.
 pub fn reason_of(why: Distrust) -> DropReason
     ensures { result ≡ reason_of why }
 {
@@ -44,20 +44,20 @@ pub fn reason_of(why: Distrust) -> DropReason
     }
 }
 
-/// What was dropped for one request. Show it to people, but never act on it, because anybody can
-/// send it.
+/// How many responses were dropped for one request, and why the last one was. Use it only for
+/// diagnostics, because anybody can send such responses.
 #[derive(Clone, Copy, Debug, PartialEq, Eq)]
 pub struct Drops {
     /// How many responses were dropped, at most `u32::MAX`.
     pub count: u32,
-    /// Why the last of them was dropped.
+    /// Why the last of these responses was dropped.
     pub last: Option<DropReason>,
-    /// The error code of the last of them, if it had one.
+    /// The error code of the last of these responses, if it had one.
     pub code: Option<u16>,
 }
 
 impl Drops {
-    /// Returns that nothing was dropped.
+    /// Returns the value for a request for which no response was dropped.
     pub fn none() -> Drops
         ensures { result ≡ no_drops }
     {
@@ -68,7 +68,7 @@ impl Drops {
         }
     }
 
-    /// Returns what was dropped once one more response is.
+    /// Returns the value after one more response was dropped.
     pub fn noted(self, why: DropReason, code: Option<u16>) -> Drops
         ensures { result ≡ after_drop why code self }
     {
@@ -84,14 +84,14 @@ impl Drops {
 #[derive(Clone, Copy, Debug, PartialEq, Eq)]
 #[non_exhaustive]
 pub enum RequestEnd {
-    /// A response was accepted and ended the request with this outcome. It is signed with this
-    /// algorithm, or unsigned.
+    /// A response was accepted and ended the request with this outcome. The algorithm is that of
+    /// the response's signature, or `None` if the response is unsigned.
     Answered(Outcome, Option<IntegrityAlgorithm>),
     /// No acceptable response arrived in time.
     TimedOut(Drops),
-    /// The server refuses the credentials, or challenges too often: the user name or the password is
-    /// wrong, or somebody forges challenges.
+    /// The server refuses the credentials, or challenges the request too often: the user name or
+    /// the password is wrong, or an attacker forges challenges.
     Unauthorized,
-    /// It was canceled.
+    /// The request was canceled.
     Cancelled,
 }

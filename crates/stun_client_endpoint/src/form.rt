@@ -1,9 +1,11 @@
 //! The bytes of a request.
 ghost use Rattle.std.specs.Option.{option_copied, option_map};
-ghost use Rattle.std.specs.Prelude.{◌≡◌, ◌≤◌, ◌⊎◌, Err, IfErr, IfOk, Ok, OnOk, length, true};
+ghost use Rattle.std.specs.Prelude.{◌≡◌, ◌≤◌, ◌⊎◌, ⊤, Err, IfErr, IfOk, IsOk, Ok, OnOk, length, true};
 ghost use Rattle.std.specs.String.{string_bytes};
 ghost use Rattle.stun_types.specs.Writing.{empty_message};
+ghost use Rattle.stun_auth.specs.Additions.{UnlessMemory};
 ghost use Rattle.stun_client.specs.Judging.{identity_of};
+ghost use Rattle.stun_client_endpoint.specs.Bodies.{BODY_LIMIT as limit};
 ghost use Rattle.stun_client_endpoint.specs.Written.{closed_request, completed_request};
 ghost use Rattle.stun_client_endpoint.specs.Written.{is_text_too_long, request_bytes, whole_request};
 ghost use Rattle.stun_client_endpoint.specs.Written.{with_body, with_credentials};
@@ -14,6 +16,7 @@ use crate::body::Body;
 use std::alloc::{AllocError, Allocator, Global};
 use std::marker::Model;
 use stun_base::header::HEADER_LENGTH;
+use stun_base::memory::Memory;
 use stun_client::challenge::Challenge;
 use stun_client::credentials::Credentials;
 use stun_extra::attribute::Software;
@@ -24,9 +27,9 @@ use stun_types::message::{
 };
 use stun_types::prelude::*;
 
-/// What each request of a client has beside its body and its signature.
+/// The parts that each request of a client has in addition to its body and its signature.
 ///
-/// Contracts: they see all of it.
+/// Contracts: the value is a record of both fields.
 #[derive(Drop)]
 pub struct Form<A: Allocator = Global> {
     software: Option<String<A>>,
@@ -46,10 +49,10 @@ impl<A: Allocator> Model for Form<A> {
     } };
 }
 
-impl<A: Allocator + Copy> Form<A> {
-    /// Creates a form: each request has SOFTWARE with this text, if there is one, and FINGERPRINT if
-    /// the last argument is true. A request is refused as `TooLarge` if the text has more than 763
-    /// bytes.
+impl<A: Memory> Form<A> {
+    /// Creates a form: each request has SOFTWARE with this text, if there is one, and FINGERPRINT
+    /// if `has_fingerprint` is true. If the text has more than 763 bytes, each request fails with
+    /// `TooLarge`.
     pub fn new(software: Option<String<A>>, has_fingerprint: bool) -> Form<A>
         ensures { result ≡ record {
           software = option_map string_bytes software;
@@ -62,15 +65,16 @@ impl<A: Allocator + Copy> Form<A> {
         }
     }
 
-    /// Writes a request: the header with its method and its ID, the body, SOFTWARE, what the
-    /// credentials add to sign it for this challenge (see `Credentials::sign`), and FINGERPRINT.
+    /// Writes a request: the header with its method and its ID, the body, SOFTWARE, the attributes
+    /// with which the credentials sign it for this challenge (see `Credentials::sign`), and
+    /// FINGERPRINT.
     ///
     /// # Errors
     ///
     /// - `TooLarge`, before anything is allocated: the text of SOFTWARE has more than 763 bytes.
-    /// - Otherwise the first reason why one of the parts cannot be added, in the order above, such as
-    ///   `TooLarge` if the message would be longer than the longest one, or `OutOfMemory` if an
-    ///   allocation fails before.
+    /// - Otherwise the first reason why one of the parts cannot be added, in the order above, such
+    ///   as `TooLarge` if the message would be too long, or `OutOfMemory` if an allocation fails
+    ///   earlier.
     #[tactic(auto, unfolding(crate::specs::Written::request_bytes))]
     pub fn written(
         &self,
@@ -87,6 +91,7 @@ impl<A: Allocator + Copy> Form<A> {
         ensures refused { IfErr result (λ why. (why ≡ StunWriteError.OutOfMemory)
             ⊎ (request_bytes self.now (identity_of credentials.now)
             (option_copied signed_for.entry) method id body.now ≡ Err why)) }
+        ensures granted { A.grants → UnlessMemory result ⊤ ⊥ }
         ensures at_once { is_text_too_long self.now.software ≡ true
             → result ≡ Err StunWriteError.TooLarge }
     {
@@ -106,7 +111,7 @@ impl<A: Allocator + Copy> Form<A> {
         }
     }
 
-    /// Writes a request.
+    /// Writes a request like `written`, once the text of SOFTWARE is known to fit.
     fn whole(
         &self,
         alloc: A,
@@ -122,6 +127,7 @@ impl<A: Allocator + Copy> Form<A> {
         ensures refused { IfErr result (λ why. (why ≡ StunWriteError.OutOfMemory)
             ⊎ (whole_request self.now (identity_of credentials.now)
             (option_copied signed_for.entry) method id body.now ≡ Err why)) }
+        ensures granted { A.grants → UnlessMemory result ⊤ ⊥ }
     {
         let page = begun_with(alloc, method, id, body)?;
         self.completed(credentials, signed_for, page)
@@ -141,6 +147,7 @@ impl<A: Allocator + Copy> Form<A> {
         ensures refused { IfErr result (λ why. (why ≡ StunWriteError.OutOfMemory)
             ⊎ (completed_request self.now (identity_of credentials.now)
             (option_copied signed_for.entry) page.bytes ≡ Err why)) }
+        ensures granted { A.grants → UnlessMemory result ⊤ ⊥ }
     {
         let mut page = page;
         self.add_software(&mut page)?;
@@ -160,6 +167,7 @@ impl<A: Allocator + Copy> Form<A> {
         ensures refused { IfErr result (λ why. (why ≡ StunWriteError.OutOfMemory)
             ⊎ (closed_request self.now (identity_of credentials.now)
             (option_copied signed_for.entry) page.bytes ≡ Err why)) }
+        ensures granted { A.grants → UnlessMemory result ⊤ ⊥ }
     {
         let page = signed(credentials, signed_for, page)?;
         finished(page, self.has_fingerprint)
@@ -173,6 +181,7 @@ impl<A: Allocator + Copy> Form<A> {
             ≡ Ok page.new.bytes) }
         ensures refused { IfErr result (λ why. (why ≡ StunWriteError.OutOfMemory)
             ⊎ (with_own_software self.now.software page.old.bytes ≡ Err why)) }
+        ensures granted { A.grants → UnlessMemory result ⊤ ⊥ }
     {
         match &self.software {
             Some(text) => add_text(page, text.as_str()),
@@ -182,12 +191,13 @@ impl<A: Allocator + Copy> Form<A> {
 }
 
 /// Adds SOFTWARE with this text.
-fn add_text<A: Allocator>(page: &mut MessageWriteVec<A>, text: &str) -> Result<(), StunWriteError>
+fn add_text<A: Memory>(page: &mut MessageWriteVec<A>, text: &str) -> Result<(), StunWriteError>
     requires { 20 ≤ length page.old.bytes }
     ensures header { OnOk result (20 ≤ length page.new.bytes) }
     ensures ok { OnOk result (with_software_text text.now page.old.bytes ≡ Ok page.new.bytes) }
     ensures refused { IfErr result (λ why. (why ≡ StunWriteError.OutOfMemory)
         ⊎ (with_software_text text.now page.old.bytes ≡ Err why)) }
+    ensures granted { A.grants → UnlessMemory result ⊤ ⊥ }
 {
     match Software::new(text) {
         Ok(software) => add(page, &software),
@@ -195,8 +205,8 @@ fn add_text<A: Allocator>(page: &mut MessageWriteVec<A>, text: &str) -> Result<(
     }
 }
 
-/// Adds an attribute.
-fn add<A: Allocator, M: Attribute>(
+/// Adds an attribute to the request that is being written.
+fn add<A: Memory, M: Attribute>(
     page: &mut MessageWriteVec<A>,
     attribute: &M,
 ) -> Result<(), StunWriteError>
@@ -209,12 +219,13 @@ fn add<A: Allocator, M: Attribute>(
         ⊎ (with_one
         (record { kind = M.kind attribute.now; value = M.value attribute.now }) page.old.bytes
         ≡ Err why)) }
+    ensures granted { A.grants → UnlessMemory result ⊤ ⊥ }
 {
     page.add_attribute(attribute)
 }
 
-/// Ends a request, by FINGERPRINT if it gets one.
-fn finished<A: Allocator>(
+/// Completes a request, with FINGERPRINT if `has_fingerprint` is true, and returns its bytes.
+fn finished<A: Memory>(
     page: MessageWriteVec<A>,
     has_fingerprint: bool,
 ) -> Result<Vec<u8, A>, StunWriteError>
@@ -222,6 +233,7 @@ fn finished<A: Allocator>(
     ensures ok { IfOk result (λ bytes. with_own_end has_fingerprint page.bytes ≡ Ok bytes.items) }
     ensures refused { IfErr result (λ why. (why ≡ StunWriteError.OutOfMemory)
         ⊎ (with_own_end has_fingerprint page.bytes ≡ Err why)) }
+    ensures granted { A.grants → UnlessMemory result ⊤ ⊥ }
 {
     if has_fingerprint {
         fingerprinted(page)
@@ -230,18 +242,19 @@ fn finished<A: Allocator>(
     }
 }
 
-/// Ends a request by FINGERPRINT.
-fn fingerprinted<A: Allocator>(page: MessageWriteVec<A>) -> Result<Vec<u8, A>, StunWriteError>
+/// Completes a request with FINGERPRINT, and returns its bytes.
+fn fingerprinted<A: Memory>(page: MessageWriteVec<A>) -> Result<Vec<u8, A>, StunWriteError>
     requires { 20 ≤ length page.bytes }
     ensures ok { IfOk result (λ bytes. with_own_end true page.bytes ≡ Ok bytes.items) }
     ensures refused { IfErr result (λ why. (why ≡ StunWriteError.OutOfMemory)
         ⊎ (with_own_end true page.bytes ≡ Err why)) }
+    ensures granted { A.grants → UnlessMemory result ⊤ ⊥ }
 {
     finish_with_fingerprint(page)
 }
 
-/// Begins a request, with its body.
-fn begun_with<A: Allocator + Copy>(
+/// Begins a request: writes its header and its body.
+fn begun_with<A: Memory>(
     alloc: A,
     method: Method,
     id: TransactionId,
@@ -252,14 +265,15 @@ fn begun_with<A: Allocator + Copy>(
         with_body id body.now (empty_message MessageClass.Request method id) ≡ Ok page.bytes) }
     ensures refused { IfErr result (λ why. (why ≡ StunWriteError.OutOfMemory)
         ⊎ (with_body id body.now (empty_message MessageClass.Request method id) ≡ Err why)) }
+    ensures granted { A.grants → UnlessMemory result ⊤ ⊥ }
 {
     let mut page = begun(alloc, method, id, body.length())?;
     body.write(id, &mut page)?;
     Ok(page)
 }
 
-/// Begins a request whose attributes may have this many bytes.
-fn begun<A: Allocator + Copy>(
+/// Begins a request: writes its header, and reserves memory for `room` bytes of attributes.
+fn begun<A: Memory>(
     alloc: A,
     method: Method,
     id: TransactionId,
@@ -268,8 +282,9 @@ fn begun<A: Allocator + Copy>(
     ensures bytes { IfOk result (λ page. page.bytes
         ≡ empty_message MessageClass.Request method id) }
     ensures header { IfOk result (λ page. 20 ≤ length page.bytes) }
+    ensures granted { A.grants → room ≤ limit → IsOk result }
 {
-    // Most requests are written in this one block.
+    // One block of memory of this size is enough for most requests.
     let mut page = MessageWriteVec::new(alloc);
     if page.reserve(HEADER_LENGTH.saturating_add(room)).is_err() {
         return Err(AllocError);
@@ -280,8 +295,8 @@ fn begun<A: Allocator + Copy>(
     }
 }
 
-/// Signs a request.
-fn signed<A: Allocator + Copy>(
+/// Signs a request for this challenge.
+fn signed<A: Memory>(
     credentials: &Credentials<A>,
     signed_for: Option<&Challenge<A>>,
     page: MessageWriteVec<A>,
@@ -293,6 +308,7 @@ fn signed<A: Allocator + Copy>(
     ensures refused { IfErr result (λ why. (why ≡ StunWriteError.OutOfMemory)
         ⊎ (with_credentials (identity_of credentials.now)
         (option_copied signed_for.entry) page.bytes ≡ Err why)) }
+    ensures granted { A.grants → UnlessMemory result ⊤ ⊥ }
 {
     credentials.sign(signed_for, page)
 }

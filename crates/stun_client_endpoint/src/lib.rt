@@ -1,7 +1,7 @@
-//! The parts of a client of one STUN server: the body of a request and its bytes, its settings, what
-//! counts of its refusals, and how it ends (RFC 8489, sections 5, 6.1 to 6.3, 9.1 and 9.2).
+//! The parts of a client of one STUN server: its settings, and for a request the body, the bytes,
+//! the refusals that count, and the outcome (RFC 8489, sections 5, 6.1 to 6.3, 9.1 and 9.2).
 //!
-//! `stun_client_calls` has the client that is made of them.
+//! The crate `stun_client_calls` contains the client itself.
 #![tactic(auto)]
 
 pub mod body;

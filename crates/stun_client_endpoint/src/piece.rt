@@ -1,12 +1,14 @@
 //! An attribute of a body.
 ghost use Rattle.std.specs.Option.{option_map};
-ghost use Rattle.std.specs.Prelude.{◌≡◌, ◌≤◌, ◌⊎◌, Err, IfErr, IfOk, Ok, OnOk, length};
+ghost use Rattle.std.specs.Prelude.{◌≡◌, ◌≤◌, ◌⊎◌, ⊤, Err, IfErr, IfOk, IsOk, Ok, OnErr, OnOk, length};
+ghost use Rattle.stun_auth.specs.Additions.{UnlessMemory};
 ghost use Rattle.stun_client_endpoint.specs.Bodies.{attribute_for};
 ghost use Rattle.stun_client_endpoint.specs.Written.{with_another};
 
 use std::alloc::{AllocError, Allocator};
 use std::marker::Model;
 use std::net::SocketAddr;
+use stun_base::memory::Memory;
 use stun_extra::attribute::XorPeerAddress;
 use stun_types::attribute::{AttributeType, RawAttribute};
 use stun_types::message::{MessageWriteVec, StunWriteError, TransactionId};
@@ -17,7 +19,7 @@ use stun_types::prelude::*;
 pub(crate) struct Piece<A: Allocator> {
     kind: AttributeType,
     value: Vec<u8, A>,
-    /// In a box, because it is long and few attributes have one.
+    /// The address is in a box, because it is long and only XOR-PEER-ADDRESS has an address.
     peer: Option<Box<SocketAddr, A>>,
 }
 
@@ -31,24 +33,26 @@ impl<A: Allocator> Model for Piece<A> {
     ghost view = { λ p. piece_of p.kind.0 p.value.items (option_map (λ b. b.value) p.peer) };
 }
 
-impl<A: Allocator + Copy> Piece<A> {
+impl<A: Memory> Piece<A> {
     ghost use Rattle.stun_client_endpoint.specs.Bodies.{of_peer, with_value};
 
-    /// Copies an attribute.
+    /// Creates an attribute with a copy of its value. Fails if an allocation fails.
     pub(crate) fn new(alloc: A, kind: AttributeType, value: &[u8]) -> Result<Piece<A>, AllocError>
-        ensures { IfOk result (λ piece. piece
+        ensures piece { IfOk result (λ piece. piece
             ≡ with_value (record { kind = kind.0; value = value.now })) }
+        ensures granted { A.grants → IsOk result }
     {
-        let value = Vec::from_slice(alloc, value)?;
+        let value = A::copied(alloc, value)?;
         let peer = None;
         Ok(Piece { kind, value, peer })
     }
 
-    /// Stores the address of XOR-PEER-ADDRESS.
+    /// Creates XOR-PEER-ADDRESS with its address. Fails if an allocation fails.
     pub(crate) fn of(alloc: A, address: SocketAddr) -> Result<Piece<A>, AllocError>
-        ensures { IfOk result (λ piece. piece ≡ of_peer address) }
+        ensures piece { IfOk result (λ piece. piece ≡ of_peer address) }
+        ensures granted { A.grants → IsOk result }
     {
-        let peer = Box::new(alloc, address)?;
+        let peer = A::boxed(alloc, address)?;
         Ok(Piece {
             kind: AttributeType(0x0012),
             value: Vec::new(alloc),
@@ -56,9 +60,10 @@ impl<A: Allocator + Copy> Piece<A> {
         })
     }
 
-    /// Copies the attribute.
+    /// Copies the attribute. Fails if an allocation fails.
     pub(crate) fn cloned(&self, alloc: A) -> Result<Piece<A>, AllocError>
-        ensures { IfOk result (λ copy. copy ≡ self.now) }
+        ensures copied { IfOk result (λ copy. copy ≡ self.now) }
+        ensures granted { A.grants → IsOk result }
     {
         if let Some(peer) = &self.peer {
             return Piece::of(alloc, **peer);
@@ -66,7 +71,8 @@ impl<A: Allocator + Copy> Piece<A> {
         Piece::new(alloc, self.kind, &self.value)
     }
 
-    /// Adds the attribute to a message with this transaction ID.
+    /// Adds the attribute to a message with this transaction ID. After an error the message is
+    /// unchanged.
     pub(crate) fn write(
         &self,
         id: TransactionId,
@@ -78,6 +84,9 @@ impl<A: Allocator + Copy> Piece<A> {
             ≡ Ok page.new.bytes) }
         ensures refused { IfErr result (λ why. (why ≡ StunWriteError.OutOfMemory)
             ⊎ (with_another (attribute_for id self.now) page.old.bytes ≡ Err why)) }
+        ensures err { OnErr result (page.new.bytes ≡ page.old.bytes) }
+        ensures kept { OnErr result (page.old.reserved ≤ page.new.reserved) }
+        ensures granted { A.grants → UnlessMemory result ⊤ ⊥ }
     {
         match &self.peer {
             Some(address) => add_another(page, &XorPeerAddress::new(**address, id)),
@@ -86,8 +95,9 @@ impl<A: Allocator + Copy> Piece<A> {
     }
 }
 
-/// Adds an attribute whose type may be in the message already.
-fn add_another<A: Allocator, M: Attribute>(
+/// Adds an attribute whose type may be in the message already. After an error the message is
+/// unchanged.
+fn add_another<A: Memory, M: Attribute>(
     page: &mut MessageWriteVec<A>,
     attribute: &M,
 ) -> Result<(), StunWriteError>
@@ -100,6 +110,9 @@ fn add_another<A: Allocator, M: Attribute>(
         ⊎ (with_another
         (record { kind = M.kind attribute.now; value = M.value attribute.now }) page.old.bytes
         ≡ Err why)) }
+    ensures err { OnErr result (page.new.bytes ≡ page.old.bytes) }
+    ensures kept { OnErr result (page.old.reserved ≤ page.new.reserved) }
+    ensures granted { A.grants → UnlessMemory result ⊤ ⊥ }
 {
     page.add_another_attribute(attribute)
 }

@@ -1,21 +1,21 @@
-//! What of the refusals of a request counts.
+//! The refusals of a request that count.
 ghost use Rattle.std.specs.Prelude.{◌≡◌, nat_le};
 ghost use Rattle.stun_client_endpoint.specs.Refusals.{OTHERS, after_refusal, after_sending};
 ghost use Rattle.stun_client_endpoint.specs.Refusals.{no_refusals};
 
-/// What of the refusals of a request counts.
+/// The refusals of a request that count.
 #[derive(Clone, Copy)]
 pub struct Refusals {
     /// Whether the request was refused since it was sent last.
     is_recent: bool,
-    /// Whether it was refused before it was sent last.
+    /// Whether the request was refused before it was sent last.
     is_earlier: bool,
-    /// How often it was sent again for a refusal that is another challenge.
+    /// How often the request was sent again because another challenge refused it.
     others: u32,
 }
 
 impl Refusals {
-    /// Returns that the request was not refused.
+    /// Returns the value for a request that was not refused.
     pub fn none() -> Refusals
         ensures { result ≡ no_refusals }
     {
@@ -26,7 +26,7 @@ impl Refusals {
         }
     }
 
-    /// Returns what counts once the request is refused.
+    /// Returns the value after the request was refused once more.
     pub fn noted(self) -> Refusals
         ensures { result ≡ after_refusal self }
     {
@@ -37,8 +37,8 @@ impl Refusals {
         }
     }
 
-    /// Returns what counts once the request is sent again, by its timer or for another challenge.
-    /// That challenge may be a refusal.
+    /// Returns the value after the request was sent again, by its timer or for another challenge.
+    /// `is_refusal` is true if that challenge was a refusal.
     pub fn sent(self, is_refusal: bool) -> Refusals
         ensures { result ≡ after_sending is_refusal self }
     {
@@ -61,7 +61,8 @@ impl Refusals {
         self.is_earlier
     }
 
-    /// Returns whether the request was sent again for as many refusals as it may be.
+    /// Returns whether the request has been sent again for refusing challenges as often as allowed
+    /// (twice). The next such refusal ends it.
     pub fn is_last(self) -> bool
         ensures { result ≡ nat_le OTHERS self.others }
     {

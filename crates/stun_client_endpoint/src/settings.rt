@@ -1,4 +1,4 @@
-//! The settings of a client, and of which none is to be made.
+//! The settings of a client, and the reasons to refuse them.
 ghost use Rattle.std.specs.Prelude.{◌≡◌};
 ghost use Rattle.stun_client_endpoint.specs.Settings.{settings_refusal};
 
@@ -12,35 +12,36 @@ use stun_types::limits::{TEXT_LIMIT, USERNAME_LIMIT};
 /// The settings of a client.
 #[derive(Drop)]
 pub struct Settings<A: Allocator = Global> {
-    /// What each request has beside its body and its signature.
+    /// The parts that each request has in addition to its body and its signature.
     pub form: Form<A>,
     /// Whether a response without FINGERPRINT is dropped (RFC 8489, section 7.3).
     pub requires_fingerprint: bool,
-    /// The types of attributes that are understood in responses.
+    /// The types of attributes that the client understands in responses.
     pub understood: Vec<AttributeType, A>,
-    /// How often another message of a request is sent, for a challenge or a doubt. The next challenge
-    /// ends the request.
+    /// How often another message of a request may become the current one, for a challenge or a
+    /// doubt. After that, the next challenge ends the request.
     pub challenges: u32,
-    /// When a request is sent again, and when it ends.
+    /// The times after which a request is sent again and ends.
     pub timeouts: RequestRto,
 }
 
-/// What is wrong with the settings of a client.
+/// Why the settings of a client are refused.
 #[derive(Clone, Copy, Debug, PartialEq, Eq)]
 pub enum SettingsError {
     /// The user name has more than 513 bytes.
     NameTooLong,
     /// The text of SOFTWARE has more than 763 bytes.
     SoftwareTooLong,
-    /// No algorithm is supported.
+    /// The preferences support no algorithm.
     NoAlgorithm,
 }
 
-/// Returns what is wrong with the user name, the text of SOFTWARE and the preferences of a client,
-/// the first that holds. Pass an empty text if the client has no user, or sends no SOFTWARE.
+/// Returns the first reason to refuse the user name, the text of SOFTWARE or the preferences of a
+/// client, or `None` if they are valid. Pass an empty text if the client has no user, or sends no
+/// SOFTWARE.
 ///
-/// Check them before you create a client: with a text that is too long each request is refused, and
-/// without an algorithm no challenge is answered.
+/// Check the settings before you create a client: if a text is too long, every request fails, and
+/// without an algorithm the client answers no challenge.
 pub fn settings_refusal(
     name: &str,
     software: &str,

@@ -1,18 +1,18 @@
-//! What a client returns.
+//! The results and errors of a client.
 ghost use Rattle.std.specs.Prelude.{◌≡◌};
 
 use crate::ended::DropReason;
 use stun_types::message::Message;
 use thiserror::Error;
 
-/// Why a request is not started. Nothing has changed then.
+/// Why a request could not be started. The client is then unchanged.
 #[derive(Clone, Copy, Debug, PartialEq, Eq, Error)]
 #[non_exhaustive]
 pub enum RequestError {
     /// The seed has no transaction ID left.
     #[error("no transaction ID is left")]
     NoId,
-    /// The message would be too long, or cannot be written otherwise.
+    /// The message would be too long, or cannot be written for another reason.
     #[error("the message would be too long")]
     TooLarge,
     /// An allocation failed.
@@ -20,18 +20,19 @@ pub enum RequestError {
     OutOfMemory,
 }
 
-/// What a datagram was.
+/// How a client has handled a datagram.
 #[derive(Debug, Drop)]
 #[non_exhaustive]
 pub enum Received<'a> {
-    /// A response to a request of this client. `poll` returns what comes of it.
+    /// A response to a request of this client. Call `poll`, which returns what to do next.
     Consumed,
-    /// An indication from the server. Neither signature, FINGERPRINT nor unknown attributes are
-    /// checked.
+    /// An indication from the server. The client has checked neither its signature nor its
+    /// FINGERPRINT, and has not looked for unknown attributes.
     Indication(Message<'a>),
-    /// Not for this client: no STUN message, a message from another address, a request, or a
-    /// response to no outstanding request. Offer it to the next client on the socket.
+    /// The datagram is not for this client, so offer it to the next client on the socket. It is not
+    /// a STUN message, comes from another address, is a request, or is a response to no outstanding
+    /// request.
     NotOurs,
-    /// A response to a request of this client that was dropped. The request goes on.
+    /// A response to a request of this client. The response was dropped, and the request continues.
     Dropped(DropReason),
 }

@@ -18,7 +18,7 @@ use Rattle.stun_client.specs.Challenges.{Answered}
 use Rattle.stun_client.specs.Ids.{id_of}
 use Rattle.stun_client.specs.Judging.{Verdict, anew, believed, judged}
 use Rattle.stun_client.specs.Outcomes.{outcome_of}
-use Rattle.stun_client.specs.Requests.{is_answer, is_answer_of}
+use Rattle.stun_client.specs.Answers.{is_answer, is_answer_of}
 use Rattle.stun_client_endpoint.specs.Written.{Page?}
 use Rattle.stun_client_endpoint.specs.declared.ended.DropReason.TheVariants.{LateChallenge}
 use Rattle.stun_client_endpoint.specs.declared.ended.RequestEnd.TheVariants as how
@@ -28,7 +28,7 @@ use Rattle.stun_client_requests.specs.OneTable.{IsOneTable}
 use Rattle.stun_client_requests.specs.Requests.{bytes_at, datum_of, number_at}
 use Rattle.stun_client_requests.specs.declared.numbers.Known.TheVariants.{Ended}
 use Rattle.stun_client_requests.proofs.NumberLemmas.{apart}
-use Rattle.stun_client_calls.specs.Clients.{Client, chosen}
+use Rattle.stun_client_calls.specs.Clients.{Client, address_for, chosen, identity_for, plan_for}
 use Rattle.stun_client_calls.specs.Deciding.{DecisionSeen, Place, answered, decided, drops}
 use Rattle.stun_client_calls.specs.Deciding.{is_spent}
 use Rattle.stun_client_calls.specs.Deciding.{place_of, turns, turns_for, unauthorized}
@@ -38,9 +38,8 @@ use Rattle.stun_client_calls.specs.Messages.{AskedSeen, SentSeen, counted_on, me
 use Rattle.stun_client_calls.specs.Messages.{new_asked, rank_after, turned}
 use Rattle.stun_client_calls.specs.Receiving.{Answer, Memory, Met, Spot, answered_by, answered_in}
 use Rattle.stun_client_calls.specs.Receiving.{as_current, by_class, by_decision, by_met}
-use Rattle.stun_client_calls.specs.Receiving.{decision_for}
-use Rattle.stun_client_calls.specs.Receiving.{if_method, judge_of, met_by, moment_of, received}
-use Rattle.stun_client_calls.specs.Receiving.{spot_of}
+use Rattle.stun_client_calls.specs.Receiving.{decision_for, heard_in, if_from, if_method, judge_for}
+use Rattle.stun_client_calls.specs.Receiving.{met_by, moment_of, received, round_trip_of, spot_of}
 use Rattle.stun_client_calls.specs.Receiving.{turn_to, turned_at, turned_by, turned_to}
 use Rattle.stun_client_calls.specs.Writing.{message_bytes}
 use Rattle.stun_client_calls.specs.declared.turning.Why.TheVariants.{Challenged}
@@ -90,7 +89,7 @@ module _ (c : Client) (number id : ℕ) (a : AskedSeen) (server : SocketAddr) (r
     (one : IsOneTable c.requests.table.attached c.requests.numbers c.requests.next)
     (named : id_at number c.requests.numbers ≡ Some id)
     (stored : datum_of number c.requests ≡ Some a) (message : refusal response ≡ None)
-    (hears : is_same_address server c.server ≡ true)
+    (hears : is_same_address server (address_for c a) ≡ true)
     (same_id : transaction_id_field response ≡ id)
     (answers : is_answer a.method response ≡ true) where
   abbrev its : Met
@@ -100,19 +99,25 @@ module _ (c : Client) (number id : ℕ) (a : AskedSeen) (server : SocketAddr) (r
   nothing = (NotOurs, c)
 
   abbrev verdict : Verdict
-  verdict = judged c.requires_fingerprint true c.identity c.standing a.signed_for response
+  verdict =
+      judged c.requires_fingerprint true (identity_for c a) c.standing a.signed_for response
 
-  found : answered_in response c ≡ Some its
-  found =
+  answered_so : answered_in response c ≡ Some its
+  answered_so =
       ap (λ k. if_method response (met_by k c (number_at k c.requests.table.attached))) same_id
       ∙ ap (λ (o : Option ℕ). if_method response (met_by id c o)) (one.timed number id named)
       ∙ ap (λ (o : Option AskedSeen). if_method response (option_map (as_current number) o)) stored
       ∙ ap (λ b. cond b (Some its) None) answers
 
+  found : heard_in server response c ≡ Some its
+  found =
+      ap (λ (o : Option Met). if_from server c o) answered_so
+      ∙ ap (λ b. cond b (Some its) None) hears
+
   module _ (memory : Memory) (now : ℕ) where
     of_class : (class : MessageClass) → is_answer_of a.method class response ≡ true
-        → by_class memory c now response class ≡ by_met memory c now response (answered_in response
-        c)
+        → by_class memory server c now response class
+        ≡ by_met memory c now response (heard_in server response c)
     of_class Classes.Request is = cc
     of_class Classes.Indication is = cc
     of_class Classes.Success is = refl
@@ -122,19 +127,17 @@ module _ (c : Client) (number id : ℕ) (a : AskedSeen) (server : SocketAddr) (r
         ≡ by_decision memory c now response its (decision_for c now response its)
     acts =
         ap (λ o. cond (is_some o) nothing
-        (cond (is_same_address server c.server) (by_class memory c now response (class_in response))
-        nothing)) message
-        ∙ ap (λ b. cond b (by_class memory c now response (class_in response)) nothing) hears
+        (by_class memory server c now response (class_in response))) message
         ∙ of_class (class_in response) answers
         ∙ ap (λ (o : Option Met). by_met memory c now response o) found
 
     acts_on : (d : DecisionSeen) (v : Verdict) → verdict ≡ v
-        → decided (judge_of c).limits c.standing now a v ≡ d
+        → decided (judge_for c a).limits c.standing now a v ≡ d
         → received memory server response now c ≡ by_decision memory c now response its d
     acts_on d v says comes_to =
         acts
         ∙ ap (λ (x : Verdict). by_decision memory c now response its
-        (decided (judge_of c).limits c.standing now a x)) says
+        (decided (judge_for c a).limits c.standing now a x)) says
         ∙ ap (λ (x : DecisionSeen). by_decision memory c now response its x) comes_to
 
     -- ---- a signed answer
@@ -143,6 +146,7 @@ module _ (c : Client) (number id : ℕ) (a : AskedSeen) (server : SocketAddr) (r
     end_by by = record {
       end = how.Answered (outcome_of c.understood response) by;
       response = response;
+      round_trip = round_trip_of now its;
     }
 
     abbrev pub after_answer : Option IntegrityAlgorithm → Client
@@ -167,11 +171,11 @@ module _ (c : Client) (number id : ℕ) (a : AskedSeen) (server : SocketAddr) (r
       abbrev place : Option Place
       place = option_map place_of (message_for d a.earlier)
 
-      comes_to : decided (judge_of c).limits c.standing now a (anew d)
+      comes_to : decided (judge_for c a).limits c.standing now a (anew d)
           ≡ turns Challenged place (Some d)
       comes_to =
           ap (λ b. cond b (drops LateChallenge)
-          (cond (is_spent (judge_of c).limits a) unauthorized (turns_for Challenged d a)))
+          (cond (is_spent (judge_for c a).limits a) unauthorized (turns_for Challenged d a)))
           (le-ltb a.until now in_time)
           ∙ ap (λ b. cond b unauthorized (turns_for Challenged d a)) (lt-leb c.turns a.turns often)
 
@@ -191,13 +195,15 @@ module _ (c : Client) (number id : ℕ) (a : AskedSeen) (server : SocketAddr) (r
 
       pub challenge_stores : datum_of number after_challenge.requests ≡ Some asked_then
       challenge_stores =
-          stored_then c.requests number id s.id bytes c.plan (new_asked a.method [] 0 None)
+          stored_then c.requests number id s.id bytes (plan_for c a)
+          (new_asked a.method [] None 0 None)
           asked_then
           (record { count = length response; moment = Some now }) now named off
 
       pub challenge_sends : bytes_at number after_challenge.requests ≡ Some bytes
       challenge_sends =
-          bytes_then c.requests number id s.id bytes c.plan (new_asked a.method [] 0 None)
+          bytes_then c.requests number id s.id bytes (plan_for c a)
+          (new_asked a.method [] None 0 None)
           asked_then
           (record { count = length response; moment = Some now }) now named off
 

@@ -1,17 +1,10 @@
 -- The messages that a client writes for a challenge of a server fit, and have an ID of 96 bits.
-use Rattle.std.proofs.Common.{◌≡◌, ◌∙◌, ◌≤◌, ◌<◌, ◌^◌, ◌++◌, ◌∷◌, [], ℕ, zero, suc, Bool, true}
-use Rattle.std.proofs.Common.{false}
-use Rattle.std.proofs.Common.{List, length, Option, Some, None, Ok, Err, ap, arith, cond, refl}
-use Rattle.std.specs.Int.{byte_at, bytes_high_first}
-use Rattle.std.specs.List.{slice_index}
+use Rattle.std.proofs.Common.{◌≡◌, ◌∙◌, ◌≤◌, ℕ, Bool, true, false, List, length, Option, Some, None}
+use Rattle.std.proofs.Common.{Ok, Err, ap, arith, cond, refl}
 use Rattle.std.specs.Option.{IfSome}
 use Rattle.std.specs.Prelude.{◌&&◌, take}
-use Rattle.std.proofs.Math.Nat.{mod-lt}
 use Rattle.std.proofs.lemmas.List.{length-take}
-use Rattle.byteorder.specs.Numbers.{big_from-lt}
-use Rattle.sha1.specs.Sha1.{digest_bytes, sha1}
 use Rattle.stun_base.specs.Credentials.{NameAndPassword}
-use Rattle.stun_base.specs.Hmac.{hmac}
 use Rattle.stun_base.specs.declared.keys.algorithm.IntegrityAlgorithm.{IntegrityAlgorithm}
 use Rattle.stun_base.specs.declared.wire.error.StunWriteError.TheVariants.{TooLarge}
 use Rattle.stun_types.specs.Limits.{TEXT_LIMIT, USERNAME_LIMIT}
@@ -24,7 +17,6 @@ use Rattle.stun_auth.specs.declared.algorithm_set.AlgorithmSet.TheVariants.{Only
 use Rattle.stun_auth.specs.declared.algorithm_set.AlgorithmSet.TheVariants.{OnlySha256, Both}
 use Rattle.stun_extra.specs.Fingerprint.{fingerprint_in}
 use Rattle.stun_client.specs.Challenges.{Answered}
-use Rattle.stun_client.specs.Ids.{id_of}
 use Rattle.stun_client.specs.Judging.{Identity}
 use Rattle.stun_client.specs.declared.preferences.Preferences.{Preferences}
 use Rattle.stun_client_endpoint.specs.Bodies.{Body}
@@ -92,44 +84,3 @@ software_fits form identity challenge method id body bytes is =
 pub is_printed : (has : Bool) (bytes : List ℕ) → fingerprint_in bytes ≡ print_of has → has ≡ true
     → is_fingerprinted bytes ≡ true
 is_printed has bytes is required = ap is_right (is ∙ ap print_of required)
-
--- ---- an ID has 96 bits
-
-abbrev AreSmall : List ℕ → Type 0
-AreSmall xs = (k : ℕ) → slice_index xs k < 256
-
-small_cons : (x : ℕ) (xs : List ℕ) → x < 256 → AreSmall xs → AreSmall (x ∷ xs)
-small_cons x xs one others = by
-  where
-    by : (k : ℕ) → slice_index (x ∷ xs) k < 256
-    by zero = one
-    by (suc k) = others k
-
-small_append : (xs ys : List ℕ) → AreSmall xs → AreSmall ys → AreSmall (xs ++ ys)
-small_append [] ys one other = other
-small_append (x ∷ xs) ys one other =
-    small_cons x (xs ++ ys) (one zero) (small_append xs ys (λ j. one (suc j)) other)
-
-small_byte : (n x : ℕ) → byte_at n x < 256
-small_byte zero x = mod-lt x (omega arith)
-small_byte (suc n) x = mod-lt _ (omega arith)
-
-small_bytes : (n x : ℕ) → AreSmall (bytes_high_first n x)
-small_bytes zero x = λ k. omega arith
-small_bytes (suc n) x =
-    small_cons (byte_at n x) (bytes_high_first n x) (small_byte n x) (small_bytes n x)
-
-small_digest : (words : List ℕ) (n : ℕ) → AreSmall (digest_bytes words n)
-unfolding digest_bytes
-small_digest words zero = λ k. omega arith
-small_digest words (suc n) =
-    small_append (digest_bytes words n) (bytes_high_first 4 (slice_index words n))
-    (small_digest words n) (small_bytes 4 (slice_index words n))
-
-small_hmac : (key text : List ℕ) → AreSmall (hmac sha1 key text)
-unfolding hmac sha1
-small_hmac key text = small_digest _ 5
-
-pub id_low : (seed : List ℕ) (number : ℕ) → id_of seed number < 2 ^ 96
-id_low seed number = big_from-lt 0 12 (hmac sha1 seed (bytes_high_first 8 number)) (small_hmac seed
-    _)

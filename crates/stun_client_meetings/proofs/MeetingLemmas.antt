@@ -6,15 +6,15 @@ use Rattle.stun_base.specs.declared.keys.algorithm.IntegrityAlgorithm.{Integrity
 use Rattle.stun_types.specs.Message.{refusal}
 use Rattle.stun_extra.specs.CanonicalAddress.{is_same_address}
 use Rattle.stun_client.specs.Challenges.{Answered}
-use Rattle.stun_client.specs.Judging.{Identity, anew, believed, judged, long_term}
-use Rattle.stun_client.specs.Requests.{is_answer}
+use Rattle.stun_client.specs.Judging.{Identity, Verdict, anew, believed, judged, long_term}
+use Rattle.stun_client.specs.Answers.{is_answer}
 use Rattle.stun_client_endpoint.specs.Bodies.{Body}
 use Rattle.stun_client_endpoint.specs.Written.{Form, request_bytes}
 use Rattle.stun_client_endpoint.specs.declared.told.Received.TheVariants.{Consumed}
 use Rattle.stun_client_requests.specs.Numbers.{id_at}
 use Rattle.stun_client_requests.specs.OneTable.{IsOneTable}
 use Rattle.stun_client_requests.specs.Requests.{datum_of, number_at}
-use Rattle.stun_client_calls.specs.Clients.{Client, chosen}
+use Rattle.stun_client_calls.specs.Clients.{Client, address_for, chosen, identity_for}
 use Rattle.stun_client_calls.specs.Messages.{AskedSeen, SentSeen, message_for}
 use Rattle.stun_client_calls.specs.Receiving.{Answer, Memory, as_expected, received}
 use Rattle.stun_client_calls.specs.Runs.{Calls, Event, receives, silent}
@@ -33,26 +33,37 @@ module _ (side : ClientSide) (c : Client) (number id : ℕ) (a : AskedSeen) (res
     (one : IsOneTable c.requests.table.attached c.requests.numbers c.requests.next)
     (named : id_at number c.requests.numbers ≡ Some id)
     (stored : datum_of number c.requests ≡ Some a) (message : refusal response ≡ None)
-    (hears : is_same_address side.server c.server ≡ true)
+    (hears : is_same_address side.server (address_for c a) ≡ true)
+    (signs : identity_for c a ≡ c.identity)
     (same_id : transaction_id_field response ≡ id)
     (answers : is_answer a.method response ≡ true) (memory : Memory) (now : ℕ) where
+  -- who the client is for the request
+  by_identity : (v : Verdict)
+      → judged c.requires_fingerprint true c.identity c.standing a.signed_for response ≡ v
+      → judged c.requires_fingerprint true (identity_for c a) c.standing a.signed_for response ≡ v
+  by_identity v says =
+      ap (λ (i : Identity). judged c.requires_fingerprint true i c.standing a.signed_for response)
+      signs
+      ∙ says
+
   -- a signed answer
   pub ends_so : (by : IntegrityAlgorithm)
       → judged c.requires_fingerprint true c.identity c.standing a.signed_for response
       ≡ believed (Some by)
-      → IsEndedBy side number by c response now memory
+      → IsEndedBy side number by a c response now memory
   ends_so by says = record {
     next = after_answer c number id a side.server response one named stored message hears same_id
         answers
         memory now (Some by);
     consumed = answer_is c number id a side.server response one named stored message hears same_id
-        answers memory now (Some by) says;
+        answers memory now (Some by) (by_identity (believed (Some by)) says);
     end = end_by c number id a side.server response one named stored message hears same_id answers
         memory now (Some by);
     there = answer_ends c number id a side.server response one named stored message hears same_id
         answers memory now (Some by);
     end_is = refl;
     response_is = refl;
+    round_trip_is = refl;
   }
 
   -- a challenge
@@ -65,6 +76,11 @@ module _ (side : ClientSide) (c : Client) (number id : ℕ) (a : AskedSeen) (res
       (page : (k : ℕ)
       → IsWritten side.form side.who side.preferences side.accepts_unsigned (Some d) method k body)
     where
+      so : judged c.requires_fingerprint true (identity_for c a) c.standing a.signed_for
+          response
+          ≡ anew d
+      so = by_identity (anew d) says
+
       here : number_at id c.requests.table.attached ≡ Some number
       here = one.timed number id named
 
@@ -88,7 +104,8 @@ module _ (side : ClientSide) (c : Client) (number id : ℕ) (a : AskedSeen) (res
 
       fits : message_bytes c.form c.identity (Some d) its_id a ≡ Ok its_bytes
       fits =
-          ap (λ (f : Form). request_bytes f c.identity (Some d) a.method its_id a.body) form_is
+          ap (λ (i : Identity). request_bytes c.form i (Some d) a.method its_id a.body) signs
+          ∙ ap (λ (f : Form). request_bytes f c.identity (Some d) a.method its_id a.body) form_is
           ∙ ap (λ (i : Identity). request_bytes side.form i (Some d) a.method its_id a.body) identity
           ∙ ap (λ (m : ℕ). request_bytes side.form
           (long_term side.who side.preferences side.accepts_unsigned) (Some d) m its_id a.body)
@@ -102,14 +119,14 @@ module _ (side : ClientSide) (c : Client) (number id : ℕ) (a : AskedSeen) (res
       after =
           after_challenge c number id a side.server response one named stored message hears same_id
           answers
-          memory now d says can.in_time can.often spot_is.spot spot_is.stands spot_is.off its_bytes
+          memory now d so can.in_time can.often spot_is.spot spot_is.stands spot_is.off its_bytes
           fits
 
       consumed : received memory side.server response now c ≡ (Consumed, after)
       consumed =
           challenge_is c number id a side.server response one named stored message hears same_id
           answers
-          memory now d says can.in_time can.often spot_is.spot spot_is.stands spot_is.off its_bytes
+          memory now d so can.in_time can.often spot_is.spot spot_is.stands spot_is.off its_bytes
           fits
 
       pub sends_again : (begun : Client) (events : List Event) → Calls begun events c
@@ -124,15 +141,15 @@ module _ (side : ClientSide) (c : Client) (number id : ℕ) (a : AskedSeen) (res
         bytes = its_bytes;
         signed = record {
           asked = asked_then c number id a side.server response one named stored message hears same_id
-              answers memory now d says can.in_time can.often spot_is.spot spot_is.stands spot_is.off
+              answers memory now d so can.in_time can.often spot_is.spot spot_is.stands spot_is.off
               its_bytes fits;
           stored = challenge_stores c number id a side.server response one named stored message hears
-              same_id answers memory now d says can.in_time can.often spot_is.spot spot_is.stands
+              same_id answers memory now d so can.in_time can.often spot_is.spot spot_is.stands
               spot_is.off its_bytes fits;
           signed = refl;
           sent = challenge_sends c number id a side.server response one named stored message hears
               same_id
-              answers memory now d says can.in_time can.often spot_is.spot spot_is.stands spot_is.off
+              answers memory now d so can.in_time can.often spot_is.spot spot_is.stands spot_is.off
               its_bytes fits;
         };
       }

@@ -13,7 +13,7 @@ use Rattle.stun_client.specs.Challenges.{Answered}
 use Rattle.stun_client.specs.Judging.{Identity}
 use Rattle.stun_client_endpoint.specs.Bodies.{Body}
 use Rattle.stun_client_endpoint.specs.Written.{Form, Page?}
-use Rattle.stun_client_endpoint.specs.declared.told.Received.TheVariants.{NotOurs}
+use Rattle.stun_client_endpoint.specs.declared.told.Received.TheVariants.{Indication, NotOurs}
 use Rattle.stun_client_requests.specs.Requests.{datum_of, polled}
 use Rattle.stun_client_requests.specs.declared.requests.Polled.{Polled as OfRequests}
 use Rattle.stun_client_requests.specs.declared.requests.Polled.TheVariants as Of
@@ -26,10 +26,10 @@ use Rattle.stun_client_calls.specs.Deciding.{DecisionSeen, answered, drops, refu
 use Rattle.stun_client_calls.specs.Deciding.{unauthorized}
 use Rattle.stun_client_calls.specs.Endpoints.{EndSeen}
 use Rattle.stun_client_calls.specs.Messages.{AskedSeen, is_late}
-use Rattle.stun_client_calls.specs.Receiving.{Answer, Memory, Met, Spot, UnlessMemory, answered_in}
-use Rattle.stun_client_calls.specs.Receiving.{as_expected, by_class, by_decision, by_met}
-use Rattle.stun_client_calls.specs.Receiving.{decision_for}
-use Rattle.stun_client_calls.specs.Receiving.{forgone, received, spot_of, turned_at, turned_by}
+use Rattle.stun_client_calls.specs.Options.{Options}
+use Rattle.stun_client_calls.specs.Receiving.{Answer, Memory, Met, Spot, UnlessMemory, as_expected}
+use Rattle.stun_client_calls.specs.Receiving.{by_class, by_decision, by_met, decision_for, forgone}
+use Rattle.stun_client_calls.specs.Receiving.{heard_in, received, spot_of, turned_at, turned_by}
 use Rattle.stun_client_calls.specs.Receiving.{without_memory}
 use Rattle.stun_client_calls.specs.Runs.{Call, Calls, Event, call, changes_nothing, ends_one}
 use Rattle.stun_client_calls.specs.Runs.{no_call, polls, receives, requests}
@@ -51,7 +51,7 @@ handed_parts : (now number : ℕ) (c : Client) (o : Option AskedSeen)
 handed_parts now number c None = refl
 handed_parts now number c (Some a) = by (is_late now a)
   where
-    by : (b : Bool) → parts (cond b (given_up number a c) (sent_by number c)).1 ≡ parts c
+    by : (b : Bool) → parts (cond b (given_up number a c) (sent_by now number c)).1 ≡ parts c
     by true = refl
     by false = refl
 
@@ -90,24 +90,31 @@ module _ (memory : Memory) (now : ℕ) (bytes : List ℕ) (c : Client) where
   met_parts None = refl
   met_parts (Some m) = decision_parts m (decision_for c now bytes m)
 
-  class_parts : (class : MessageClass) → parts (by_class memory c now bytes class).1 ≡ parts c
-  class_parts Classes.Request = refl
-  class_parts Classes.Indication = refl
-  class_parts Classes.Success = met_parts (answered_in bytes c)
-  class_parts Classes.Error = met_parts (answered_in bytes c)
-
   abbrev nothing : Answer
   nothing = (NotOurs, c)
 
-  received_parts : (from : SocketAddr) → parts (received memory from bytes now c).1 ≡ parts c
-  received_parts from = by (is_some (refusal bytes)) (is_same_address from c.server)
-    where
-      by : (r s : Bool)
-          → parts (cond r nothing
-          (cond s (by_class memory c now bytes (class_in bytes)) nothing)).1 ≡ parts c
-      by true s = refl
-      by false false = refl
-      by false true = class_parts (class_in bytes)
+  abbrev indication : Answer
+  indication = (Indication bytes, c)
+
+  module _ (from : SocketAddr) where
+    indicated_parts : (b : Bool) → parts (cond b indication nothing).1 ≡ parts c
+    indicated_parts true = refl
+    indicated_parts false = refl
+
+    class_parts : (class : MessageClass)
+        → parts (by_class memory from c now bytes class).1 ≡ parts c
+    class_parts Classes.Request = refl
+    class_parts Classes.Indication = indicated_parts (is_same_address from c.server)
+    class_parts Classes.Success = met_parts (heard_in from bytes c)
+    class_parts Classes.Error = met_parts (heard_in from bytes c)
+
+    received_parts : parts (received memory from bytes now c).1 ≡ parts c
+    received_parts = by (is_some (refusal bytes))
+      where
+        by : (r : Bool)
+            → parts (cond r nothing (by_class memory from c now bytes (class_in bytes))).1 ≡ parts c
+        by true = refl
+        by false = class_parts (class_in bytes)
 
 forgone_parts : (bytes : List ℕ) (c : Client) (o : Option Met)
     → parts (without_memory bytes c o).1 ≡ parts c
@@ -115,31 +122,32 @@ forgone_parts bytes c None = refl
 forgone_parts bytes c (Some m) = refl
 
 receives_parts : (from : SocketAddr) (bytes : List ℕ) (now : ℕ) (c : Client) (answer : Answer)
-    → UnlessMemory (λ memory. received memory from bytes now c) bytes c answer
+    → UnlessMemory (λ memory. received memory from bytes now c) bytes (heard_in from bytes c) c
+    answer
     → parts answer.1 ≡ parts c
 receives_parts from bytes now c answer (as_expected memory is) =
     ap (λ (x : Answer). parts x.1) is ∙ received_parts memory now bytes c from
 receives_parts from bytes now c answer (forgone is) =
-    ap (λ (x : Answer). parts x.1) is ∙ forgone_parts bytes c (answered_in bytes c)
+    ap (λ (x : Answer). parts x.1) is ∙ forgone_parts bytes c (heard_in from bytes c)
 
 -- ---- any call
 
-started_parts : (method : ℕ) (body : Body) (now : ℕ) (c : Client)
-    → parts (started method body now c) ≡ parts c
-started_parts method body now c = by (chosen c)
+started_parts : (method : ℕ) (body : Body) (options : Option Options) (now : ℕ) (c : Client)
+    → parts (started method body options now c) ≡ parts c
+started_parts method body options now c = by (chosen c)
   where
     page_is : (number : ℕ) (page : Page?)
-        → parts (started_with c number method body now page) ≡ parts c
+        → parts (started_with c number method body options now page) ≡ parts c
     page_is number (Err why) = refl
     page_is number (Ok bytes) = refl
 
-    by : (o : Option ℕ) → parts (started_at c method body now o) ≡ parts c
+    by : (o : Option ℕ) → parts (started_at c method body options now o) ≡ parts c
     by None = refl
-    by (Some number) = page_is number (first_message c method number body)
+    by (Some number) = page_is number (first_message c method number body options)
 
 call_parts : (c after : Client) (event : Event) → Call c event after → parts after ≡ parts c
-call_parts c after event (requests _ _ method body now low none so) =
-    ap parts so ∙ started_parts method body now c
+call_parts c after event (requests _ _ method body options now low none so) =
+    ap parts so ∙ started_parts method body options now c
 call_parts c after event (receives _ _ from bytes now answer low made so) =
     ap parts so ∙ receives_parts from bytes now c answer made
 call_parts c after event (polls _ _ now says said) =
@@ -154,11 +162,12 @@ calls_parts c after events (call _ next _ event others made rest) =
     calls_parts next after others rest ∙ call_parts c next event made
 
 -- from before the start of a request on
-pub since_start : (c later : Client) (method : ℕ) (body : Body) (start : ℕ) (events : List Event)
-    → Calls (started method body start c) events later → parts later ≡ parts c
-since_start c later method body start events calls =
-    calls_parts (started method body start c) later events calls
-    ∙ started_parts method body start c
+pub since_start : (c later : Client) (method : ℕ) (body : Body) (options : Option Options)
+    (start : ℕ) (events : List Event) → Calls (started method body options start c) events later
+    → parts later ≡ parts c
+since_start c later method body options start events calls =
+    calls_parts (started method body options start c) later events calls
+    ∙ started_parts method body options start c
 
 -- ---- one call more
 

@@ -1,8 +1,6 @@
--- What the contracts of this crate say, in the order to read it.
+-- What the contracts of this crate say, in reading order.
 
 -- a client and a server that meet
 pub mod Meeting
--- a new client
-pub mod NewClients
 -- a new client and a server that meet
 pub mod Beginning

@@ -24,6 +24,7 @@ use Rattle.stun_client_requests.specs.declared.numbers.Known.TheVariants.{Ended}
 use Rattle.stun_client_calls.specs.Clients.{Client, chosen, refusal_to_start, started}
 use Rattle.stun_client_calls.specs.Endpoints.{EndSeen}
 use Rattle.stun_client_calls.specs.Messages.{AskedSeen, message_for}
+use Rattle.stun_client_calls.specs.Options.{Options, round_trip}
 use Rattle.stun_client_calls.specs.Receiving.{Memory, received}
 use Rattle.stun_client_calls.specs.Runs.{Calls, Event, next_number}
 use Rattle.stun_client_runs.specs.Kept.{IsClient}
@@ -42,9 +43,9 @@ use Rattle.stun_requests.specs.Served.{IsPrinted}
 
 -- ---- who meets
 
--- what a client is: where the datagrams of its server come from, in either spelling of IPv4, its
--- user, its preferences, whether it accepts unsigned responses, what each of its requests has, and
--- whether each response must have a FINGERPRINT
+-- the parts of a client: the address that the datagrams of its server come from, in either spelling
+-- of IPv4; its user; its preferences; whether it accepts unsigned responses; what each of its
+-- requests has; and whether each response must have a FINGERPRINT
 pub record ClientSide : Type 0 where
   pub server : SocketAddr
   pub who : NameAndPassword
@@ -73,12 +74,22 @@ pub record CanMeet (s : Settings) (users : UserSecrets) (side : ClientSide)
   pub printed : IsPrinted s side.form
   pub required : side.requires_fingerprint ≡ true → side.form.has_fingerprint ≡ true
 
--- the challenge that a server means which it writes at a time, to a client at an address
+-- the challenge that a server means if it writes it at a time, to a client at an address
 abbrev pub challenge_at : Settings → ClientSide → IntegrityAlgorithm → SocketAddr → ℕ → Answered
 challenge_at s side a from time =
     meant_for s side.preferences side.who (current_nonce s from time) a
 
 -- ---- a request
+
+-- the options of a request that is exchanged with the server: it is signed with the credentials of
+-- its client, and its responses come from the address that the datagrams of the server come from
+pub record IsForServer (side : ClientSide) (o : Options) : Type 0 where
+  pub signed : o.is_signed ≡ true
+  pub from_server : is_same_address side.server o.from ≡ true
+
+-- a request has such options, with any plan, or none
+abbrev pub IsMeetable : ClientSide → Option Options → Type 0
+IsMeetable side options = IfSome options (IsForServer side)
 
 -- the request with a number is outstanding. Its current message has these bytes, and is signed for
 -- this challenge, or for none
@@ -89,10 +100,10 @@ pub record IsSignedFor (number : ℕ) (signed_for : Option Answered) (c : Client
   pub signed : asked.signed_for ≡ signed_for
   pub sent : bytes_at number c.requests ≡ Some bytes
 
--- it can be sent again for a challenge at a time: its first plan goes on, another message became
--- the current one less often than it may, and of the 2 ^ 64 - 1 numbers for transaction IDs one is
--- left. If an earlier message is signed for the challenge, no current message has its ID. That the
--- message fits is no premise (`requests_can_be_written` of `stun_requests`)
+-- it can be sent again for a challenge at a time: its first plan is not over, another message
+-- became the current one less often than it may, and of the 2 ^ 64 - 1 numbers for transaction IDs
+-- one is left. If an earlier message is signed for the challenge, no current message has its ID.
+-- That the message fits is not a premise (`requests_can_be_written` of `stun_requests`)
 pub record CanGoOn (c : Client) (a : AskedSeen) (d : Answered) (now : ℕ) : Type 0 where
   pub instant : now ≤ last_moment
   pub in_time : now ≤ a.until
@@ -101,9 +112,9 @@ pub record CanGoOn (c : Client) (a : AskedSeen) (d : Answered) (now : ℕ) : Typ
   pub apart : IfSome (message_for d a.earlier)
       (λ e. number_at e.1.id c.requests.table.attached ≡ None)
 
--- a response has a client send a request again, signed for a challenge, whether there was memory
--- for the message that was the current one or not. The client then is one after calls that began
--- with the start of the request
+-- after a response a client sends a request again, signed for a challenge, whether or not there was
+-- memory for the former message. The client is then one after calls that began with the start of
+-- the request
 pub record IsSentAgain (side : ClientSide) (begun : Client) (number : ℕ) (d : Answered)
     (later : Client) (response : List ℕ) (now : ℕ) (memory : Memory) : Type 0 where
   pub next : Client
@@ -113,18 +124,20 @@ pub record IsSentAgain (side : ClientSide) (begun : Client) (number : ℕ) (d : 
   pub bytes : List ℕ
   pub signed : IsSignedFor number (Some d) next bytes
 
--- a response ends a request: it is stored as answered, with the response and what it says, signed
--- by this algorithm. `poll` hands this end out
-pub record IsEndedBy (side : ClientSide) (number : ℕ) (a : IntegrityAlgorithm) (later : Client)
-    (response : List ℕ) (now : ℕ) (memory : Memory) : Type 0 where
+-- a response ends a request for which this is stored: the request is stored as answered, with the
+-- response and its outcome, signed with this algorithm, and with the time since the bytes of its
+-- current message were returned, if that was once. `poll` returns this end
+pub record IsEndedBy (side : ClientSide) (number : ℕ) (a : IntegrityAlgorithm) (asked : AskedSeen)
+    (later : Client) (response : List ℕ) (now : ℕ) (memory : Memory) : Type 0 where
   pub next : Client
   pub consumed : received memory side.server response now later ≡ (Consumed, next)
   pub end : EndSeen
   pub there : known_at number next.requests.numbers.known ≡ Some (Ended end)
   pub end_is : end.end ≡ how.Answered (outcome_of later.understood response) (Some a)
   pub response_is : end.response ≡ response
+  pub round_trip_is : end.round_trip ≡ round_trip now asked.handed_out
 
--- a server accepts bytes as a user's by this algorithm, whatever they ask for
+-- a server accepts bytes as a user's with this algorithm, whatever they ask for
 abbrev pub IsAcceptedAs : Settings → UserSecrets → SocketAddr → ℕ → List ℕ → List ℕ
     → IntegrityAlgorithm → Type 0
 IsAcceptedAs s users from now bytes name a =
@@ -134,8 +147,8 @@ IsAcceptedAs s users from now bytes name a =
 
 -- ---- the meeting
 
--- what a client and a server make of a request that is outstanding, whose bytes come from an
--- address
+-- the exchanges of a client and a server for a request that is outstanding, whose bytes come from
+-- an address
 pub record Meets (s : Settings) (users : UserSecrets) (from : SocketAddr) (side : ClientSide)
     (a : IntegrityAlgorithm) (begun : Client) (number : ℕ) (later : Client) (bytes : List ℕ)
     : Type 0 where
@@ -143,8 +156,8 @@ pub record Meets (s : Settings) (users : UserSecrets) (from : SocketAddr) (side 
   pub challenged : (time : ℕ) → IsSignedFor number None later bytes
       → received_by s (realm_knowing s users) from time bytes
       ≡ answered (challenge_answer s Unauthenticated (current_nonce s from time) from bytes)
-  -- the challenge has it sent again, signed for it. One that is weaker than what a success has
-  -- confirmed is ignored on purpose
+  -- after the challenge it is sent again, signed for it. A challenge that is weaker than what a
+  -- success has confirmed is ignored on purpose
   pub renewed : (time now : ℕ) (memory : Memory) (unsigned : IsSignedFor number None later bytes)
       → let response =
       (challenge_answer s Unauthenticated (current_nonce s from time) from bytes).bytes in
@@ -156,8 +169,8 @@ pub record Meets (s : Settings) (users : UserSecrets) (from : SocketAddr) (side 
   pub accepted : (time now : ℕ)
       → IsSignedFor number (Some (challenge_at s side a from time)) later bytes
       → IsWithinPeriod s time now → IsAcceptedAs s users from now bytes side.who.username a
-  -- once that nonce has expired, it is answered with a 438, which has it sent again in the same
-  -- way, signed for the nonce that is current then
+  -- once that nonce has expired, it is answered with a 438, after which it is sent again in the
+  -- same way, signed for the nonce that is then current
   pub stale : (time now : ℕ)
       → IsSignedFor number (Some (challenge_at s side a from time)) later bytes
       → IsForgotten s from time now
@@ -172,22 +185,24 @@ pub record Meets (s : Settings) (users : UserSecrets) (from : SocketAddr) (side 
       CanGoOn later signed.asked d now
       → is_ignored later.standing d ≡ false
       → IsSentAgain side begun number d later response now memory
-  -- and each signed answer ends it with its result. Those of the server are such
-  -- (`signed_answers_end_requests` of `stun_exchanges`)
+  -- and each signed answer ends it with its result. The server's answers are signed
+  -- (`answers_of_a_server_are_signed` of `stun_exchanges`)
   pub ended : (time now : ℕ) (response : List ℕ) (memory : Memory)
-      → IsSignedFor number (Some (challenge_at s side a from time)) later bytes
+      → (signed : IsSignedFor number (Some (challenge_at s side a from time)) later bytes)
       → IsResponseTo side.requires_fingerprint bytes response
       → IsSignedAnswer side.requires_fingerprint response
       (challenge_at s side a from time).challenge.key a
-      → IsEndedBy side number a later response now memory
+      → IsEndedBy side number a signed.asked later response now memory
 
--- a request is started at a client that can meet a server, and any calls follow
+-- a request that is signed, and answered by the server, is started at a client that can meet a
+-- server, and any calls follow, including those for other requests with any options
 abbrev pub ClientsMeetServers : Type 0
 ClientsMeetServers =
     (s : Settings) (users : UserSecrets) (from : SocketAddr) (side : ClientSide)
-    (a : IntegrityAlgorithm) (c later : Client) (method : ℕ) (body : Body) (start : ℕ)
-    (events : List Event) (bytes : List ℕ) → CanMeet s users side a → IsClientOf side c
-    → method < 4096 → IsBuiltBody body → refusal_to_start c method body ≡ None
-    → Calls (started method body start c) events later
+    (a : IntegrityAlgorithm) (c later : Client) (method : ℕ) (body : Body)
+    (options : Option Options) (start : ℕ) (events : List Event) (bytes : List ℕ)
+    → CanMeet s users side a → IsClientOf side c → IsMeetable side options → method < 4096
+    → IsBuiltBody body → refusal_to_start c method body options ≡ None
+    → Calls (started method body options start c) events later
     → bytes_at (next_number c) later.requests ≡ Some bytes
-    → Meets s users from side a (started method body start c) (next_number c) later bytes
+    → Meets s users from side a (started method body options start c) (next_number c) later bytes

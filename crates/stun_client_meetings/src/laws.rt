@@ -1,33 +1,39 @@
-//! The meeting of a client and a server.
+//! Laws about the exchanges of a client with a server of this library.
 ghost use Rattle.stun_client_meetings.specs.Beginning.{NewClientsMeetServers, ThereAreMeetings};
 ghost use Rattle.stun_client_meetings.specs.Meeting.{ClientsMeetServers};
 
-/// A client and a server meet in two exchanges, by the strongest algorithm of both. After a request
-/// was started, and after any calls of its client, as long as it is outstanding:
+/// A client and a server agree in two exchanges, on the strongest algorithm that both support. The
+/// following holds for a signed request with any plan, from its start on, after any calls of its
+/// client, as long as it is outstanding:
 ///
 /// - The server answers the bytes of the request's current message with a challenge if the message
 ///   is not signed (`challenged`), and when this challenge arrives, the client sends the request
-///   again, signed for it (`renewed`), by an earlier message of the request if one is signed for
-///   it. All of this holds of the client then, and of what is called afterwards.
+///   again, signed for the challenge (`renewed`). If an earlier message of the request is signed
+///   for the challenge, that message is sent again. After that, all of this holds again, whatever
+///   is called.
 /// - Once the current message is signed for a challenge of the server, the server accepts its bytes
-///   as those of the client's user, in the epoch of the challenge and in the next one, by the
-///   algorithm on which both agree, the strongest that both support (`accepted`). A signed answer
-///   to them ends the request with its result (`ended`). Once the nonce has expired, the server
-///   answers with a 438 (`stale`), which has the request sent again, signed for the nonce that is
-///   current then (`refreshed`).
+///   as those of the client's user, in the epoch of the challenge and in the next epoch, with the
+///   strongest algorithm that both support (`accepted`). A signed answer to these bytes ends the
+///   request with its result and the round-trip time (`ended`). Once the nonce has expired, the
+///   server answers with a 438 (`stale`), and the client sends the request again, signed for the
+///   nonce that is then current (`refreshed`).
 ///
-/// This holds for every method and body, and whatever else is asked, received or canceled between,
-/// and whether or not there is memory for the message that was the current one. What other sources
-/// send to the server is no part of it, since what a server makes of a datagram is a function of
-/// settings, users, source, time and datagram.
+/// This holds for every method and body, whatever other requests, with any options, are started,
+/// answered or canceled between, and whether or not there is memory to store the former message.
+/// Datagrams from other sources do not matter to the server, because the outcome of a datagram is a
+/// function of settings, users, source, time and datagram.
 ///
-/// Premises: the two can meet (`CanMeet`), the body is one that `Body` builds, and the first plan
-/// of the request goes on, another message became the current one less often than it may, and a
-/// transaction ID is left (`CanGoOn`). If an earlier message is signed for the challenge, no
-/// current message has its ID: one has it only if the seed gives two messages the same ID, and
-/// there was no memory to note the earlier one. That the request fits a message with what the
-/// client adds is proved (`requests_can_be_written` of `stun_requests`). Left out: that a datagram
-/// arrives, and that the allocations succeed without which a response is dropped.
+/// Premises: the server was built and the user is registered with it, the name is a text of at most
+/// 513 bytes, client and server agree on an algorithm, and the client sends FINGERPRINT if one of
+/// them requires it (`CanMeet`); the options of the request, if it has any, say that it is signed
+/// and that its responses come from the server (`IsMeetable`); the body is one that `Body` builds;
+/// the first plan of the request is not over; another message has become the current one less often
+/// than the limit allows; and a transaction ID is left (`CanGoOn`). If an earlier message is signed
+/// for the challenge, no current message has the ID of that earlier message. Such an ID occurs only
+/// if the seed gives two messages the same ID, and there was no memory to record the earlier
+/// message. Law `requests_can_be_written` of `stun_requests` proves that the request fits into a
+/// message with all attributes that the client adds. The law does not state that a datagram
+/// arrives, nor that the allocations succeed without which a response is dropped.
 pub fn clients_meet_servers()
     ensures { ClientsMeetServers }
 {
@@ -45,18 +51,20 @@ pub fn clients_meet_servers()
     stun_requests::laws::requests_can_be_written();
 }
 
-/// A new client and a server meet. The first request of a client that has the name and password of
-/// a registered user is started, whatever its method and body are. The server challenges it, the
-/// client sends it again for the challenge, and the server accepts that while its nonce lasts
-/// (`met`). From there `clients_meet_servers` goes on.
+/// A new client and a server agree. Take a client that has the name and password of a registered
+/// user. Its first request is started, whatever its method and body are, the server challenges the
+/// request, the client sends it again for the challenge, and the server accepts it while its nonce
+/// lasts (`met`). From there `clients_meet_servers` continues.
 ///
-/// The premises hold together (`exist`): there are a server and its user, and a client of that
-/// user, that meet in this way by HMAC-SHA256, for a Binding request and for an Allocate request.
-/// It is so with a name that is sent as a hash, and with one that is sent in clear.
+/// The premises can hold together (`exist`): there are a server and its user, and a client of that
+/// user, that agree in this way on HMAC-SHA256, for a Binding request and for an Allocate request.
+/// This holds with a user name that is sent as a hash, and with a user name that is sent in clear.
 ///
-/// Premises of `met` (`CanBegin`): the two can meet (`CanMeet`), another message of a request may
-/// become the current one at least once, SOFTWARE has at most 763 bytes, the first two transaction
-/// IDs of the seed differ, and the challenge arrives within the plan of the request.
+/// Premises of `met` (`CanBegin`): client and server satisfy `CanMeet`; another message of a
+/// request may become the current one at least once; SOFTWARE has at most 763 bytes; the first two
+/// transaction IDs of the seed differ; the options of the request, if it has any, say that it is
+/// signed and that its responses come from the server (`IsMeetable`); and the challenge arrives
+/// within the plan of the request.
 pub fn new_clients_meet_servers()
     ensures met { NewClientsMeetServers }
     ensures exist { ThereAreMeetings }

@@ -11,6 +11,7 @@ use Rattle.stun_base.specs.declared.wire.message_type.MessageClass.{MessageClass
 use Rattle.stun_base.specs.declared.wire.message_type.MessageClass.TheVariants as Classes
 use Rattle.stun_types.specs.Message.{refusal}
 use Rattle.stun_extra.specs.CanonicalAddress.{is_same_address}
+use Rattle.stun_agent.specs.Timing.{Settings}
 use Rattle.stun_client.specs.Challenges.{Answered}
 use Rattle.stun_client.specs.Challenging.{code_in}
 use Rattle.stun_client.specs.Ids.{id_of}
@@ -19,28 +20,31 @@ use Rattle.stun_client_endpoint.specs.Bodies.{Body}
 use Rattle.stun_client_endpoint.specs.Written.{Page?}
 use Rattle.stun_client_endpoint.specs.declared.ended.DropReason.TheVariants as Reasons
 use Rattle.stun_client_endpoint.specs.declared.ended.RequestEnd.TheVariants as how
-use Rattle.stun_client_endpoint.specs.declared.told.Received.TheVariants.{NotOurs}
+use Rattle.stun_client_endpoint.specs.declared.told.Received.TheVariants.{Indication, NotOurs}
 use Rattle.stun_client_requests.specs.Requests.{Answering, after_again, after_answering}
 use Rattle.stun_client_requests.specs.Requests.{after_replacing, datum_of, start_refusal}
 use Rattle.stun_client_requests.specs.declared.requests.StartRefusal.{StartRefusal}
 use Rattle.stun_client_calls.specs.Clients.{Client, changed, changed_at, chosen, error_of}
-use Rattle.stun_client_calls.specs.Clients.{first_message, refusal_of_number, refusal_of_page}
+use Rattle.stun_client_calls.specs.Clients.{first_message, plan_for, refusal_of_number}
+use Rattle.stun_client_calls.specs.Clients.{refusal_of_page}
 use Rattle.stun_client_calls.specs.Clients.{refusal_to_start, started, started_at, started_by}
 use Rattle.stun_client_calls.specs.Clients.{started_with}
 use Rattle.stun_client_calls.specs.Deciding.{DecisionSeen, answered, drops, refuses, turns}
 use Rattle.stun_client_calls.specs.Deciding.{unauthorized}
-use Rattle.stun_client_calls.specs.Endpoints.{EndSeen}
+use Rattle.stun_client_calls.specs.Endpoints.{EndSeen, bare_end}
 use Rattle.stun_client_calls.specs.Messages.{AskedSeen, new_asked, turned}
-use Rattle.stun_client_calls.specs.Receiving.{Answer, Memory, Met, Spot, UnlessMemory, answered_in}
+use Rattle.stun_client_calls.specs.Options.{Options}
+use Rattle.stun_client_calls.specs.Receiving.{Answer, Memory, Met, Spot, UnlessMemory}
 use Rattle.stun_client_calls.specs.Receiving.{as_expected, by_class, by_decision, by_met}
-use Rattle.stun_client_calls.specs.Receiving.{decision_for, forgone, moment_of, received, spot_of}
+use Rattle.stun_client_calls.specs.Receiving.{decision_for, forgone, heard_in, moment_of}
+use Rattle.stun_client_calls.specs.Receiving.{received, round_trip_of, spot_of}
 use Rattle.stun_client_calls.specs.Receiving.{turn_to, turned_at, turned_by, unwritten}
 use Rattle.stun_client_calls.specs.Receiving.{without_memory}
 use Rattle.stun_client_calls.specs.Writing.{message_bytes}
 use Rattle.stun_client_calls.specs.declared.asked.Change.{Change}
 use Rattle.stun_client_calls.specs.declared.asked.Change.TheVariants.{Noted, Refused, SentOut}
 use Rattle.stun_client_calls.specs.declared.turning.Why.{Why}
-use Rattle.stun_client_calls.proofs.ReceivingLemmas.{met_is_stored}
+use Rattle.stun_client_calls.proofs.ReceivingLemmas.{heard_is, met_is_stored}
 use Rattle.stun_client_requests.proofs.NumberLemmas.{same_key}
 use Rattle.stun_client_plans.proofs.HoldLemmas.{All}
 use Rattle.stun_client_plans.proofs.PolledLemmas.{not_same}
@@ -55,7 +59,7 @@ same_or_not n m = by (is_at (nat_cmp n) m) refl
 
 -- a change of what is stored keeps the end of the first plan
 pub until_stays : (change : Change) (a : AskedSeen) → (changed change a).until ≡ a.until
-until_stays SentOut a = refl
+until_stays (SentOut now) a = refl
 until_stays (Noted why code) a = refl
 until_stays (Refused code) a = refl
 
@@ -69,8 +73,8 @@ module _ (c : Client) (P : All → Type 0) (same : P c.requests)
     (ended : (m count : ℕ) (a : AskedSeen) (moment : Option ℕ) (end : EndSeen)
     → datum_of m c.requests ≡ Some a → P (after_answering m count moment end c.requests))
     (sent : (m id now : ℕ) (a b empty : AskedSeen) (x : Answering) (bytes : List ℕ)
-    → datum_of m c.requests ≡ Some a
-    → P (after_replacing m b (after_again m x id bytes c.plan empty now c.requests))) where
+    (plan : Settings) → datum_of m c.requests ≡ Some a
+    → P (after_replacing m b (after_again m x id bytes plan empty now c.requests))) where
   pub changed_so : (change : Change) (m : ℕ) → P (changed_at change m c.requests)
   changed_so change m = by (datum_of m c.requests) refl
     where
@@ -92,8 +96,8 @@ module _ (c : Client) (P : All → Type 0) (same : P c.requests)
     turned_so why d s (Ok new) =
         sent m.number s.id now m.asked
         (turned memory.is_kept (transaction_id_field bytes) (turn_to s why d) m.asked)
-        (new_asked m.asked.method [] 0 None) (record { count = length bytes; moment = Some now })
-        new there
+        (new_asked m.asked.method [] None 0 None)
+        (record { count = length bytes; moment = Some now }) new (plan_for c m.asked) there
 
     spot_so : (why : Why) (d : Option Answered) (o : Option Spot)
         → P (turned_at memory c now bytes m why d o).1.requests
@@ -104,83 +108,93 @@ module _ (c : Client) (P : All → Type 0) (same : P c.requests)
     decided_so : (d : DecisionSeen) → P (by_decision memory c now bytes m d).1.requests
     decided_so (answered by) =
         ended m.number (length bytes) m.asked (moment_of now m)
-        (record { end = how.Answered (outcome_of c.understood bytes) by; response = bytes }) there
+        (record {
+          end = how.Answered (outcome_of c.understood bytes) by;
+          response = bytes;
+          round_trip = round_trip_of now m;
+        }) there
     decided_so unauthorized =
-        ended m.number (length bytes) m.asked (moment_of now m)
-        (record { end = how.Unauthorized; response = [] }) there
+        ended m.number (length bytes) m.asked (moment_of now m) (bare_end how.Unauthorized) there
     decided_so (turns why place d) = spot_so why d (spot_of c m.asked place)
     decided_so refuses = changed_so (Refused (code_in bytes)) m.number
     decided_so (drops why) = changed_so (Noted why (code_in bytes)) m.number
 
-  met_so : (memory : Memory) (now : ℕ) (bytes : List ℕ)
-      → P (by_met memory c now bytes (answered_in bytes c)).1.requests
-  met_so memory now bytes = by (answered_in bytes c) refl
+  met_so : (memory : Memory) (from : SocketAddr) (now : ℕ) (bytes : List ℕ)
+      → P (by_met memory c now bytes (heard_in from bytes c)).1.requests
+  met_so memory from now bytes = by (heard_in from bytes c) refl
     where
-      by : (o : Option Met) → answered_in bytes c ≡ o → P (by_met memory c now bytes o).1.requests
+      by : (o : Option Met) → heard_in from bytes c ≡ o
+          → P (by_met memory c now bytes o).1.requests
       by None found = same
       by (Some m) found =
-          decided_so memory now bytes m (met_is_stored bytes c m m.number found refl)
+          decided_so memory now bytes m
+          (met_is_stored bytes c m m.number (heard_is from bytes c m found) refl)
           (decision_for c now bytes m)
 
-  class_so : (memory : Memory) (now : ℕ) (bytes : List ℕ) (class : MessageClass)
-      → P (by_class memory c now bytes class).1.requests
-  class_so memory now bytes Classes.Request = same
-  class_so memory now bytes Classes.Indication = same
-  class_so memory now bytes Classes.Success = met_so memory now bytes
-  class_so memory now bytes Classes.Error = met_so memory now bytes
+  class_so : (memory : Memory) (from : SocketAddr) (now : ℕ) (bytes : List ℕ)
+      → (class : MessageClass) → P (by_class memory from c now bytes class).1.requests
+  class_so memory from now bytes Classes.Request = same
+  class_so memory from now bytes Classes.Indication = by (is_same_address from c.server)
+    where
+      by : (b : Bool) → P (cond {A = Answer} b (Indication bytes, c) (NotOurs, c)).1.requests
+      by true = same
+      by false = same
+  class_so memory from now bytes Classes.Success = met_so memory from now bytes
+  class_so memory from now bytes Classes.Error = met_so memory from now bytes
 
   received_so : (memory : Memory) (from : SocketAddr) (bytes : List ℕ) (now : ℕ)
       → P (received memory from bytes now c).1.requests
-  received_so memory from bytes now =
-      by (is_some (refusal bytes)) (is_same_address from c.server)
+  received_so memory from bytes now = by (is_some (refusal bytes))
     where
-      by : (refused is_from_server : Bool) → P (cond refused (NotOurs, c)
-          (cond is_from_server (by_class memory c now bytes (class_in bytes))
-          (NotOurs, c))).1.requests
-      by true b = same
-      by false true = class_so memory now bytes (class_in bytes)
-      by false false = same
+      by : (refused : Bool)
+          → P
+          (cond refused (NotOurs, c) (by_class memory from c now bytes (class_in bytes))).1.requests
+      by true = same
+      by false = class_so memory from now bytes (class_in bytes)
 
   pub receives_so : (from : SocketAddr) (bytes : List ℕ) (now : ℕ) (given : Answer)
-      → UnlessMemory (λ memory. received memory from bytes now c) bytes c given
+      → UnlessMemory (λ memory. received memory from bytes now c) bytes (heard_in from bytes c) c
+      given
       → P given.1.requests
   receives_so from bytes now given (as_expected memory is) =
       subst (λ (x : Answer). P x.1.requests) (sym is) (received_so memory from bytes now)
   receives_so from bytes now given (forgone is) =
-      subst (λ (x : Answer). P x.1.requests) (sym is) (forgone_so bytes (answered_in bytes c))
+      subst (λ (x : Answer). P x.1.requests) (sym is) (forgone_so bytes (heard_in from bytes c))
 
 -- ---- a request that is started
 
 -- its number of an ID, and its bytes
-pub record IsStarted (c : Client) (method : ℕ) (body : Body) : Type 0 where
+pub record IsStarted (c : Client) (method : ℕ) (body : Body) (options : Option Options)
+    : Type 0 where
   pub number : ℕ
   pub bytes : List ℕ
   pub free : start_refusal c.requests (id_of c.seed number) ≡ None
-  pub is_so : (now : ℕ) → started method body now c ≡ started_by c number method body bytes now
+  pub is_so : (now : ℕ)
+      → started method body options now c ≡ started_by c number method body options bytes now
 
-pub started_is : (c : Client) (method : ℕ) (body : Body) → refusal_to_start c method body ≡ None
-    → IsStarted c method body
-started_is c method body none = by (chosen c) refl none
+pub started_is : (c : Client) (method : ℕ) (body : Body) (options : Option Options)
+    → refusal_to_start c method body options ≡ None → IsStarted c method body options
+started_is c method body options none = by (chosen c) refl none
   where
     unrefused : (o : Option StartRefusal) → option_map error_of o ≡ None → o ≡ None
     unrefused None is = refl
     unrefused (Some why) is = cc
 
     page_is : (number : ℕ) (page : Page?) → chosen c ≡ Some number
-        → first_message c method number body ≡ page → refusal_of_page c number page ≡ None
-        → IsStarted c method body
+        → first_message c method number body options ≡ page → refusal_of_page c number page ≡ None
+        → IsStarted c method body options
     page_is number (Err why) is written none = cc
     page_is number (Ok bytes) is written none = record {
       number = number;
       bytes = bytes;
       free = unrefused (start_refusal c.requests (id_of c.seed number)) none;
       is_so = λ now.
-          ap (λ (o : Option ℕ). started_at c method body now o) is
-          ∙ ap (λ (p : Page?). started_with c number method body now p) written;
+          ap (λ (o : Option ℕ). started_at c method body options now o) is
+          ∙ ap (λ (p : Page?). started_with c number method body options now p) written;
     }
 
-    by : (o : Option ℕ) → chosen c ≡ o → refusal_of_number c method body o ≡ None
-        → IsStarted c method body
+    by : (o : Option ℕ) → chosen c ≡ o → refusal_of_number c method body options o ≡ None
+        → IsStarted c method body options
     by None is none = cc
     by (Some number) is none =
-        page_is number (first_message c method number body) is refl none
+        page_is number (first_message c method number body options) is refl none

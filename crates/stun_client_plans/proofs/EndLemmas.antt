@@ -1,5 +1,5 @@
 -- An end is set once, and stays until it is said.
-use Rattle.std.proofs.Common.{◌≡◌, ◌∙◌, ◌⊎◌, ◌<◌, ◌≤◌, [], ℕ, Bool, true, false, List, Option, Some}
+use Rattle.std.proofs.Common.{◌≡◌, ◌∙◌, ◌⊎◌, ◌<◌, ◌≤◌, ℕ, Bool, true, false, List, Option, Some}
 use Rattle.std.proofs.Common.{None, ap, arith, cond, inl, inr, length, refl, subst, sym}
 use Rattle.std.specs.Option.{is_some, option_and_then, option_map_or}
 use Rattle.std.specs.Prelude.{nat_lt}
@@ -11,11 +11,10 @@ use Rattle.stun_base.specs.declared.keys.algorithm.IntegrityAlgorithm.{Integrity
 use Rattle.stun_base.specs.declared.wire.error.StunParseError.{StunParseError}
 use Rattle.stun_base.specs.declared.wire.message_type.MessageClass.{MessageClass}
 use Rattle.stun_base.specs.declared.wire.message_type.MessageClass.TheVariants as Classes
-use Rattle.stun_extra.specs.CanonicalAddress.{is_same_address}
 use Rattle.stun_agent.specs.Tables.{after_answer, after_cancel}
 use Rattle.stun_agent.proofs.Ascending.{lookup-insert_same}
 use Rattle.stun_client.specs.Outcomes.{outcome_of}
-use Rattle.stun_client.specs.Requests.{is_answer, is_answer_of}
+use Rattle.stun_client.specs.Answers.{is_answer, is_answer_of}
 use Rattle.stun_client_endpoint.specs.declared.ended.RequestEnd.TheVariants as how
 use Rattle.stun_client_endpoint.specs.declared.told.Received.TheVariants.{NotOurs}
 use Rattle.stun_client_requests.specs.Numbers.{after_end, id_at, id_in, known_at}
@@ -24,13 +23,14 @@ use Rattle.stun_client_requests.specs.declared.numbers.Known.{Known}
 use Rattle.stun_client_requests.specs.declared.numbers.Known.TheVariants as Numbers
 use Rattle.stun_client_calls.specs.Clients.{Client, Poll, Told, cancelled, ends, told}
 use Rattle.stun_client_calls.specs.Deciding.{DecisionSeen, answered}
-use Rattle.stun_client_calls.specs.Endpoints.{EndSeen}
+use Rattle.stun_client_calls.specs.Endpoints.{EndSeen, bare_end}
 use Rattle.stun_client_calls.specs.Messages.{AskedSeen}
 use Rattle.stun_client_calls.specs.Receiving.{Memory, Met, answered_in, by_class, by_decision}
-use Rattle.stun_client_calls.specs.Receiving.{by_met, if_method, met, moment_of, received}
+use Rattle.stun_client_calls.specs.Receiving.{by_met, heard_in, if_method, met, moment_of, received}
+use Rattle.stun_client_calls.specs.Receiving.{round_trip_of}
 use Rattle.stun_client_calls.specs.Runs.{Call, Calls, Event, call, changes_nothing, ends_one}
 use Rattle.stun_client_calls.specs.Runs.{no_call, polls, receives, requests}
-use Rattle.stun_client_calls.proofs.ReceivingLemmas.{met_is_stored}
+use Rattle.stun_client_calls.proofs.ReceivingLemmas.{heard_is, met_is_stored}
 use Rattle.stun_client_runs.specs.Kept.{IsClient, StaysAClient}
 use Rattle.stun_client_plans.specs.Ends.{IsBelievedResponse, IsEndedAs}
 use Rattle.stun_client_plans.proofs.HoldLemmas.{All}
@@ -41,15 +41,15 @@ use Rattle.stun_client_plans.proofs.SpareLemmas.{IsSaid, call_spares, told_close
 -- ---- how a request ends
 
 pub cancels_end : (c : Client) (number : ℕ) (a : AskedSeen) → datum_of number c.requests ≡ Some a
-    → IsEndedAs number (record { end = how.Cancelled; response = [] }) (cancelled number c)
+    → IsEndedAs number (bare_end how.Cancelled) (cancelled number c)
 cancels_end c number a there =
     let named = stored_id number a c.requests there in
-    let end : EndSeen = record { end = how.Cancelled; response = [] } in
+    let end : EndSeen = bare_end how.Cancelled in
     subst (λ o. known_at number (option_map_or (λ id. record c.requests {
       table = after_cancel id c.requests.table;
-      numbers = after_end number (record { end = how.Cancelled; response = [] }) c.requests.numbers;
+      numbers = after_end number (bare_end how.Cancelled) c.requests.numbers;
     }) o c.requests).numbers.known
-    ≡ Some (Numbers.Ended (record { end = how.Cancelled; response = [] }))) (sym named.1)
+    ≡ Some (Numbers.Ended (bare_end how.Cancelled))) (sym named.1)
     (lookup-insert_same number (Numbers.Ended end) c.requests.numbers.known)
 
 answering_ends : (n count : ℕ) (a : AskedSeen) (moment : Option ℕ) (end : EndSeen) (r : All)
@@ -66,15 +66,23 @@ answering_ends n count a moment end r there =
 module _ (memory : Memory) (from : SocketAddr) (bytes : List ℕ) (now : ℕ) (c : Client) (m : Met)
     (by : Option IntegrityAlgorithm) (is : IsBelievedResponse from bytes now c m by) where
   abbrev answered_end : EndSeen
-  answered_end = record { end = how.Answered (outcome_of c.understood bytes) by; response = bytes }
+  answered_end = record {
+    end = how.Answered (outcome_of c.understood bytes) by;
+    response = bytes;
+    round_trip = round_trip_of now m;
+  }
+
+  is_answered : answered_in bytes c ≡ Some m
+  is_answered = heard_is from bytes c m is.answers
 
   by_decision_ends : IsEndedAs m.number answered_end
       (by_decision memory c now bytes m (answered by)).1
   by_decision_ends =
       answering_ends m.number (length bytes) m.asked (moment_of now m) answered_end c.requests
-      (met_is_stored bytes c m m.number is.answers refl)
+      (met_is_stored bytes c m m.number is_answered refl)
 
-  by_met_ends : IsEndedAs m.number answered_end (by_met memory c now bytes (answered_in bytes c)).1
+  by_met_ends : IsEndedAs m.number answered_end
+      (by_met memory c now bytes (heard_in from bytes c)).1
   by_met_ends =
       subst (λ (o : Option Met). IsEndedAs m.number answered_end (by_met memory c now bytes o).1)
       (sym is.answers)
@@ -92,24 +100,19 @@ module _ (memory : Memory) (from : SocketAddr) (bytes : List ℕ) (now : ℕ) (c
       cc
 
   by_class_ends : (class : MessageClass) → class_in bytes ≡ class
-      → IsEndedAs m.number answered_end (by_class memory c now bytes class).1
+      → IsEndedAs m.number answered_end (by_class memory from c now bytes class).1
   by_class_ends Classes.Request said = absurd (unanswering (met (transaction_id_field bytes) c)
-      (λ method. ap (λ k. is_answer_of method k bytes) said) is.answers)
+      (λ method. ap (λ k. is_answer_of method k bytes) said) is_answered)
   by_class_ends Classes.Indication said = absurd (unanswering (met (transaction_id_field bytes) c)
-      (λ method. ap (λ k. is_answer_of method k bytes) said) is.answers)
+      (λ method. ap (λ k. is_answer_of method k bytes) said) is_answered)
   by_class_ends Classes.Success said = by_met_ends
   by_class_ends Classes.Error said = by_met_ends
 
   pub answers_end : IsEndedAs m.number answered_end (received memory from bytes now c).1
   answers_end =
       subst (λ (o : Option StunParseError). IsEndedAs m.number answered_end
-      (cond (is_some o) (NotOurs, c)
-      (cond (is_same_address from c.server) (by_class memory c now bytes (class_in bytes))
-      (NotOurs, c))).1) (sym is.is_read)
-      (subst (λ b. IsEndedAs m.number answered_end
-      (cond b (by_class memory c now bytes (class_in bytes)) (NotOurs, c)).1)
-      (sym is.is_from_server)
-      (by_class_ends (class_in bytes) refl))
+      (cond (is_some o) (NotOurs, c) (by_class memory from c now bytes (class_in bytes))).1)
+      (sym is.is_read) (by_class_ends (class_in bytes) refl)
 
 -- ---- until it is said
 
@@ -160,9 +163,9 @@ module _ (stays : StaysAClient) (n : ℕ) where
       → IsEndedOrGone end c → Call c event after → IsEndedOrGone end after
   call_still end c after event is over (polls _ _ now says said) =
       subst (λ (p : Poll). IsEndedOrGone end p.1) said (polled_still end now c is over)
-  call_still end c after event is over (requests _ _ method body now low none so) =
+  call_still end c after event is over (requests _ _ method body options now low none so) =
       let spared = call_spares n c (closed end c over) (started_so end c is over) after event refl
-      (requests c after method body now low none so) in
+      (requests c after method body options now low none so) in
       same_still end c after spared.spares.known spared.grows over
   call_still end c after event is over (receives _ _ from bytes now given low made so) =
       let spared = call_spares n c (closed end c over) (started_so end c is over) after event refl

@@ -1,10 +1,7 @@
 -- Calls that are no polls leave a request that keeps its transaction ID as it is.
-use Rattle.std.proofs.Common.{◌≡◌, ◌∙◌, ◌⊎◌, ◌∷◌, [], ℕ, Bool, true, false, List, Option, Some}
-use Rattle.std.proofs.Common.{None, ap, arith, cond, inl, inr, refl, subst, sym}
-use Rattle.std.specs.BTreeMap.{is_at}
-use Rattle.std.specs.Map.{lookup, set_value}
+use Rattle.std.proofs.Common.{◌≡◌, ◌∙◌, ◌⊎◌, ℕ, Bool, true, false, List, Option, Some, None, ap}
+use Rattle.std.proofs.Common.{arith, cond, inl, inr, refl, subst, sym}
 use Rattle.std.specs.Option.{is_some, option_and_then, option_map, option_map_or}
-use Rattle.std.specs.Ordering.{nat_cmp}
 use Rattle.std.specs.Prelude.{◌==◌}
 use Rattle.stun_base.specs.declared.wire.transport.TransportType.{TransportType}
 use Rattle.stun_agent.specs.Tables.{after_answer, after_cancel, after_sending, datum_at, request_in}
@@ -25,9 +22,11 @@ use Rattle.stun_client_requests.specs.declared.requests.Request.{Request}
 use Rattle.stun_client_requests.specs.declared.requests.StartRefusal.TheVariants.{IdTaken, NoNumber}
 use Rattle.stun_client_requests.proofs.NumberLemmas.{own_key}
 use Rattle.stun_client_requests.proofs.RequestLemmas.{at_remove, attached_answer}
+use Rattle.stun_client_requests.proofs.TimelyLemmas.{set_none}
 use Rattle.stun_client_calls.specs.Clients.{Client, first_asked, refusal_to_start, started}
-use Rattle.stun_client_calls.specs.Endpoints.{EndSeen}
+use Rattle.stun_client_calls.specs.Endpoints.{EndSeen, bare_end}
 use Rattle.stun_client_calls.specs.Messages.{AskedSeen}
+use Rattle.stun_client_calls.specs.Options.{Options, plan_by}
 use Rattle.stun_client_calls.specs.Runs.{Call, Event, changes_nothing, ends_one, polls, receives}
 use Rattle.stun_client_calls.specs.Runs.{requests}
 use Rattle.stun_client_plans.specs.Plan.{is_poll}
@@ -36,24 +35,6 @@ use Rattle.stun_client_plans.proofs.HoldLemmas.{All, Holds, IsOne, Table, again_
 use Rattle.stun_client_plans.proofs.HoldLemmas.{answering_holds, canceling_holds, held_over}
 use Rattle.stun_client_plans.proofs.HoldLemmas.{ids_apart, own_holds, replacing_holds}
 use Rattle.stun_client_plans.proofs.HoldLemmas.{setting_leaves, some_is, starting_holds}
-
--- nothing is stored anew where nothing is stored
-set_none : {X : Type 0} (n : ℕ) (w : X) (es : List (ℕ × X)) → lookup (is_at (nat_cmp n)) es ≡ None
-    → lookup (is_at (nat_cmp n)) (set_value (is_at (nat_cmp n)) es w) ≡ None
-set_none n w [] none = refl
-set_none {X} n w (e ∷ es) none = by (is_at (nat_cmp n) e.0) refl none (set_none n w es)
-  where
-    by : (b : Bool) → is_at (nat_cmp n) e.0 ≡ b
-        → cond b (Some e.1) (lookup (is_at (nat_cmp n)) es) ≡ None
-        → (lookup (is_at (nat_cmp n)) es ≡ None
-        → lookup (is_at (nat_cmp n)) (set_value (is_at (nat_cmp n)) es w) ≡ None)
-        → lookup (is_at (nat_cmp n))
-        (cond b ((e.0, w) ∷ es) (e ∷ set_value (is_at (nat_cmp n)) es w)) ≡ None
-    by true is none rest = cc
-    by false is none rest =
-        ap (λ b. cond b (Some e.1)
-        (lookup (is_at (nat_cmp n)) (set_value (is_at (nat_cmp n)) es w))) is
-        ∙ rest none
 
 -- an outstanding request of which something is stored has a transaction ID
 pub stored_id : (m : ℕ) (a : AskedSeen) (r : All) → datum_of m r ≡ Some a
@@ -247,31 +228,32 @@ module _ (transport : TransportType) (n id : ℕ) (a : AskedSeen) (t : Transacti
           }
 
   sent_again : (m new now : ℕ) (y b empty : AskedSeen) (x : Answering) (bytes : List ℕ)
-      → datum_of m c.requests ≡ Some y
-      → IfIts (after_replacing m b (after_again m x new bytes c.plan empty now c.requests))
-  sent_again m new now y b empty x bytes there = by (same_or_not n m)
+      → (plan : Settings) → datum_of m c.requests ≡ Some y
+      → IfIts (after_replacing m b (after_again m x new bytes plan empty now c.requests))
+  sent_again m new now y b empty x bytes plan there = by (same_or_not n m)
     where
       by : (m ≡ n) ⊎ (m ≡ n → ⊥)
-          → IfIts (after_replacing m b (after_again m x new bytes c.plan empty now c.requests))
+          → IfIts (after_replacing m b (after_again m x new bytes plan empty now c.requests))
       by (inl same) =
-          subst (λ k. IfIts (after_replacing k b (after_again k x new bytes c.plan empty now
+          subst (λ k. IfIts (after_replacing k b (after_again k x new bytes plan empty now
           c.requests)))
-          (sym same) (own_again new now b empty x bytes c.plan)
+          (sym same) (own_again new now b empty x bytes plan)
       by (inr differ) =
           let named = stored_id m y c.requests there in
-          other_again new now b empty x bytes c.plan m named.0 differ named.1
+          other_again new now b empty x bytes plan m named.0 differ named.1
 
   -- ---- calls
 
-  started_rests : (method : ℕ) (body : Body) (now : ℕ) → refusal_to_start c method body ≡ None
-      → IfIts (started method body now c).requests
-  started_rests method body now none =
-      let it = started_is c method body none in
+  started_rests : (method : ℕ) (body : Body) (options : Option Options) (now : ℕ)
+      → refusal_to_start c method body options ≡ None
+      → IfIts (started method body options now c).requests
+  started_rests method body options now none =
+      let it = started_is c method body options none in
       subst (λ (x : Client). IfIts x.requests) (sym (it.is_so now))
-      (as_it_was (after_start (id_of c.seed it.number) it.bytes c.plan
-      (first_asked c method body now) now c.requests)
-      (starting_holds transport n id q t u c.requests one h (id_of c.seed it.number) it.bytes c.plan
-      (first_asked c method body now) now
+      (as_it_was (after_start (id_of c.seed it.number) it.bytes (plan_by options c.plan)
+      (first_asked c method body options now) now c.requests)
+      (starting_holds transport n id q t u c.requests one h (id_of c.seed it.number) it.bytes
+      (plan_by options c.plan) (first_asked c method body options now) now
       (taken (id_of c.seed it.number) (unrefused (id_of c.seed it.number) it.free)) next_apart))
     where
       unrefused : (new : ℕ) → start_refusal c.requests new ≡ None
@@ -302,8 +284,8 @@ module _ (transport : TransportType) (n id : ℕ) (a : AskedSeen) (t : Transacti
 
   pub call_rests : (after : Client) (event : Event) → is_poll event ≡ false → Call c event after
       → IfIts after.requests
-  call_rests after event no_poll (requests _ _ method body now low none so) =
-      subst (λ (x : Client). IfIts x.requests) (sym so) (started_rests method body now none)
+  call_rests after event no_poll (requests _ _ method body options now low none so) =
+      subst (λ (x : Client). IfIts x.requests) (sym so) (started_rests method body options now none)
   call_rests after event no_poll (receives _ _ from bytes now given low made so) =
       subst (λ (x : Client). IfIts x.requests) (sym so)
       (receives_so c IfIts (as_it_was c.requests h)
@@ -311,5 +293,5 @@ module _ (transport : TransportType) (n id : ℕ) (a : AskedSeen) (t : Transacti
   call_rests after event no_poll (polls _ _ now says said) = cc
   call_rests after event no_poll (ends_one _ _ number x there so) =
       subst (λ (y : Client). IfIts y.requests) (sym so)
-      (canceled number (record { end = how.Cancelled; response = [] }))
+      (canceled number (bare_end how.Cancelled))
   call_rests after event no_poll (changes_nothing _) = as_it_was c.requests h

@@ -24,6 +24,7 @@ use Rattle.stun_client_requests.specs.Numbers.{id_at, id_in, known_at}
 use Rattle.stun_client_requests.specs.declared.numbers.Known.TheVariants.{Outstanding}
 use Rattle.stun_client_calls.specs.Clients.{Client, Poll, Told, ends, first_asked, refusal_to_start}
 use Rattle.stun_client_calls.specs.Clients.{started, started_by, transmit}
+use Rattle.stun_client_calls.specs.Options.{Options, plan_by}
 use Rattle.stun_client_calls.specs.Runs.{Call, Event, call, is_told_of, next_number, no_call}
 use Rattle.stun_client_calls.specs.Runs.{polled, polls}
 use Rattle.stun_client_runs.specs.Kept.{IsClient, StaysAClient}
@@ -44,8 +45,9 @@ use Rattle.stun_client_plans.proofs.TimesLemmas.{times, times_absent, times_inse
 
 -- what is said of a request from where it stands on
 abbrev pub Follows : Sent → Bool → ℕ → ℕ → ℕ → List (ℕ × Told) → Type 0
-Follows r true next k last said = IsSentByPlan r.late r.client r.start r.number next said
-Follows r false next k last said = GoesOnByPlan r.late r.client r.start r.number next k last said
+Follows r true next k last said = IsSentByPlan r.late r.client r.plan r.start r.number next said
+Follows r false next k last said =
+    GoesOnByPlan r.late r.client r.plan r.start r.number next k last said
 
 -- each call leaves a client in order
 pub stays_one : StaysAClient → (c after : Client) (event : Event) → IsClient c → Call c event after
@@ -77,24 +79,26 @@ sends_next : (r : Sent) (u : Bool) (k more last due now next : ℕ) (c : Client)
     ((now, says) ∷ said)
 sends_next r true k more last due now next c says after s early soon sent said tail =
     let first = s.first refl in
-    subst (λ (t : Told). IsSentByPlan r.late r.client r.start r.number next ((now, t) ∷ said))
+    subst (λ (t : Told). IsSentByPlan r.late r.client r.plan r.start r.number next
+    ((now, t) ∷ said))
     (sym sent.told)
     (begins now said (record { no_earlier = early; no_later = at_first first.at_once }) sent.in_plan
-    (subst (λ m. GoesOnByPlan r.late r.client r.start r.number next m r.start said)
+    (subst (λ m. GoesOnByPlan r.late r.client r.plan r.start r.number next m r.start said)
     (sent.which.0 ∙ first.none)
-    (subst (λ m. GoesOnByPlan r.late r.client r.start r.number next sent.was m said)
+    (subst (λ m. GoesOnByPlan r.late r.client r.plan r.start r.number next sent.was m said)
     (sent.which.2 ∙ first.last_is) tail)))
   where
     at_first : due ≤ r.start → now ≤ r.start + r.late
     at_first low = omega (arith, low, soon)
 sends_next r false k more last due now next c says after s early soon sent said tail =
-    subst (λ (t : Told). GoesOnByPlan r.late r.client r.start r.number next k last
+    subst (λ (t : Told). GoesOnByPlan r.late r.client r.plan r.start r.number next k last
     ((now, t) ∷ said))
     (sym sent.told)
     (sends k last now said within sent.which.is_due.0
     (subst (λ d. ComesWithin (suc k * r.late) d now) planned_is sent.which.is_due.1) sent.in_plan
-    (subst (λ m. GoesOnByPlan r.late r.client r.start r.number next m now said) sent.which.was_is
-    (subst (λ m. GoesOnByPlan r.late r.client r.start r.number next sent.was m said)
+    (subst (λ m. GoesOnByPlan r.late r.client r.plan r.start r.number next m now said)
+    sent.which.was_is
+    (subst (λ m. GoesOnByPlan r.late r.client r.plan r.start r.number next sent.was m said)
     sent.which.last_is tail)))
   where
     left : k + suc sent.now_left ≡ slots_of r
@@ -103,17 +107,17 @@ sends_next r false k more last due now next c says after s early soon sent said 
     within : k < slots_of r
     within = omega (arith, left)
 
-    planned_is : planned r k ≡ sent_at r.start r.client.plan (suc k)
+    planned_is : planned r k ≡ sent_at r.start r.plan (suc k)
     planned_is =
-        awaited_slot r.start (transport_of r) r.client.plan k sent.now_left left
-        ∙ ap (sent_at r.start r.client.plan) (one_more k)
+        awaited_slot r.start (transport_of r) r.plan k sent.now_left left
+        ∙ ap (sent_at r.start r.plan) (one_more k)
 
 -- it would be sent after its plan
 given_up_there : (r : Sent) (u : Bool) (k more last due now next : ℕ) (c : Client) (says : Told)
     (after : Client) → Stands r u k more last due c → r.start ≤ now → now ≤ due + r.late
     → IsGivenUp r u k more last now (says, after) → Follows r u next k last ((now, says) ∷ [])
 given_up_there r true k more last due now next c says after s early soon given =
-    subst (λ (t : Told). IsSentByPlan r.late r.client r.start r.number next ((now, t) ∷ []))
+    subst (λ (t : Told). IsSentByPlan r.late r.client r.plan r.start r.number next ((now, t) ∷ []))
     (sym given.told)
     (is_never_sent now given.drops
     (record { no_earlier = early; no_later = at_first ((s.first refl).at_once) }) given.after_plan)
@@ -121,12 +125,13 @@ given_up_there r true k more last due now next c says after s early soon given =
     at_first : due ≤ r.start → now ≤ r.start + r.late
     at_first low = omega (arith, low, soon)
 given_up_there r false k more last due now next c says after s early soon given =
-    subst (λ (t : Told). GoesOnByPlan r.late r.client r.start r.number next k last ((now, t) ∷ []))
+    subst (λ (t : Told). GoesOnByPlan r.late r.client r.plan r.start r.number next k last
+    ((now, t) ∷ []))
     (sym given.told)
     (is_given_up k last now given.drops within given.which.is_due.0 comes (record {
       is_over = given.after_plan;
       are_late = λ less.
-          late_together r.start (transport_of r) r.client.plan given.which.left (suc k)
+          late_together r.start (transport_of r) r.plan given.which.left (suc k)
           (suc k * r.late) now counted comes given.after_plan less;
     }))
   where
@@ -139,11 +144,11 @@ given_up_there r false k more last due now next c says after s early soon given 
     counted : suc k + given.which.left ≡ slots_of r
     counted = omega (arith, left)
 
-    comes : ComesWithin (suc k * r.late) (sent_at r.start r.client.plan (suc k)) now
+    comes : ComesWithin (suc k * r.late) (sent_at r.start r.plan (suc k)) now
     comes =
         subst (λ d. ComesWithin (suc k * r.late) d now)
-        (awaited_slot r.start (transport_of r) r.client.plan k given.which.left left
-        ∙ ap (sent_at r.start r.client.plan) (one_more k)) given.which.is_due.1
+        (awaited_slot r.start (transport_of r) r.plan k given.which.left left
+        ∙ ap (sent_at r.start r.plan) (one_more k)) given.which.is_due.1
 
 -- it ends
 ends_there : (r : Sent) (u : Bool) (k more last now next due : ℕ) (c : Client) (says : Told)
@@ -151,11 +156,12 @@ ends_there : (r : Sent) (u : Bool) (k more last now next due : ℕ) (c : Client)
     → IsTimedOut r u k more last now (says, after) → Follows r u next k last ((now, says) ∷ [])
 ends_there r u k more last now next due c says after s over =
     subst (λ b. Follows r b next k last ((now, says) ∷ [])) (sym over.was_sent)
-    (subst (λ (t : Told). GoesOnByPlan r.late r.client r.start r.number next k last ((now, t) ∷ []))
+    (subst (λ (t : Told). GoesOnByPlan r.late r.client r.plan r.start r.number next k last
+    ((now, t) ∷ []))
     (sym over.told)
     (times_out k last now over.drops (omega (arith, whole)) over.is_due.0
     (subst (λ d. ComesWithin (suc k * r.late) d now)
-    (awaited_end r.start (transport_of r) r.client.plan k whole) over.is_due.1)))
+    (awaited_end r.start (transport_of r) r.plan k whole) over.is_due.1)))
   where
     whole : k + 0 ≡ slots_of r
     whole = subst (λ m. k + m ≡ slots_of r) over.none_left s.all
@@ -294,17 +300,22 @@ plan_end : (transport : TransportType) (settings : Settings) (start : ℕ)
 plan_end Tcp settings start = stream_end settings start
 plan_end Udp settings start = same_end settings start ∙ stream_end settings start
 
-abbrev pub request_of : ℕ → Client → ℕ → Sent
-request_of late c start =
-    record { start = start; number = next_number c; late = late; client = c }
+abbrev pub request_of : ℕ → Client → Option Options → ℕ → Sent
+request_of late c options start = record {
+  start = start;
+  number = next_number c;
+  late = late;
+  client = c;
+  plan = plan_by options c.plan;
+}
 
-module _ (late : ℕ) (c : Client) (method : ℕ) (body : Body) (start : ℕ) (is : IsClient c)
-    (low : start ≤ last_moment) where
+module _ (late : ℕ) (c : Client) (method : ℕ) (body : Body) (options : Option Options) (start : ℕ)
+    (is : IsClient c) (low : start ≤ last_moment) where
   abbrev r : Sent
-  r = request_of late c start
+  r = request_of late c options start
 
-  first_at : sent_at start c.plan 0 ≡ start
-  first_at = first_moment start c.plan low
+  first_at : sent_at start r.plan 0 ≡ start
+  first_at = first_moment start r.plan low
 
   -- the next number is not among those whose bytes were not handed out
   none_unsent : times (next_number c) c.requests.numbers.unsent ≡ 0
@@ -327,10 +338,11 @@ module _ (late : ℕ) (c : Client) (method : ℕ) (body : Body) (start : ℕ) (i
           no_id (Some id) is some = cc
 
   begun : (number : ℕ) (bytes : List ℕ)
-      → Stands r true 0 (slots_of r) start start (started_by c number method body bytes start)
+      → Stands r true 0 (slots_of r) start start
+      (started_by c number method body options bytes start)
   begun number bytes = record {
     id = id_of c.seed number;
-    asked = first_asked c method body start;
+    asked = first_asked c method body options start;
     timer = timer;
     holds = record {
       transport_is = refl;
@@ -338,32 +350,32 @@ module _ (late : ℕ) (c : Client) (method : ℕ) (body : Body) (start : ℕ) (i
           (lookup-insert_same (next_number c) (Outstanding (id_of c.seed number))
           c.requests.numbers.known);
       there = lookup-insert_same (id_of c.seed number)
-          (record { number = next_number c; datum = first_asked c method body start })
+          (record { number = next_number c; datum = first_asked c method body options start })
           c.requests.table.attached;
       timed = lookup-insert_same (id_of c.seed number) timer c.requests.table.requests;
       unsent = times_insert_own (next_number c) c.requests.numbers.unsent none_unsent;
     };
-    until_is = sym (plan_end c.requests.table.transport c.plan start);
+    until_is = sym (plan_end c.requests.table.transport r.plan start);
     settings_is = refl;
     goes_on = refl;
     slot_is = refl;
     last_is = refl;
     all = omega arith;
     on_plan = record { no_earlier = omega (arith, first_at); no_later = omega (arith, first_at) };
-    low = at_once (cond (nat_lt 0 (slots_of r)) (timeout c.plan 0)
-        (final_wait c.requests.table.transport c.plan)) low;
+    low = at_once (cond (nat_lt 0 (slots_of r)) (timeout r.plan 0)
+        (final_wait c.requests.table.transport r.plan)) low;
     first = λ on. record { none = refl; last_is = refl; at_once = omega arith };
   }
     where
       timer : Transaction
-      timer = request_in c.requests.table bytes c.plan start
+      timer = request_in c.requests.table bytes r.plan start
 
       at_once : (wait : ℕ) → start ≤ last_moment → start ≤ moment_after start wait
       at_once wait low = omega (arith, low)
 
-  pub begins_at : refusal_to_start c method body ≡ None
-      → Stands r true 0 (slots_of r) start start (started method body start c)
+  pub begins_at : refusal_to_start c method body options ≡ None
+      → Stands r true 0 (slots_of r) start start (started method body options start c)
   begins_at none =
-      let it = started_is c method body none in
+      let it = started_is c method body options none in
       subst (λ (x : Client). Stands r true 0 (slots_of r) start start x) (sym (it.is_so start))
       (begun it.number it.bytes)

@@ -1,5 +1,5 @@
 -- Calls leave what is known of a request that is not outstanding.
-use Rattle.std.proofs.Common.{◌≡◌, ◌∙◌, ◌⊎◌, ◌<◌, ◌≤◌, [], ℕ, Bool, true, false, List, Option, Some}
+use Rattle.std.proofs.Common.{◌≡◌, ◌∙◌, ◌⊎◌, ◌<◌, ◌≤◌, ℕ, Bool, true, false, List, Option, Some}
 use Rattle.std.proofs.Common.{None, ap, arith, cond, inl, inr, refl, subst, sym}
 use Rattle.std.specs.Option.{option_and_then, option_map, option_map_or}
 use Rattle.std.specs.Prelude.{◌==◌}
@@ -21,8 +21,9 @@ use Rattle.stun_client_requests.specs.declared.requests.Request.{Request}
 use Rattle.stun_client_calls.specs.Clients.{Client, Poll, Told, by_polled, changed, ends, given_up}
 use Rattle.stun_client_calls.specs.Clients.{handed_out, handed_out_of, refusal_to_start, sent_by}
 use Rattle.stun_client_calls.specs.Clients.{started, told, transmit, with_requests}
-use Rattle.stun_client_calls.specs.Endpoints.{EndSeen}
+use Rattle.stun_client_calls.specs.Endpoints.{EndSeen, bare_end}
 use Rattle.stun_client_calls.specs.Messages.{AskedSeen, is_late, sent_out}
+use Rattle.stun_client_calls.specs.Options.{Options}
 use Rattle.stun_client_calls.specs.Runs.{Call, Event, changes_nothing, ends_one, is_told_of, polls}
 use Rattle.stun_client_calls.specs.Runs.{receives, requests}
 use Rattle.stun_client_calls.specs.declared.asked.Change.TheVariants.{SentOut}
@@ -126,12 +127,13 @@ handed_spares n m now c differ = of (datum_of m c.requests) refl
     of None there = spared_itself n c.requests
     of (Some a) there = by (is_late now a)
       where
-        by : (b : Bool) → Spared n c.requests (cond b (given_up m a c) (sent_by m c)).1.requests
+        by : (b : Bool) → Spared n c.requests (cond b (given_up m a c) (sent_by now m c)).1.requests
         by true = removing_spares n m c.requests differ
         by false =
             subst (λ o. Spared n c.requests
-            (option_map_or (λ x. after_replacing m (changed SentOut x) c.requests) o c.requests))
-            (sym there) (replacing_spares n m (sent_out a) c.requests)
+            (option_map_or (λ x. after_replacing m (changed (SentOut now) x) c.requests) o
+            c.requests))
+            (sym there) (replacing_spares n m (sent_out now a) c.requests)
 
 closed_datum : (n : ℕ) (r : All) → id_at n r.numbers ≡ None → datum_of n r ≡ None
 closed_datum n r closed =
@@ -286,10 +288,11 @@ module _ (n : ℕ) (c : Client) (closed : id_at n c.requests.numbers ≡ None)
         sym (subst (λ k. id_at k c.requests.numbers ≡ None) (sym same) closed) ∙ named.1 in
         cc
 
-    started_spares : (method : ℕ) (body : Body) (now : ℕ) → refusal_to_start c method body ≡ None
-        → Spared n c.requests (started method body now c).requests
-    started_spares method body now none =
-        let it = started_is c method body none in
+    started_spares : (method : ℕ) (body : Body) (options : Option Options) (now : ℕ)
+        → refusal_to_start c method body options ≡ None
+        → Spared n c.requests (started method body options now c).requests
+    started_spares method body options now none =
+        let it = started_is c method body options none in
         subst (λ (x : Client). Spared n c.requests x.requests) (sym (it.is_so now)) (record {
           spares = put_spares n c.requests.next c.requests.numbers (λ same. later same)
               (id_of c.seed it.number);
@@ -301,26 +304,26 @@ module _ (n : ℕ) (c : Client) (closed : id_at n c.requests.numbers ≡ None)
 
     pub call_spares : (after : Client) (event : Event) → is_poll event ≡ false → Call c event after
         → Spared n c.requests after.requests
-    call_spares after event no_poll (requests _ _ method body now in_time none so) =
+    call_spares after event no_poll (requests _ _ method body options now in_time none so) =
         subst (λ (x : Client). Spared n c.requests x.requests) (sym so)
-        (started_spares method body now none)
+        (started_spares method body options now none)
     call_spares after event no_poll (receives _ _ from bytes now given in_time made so) =
         subst (λ (x : Client). Spared n c.requests x.requests) (sym so)
         (receives_so c (λ r. Spared n c.requests r) (spared_itself n c.requests)
         (λ m a b there until. replacing_spares n m b c.requests)
         (λ m count a moment end there.
         answering_spares n m c.requests (differs_from m a there) count moment end)
-        (λ m id now a b empty x bytes there.
-        spared_then n c.requests (after_again m x id bytes c.plan empty now c.requests)
-        (after_replacing m b (after_again m x id bytes c.plan empty now c.requests))
-        (sending_spares n m c.requests (differs_from m a there) x id bytes c.plan empty now)
-        (replacing_spares n m b (after_again m x id bytes c.plan empty now c.requests)))
+        (λ m id now a b empty x bytes plan there.
+        spared_then n c.requests (after_again m x id bytes plan empty now c.requests)
+        (after_replacing m b (after_again m x id bytes plan empty now c.requests))
+        (sending_spares n m c.requests (differs_from m a there) x id bytes plan empty now)
+        (replacing_spares n m b (after_again m x id bytes plan empty now c.requests)))
         from bytes now given made)
     call_spares after event no_poll (polls _ _ now says said) = cc
     call_spares after event no_poll (ends_one _ _ number a there so) =
         subst (λ (x : Client). Spared n c.requests x.requests) (sym so)
         (canceling_spares n number c.requests (differs_from number a there)
-        (record { end = how.Cancelled; response = [] }))
+        (bare_end how.Cancelled))
     call_spares after event no_poll (changes_nothing _) = spared_itself n c.requests
 
 pub gone_call : (n : ℕ) (c after : Client) (event : Event) → is_poll event ≡ false
@@ -353,13 +356,14 @@ told_next now c = by (polled now c.requests) (polled_next now c.requests)
     handed_next m d None there = omega arith
     handed_next m d (Some a) there = of (is_late now a)
       where
-        of : (b : Bool) → d.requests.next ≤ (cond b (given_up m a d) (sent_by m d)).1.requests.next
+        of : (b : Bool)
+            → d.requests.next ≤ (cond b (given_up m a d) (sent_by now m d)).1.requests.next
         of true = let same = removed_next m d.requests in omega (arith, same)
         of false =
             subst (λ o. d.requests.next ≤
-            (option_map_or (λ x. after_replacing m (changed SentOut x) d.requests)
+            (option_map_or (λ x. after_replacing m (changed (SentOut now) x) d.requests)
             o d.requests).next)
-            (sym there) ((replacing_spares m m (sent_out a) d.requests).grows)
+            (sym there) ((replacing_spares m m (sent_out now a) d.requests).grows)
 
     by : (p : Polls) → p.1.next ≡ c.requests.next
         → c.requests.next ≤ (by_polled now (with_requests p.1 c) p.0).1.requests.next

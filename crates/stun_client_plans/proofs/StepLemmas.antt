@@ -10,7 +10,7 @@ use Rattle.std.proofs.lemmas.Bool.{eq-eqb, leb-true, ltb-false, ltb-true}
 use Rattle.stun_base.specs.Moments.{last_moment, moment_after}
 use Rattle.stun_base.specs.declared.wire.transport.TransportType.{TransportType}
 use Rattle.stun_agent.specs.Tables.{after_cancel, datum_at}
-use Rattle.stun_agent.specs.Timing.{final_wait, slots, timeout}
+use Rattle.stun_agent.specs.Timing.{Settings, final_wait, slots, timeout}
 use Rattle.stun_agent.specs.Transactions.{Transaction, after_slot, awaited_moment, has_slots}
 use Rattle.stun_agent.specs.Transactions.{is_cancelled, is_due, is_over}
 use Rattle.stun_agent.specs.declared.state.transaction.Sending.TheVariants.{Repeats}
@@ -45,30 +45,31 @@ use Rattle.stun_client_plans.proofs.WalkLemmas.{named_known}
 -- ---- the request
 
 -- a request: when it was started, under which number, how late its client is polled at most, and
--- the client that it was started at, whose transport and plan its timers go by
+-- the client that it was started at, whose transport its timers go by, and their plan
 pub record Sent : Type 0 where
   pub start : ℕ
   pub number : ℕ
   pub late : ℕ
   pub client : Client
+  pub plan : Settings
 
 abbrev pub transport_of : Sent → TransportType
 transport_of r = r.client.requests.table.transport
 
 -- the time that it awaits after k timeouts, the last of which passed at a time
 abbrev pub awaited : Sent → ℕ → ℕ → ℕ
-awaited r k last = request_due r.client k last
+awaited r k last = request_due r.client r.plan k last
 
 -- the one that it awaits by its plan
 abbrev pub planned : Sent → ℕ → ℕ
-planned r k = awaited_after r.start (transport_of r) r.client.plan k
+planned r k = awaited_after r.start (transport_of r) r.plan k
 
 abbrev pub slots_of : Sent → ℕ
-slots_of r = timeouts_of r.client
+slots_of r = timeouts_of r.client r.plan
 
 -- the end of its plan
 abbrev pub end_at : Sent → ℕ
-end_at r = plan_ends r.client r.start
+end_at r = plan_ends r.client r.plan r.start
 
 -- it is due at a time: at most so late, and in its plan at most so late for each timeout
 abbrev pub IsDue : Sent → ℕ → ℕ → ℕ → Type 0
@@ -94,12 +95,12 @@ pub record Stands (r : Sent) (is_unsent : Bool) (k more last due : ℕ) (c : Cli
   pub timer : Transaction
   pub holds : Holds (transport_of r) r.number id (stored r asked) timer is_unsent c.requests
   pub until_is : asked.until ≡ end_at r
-  pub settings_is : timer.settings ≡ r.client.plan
+  pub settings_is : timer.settings ≡ r.plan
   pub goes_on : timer.sending ≡ Repeats
   pub slot_is : timer.slot ≡ k
   pub last_is : timer.last ≡ last
   pub all : k + more ≡ slots_of r
-  pub on_plan : ComesWithin (k * r.late) (sent_at r.start r.client.plan k) last
+  pub on_plan : ComesWithin (k * r.late) (sent_at r.start r.plan k) last
   pub low : due ≤ awaited r k last
   pub first : is_unsent ≡ true → AtStart r k last due
 
@@ -205,9 +206,9 @@ module _ (r : Sent) (u : Bool) (k more last due : ℕ) (c : Client) (s : Stands 
     -- a poll that comes once it is due, and at most so late
     due_now : (now : ℕ) → awaited r k last ≤ now → now ≤ due + r.late → IsDue r k last now
     due_now now come soon =
-        let both = late_wait r.late (k * r.late) (sent_at r.start r.client.plan k)
-        (cond (nat_lt k (slots_of r)) (timeout r.client.plan k)
-        (final_wait (transport_of r) r.client.plan))
+        let both = late_wait r.late (k * r.late) (sent_at r.start r.plan k)
+        (cond (nat_lt k (slots_of r)) (timeout r.plan k)
+        (final_wait (transport_of r) r.plan))
         last due now s.on_plan s.low come soon in
         (both.0, subst (λ l. ComesWithin l (planned r k) now) (times_more (k * r.late)) both.1)
       where
@@ -311,13 +312,14 @@ module _ (transport : TransportType) (n id : ℕ) (q : Request AskedSeen) (t : T
       of (Some a) there = by (is_late now a)
         where
           by : (b : Bool)
-              → Holds transport n id q t u (cond b (given_up m a c) (sent_by m c)).1.requests
+              → Holds transport n id q t u (cond b (given_up m a c) (sent_by now m c)).1.requests
           by true = removing_holds transport n id q t u c.requests one h m differ
           by false =
               subst (λ o. Holds transport n id q t u
-              (option_map_or (λ x. after_replacing m (changed SentOut x) c.requests) o c.requests))
+              (option_map_or (λ x. after_replacing m (changed (SentOut now) x) c.requests) o
+              c.requests))
               (sym there)
-              (replacing_holds transport n id q t u c.requests one h m (sent_out a) differ)
+              (replacing_holds transport n id q t u c.requests one h m (sent_out now a) differ)
 
 -- it is named, and the client is to be polled as before
 pub handed_named : (n m now : ℕ) (c : Client) → is_told_of n (handed_out now m c).0 ≡ (m == n)
@@ -327,7 +329,7 @@ handed_named n m now c = of (datum_of m c.requests)
     of None = refl
     of (Some a) = by (is_late now a)
       where
-        by : (b : Bool) → is_told_of n (cond b (given_up m a c) (sent_by m c)).0 ≡ (m == n)
+        by : (b : Bool) → is_told_of n (cond b (given_up m a c) (sent_by now m c)).0 ≡ (m == n)
         by true = refl
         by false = refl
 
@@ -338,7 +340,7 @@ handed_due due m now c = of (datum_of m c.requests)
     of None = refl
     of (Some a) = by (is_late now a)
       where
-        by : (b : Bool) → due_after due now (cond b (given_up m a c) (sent_by m c)).0 ≡ due
+        by : (b : Bool) → due_after due now (cond b (given_up m a c) (sent_by now m c)).0 ≡ due
         by true = refl
         by false = refl
 
@@ -400,19 +402,19 @@ module _ (r : Sent) (u : Bool) (k more last due now : ℕ) (c : Client) (is : Is
       (sorted : Ascend p.1.numbers.known) where
     handed_as : (X : Poll → Type 0)
         → X (cond (is_late now s.asked) (given_up r.number s.asked (mid p))
-        (sent_by r.number (mid p)))
+        (sent_by now r.number (mid p)))
         → X (handed_out now r.number (mid p))
     handed_as X it =
         subst (λ o. X (handed_out_of now r.number (mid p) o))
         (sym (datum_is r.number s.id q timer false transport p.1 h)) it
 
-    sent_holds : Holds transport r.number s.id (stored r (sent_out s.asked)) timer false
-        (sent_by r.number (mid p)).1.requests
+    sent_holds : Holds transport r.number s.id (stored r (sent_out now s.asked)) timer false
+        (sent_by now r.number (mid p)).1.requests
     sent_holds =
-        subst (λ o. Holds transport r.number s.id (stored r (sent_out s.asked)) timer false
-        (option_map_or (λ x. after_replacing r.number (changed SentOut x) p.1) o p.1))
+        subst (λ o. Holds transport r.number s.id (stored r (sent_out now s.asked)) timer false
+        (option_map_or (λ x. after_replacing r.number (changed (SentOut now) x) p.1) o p.1))
         (sym (datum_is r.number s.id q timer false transport p.1 h))
-        (own_holds transport r.number s.id q timer false p.1 one h (sent_out s.asked))
+        (own_holds transport r.number s.id q timer false p.1 one h (sent_out now s.asked))
 
     given_unknown : known_at r.number (given_up r.number s.asked (mid p)).1.requests.numbers.known
         ≡ None
@@ -454,7 +456,7 @@ module _ (r : Sent) (u : Bool) (k more last due now : ℕ) (c : Client) (is : Is
       (by (is_late now s.asked) refl)
     where
       by : (b : Bool) → is_late now s.asked ≡ b → Says r u k more last due now
-          (cond b (given_up r.number s.asked (mid p)) (sent_by r.number (mid p)))
+          (cond b (given_up r.number s.asked (mid p)) (sent_by now r.number (mid p)))
       by true late =
           inr (inr (inl (given p s.timer first.holds one sorted late
           (subst (λ b. cond b (b ≡ true) (IsToRepeat r k more last now)) (sym first.was_unsent)
@@ -469,7 +471,7 @@ module _ (r : Sent) (u : Bool) (k more last due now : ℕ) (c : Client) (is : Is
             (IsRepeated r k more last now k more last)) (sym first.was_unsent) (refl, refl, refl);
         stands = record {
           id = s.id;
-          asked = sent_out s.asked;
+          asked = sent_out now s.asked;
           timer = s.timer;
           holds = sent_holds p s.timer first.holds one sorted;
           until_is = s.until_is;
@@ -494,11 +496,11 @@ module _ (r : Sent) (u : Bool) (k more last due now : ℕ) (c : Client) (is : Is
       repeats : IsToRepeat r k more last now
       repeats = to_repeat r u k more last due c s now soon again.due
 
-      next : planned r k ≡ sent_at r.start r.client.plan (suc k)
+      next : planned r k ≡ sent_at r.start r.plan (suc k)
       next =
-          awaited_slot r.start transport r.client.plan k repeats.left
+          awaited_slot r.start transport r.plan k repeats.left
           (ap (λ n. k + n) repeats.left_is ∙ s.all)
-          ∙ ap (sent_at r.start r.client.plan) (one_more k)
+          ∙ ap (sent_at r.start r.plan) (one_more k)
 
       counted : (k more less n : ℕ) → k + more ≡ n → suc less ≡ more → suc k + less ≡ n
       counted k more less n all is = omega (arith, all, is)
@@ -507,15 +509,15 @@ module _ (r : Sent) (u : Bool) (k more last due now : ℕ) (c : Client) (is : Is
       later : (wait : ℕ) → due ≤ awaited r k last → awaited r k last ≤ now
           → due ≤ moment_after now wait
       later wait low come =
-          capped last (cond (nat_lt k (slots_of r)) (timeout r.client.plan k)
-          (final_wait transport r.client.plan)) low come
+          capped last (cond (nat_lt k (slots_of r)) (timeout r.plan k)
+          (final_wait transport r.plan)) low come
         where
           capped : (last some : ℕ) → due ≤ min (last + some) last_moment
               → min (last + some) last_moment ≤ now → due ≤ min (now + wait) last_moment
           capped last some low come = omega (arith, low, come)
 
       by : (b : Bool) → is_late now s.asked ≡ b → Says r u k more last due now
-          (cond b (given_up r.number s.asked (mid p)) (sent_by r.number (mid p)))
+          (cond b (given_up r.number s.asked (mid p)) (sent_by now r.number (mid p)))
       by true late =
           inr (inr (inl (given p (after_slot now s.timer) again.holds one sorted late
           (subst (λ b. cond b (b ≡ true) (IsToRepeat r k more last now)) (sym again.was_sent)
@@ -535,7 +537,7 @@ module _ (r : Sent) (u : Bool) (k more last due now : ℕ) (c : Client) (is : Is
             });
         stands = record {
           id = s.id;
-          asked = sent_out s.asked;
+          asked = sent_out now s.asked;
           timer = after_slot now s.timer;
           holds = sent_holds p (after_slot now s.timer) again.holds one sorted;
           until_is = s.until_is;
@@ -545,8 +547,8 @@ module _ (r : Sent) (u : Bool) (k more last due now : ℕ) (c : Client) (is : Is
           last_is = refl;
           all = counted k more repeats.left (slots_of r) s.all repeats.left_is;
           on_plan = subst (λ d. ComesWithin (suc k * r.late) d now) next repeats.is_due.1;
-          low = later (cond (nat_lt (suc k) (slots_of r)) (timeout r.client.plan (suc k))
-              (final_wait transport r.client.plan)) s.low repeats.is_due.0.no_earlier;
+          low = later (cond (nat_lt (suc k) (slots_of r)) (timeout r.plan (suc k))
+              (final_wait transport r.plan)) s.low repeats.is_due.0.no_earlier;
           first = λ on. cc;
         };
       }))

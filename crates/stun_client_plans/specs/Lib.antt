@@ -2,5 +2,5 @@
 
 -- calls at any times, and the plan of a request
 pub mod Plan
--- how a request ended, and what is said of its end
+-- how a request ended, and what is returned for its end
 pub mod Ends

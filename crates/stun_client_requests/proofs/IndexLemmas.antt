@@ -8,12 +8,15 @@ use Rattle.std.specs.BTreeSet.{insert_key}
 use Rattle.std.specs.BinaryHeap.{IsHeap, KeepsHeap}
 use Rattle.std.specs.Set.{remove_key}
 use Rattle.std.specs.List.{count_by, list_any}
-use Rattle.std.specs.List.Sorted.{IsPermutation}
+use Rattle.std.specs.List.{AllByRecursion}
+use Rattle.std.specs.List.Sorted.{IsPermutation, IsStrictlySortedBy}
 use Rattle.std.specs.Map.{remove_entry, values_of}
 use Rattle.std.specs.Option.{is_none, option_and_then, option_map, option_map_or}
-use Rattle.std.specs.Ordering.{nat_cmp}
-use Rattle.std.specs.Bool.{OnFalse}
-use Rattle.std.specs.Prelude.{not}
+use Rattle.std.specs.Cmp.{nat_cmp_total}
+use Rattle.std.specs.Ordering.{is_eq, match_ordering, nat_cmp}
+use Rattle.std.specs.declared.cmp.Ordering.{Ordering}
+use Rattle.std.specs.declared.cmp.Ordering.TheVariants.{Less, Equal, Greater}
+use Rattle.std.specs.Prelude.{not, ◌||◌}
 use Rattle.std.specs.declared.cmp.Reverse.{Reverse}
 use Rattle.std.proofs.lemmas.List.Sorted.{length_permutation}
 use Rattle.stun_client_requests.specs.Numbers.{after_unmark}
@@ -275,19 +278,47 @@ open_at n id s some = open_some (known_at n s.known) id some
 
 -- ---- marks and other IDs
 
+-- a number below another is none of those above that one
+none_above : (n x : ℕ) (xs : List ℕ) → nat_cmp n x ≡ Less
+    → AllByRecursion (λ y. nat_cmp x y ≡ Less) xs → list_any (is_at (nat_cmp n)) xs ≡ false
+none_above n x [] below above = refl
+none_above n x (y ∷ ys) below above =
+    ap (λ r. is_eq r || list_any (is_at (nat_cmp n)) ys) (nat_cmp_total.trans n x y below above.0)
+    ∙ none_above n x ys below above.1
+
 -- a key that is there already is not put in again
+there_already : (n : ℕ) (ks : List ℕ) → IsStrictlySortedBy nat_cmp ks
+    → list_any (is_at (nat_cmp n)) ks ≡ true → insert_key nat_cmp ks n ≡ ks
+unfolding IsStrictlySortedBy
+there_already n [] sorted there = cc
+there_already n (x ∷ xs) sorted there =
+    by (nat_cmp n x) refl (there_already n xs sorted.1) there
+  where
+    by : (r : Ordering) → nat_cmp n x ≡ r
+        → (list_any (is_at (nat_cmp n)) xs ≡ true → insert_key nat_cmp xs n ≡ xs)
+        → (is_eq r || list_any (is_at (nat_cmp n)) xs) ≡ true
+        → match_ordering r (n ∷ x ∷ xs) (x ∷ xs) (x ∷ insert_key nat_cmp xs n) ≡ (x ∷ xs)
+    by Less is rest there = let none = none_above n x xs is sorted.0 in cc
+    by Equal is rest there = refl
+    by Greater is rest there = ap (λ l. x ∷ l) (rest there)
+
 pub put_again : (n : ℕ) (ks : List ℕ) (more : List ℕ) (is_new : Bool)
     → is_new ≡ not (list_any (is_at (nat_cmp n)) ks) → more ≡ insert_key nat_cmp ks n
-    → OnFalse is_new (more ≡ ks)
+    → IsStrictlySortedBy nat_cmp ks
     → cond is_new (remove_key (is_at (nat_cmp n)) more) more ≡ ks
-put_again n ks more true added made same =
+put_again n ks more true added made sorted =
     ap (λ xs. remove_key (is_at (nat_cmp n)) xs) made
     ∙ take_back n ks (by (list_any (is_at (nat_cmp n)) ks) refl)
   where
     by : (b : Bool) → list_any (is_at (nat_cmp n)) ks ≡ b → b ≡ false
     by false is = refl
     by true is = let wrong : true ≡ false = added ∙ ap not is in cc
-put_again n ks more false added made same = same
+put_again n ks more false added made sorted =
+    made ∙ there_already n ks sorted (by (list_any (is_at (nat_cmp n)) ks) added)
+  where
+    by : (b : Bool) → false ≡ not b → b ≡ true
+    by true is = refl
+    by false is = cc
 
 pub marked_so : {E : Type 0} (n : ℕ) (known : AllKnown E) (unsent more : List ℕ)
     (items : List (Reverse ℕ)) (ended room outstanding : ℕ)

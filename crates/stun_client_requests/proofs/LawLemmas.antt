@@ -94,28 +94,28 @@ id_has {E} k id s some = by (known_at k s.known) some
 
 -- ---- one call
 
--- an end that is the first is stored
-first_end : {E : Type 0} (s : NumbersSeen E) (p : ℕ × E) → end_of_first s ≡ Some p
-    → (first_ended s ≡ Some p.0) × (has p.0 s.known ≡ true)
+-- the first end is that of a request that has ended
+pub record IsFirstEnd {E : Type 0} (s : NumbersSeen E) (p : ℕ × E) : Type 0 where
+  pub first : first_ended s ≡ Some p.0
+  pub there : known_at p.0 s.known ≡ Some (Ended p.1)
+
+pub first_end : {E : Type 0} (s : NumbersSeen E) (p : ℕ × E) → end_of_first s ≡ Some p
+    → IsFirstEnd s p
 first_end {E} s p some = by (first_ended s) refl some
   where
     at : (k : ℕ) (o : Option (Known E)) → known_at k s.known ≡ o → first_ended s ≡ Some k
-        → option_map (λ end. (k, end)) (option_and_then end_in o) ≡ Some p
-        → (first_ended s ≡ Some p.0) × (has p.0 s.known ≡ true)
+        → option_map (λ end. (k, end)) (option_and_then end_in o) ≡ Some p → IsFirstEnd s p
     at k None is first some = cc
     at k (Some (Outstanding id)) is first some = cc
     at k (Some (Ended end)) is first some =
         let same : (k, end) ≡ p = cc in
-        let number : k ≡ p.0 = ap (λ q. q.0) same in (
-          subst (λ m. first_ended s ≡ Some m) number first,
-          subst (λ m. has m s.known ≡ true) number (ap is_some is),
-        )
+        subst (λ (x : ℕ × E). IsFirstEnd s x) same (record { first = first; there = is })
 
     by : (o : Option ℕ) → first_ended s ≡ o
         → option_and_then
         (λ k. option_map (λ end. (k, end)) (option_and_then end_in (known_at k s.known))) o
         ≡ Some p
-        → (first_ended s ≡ Some p.0) × (has p.0 s.known ≡ true)
+        → IsFirstEnd s p
     by None is some = cc
     by (Some k) is some = at k (known_at k s.known) refl is some
 
@@ -153,9 +153,10 @@ poll_effect {D} {E} n now r i = unsent (first_unsent r.numbers)
     ended None is = times (over now sent.table) refl
     ended (Some p) is =
         let first = first_end r.numbers p is in
-        removal n p.0 r (ends_or now sent (Some p)).1 (ends p.0) i.ascending first.1
+        removal n p.0 r (ends_or now sent (Some p)).1 (ends p.0) i.ascending
+        (ap is_some first.there)
         (ap (λ o. option_map_or (λ k. remove_entry (is_at (nat_cmp k)) r.numbers.known) o
-        r.numbers.known) first.0)
+        r.numbers.known) first.first)
         refl
 
     again : (o : Option ℕ)

@@ -425,6 +425,20 @@ no_number {D} t id table none =
     by None is = refl
     by (Some q) is = cc
 
+-- a table that has a request with an ID has its datum
+pub some_number : {D : Type 0} (t : TableSeen (Request D)) (id : ℕ) → IsTable t
+    → is_some (transaction_at id t.requests) ≡ true → is_some (number_at id t.attached) ≡ true
+some_number {D} t id table some =
+    by (datum_at id t.attached)
+    (some_is_any (is_at (nat_cmp id)) t.attached
+    ∙ ap (λ ks. list_any (is_at (nat_cmp id)) ks) table.same
+    ∙ sym (some_is_any (is_at (nat_cmp id)) t.requests) ∙ some)
+  where
+    by : (o : Option (Request D)) → is_some o ≡ true
+        → is_some (option_map (λ (q : Request D). q.number) o) ≡ true
+    by None is = cc
+    by (Some q) is = refl
+
 -- ---- what a poll returns
 
 pub ends_none : {D E : Type 0} (now : ℕ) (r : RequestsSeen D E) → None ≡ end_of_first r.numbers

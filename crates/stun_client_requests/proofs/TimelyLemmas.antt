@@ -78,13 +78,13 @@ moved plan bound id ts us same h = record {
 
 -- ---- all of them
 
-pub all_no_later : {D : Type 0} (plan : Settings) (f g : Request D → ℕ) (ts : Transactions)
-    (all : Attached (Request D))
+pub all_no_later : {D : Type 0} (plan : Request D → Settings) (f g : Request D → ℕ)
+    (ts : Transactions) (all : Attached (Request D))
     → ((id : ℕ) (q : Request D) → datum_at id all ≡ Some q → f q ≤ g q)
     → AreTimely plan f ts all → AreTimely plan g ts all
 all_no_later plan f g ts all less a = record {
   ordered = a.ordered;
-  timed = λ id q there. no_later plan (f q) (g q) id ts (less id q there) (a.timed id q there);
+  timed = λ id q there. no_later (plan q) (f q) (g q) id ts (less id q there) (a.timed id q there);
   owned = a.owned;
 }
 
@@ -92,7 +92,7 @@ sorted_none : IsAscending []
 unfolding IsStrictlySortedBy
 sorted_none = tt
 
-pub none_timely : {D : Type 0} (plan : Settings) (bound : Request D → ℕ)
+pub none_timely : {D : Type 0} (plan : Request D → Settings) (bound : Request D → ℕ)
     → AreTimely plan bound [] []
 none_timely plan bound = record {
   ordered = sorted_none;
@@ -101,10 +101,10 @@ none_timely plan bound = record {
 }
 
 -- one is taken out
-module _ {D : Type 0} (plan : Settings) (bound : Request D → ℕ) (ts : Transactions)
+module _ {D : Type 0} (plan : Request D → Settings) (bound : Request D → ℕ) (ts : Transactions)
     (all : Attached (Request D)) (sorted : Ascend all) (a : AreTimely plan bound ts all) (k : ℕ) where
   left_timed : (id : ℕ) (q : Request D) (b : Bool) → is_at (nat_cmp k) id ≡ b
-      → datum_at id (without_datum k all) ≡ Some q → HasTimer plan (bound q) id (without k ts)
+      → datum_at id (without_datum k all) ≡ Some q → HasTimer (plan q) (bound q) id (without k ts)
   left_timed id q true is there =
       let none : datum_at id (without_datum k all) ≡ None =
       at_remove k all sorted id ∙ ap (λ b. cond b None (datum_at id all)) is in
@@ -112,7 +112,7 @@ module _ {D : Type 0} (plan : Settings) (bound : Request D → ℕ) (ts : Transa
   left_timed id q false is there =
       let here : datum_at id all ≡ Some q =
       sym (at_remove k all sorted id ∙ ap (λ b. cond b None (datum_at id all)) is) ∙ there in
-      moved plan (bound q) id ts (without k ts)
+      moved (plan q) (bound q) id ts (without k ts)
       (at_remove k ts a.ordered id ∙ ap (λ b. cond b None (at id ts)) is) (a.timed id q here)
 
   left_owned : (id : ℕ) (t : Transaction) (b : Bool) → is_at (nat_cmp k) id ≡ b
@@ -135,12 +135,12 @@ module _ {D : Type 0} (plan : Settings) (bound : Request D → ℕ) (ts : Transa
   }
 
 -- one comes in
-module _ {D : Type 0} (plan : Settings) (bound : Request D → ℕ) (ts : Transactions)
+module _ {D : Type 0} (plan : Request D → Settings) (bound : Request D → ℕ) (ts : Transactions)
     (all : Attached (Request D)) (a : AreTimely plan bound ts all) (k : ℕ) (t : Transaction)
-    (q : Request D) (planned : t.settings ≡ plan) (goes_on : t.sending ≡ Repeats)
+    (q : Request D) (planned : t.settings ≡ plan q) (goes_on : t.sending ≡ Repeats)
     (early : t.last ≤ bound q) where
   put_timed : (id : ℕ) (p : Request D) (b : Bool) → is_at (nat_cmp k) id ≡ b
-      → datum_at id (with_datum k q all) ≡ Some p → HasTimer plan (bound p) id (with k t ts)
+      → datum_at id (with_datum k q all) ≡ Some p → HasTimer (plan p) (bound p) id (with k t ts)
   put_timed id p true is there =
       let same : q ≡ p =
       some_is q p (sym (at_insert k q all id ∙ ap (λ b. cond b (Some q) (datum_at id all)) is)
@@ -148,7 +148,7 @@ module _ {D : Type 0} (plan : Settings) (bound : Request D → ℕ) (ts : Transa
       record {
         timer = t;
         there = at_insert k t ts id ∙ ap (λ b. cond b (Some t) (at id ts)) is;
-        planned = planned;
+        planned = subst (λ (x : Request D). t.settings ≡ plan x) same planned;
         goes_on = goes_on;
         early = subst (λ (x : Request D). t.last ≤ bound x) same early;
       }
@@ -158,7 +158,7 @@ module _ {D : Type 0} (plan : Settings) (bound : Request D → ℕ) (ts : Transa
   put_timed id p false is there =
       let here : datum_at id all ≡ Some p =
       sym (at_insert k q all id ∙ ap (λ b. cond b (Some q) (datum_at id all)) is) ∙ there in
-      moved plan (bound p) id ts (with k t ts)
+      moved (plan p) (bound p) id ts (with k t ts)
       (at_insert k t ts id ∙ ap (λ b. cond b (Some t) (at id ts)) is) (a.timed id p here)
 
   put_owned : (id : ℕ) (u : Transaction) (b : Bool) → is_at (nat_cmp k) id ≡ b
@@ -210,8 +210,8 @@ parts false b is = cc
 repeating : (s : Sending) → s ≡ Repeats → repeats s ≡ true
 repeating s is = ap repeats is
 
-module _ {D : Type 0} (plan : Settings) (bound after : Request D → ℕ) (transport : TransportType)
-    (now : ℕ) (ts : Transactions) (all : Attached (Request D)) (a : AreTimely plan bound ts all)
+module _ {D : Type 0} (plan : Request D → Settings) (bound after : Request D → ℕ)
+    (transport : TransportType) (now : ℕ) (ts : Transactions) (all : Attached (Request D)) (a : AreTimely plan bound ts all)
     (up : (q : Request D) → bound q ≤ after q)
     (named : (e : ℕ × Transaction) (q : Request D) → next_sent transport now ts ≡ Some e
     → datum_at e.0 all ≡ Some q → now ≤ after q) where
@@ -244,14 +244,14 @@ module _ {D : Type 0} (plan : Settings) (bound after : Request D → ℕ) (trans
       named e q is (subst (λ k. datum_at k all ≡ Some q) same owner)
 
   sent_timed : (id : ℕ) (q : Request D) → datum_at id all ≡ Some q
-      → HasTimer plan (after q) id later
+      → HasTimer (plan q) (after q) id later
   sent_timed id q owner =
       let h = a.timed id q owner in
       by h (is_reached (option_map (λ e. e.0) found) id && is_due transport now h.timer) refl
     where
-      by : (h : HasTimer plan (bound q) id ts) (b : Bool)
+      by : (h : HasTimer (plan q) (bound q) id ts) (b : Bool)
           → (is_reached (option_map (λ e. e.0) found) id && is_due transport now h.timer) ≡ b
-          → HasTimer plan (after q) id later
+          → HasTimer (plan q) (after q) id later
       by h false is = record {
         timer = h.timer;
         there = lookup-map_entries (slot_passed transport now (option_map (λ e. e.0) found)) id ts
@@ -397,7 +397,7 @@ transport_sent t now = by (sent_in now t)
 same_some : {X : Type 0} (x y : X) → Some x ≡ Some y → x ≡ y
 same_some x y e = cc
 
-module _ {D E : Type 0} (plan : Settings) (bound : Request D → ℕ) (now : ℕ)
+module _ {D E : Type 0} (plan : Request D → Settings) (bound : Request D → ℕ) (now : ℕ)
     (r : RequestsSeen D E) (a : IsTimely plan bound r) where
   abbrev sent : RequestsSeen D E
   sent = record r { table = after_transmission now r.table }
@@ -474,7 +474,7 @@ module _ {D E : Type 0} (plan : Settings) (bound : Request D → ℕ) (now : ℕ
           owned_by e (datum_at e.0 r.table.attached) refl some is
 
 -- a request whose time is over leaves
-module _ {D E : Type 0} (plan : Settings) (bound : Request D → ℕ) (now : ℕ)
+module _ {D E : Type 0} (plan : Request D → Settings) (bound : Request D → ℕ) (now : ℕ)
     (s : RequestsSeen D E) (sorted : Ascend s.table.attached) (a : IsTimely plan bound s) where
   ended_timely : AreTimely plan bound (after_end_in now s.table).requests
       (after_end_in now s.table).attached
@@ -494,8 +494,8 @@ module _ {D E : Type 0} (plan : Settings) (bound : Request D → ℕ) (now : ℕ
   over_timely None = a
   over_timely (Some q) = ended_timely
 
-pub polls_keep_time : {D E : Type 0} (plan : Settings) (bound : Request D → ℕ) (now : ℕ)
-    (r : RequestsSeen D E) → IsRequests r → IsTimely plan bound r
+pub polls_keep_time : {D E : Type 0} (plan : Request D → Settings) (bound : Request D → ℕ)
+    (now : ℕ) (r : RequestsSeen D E) → IsRequests r → IsTimely plan bound r
     → IsTimely plan (bound_after now (polled now r).0 bound) (polled now r).1
 unfolding polled
 polls_keep_time {D} {E} plan bound now r i a = unsent (first_unsent r.numbers)
@@ -535,12 +535,13 @@ polls_keep_time {D} {E} plan bound now r i a = unsent (first_unsent r.numbers)
 -- ---- a wait
 
 -- what a poll says of the requests that it leaves, if it says to wait
-abbrev WaitsWell : {D E : Type 0} → Settings → (Request D → ℕ) → ℕ → Poll D E → Type 0
+abbrev WaitsWell : {D E : Type 0} → (Request D → Settings) → (Request D → ℕ) → ℕ → Poll D E
+    → Type 0
 WaitsWell {D} plan bound now p = (until : Option ℕ) (id : ℕ) (q : Request D) → p.0 ≡ Wait until
     → datum_at id p.1.table.attached ≡ Some q
-    → IsInTime now (moment_after (bound q) (final_wait Tcp plan)) until
+    → IsInTime now (moment_after (bound q) (final_wait Tcp (plan q))) until
 
-module _ {D E : Type 0} (plan : Settings) (bound : Request D → ℕ) (now : ℕ)
+module _ {D E : Type 0} (plan : Request D → Settings) (bound : Request D → ℕ) (now : ℕ)
     (r : RequestsSeen D E) (a : IsTimely plan bound r) where
   abbrev then_is : RequestsSeen D E
   then_is = record r { table = after_transmission now r.table }
@@ -567,7 +568,7 @@ module _ {D E : Type 0} (plan : Settings) (bound : Request D → ℕ) (now : ℕ
       → (q : Request D) → datum_at id then_is.table.attached ≡ Some q
       → (t : Transaction) × (at id then_is.table.requests ≡ Some t)
       × (now < awaited_moment then_is.table.transport t)
-      × (awaited_moment then_is.table.transport t ≤ moment_after (bound q) (final_wait Tcp plan))
+      × (awaited_moment then_is.table.transport t ≤ moment_after (bound q) (final_wait Tcp (plan q)))
   waits_for told over_none id q owner =
       let here : datum_at id r.table.attached ≡ Some q =
       subst (λ es. datum_at id es ≡ Some q) (attached_sent r.table now) owner in
@@ -594,9 +595,9 @@ module _ {D E : Type 0} (plan : Settings) (bound : Request D → ℕ) (now : ℕ
       ap (λ x. is_due x now h.timer) same ∙ quiet in (
         h.timer,
         there,
-        awaits plan (bound q) then_is.table.transport now h.timer h.planned h.goes_on h.early calm
+        awaits (plan q) (bound q) then_is.table.transport now h.timer h.planned h.goes_on h.early calm
             lives,
-        in_plan plan (bound q) then_is.table.transport now h.timer h.planned h.goes_on h.early calm
+        in_plan (plan q) (bound q) then_is.table.transport now h.timer h.planned h.goes_on h.early calm
             lives,
       )
     where
@@ -605,7 +606,7 @@ module _ {D E : Type 0} (plan : Settings) (bound : Request D → ℕ) (now : ℕ
       stays t true = refl
       stays t false = refl
 
-      not_due : (h : HasTimer plan (bound q) id r.table.requests)
+      not_due : (h : HasTimer (plan q) (bound q) id r.table.requests)
           → sends r.table.transport now (id, h.timer) ≡ false
           → is_due r.table.transport now h.timer ≡ false
       not_due h off = by (is_due r.table.transport now h.timer) refl
@@ -624,14 +625,14 @@ module _ {D E : Type 0} (plan : Settings) (bound : Request D → ℕ) (now : ℕ
       let w = waits_for told over_none id q owner in
       record {
         early = before now (awaited_moment then_is.table.transport w.0)
-            (moment_after (bound q) (final_wait Tcp plan)) w.2 w.3;
+            (moment_after (bound q) (final_wait Tcp (plan q))) w.2 w.3;
         awaited =
             subst (λ (u : Option ℕ).
-            IfSome u (λ moment. moment ≤ moment_after (bound q) (final_wait Tcp plan)))
+            IfSome u (λ moment. moment ≤ moment_after (bound q) (final_wait Tcp (plan q))))
             (same_wait (wait_of now then_is) until said)
             (by (outstanding_count then_is.numbers == 0)
             (up now _ (awaited_moment then_is.table.transport w.0)
-            (moment_after (bound q) (final_wait Tcp plan)) w.2 w.3
+            (moment_after (bound q) (final_wait Tcp (plan q))) w.2 w.3
             (fold-min-le (λ e. awaited_moment then_is.table.transport e.1) then_is.table.requests _
             id w.0 w.1)));
       }
@@ -646,17 +647,17 @@ module _ {D E : Type 0} (plan : Settings) (bound : Request D → ℕ) (now : ℕ
       up x least y z one other low = omega (arith, one, other, low)
 
       by : (b : Bool)
-          → until_in now then_is.table ≤ moment_after (bound q) (final_wait Tcp plan)
+          → until_in now then_is.table ≤ moment_after (bound q) (final_wait Tcp (plan q))
           → IfSome (cond b None (Some (until_in now then_is.table)))
-          (λ moment. moment ≤ moment_after (bound q) (final_wait Tcp plan))
+          (λ moment. moment ≤ moment_after (bound q) (final_wait Tcp (plan q)))
       by true low = tt
       by false low = low
 
-pub waits_in_time : {D E : Type 0} (plan : Settings) (bound : Request D → ℕ) (now : ℕ)
+pub waits_in_time : {D E : Type 0} (plan : Request D → Settings) (bound : Request D → ℕ) (now : ℕ)
     (until : Option ℕ) (r after : RequestsSeen D E) (id : ℕ) (q : Request D)
     → IsTimely plan bound r → polled now r ≡ (Wait until, after)
     → datum_at id after.table.attached ≡ Some q
-    → IsInTime now (moment_after (bound q) (final_wait Tcp plan)) until
+    → IsInTime now (moment_after (bound q) (final_wait Tcp (plan q))) until
 unfolding polled
 waits_in_time {D} {E} plan bound now until r after id q a told owner =
     unsent (first_unsent r.numbers) until id q (ap (λ (p : Poll D E). p.0) told)
@@ -687,7 +688,8 @@ waits_in_time {D} {E} plan bound now until r after id q a told owner =
 
 -- ---- the other calls
 
-set_none : {X : Type 0} (n : ℕ) (w : X) (es : List (ℕ × X)) → lookup (is_at (nat_cmp n)) es ≡ None
+-- nothing is stored anew where nothing is stored
+pub set_none : {X : Type 0} (n : ℕ) (w : X) (es : List (ℕ × X)) → lookup (is_at (nat_cmp n)) es ≡ None
     → lookup (is_at (nat_cmp n)) (set_value (is_at (nat_cmp n)) es w) ≡ None
 set_none n w [] none = refl
 set_none {X} n w (e ∷ es) none = by (is_at (nat_cmp n) e.0) refl none (set_none n w es)
@@ -705,23 +707,25 @@ set_none {X} n w (e ∷ es) none = by (is_at (nat_cmp n) e.0) refl none (set_non
         ∙ rest none
 
 -- another datum is stored of one
-module _ {D : Type 0} (plan : Settings) (bound : Request D → ℕ) (ts : Transactions)
+module _ {D : Type 0} (plan : Request D → Settings) (bound : Request D → ℕ) (ts : Transactions)
     (all : Attached (Request D)) (a : AreTimely plan bound ts all) (k : ℕ) (w : Request D)
+    (as_planned : (q : Request D) → datum_at k all ≡ Some q → plan q ≡ plan w)
     (less : (q : Request D) → datum_at k all ≡ Some q → bound q ≤ bound w) where
   set_timed : (id : ℕ) (q : Request D) (b : Bool) → is_at (nat_cmp k) id ≡ b
-      → datum_at id (set_datum k w all) ≡ Some q → HasTimer plan (bound q) id ts
+      → datum_at id (set_datum k w all) ≡ Some q → HasTimer (plan q) (bound q) id ts
   set_timed id q true is there =
       at_own (datum_at k all) refl
       (subst (λ m. datum_at m (set_datum k w all) ≡ Some q) (same_key k id is) there)
     where
       at_own : (o : Option (Request D)) → datum_at k all ≡ o
-          → datum_at k (set_datum k w all) ≡ Some q → HasTimer plan (bound q) id ts
+          → datum_at k (set_datum k w all) ≡ Some q → HasTimer (plan q) (bound q) id ts
       at_own None owner there = let none = set_none k w all owner in cc
       at_own (Some p) owner there =
           let same : w ≡ q = same_some w q (sym (set_same k p w all owner) ∙ there) in
-          subst (λ (x : Request D). HasTimer plan (bound x) id ts) same
-          (subst (λ m. HasTimer plan (bound w) m ts) (sym (same_key k id is))
-          (no_later plan (bound p) (bound w) k ts (less p owner) (a.timed k p owner)))
+          subst (λ (x : Request D). HasTimer (plan x) (bound x) id ts) same
+          (subst (λ m. HasTimer (plan w) (bound w) m ts) (sym (same_key k id is))
+          (subst (λ s. HasTimer s (bound w) k ts) (as_planned p owner)
+          (no_later (plan p) (bound p) (bound w) k ts (less p owner) (a.timed k p owner))))
   set_timed id q false is there =
       a.timed id q (sym (lookup-set_other id k w all (differs k id is)) ∙ there)
 
@@ -746,20 +750,24 @@ module _ {D : Type 0} (plan : Settings) (bound : Request D → ℕ) (ts : Transa
     owned = λ id t there. set_owned id t (is_at (nat_cmp k) id) refl there;
   }
 
-module _ {D E : Type 0} (plan : Settings) (bound : Request D → ℕ) (r : RequestsSeen D E)
+module _ {D E : Type 0} (plan : Request D → Settings) (bound : Request D → ℕ) (r : RequestsSeen D E)
     (a : IsTimely plan bound r) where
-  pub start_timely : (id : ℕ) (bytes : List ℕ) (datum : D) (now : ℕ)
+  pub start_timely : (id : ℕ) (bytes : List ℕ) (settings : Settings) (datum : D) (now : ℕ)
+      → settings ≡ plan (record { number = r.next; datum = datum })
       → now ≤ bound (record { number = r.next; datum = datum })
-      → IsTimely plan bound (after_start id bytes plan datum now r)
-  start_timely id bytes datum now early =
+      → IsTimely plan bound (after_start id bytes settings datum now r)
+  start_timely id bytes settings datum now planned early =
       put_timely plan bound r.table.requests r.table.attached a id
-      (request_in r.table bytes plan now) (record { number = r.next; datum = datum }) refl refl early
+      (request_in r.table bytes settings now) (record { number = r.next; datum = datum }) planned refl
+      early
 
   pub replace_timely : (n : ℕ) (datum : D)
       → ((q : Request D) → stored_at n r ≡ Some q
+      → plan q ≡ plan (record { number = n; datum = datum }))
+      → ((q : Request D) → stored_at n r ≡ Some q
       → bound q ≤ bound (record { number = n; datum = datum }))
       → IsTimely plan bound (after_replacing n datum r)
-  replace_timely n datum less = by (id_at n r.numbers) refl
+  replace_timely n datum as_planned less = by (id_at n r.numbers) refl
     where
       by : (o : Option ℕ) → id_at n r.numbers ≡ o
           → IsTimely plan bound (option_map_or (λ id. record r {
@@ -769,6 +777,8 @@ module _ {D E : Type 0} (plan : Settings) (bound : Request D → ℕ) (r : Reque
       by (Some id) is =
           set_timely plan bound r.table.requests r.table.attached a id
           (record { number = n; datum = datum })
+          (λ q there. as_planned q
+          (ap (λ o. option_and_then (λ k. datum_at k r.table.attached) o) is ∙ there))
           (λ q there. less q
           (ap (λ o. option_and_then (λ k. datum_at k r.table.attached) o) is ∙ there))
 
@@ -851,8 +861,8 @@ named_is_one {D} {E} now n r one said = unsent (first_unsent r.numbers) n said
 
 -- ---- a request is removed
 
-module _ {D E : Type 0} (plan : Settings) (f g : Request D → ℕ) (r : RequestsSeen D E) (one : IsOne r)
-    (a : IsTimely plan f r) (n : ℕ) where
+module _ {D E : Type 0} (plan : Request D → Settings) (f g : Request D → ℕ) (r : RequestsSeen D E)
+    (one : IsOne r) (a : IsTimely plan f r) (n : ℕ) where
   -- nothing has its number any more
   gone_from : (id k : ℕ) (q : Request D) (t : Transaction) → q.number ≡ n
       → id_at n r.numbers ≡ Some k → at k r.table.requests ≡ Some t
@@ -919,7 +929,8 @@ module _ {D E : Type 0} (plan : Settings) (f g : Request D → ℕ) (r : Request
 -- ---- responses
 
 -- a response ends a request
-answered_timely : {D : Type 0} (plan : Settings) (bound : Request D → ℕ) (t : TableSeen (Request D))
+answered_timely : {D : Type 0} (plan : Request D → Settings) (bound : Request D → ℕ)
+    (t : TableSeen (Request D))
     → Ascend t.attached → AreTimely plan bound t.requests t.attached
     → (id count : ℕ) (moment : Option ℕ)
     → AreTimely plan bound (after_answer id count moment t).requests
@@ -937,7 +948,8 @@ answered_timely {D} plan bound t sorted a id count moment = by (at id t.requests
     by None = a
     by (Some x) = left_timely plan bound t.requests t.attached sorted a id
 
-pub answer_timely : {D E : Type 0} (plan : Settings) (bound : Request D → ℕ) (r : RequestsSeen D E)
+pub answer_timely : {D E : Type 0} (plan : Request D → Settings) (bound : Request D → ℕ)
+    (r : RequestsSeen D E)
     → IsTimely plan bound r → Ascend r.table.attached → (n count : ℕ) (moment : Option ℕ) (end : E)
     → IsTimely plan bound (after_answering n count moment end r)
 answer_timely plan bound r a sorted n count moment end = by (id_at n r.numbers)
@@ -950,15 +962,18 @@ answer_timely plan bound r a sorted n count moment end = by (id_at n r.numbers)
     by (Some id) = answered_timely plan bound r.table sorted a id count moment
 
 -- another message of a request is sent by the plan
-pub again_timely : {D E : Type 0} (plan : Settings) (bound : Request D → ℕ) (r : RequestsSeen D E)
+pub again_timely : {D E : Type 0} (plan : Request D → Settings) (bound : Request D → ℕ)
+    (r : RequestsSeen D E)
     → IsTimely plan bound r → Ascend r.table.attached → (n : ℕ) (x : Answering) (id : ℕ)
-    → (bytes : List ℕ) (datum : D) (now : ℕ)
+    → (bytes : List ℕ) (settings : Settings) (datum : D) (now : ℕ)
+    → settings ≡ plan (record { number = n; datum = datum })
     → now ≤ bound (record { number = n; datum = datum })
-    → IsTimely plan bound (after_again n x id bytes plan datum now r)
-again_timely {D} {E} plan bound r a sorted n x id bytes datum now early = by (id_at n r.numbers)
+    → IsTimely plan bound (after_again n x id bytes settings datum now r)
+again_timely {D} {E} plan bound r a sorted n x id bytes settings datum now planned early =
+    by (id_at n r.numbers)
   where
     sent_by : TableSeen (Request D)
-    sent_by = after_sending id bytes plan (record { number = n; datum = datum }) now r.table
+    sent_by = after_sending id bytes settings (record { number = n; datum = datum }) now r.table
 
     by : (o : Option ℕ) → IsTimely plan bound (option_map_or (λ former. record r {
       table = after_answer former x.count x.moment sent_by;
@@ -969,5 +984,6 @@ again_timely {D} {E} plan bound r a sorted n x id bytes datum now early = by (id
         answered_timely plan bound sent_by
         (IsAscending-insert r.table.attached id (record { number = n; datum = datum }) sorted)
         (put_timely plan bound r.table.requests r.table.attached a id
-        (request_in r.table bytes plan now) (record { number = n; datum = datum }) refl refl early)
+        (request_in r.table bytes settings now) (record { number = n; datum = datum }) planned refl
+        early)
         former x.count x.moment

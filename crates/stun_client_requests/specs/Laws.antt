@@ -16,13 +16,13 @@ use Rattle.stun_client_requests.specs.declared.requests.Polled.{Polled}
 use Rattle.stun_client_requests.specs.declared.requests.Polled.TheVariants.{Ended, TimedOut}
 use Rattle.stun_client_requests.specs.declared.requests.Polled.TheVariants.{Transmit, Wait}
 
--- what holds of all requests of a client (see `Requests::outstanding`)
+-- what holds for all requests of a client (see `Requests::outstanding`)
 pub record IsRequests {D E : Type 0} (r : RequestsSeen D E) : Type 0 where
   pub one : IsOneTable r.table.attached r.numbers r.next
   pub ascending : IsStrictlySortedBy nat_cmp (keys_of r.numbers.known)
 
--- what a call returns of requests: `start` has started the one with this number, `poll` names it,
--- `poll` or `remove` returns its end, or the call returns none
+-- what a call returns about requests: `start` has started the one with this number, `poll` names
+-- it, `poll` or `remove` returns its end, or the call returns none
 pub data Event : Type 0 where
   starts : ℕ → Event
   sends : ℕ → Event
@@ -35,7 +35,7 @@ event_of (Ended number end) = ends number
 event_of (TimedOut number datum) = ends number
 event_of (Wait until) = silent
 
--- one call: it leads from the requests to the next ones, and returns this
+-- one call, from the requests to the next ones, and what it returns
 pub data Call {D E : Type 0} : RequestsSeen D E → Event → RequestsSeen D E → Type 0 where
   starts_one : (r after : RequestsSeen D E) (id : ℕ) (bytes : List ℕ) (plan : Settings) (datum : D)
       (now : ℕ) → start_refusal r id ≡ None → after ≡ after_start id bytes plan datum now r
@@ -76,12 +76,12 @@ count_ends number (event ∷ events) =
 abbrev pub IsStored : {D E : Type 0} → ℕ → RequestsSeen D E → Type 0
 IsStored number r = IsSome (known_at number r.numbers.known)
 
--- it was started, and nothing is stored of it any more
+-- the request was started, and nothing is stored of it any more
 pub record IsOver {D E : Type 0} (number : ℕ) (r : RequestsSeen D E) : Type 0 where
   pub started : number < r.next
   pub gone : known_at number r.numbers.known ≡ None
 
--- `start` returns the number of a request that is stored then, and was not before
+-- `start` returns the number of a request that is then stored, and was not before
 abbrev pub StartsOne : Type 0 → Type 0 → Type 0
 StartsOne D E = (r : RequestsSeen D E) (id : ℕ) (bytes : List ℕ) (plan : Settings)
     (datum : D) (now : ℕ) → IsRequests r
@@ -96,7 +96,7 @@ EndsOnce D E = (number : ℕ) (r after : RequestsSeen D E) (events : List Event)
     → (IsStored number after × (count_ends number events ≡ 0))
     ⊎ (IsOver number after × (count_ends number events ≡ 1))
 
--- a request that is over stays so, and its end is not returned again
+-- a request that is over stays over, and its end is not returned again
 abbrev pub StaysOver : Type 0 → Type 0 → Type 0
 StaysOver D E = (number : ℕ) (r after : RequestsSeen D E) (events : List Event)
     → IsOver number r → Calls r events after

@@ -1,14 +1,14 @@
--- What the contracts of this crate say, in the order to read it.
+-- What the contracts of this crate say, in reading order.
 
 -- the requests by their numbers
 pub mod Numbers
--- the requests, and what each call makes of them
+-- the requests, and how each call changes them
 pub mod Requests
--- what always holds of the table and of the numbers
+-- what always holds for the table and for the numbers
 pub mod OneTable
 -- laws over any calls
 pub mod Laws
 -- when requests are sent for the last time, and when they end
 pub mod Timely
--- what no clause of a public call cites: what always holds of the code's own structs
+-- definitions that no clause of a public call cites: what always holds for the code's own structs
 pub mod code

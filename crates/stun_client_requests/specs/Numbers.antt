@@ -15,7 +15,7 @@ use Rattle.stun_client_requests.specs.declared.numbers.Known.TheVariants.{Outsta
 abbrev pub AllKnown : Type 0 → Type 0
 AllKnown E = List (ℕ × Known E)
 
--- the requests, and the numbers of the outstanding ones whose bytes were not handed out, in order
+-- the requests, and the numbers of the outstanding ones whose bytes were not returned yet, in order
 pub record NumbersSeen (E : Type 0) : Type 0 where
   pub known : AllKnown E
   pub unsent : List ℕ
@@ -27,7 +27,7 @@ no_numbers = record { known = []; unsent = [] }
 abbrev pub known_at : {E : Type 0} → ℕ → AllKnown E → Option (Known E)
 known_at number all = lookup (is_at (nat_cmp number)) all
 
--- new has w at a number, and has at each other number what old has
+-- `new` has `w` at a number, and has at each other number what `old` has
 abbrev pub IsAt : {X : Type 0} → ℕ → Option X → List (ℕ × X) → List (ℕ × X) → Type 0
 IsAt n w old new = (q : ℕ) → lookup (is_at (nat_cmp q)) new
     ≡ (if is_at (nat_cmp n) q then w else lookup (is_at (nat_cmp q)) old)
@@ -56,7 +56,7 @@ id_at number s = option_and_then id_in (known_at number s.known)
 
 -- ---- changes
 
--- a request is sent under a transaction ID, by bytes that were not handed out
+-- a request is sent under a transaction ID, with bytes that were not returned yet
 abbrev pub after_put : {E : Type 0} → ℕ → ℕ → NumbersSeen E → NumbersSeen E
 after_put number id s = record s {
   known = insert_entry nat_cmp s.known number (Outstanding id);
@@ -70,14 +70,14 @@ after_removal number s = record s {
   unsent = remove_key (is_at (nat_cmp number)) s.unsent;
 }
 
--- a request has ended so. Nothing of it is sent any more
+-- a request has ended in this way. Nothing is sent for it any more
 abbrev pub after_end : {E : Type 0} → ℕ → E → NumbersSeen E → NumbersSeen E
 after_end number end s = record s {
   known = insert_entry nat_cmp s.known number (Ended end);
   unsent = remove_key (is_at (nat_cmp number)) s.unsent;
 }
 
--- the bytes of a request are to be handed out, or they are not
+-- the bytes of a request must be returned, or need not
 abbrev pub after_mark : {E : Type 0} → ℕ → NumbersSeen E → NumbersSeen E
 after_mark number s = record s { unsent = insert_key nat_cmp s.unsent number }
 
@@ -91,7 +91,7 @@ after_rename number id s =
 
 -- ---- which one is next
 
--- the first whose bytes were not handed out
+-- the first request whose bytes were not returned yet
 abbrev pub first_in : List ℕ → Option ℕ
 first_in [] = None
 first_in (number ∷ others) = Some number
@@ -103,11 +103,11 @@ others_in (number ∷ others) = others
 abbrev pub first_unsent : {E : Type 0} → NumbersSeen E → Option ℕ
 first_unsent s = first_in s.unsent
 
--- its bytes are handed out
+-- its bytes are returned
 abbrev pub without_first_unsent : {E : Type 0} → NumbersSeen E → NumbersSeen E
 without_first_unsent s = record s { unsent = others_in s.unsent }
 
--- the first that has ended
+-- the first request that has ended
 abbrev pub first_ended : {E : Type 0} → NumbersSeen E → Option ℕ
 first_ended s = option_map (λ e. e.0) (find (λ e. is_ended e.1) s.known)
 
@@ -122,14 +122,14 @@ end_of_first s =
     (λ number. option_map (λ end. (number, end)) (option_and_then end_in (known_at number s.known)))
     (first_ended s)
 
--- its end is handed out
+-- its end is returned
 abbrev pub without_first : {E : Type 0} → NumbersSeen E → NumbersSeen E
 without_first s = record s {
   known = option_map_or (λ number. remove_entry (is_at (nat_cmp number)) s.known) (first_ended s)
       s.known;
 }
 
--- the first of all, if it is outstanding
+-- the first of all requests, if it is outstanding
 abbrev pub first_outstanding_in : {E : Type 0} → AllKnown E → Option (ℕ × ℕ)
 first_outstanding_in [] = None
 first_outstanding_in (e ∷ others) = option_map (λ id. (e.0, id)) (id_in e.1)

@@ -1,4 +1,4 @@
--- What always holds of the table and of the numbers.
+-- What always holds for the table and for the numbers.
 use Rattle.std.specs.Prelude.{◌≡◌, ◌≤◌, ℕ, Some, None}
 use Rattle.std.specs.List.Sorted.{IsStrictlySortedBy}
 use Rattle.std.specs.Map.{keys_of}

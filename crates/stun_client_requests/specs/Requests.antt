@@ -1,4 +1,4 @@
--- The requests of a client, each stored once, and what each call makes of them (RFC 8489, sections
+-- The requests of a client, each stored once, and how each call changes them (RFC 8489, sections
 -- 6.2, 6.3 and 9.2.5).
 use Rattle.std.specs.Prelude.{ℕ, ◌+◌, ◌==◌, Bool, List, Option, Some, None, count_by}
 use Rattle.std.specs.Prelude.{if◌then◌else◌}
@@ -66,11 +66,11 @@ outstanding_count s = count_by is_outstanding (values_of s.known)
 
 -- ---- starting
 
--- the last number is not given out
+-- the last number is not used
 abbrev pub LAST_NUMBER : ℕ
 LAST_NUMBER = 18446744073709551615
 
--- why a request is not started, the first reason that holds, if there is memory
+-- why a request is not started: the first reason that applies, if there is memory
 abbrev pub start_refusal : {D E : Type 0} → RequestsSeen D E → ℕ → Option StartRefusal
 start_refusal r id =
     if is_some (transaction_at id r.table.requests) then Some IdTaken
@@ -91,11 +91,11 @@ again_refusal_of r id None = Some NotOutstanding
 again_refusal_of r id (Some former) =
     if is_some (transaction_at id r.table.requests) then Some Again.IdTaken else None
 
--- why a request is not sent by another message, the first reason that holds, if there is memory
+-- why a request is not sent by another message: the first reason that applies, if there is memory
 abbrev pub again_refusal : {D E : Type 0} → RequestsSeen D E → ℕ → ℕ → Option AgainRefusal
 again_refusal r number id = again_refusal_of r id (id_at number r.numbers)
 
--- a request is sent by another message, under another transaction ID, and a response of so many
+-- a request is sent by another message, under another transaction ID, and a response of this many
 -- bytes ends the former one
 abbrev pub after_again : {D E : Type 0} → ℕ → Answering → ℕ → List ℕ → Settings → D → ℕ
     → RequestsSeen D E → RequestsSeen D E
@@ -108,7 +108,7 @@ after_again number a id bytes settings datum now r =
     })
     (id_at number r.numbers) r
 
--- ---- what the owner changes, and ends
+-- ---- changes and ends by the owner
 
 abbrev pub after_replacing : {D E : Type 0} → ℕ → D → RequestsSeen D E → RequestsSeen D E
 after_replacing number datum r =
@@ -118,7 +118,7 @@ after_replacing number datum r =
     })
     (id_at number r.numbers) r
 
--- a response of so many bytes ends a request
+-- a response of this many bytes ends a request
 abbrev pub after_answering : {D E : Type 0} → ℕ → ℕ → Option ℕ → E → RequestsSeen D E
     → RequestsSeen D E
 after_answering number count moment end r =
@@ -196,7 +196,7 @@ unsent_or now r (Some number) =
     (Transmit number, record r { numbers = without_first_unsent r.numbers })
 unsent_or now r None = repeats_step now r
 
--- what a poll returns: bytes that were not handed out, then bytes that are sent again, then an end,
--- then a request whose time is over, and then until when to wait
+-- what a poll returns: bytes that were not returned yet, then bytes that are sent again, then an
+-- end, then a request whose time is over, and then until when to wait
 unfoldable pub polled : {D E : Type 0} → ℕ → RequestsSeen D E → Poll D E
 polled now r = unsent_or now r (first_unsent r.numbers)

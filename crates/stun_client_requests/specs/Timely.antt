@@ -1,5 +1,5 @@
--- When the requests of a client are sent for the last time, and when they end, by one plan for all their
--- messages (RFC 8489, sections 6.2.1 and 6.2.2).
+-- When the requests of a client are sent for the last time, and when they end, by one plan for all
+-- messages of a request (RFC 8489, sections 6.2.1 and 6.2.2).
 use Rattle.std.specs.Prelude.{◌≡◌, ◌<◌, ◌≤◌, ◌==◌, ℕ, Bool, false, max, if◌then◌else◌, Option}
 use Rattle.std.specs.Prelude.{Some}
 use Rattle.std.specs.Option.{IfSome, IsSome}
@@ -17,8 +17,8 @@ use Rattle.stun_client_requests.specs.declared.requests.Polled.TheVariants.{Ende
 use Rattle.stun_client_requests.specs.declared.requests.Polled.TheVariants.{Transmit, Wait}
 use Rattle.stun_client_requests.specs.declared.requests.Request.{Request}
 
--- a request has a timer, which goes on by this plan, and its message was sent for the last time no later
--- than at this time
+-- a request has a timer, which follows this plan, and its message was sent for the last time no
+-- later than at this time
 pub record HasTimer (plan : Settings) (bound id : ℕ) (all : Transactions) : Type 0 where
   pub timer : Transaction
   pub there : transaction_at id all ≡ Some timer
@@ -26,16 +26,18 @@ pub record HasTimer (plan : Settings) (bound id : ℕ) (all : Transactions) : Ty
   pub goes_on : timer.sending ≡ Repeats
   pub early : timer.last ≤ bound
 
--- each outstanding request has such a timer, and each timer is that of an outstanding request
-pub record AreTimely {D : Type 0} (plan : Settings) (bound : Request D → ℕ) (timers : Transactions)
-    (all : Attached (Request D)) : Type 0 where
+-- each outstanding request has such a timer, by its plan, and each timer is that of an outstanding
+-- request
+pub record AreTimely {D : Type 0} (plan : Request D → Settings) (bound : Request D → ℕ)
+    (timers : Transactions) (all : Attached (Request D)) : Type 0 where
   pub ordered : IsAscending timers
   pub timed : (id : ℕ) (q : Request D) → datum_at id all ≡ Some q
-      → HasTimer plan (bound q) id timers
+      → HasTimer (plan q) (bound q) id timers
   pub owned : (id : ℕ) (t : Transaction) → transaction_at id timers ≡ Some t
       → IsSome (datum_at id all)
 
-abbrev pub IsTimely : {D E : Type 0} → Settings → (Request D → ℕ) → RequestsSeen D E → Type 0
+abbrev pub IsTimely : {D E : Type 0} → (Request D → Settings) → (Request D → ℕ) → RequestsSeen D E
+    → Type 0
 IsTimely plan bound r = AreTimely plan bound r.table.requests r.table.attached
 
 -- whether a poll names the request with this number, to be sent
@@ -45,7 +47,8 @@ is_named (Ended number end) other = false
 is_named (TimedOut number datum) other = false
 is_named (Wait until) other = false
 
--- the times no later than which the requests were sent for the last time, once a poll has returned this
+-- the times no later than which the requests were sent for the last time, once a poll has returned
+-- this
 abbrev pub bound_after : {D E : Type 0} → ℕ → Polled D E → (Request D → ℕ) → Request D → ℕ
 bound_after now told bound q = if is_named told q.number then max now (bound q) else bound q
 
@@ -54,17 +57,18 @@ pub record IsInTime (now end : ℕ) (until : Option ℕ) : Type 0 where
   pub early : now < end
   pub awaited : IfSome until (λ moment. moment ≤ end)
 
--- a poll sends a request, or it leaves all as they were sent
+-- a poll sends a request, or no request is sent
 abbrev pub PollsKeepTime : Type 0 → Type 0 → Type 0
-PollsKeepTime D E = (plan : Settings) (bound : Request D → ℕ) (now : ℕ) (r : RequestsSeen D E)
+PollsKeepTime D E = (plan : Request D → Settings) (bound : Request D → ℕ) (now : ℕ)
+    (r : RequestsSeen D E)
     → IsRequests r → IsTimely plan bound r
     → IsTimely plan (bound_after now (polled now r).0 bound) (polled now r).1
 
--- if a poll says to wait, a whole plan has not passed since any outstanding request was sent for the last
--- time, and the wait ends no later than that
+-- if a poll says to wait, a whole plan has not passed since any outstanding request was sent for
+-- the last time, and the wait ends no later than that
 abbrev pub WaitsInTime : Type 0 → Type 0 → Type 0
-WaitsInTime D E = (plan : Settings) (bound : Request D → ℕ) (now : ℕ) (until : Option ℕ)
+WaitsInTime D E = (plan : Request D → Settings) (bound : Request D → ℕ) (now : ℕ) (until : Option ℕ)
     (r after : RequestsSeen D E) (id : ℕ) (q : Request D)
     → IsTimely plan bound r → polled now r ≡ (Wait until, after)
     → datum_at id after.table.attached ≡ Some q
-    → IsInTime now (moment_after (bound q) (final_wait Tcp plan)) until
+    → IsInTime now (moment_after (bound q) (final_wait Tcp (plan q))) until

@@ -1,2 +1,2 @@
--- Definitions that no clause of a public call cites: what always holds of the code's own structs.
+-- Definitions that no clause of a public call cites: what always holds for the code's own structs.
 pub mod Indices

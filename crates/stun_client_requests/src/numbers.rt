@@ -1,11 +1,11 @@
-//! The numbers of requests: which are outstanding, under which transaction IDs, and which have
-//! ended.
+//! The numbers of requests, each with the transaction ID of an outstanding request or the outcome
+//! of one that has ended.
 ghost use Rattle.std.specs.BTreeMap.{insert_entry, is_at};
 ghost use Rattle.std.specs.List.Sorted.{IsStrictlySortedBy};
 ghost use Rattle.std.specs.Map.{keys_of, remove_entry, values_of};
 ghost use Rattle.std.specs.Option.{is_none, option_and_then, option_map};
 ghost use Rattle.std.specs.Ordering.{nat_cmp};
-ghost use Rattle.std.specs.Prelude.{◌≡◌, IfNone, IfOk, IfSome, None, OnErr, OnOk, Some, count_by};
+ghost use Rattle.std.specs.Prelude.{◌≡◌, IfNone, IfOk, IfSome, IsOk, None, OnErr, OnOk, Some, count_by};
 ghost use Rattle.std.specs.Prelude.{false, true, if◌then◌else◌};
 ghost use Rattle.stun_client_requests.specs.declared.numbers.Known.TheVariants.{Ended, Outstanding};
 ghost use Rattle.stun_client_requests.specs.Numbers.{IsAt, end_in, known_at};
@@ -21,21 +21,22 @@ use std::alloc::{AllocError, Allocator};
 use std::cmp::Reverse;
 use std::collections::{BTreeMap, BTreeSet, BinaryHeap};
 use std::marker::Model;
+use stun_base::memory::Memory;
 use stun_base::transaction_id::TransactionId;
 
-/// What is stored under the number of a request until its end is handed out.
+/// The state that is stored under the number of a request until its outcome is returned.
 #[derive(Drop)]
 pub enum Known<E> {
-    /// It is outstanding, and its current message has this transaction ID.
+    /// The request is outstanding, and its current message has this transaction ID.
     Outstanding(TransactionId),
-    /// It has ended so.
+    /// The request has ended, with this outcome.
     Ended(E),
 }
 
 /// The requests by their numbers.
 ///
-/// Contracts: they see the requests in the order of their numbers, and the numbers of those whose
-/// bytes were not handed out.
+/// Contracts: the value is a record of the requests in the order of their numbers, and of the
+/// numbers of the requests whose bytes were not returned yet.
 #[derive(Drop)]
 pub struct Numbers<A: Allocator, E> {
     known: BTreeMap<u64, Known<E>, A>,
@@ -58,8 +59,8 @@ impl<A: Allocator, E> Model for Numbers<A, E> {
         (heap_len n.ended) (heap_capacity n.ended) n.outstanding };
 }
 
-impl<A: Allocator + Copy, E: Drop> Numbers<A, E> {
-    /// Creates a store of no numbers. This does not allocate.
+impl<A: Memory, E: Drop> Numbers<A, E> {
+    /// Creates a store without numbers. This does not allocate.
     pub fn new(alloc: A) -> Self
         ensures { result ≡ no_numbers }
     {
@@ -81,17 +82,18 @@ impl<A: Allocator + Copy, E: Drop> Numbers<A, E> {
         }
     }
 
-    /// Returns how many requests are outstanding.
+    /// Returns the number of outstanding requests.
     pub fn outstanding(&self) -> usize
         ensures count { result ≡ count_by is_outstanding (values_of self.now.known) }
         ensures ordered { IsStrictlySortedBy nat_cmp (keys_of self.now.known) }
     {
-        // `len` states that the numbers ascend.
+        // For the proof: the contract of `len` states that the numbers ascend.
         let _stored = self.known.len();
         self.outstanding
     }
 
-    /// Returns the first number, with its transaction ID, if that request is outstanding.
+    /// Returns the least number and the transaction ID of its request, if this request is
+    /// outstanding. Otherwise returns `None`.
     pub fn first(&self) -> Option<(u64, TransactionId)>
         ensures { result ≡ first_outstanding self.now }
     {
@@ -101,24 +103,25 @@ impl<A: Allocator + Copy, E: Drop> Numbers<A, E> {
         }
     }
 
-    /// Stores that a request is sent under this transaction ID, by bytes that were not handed out.
-    /// Its number is a new one, or that of an outstanding request.
+    /// Stores the transaction ID of a request, and marks its bytes as not returned yet. The number
+    /// must be new, or the number of an outstanding request.
     ///
-    /// Fails if an allocation fails. Nothing has changed then.
+    /// Fails if an allocation fails, and then changes nothing.
     pub fn put(&mut self, number: u64, id: TransactionId) -> Result<(), AllocError>
         requires { is_ended_at number self.old ≡ false }
         ensures after { OnOk result (self.new ≡ after_put number id self.old) }
         ensures same { OnErr result (self.new ≡ self.old) }
 
-        // The other numbers stay, and a new number that is removed again leaves no trace.
+        // The other numbers do not change, and a new number that is removed again leaves no trace.
         ensures changed { OnOk result
             (IsAt number (Some (Outstanding id)) self.old.known self.new.known) }
         ensures back { OnOk result
             (known_at number self.old.known ≡ None → after_removal number self.new ≡ self.old) }
+        ensures granted { A.grants → IsOk result }
     {
         let _stored = self.known.len();
-        self.ended.reserve(self.outstanding + 1)?;
-        let Ok(_is_new) = self.unsent.insert(number) else {
+        A::room(&mut self.ended, self.outstanding + 1)?;
+        let Ok(_is_new) = A::add(&mut self.unsent, number) else {
             return Err(AllocError);
         };
         let Ok(is_new) = store(&mut self.known, number, id) else {
@@ -132,24 +135,28 @@ impl<A: Allocator + Copy, E: Drop> Numbers<A, E> {
         Ok(())
     }
 
-    /// Notes that the bytes of an outstanding request are to be handed out, and returns whether
-    /// this is new.
+    /// Marks the bytes of an outstanding request as not returned yet. Returns `true` if they were
+    /// not marked before, and `false` if they were.
     ///
-    /// Fails if an allocation fails. Nothing has changed then.
+    /// Fails if an allocation fails, and then changes nothing.
     pub fn mark(&mut self, number: u64) -> Result<bool, AllocError>
         requires { is_outstanding_at number self.old ≡ true }
         ensures after { OnOk result (self.new ≡ after_mark number self.old) }
         ensures same { OnErr result (self.new ≡ self.old) }
         ensures back { IfOk result (λ is_new.
             (if is_new then after_unmark number self.new else self.new) ≡ self.old) }
+        ensures granted { A.grants → IsOk result }
     {
-        let Ok(is_new) = self.unsent.insert(number) else {
+        // For the proof: the contract of `len` states that the numbers ascend.
+        let _listed = self.unsent.len();
+        let Ok(is_new) = A::add(&mut self.unsent, number) else {
             return Err(AllocError);
         };
         Ok(is_new)
     }
 
-    /// Takes back what `mark` has noted, if it was new.
+    /// Undoes `mark`, which returned `is_new`. If `is_new` is `false`, the bytes were marked before
+    /// that call, and nothing changes.
     pub fn unmark(&mut self, number: u64, is_new: bool)
         ensures { self.new ≡ (if is_new then after_unmark number self.old else self.old) }
     {
@@ -158,7 +165,7 @@ impl<A: Allocator + Copy, E: Drop> Numbers<A, E> {
         }
     }
 
-    /// Stores another transaction ID of an outstanding request. This does not allocate.
+    /// Replaces the transaction ID of an outstanding request. It does not allocate.
     pub fn rename(&mut self, number: u64, id: TransactionId)
         requires { is_outstanding_at number self.old ≡ true }
         ensures after { self.new ≡ after_rename number id self.old }
@@ -183,15 +190,15 @@ impl<A: Allocator + Copy, E: Drop> Numbers<A, E> {
         self.outstanding -= 1;
     }
 
-    /// Ends an outstanding request. This does not allocate.
+    /// Ends an outstanding request with this outcome. It does not allocate.
     pub fn end(&mut self, number: u64, end: E)
         requires { is_outstanding_at number self.old ≡ true }
         ensures after { self.new ≡ after_end number end self.old }
         ensures changed { IsAt number (Some (Ended end)) self.old.known self.new.known }
     {
         let _stored = self.known.len();
-        // The number is stored, so this does not allocate, and neither does `push`, because there
-        // is room.
+        // The number is stored already, so `insert` does not allocate. `push` does not allocate
+        // because there is room.
         let Ok(_before) = self.known.insert(number, Known::Ended(end)) else {
             return;
         };
@@ -202,7 +209,8 @@ impl<A: Allocator + Copy, E: Drop> Numbers<A, E> {
         self.outstanding -= 1;
     }
 
-    /// Returns the first request whose bytes were not handed out, which hands them out.
+    /// Returns the number of the first request whose bytes were not returned yet, and marks the
+    /// bytes as returned. Returns `None` if there is no such request.
     pub fn take_unsent(&mut self) -> Option<u64>
         ensures first { result ≡ first_unsent self.old }
         ensures after { self.new ≡ without_first_unsent self.old }
@@ -210,7 +218,8 @@ impl<A: Allocator + Copy, E: Drop> Numbers<A, E> {
         self.unsent.pop_first()
     }
 
-    /// Removes the first request that has ended, and returns its end.
+    /// Removes the first request that has ended, and returns its number and its outcome. Returns
+    /// `None` if no request has ended.
     pub fn take_ended(&mut self) -> Option<(u64, E)>
         ensures ended { result ≡ end_of_first self.old }
         ensures after { self.new ≡ without_first self.old }
@@ -224,9 +233,9 @@ impl<A: Allocator + Copy, E: Drop> Numbers<A, E> {
     }
 }
 
-/// Stores that a request is sent under this transaction ID, and returns whether its number is new.
-/// If an allocation fails, nothing changes.
-fn store<A: Allocator + Copy, E: Drop>(
+/// Stores the transaction ID of a request, and returns whether its number is new. If an allocation
+/// fails, nothing changes.
+fn store<A: Memory, E: Drop>(
     known: &mut BTreeMap<u64, Known<E>, A>,
     number: u64,
     id: TransactionId,
@@ -238,14 +247,16 @@ fn store<A: Allocator + Copy, E: Drop>(
         (IsAt number (Some (Outstanding id)) known.old.entries known.new.entries) }
     ensures absent { OnErr result (known_at number known.old.entries ≡ None) }
     ensures same { OnErr result (known.new.entries ≡ known.old.entries) }
+    ensures granted { A.grants → IsOk result }
 {
-    match known.insert(number, Known::Outstanding(id)) {
+    match A::insert(known, number, Known::Outstanding(id)) {
         Ok(before) => Ok(before.is_none()),
         Err(_refused) => Err(AllocError),
     }
 }
 
-/// Removes a number, and returns it with the end of its request.
+/// Removes `number` from the map in any case. Returns it with the outcome of its request if the
+/// request has ended, and `None` if the request is outstanding or there is no such number.
 fn take_end<A: Allocator + Copy, E: Drop>(
     known: &mut BTreeMap<u64, Known<E>, A>,
     number: u64,

@@ -1,7 +1,7 @@
 //! The requests of a client, each stored once.
 ghost use Rattle.std.specs.Option.{option_and_then, option_copied, option_map};
-ghost use Rattle.std.specs.Prelude.{◌≡◌, IfOk, IsOkUnless, MatchOption, None, OnErr, OnOk, Some};
-ghost use Rattle.std.specs.Prelude.{Err, false, true, ◌==◌, if◌then◌else◌};
+ghost use Rattle.std.specs.Prelude.{◌≡◌, IfOk, IsOk, IsOkUnless, MatchOption, None, OnErr, OnOk, Some};
+ghost use Rattle.std.specs.Prelude.{Err, IsErrOf, IsSome, false, true, ◌==◌, if◌then◌else◌};
 ghost use Rattle.stun_agent.specs.Tables.{after_transmission};
 ghost use Rattle.stun_agent.specs.Timing.{settings_of};
 ghost use Rattle.stun_agent.specs.Transactions.{IsRequestOf};
@@ -23,24 +23,25 @@ use stun_agent::agent::RequestRto;
 use stun_agent::stats::StunAgentStats;
 use stun_agent::table::Table;
 use stun_base::instant::Instant;
+use stun_base::memory::Memory;
 use stun_base::transaction_id::TransactionId;
 use stun_base::transport::TransportType;
 use thiserror::Error;
 
-/// What is stored with the bytes of an outstanding request.
+/// The number and the datum that are stored with the bytes of an outstanding request.
 #[derive(Drop)]
 pub struct Request<D> {
     /// The number of the request.
     pub number: u64,
-    /// What the owner stores of it.
+    /// The datum that the owner of the requests stores with this request.
     pub datum: D,
 }
 
-/// Why a request is not started. Nothing has changed then.
+/// Why a request could not be started. The requests are then unchanged.
 #[derive(Clone, Copy, Debug, PartialEq, Eq, Error)]
 #[non_exhaustive]
 pub enum StartRefusal {
-    /// An outstanding request has the transaction ID.
+    /// An outstanding request already has this transaction ID.
     #[error("an outstanding request has the transaction ID")]
     IdTaken,
     /// 2^64 - 1 requests were started.
@@ -51,14 +52,14 @@ pub enum StartRefusal {
     OutOfMemory,
 }
 
-/// Why a request is not sent by another message. Nothing has changed then.
+/// Why another message of a request could not be sent. The requests are then unchanged.
 #[derive(Clone, Copy, Debug, PartialEq, Eq, Error)]
 #[non_exhaustive]
 pub enum AgainRefusal {
-    /// No outstanding request has the number.
+    /// No outstanding request has this number.
     #[error("no outstanding request has the number")]
     NotOutstanding,
-    /// An outstanding request has the transaction ID.
+    /// An outstanding request already has this transaction ID.
     #[error("an outstanding request has the transaction ID")]
     IdTaken,
     /// An allocation failed.
@@ -66,7 +67,7 @@ pub enum AgainRefusal {
     OutOfMemory,
 }
 
-/// The message that was the current one of a request: its bytes, and what the owner stored with it.
+/// The message that was the current one of a request: its bytes and its datum.
 #[derive(Drop)]
 pub struct Former<A: Allocator, D> {
     bytes: Vec<u8, A>,
@@ -82,7 +83,7 @@ impl<A: Allocator, D> Model for Former<A, D> {
 }
 
 impl<A: Allocator, D> Former<A, D> {
-    /// Converts it to the bytes and the datum.
+    /// Returns the bytes and the datum.
     pub fn into_parts(self) -> (Vec<u8, A>, D)
         ensures bytes { result.0.items ≡ self.0 }
         ensures datum { result.1 ≡ self.1 }
@@ -91,29 +92,31 @@ impl<A: Allocator, D> Former<A, D> {
     }
 }
 
-/// What to do next.
+/// The next thing to do, as `Requests::poll` returns it.
 #[derive(Drop)]
 #[non_exhaustive]
 pub enum Polled<D, E> {
     /// Send the bytes of the request with this number (see `Requests::bytes_of`).
     Transmit(u64),
-    /// The request with this number has ended so.
+    /// The request with this number has ended, with this outcome.
     Ended(u64, E),
-    /// The time of the request with this number is over. This is what its owner stored of it.
+    /// The request with this number has timed out. It is returned with the datum that its owner
+    /// stored.
     TimedOut(u64, D),
-    /// Wait until a datagram arrives, or until this time; `None`: no request is outstanding.
+    /// Wait until a datagram arrives, or until this time. The time is `None` if no request is
+    /// outstanding.
     Wait(Option<Instant>),
 }
 
-/// The requests of a client to one server. Each has a number for its whole life, and while it is
-/// outstanding a transaction ID, its bytes, its timer and a datum of the owner. Once it has ended,
-/// its end is stored under its number until `poll` returns it.
+/// The requests of a client to one server. Each request has a number for its whole life. While it
+/// is outstanding, it also has a transaction ID, bytes, a timer and a datum of the owner. Once it
+/// has ended, its outcome is stored under its number until `poll` returns it.
 ///
-/// `D` is what the owner stores of an outstanding request, and `E` is how a request ends, with the
-/// response.
+/// `D` is the type of the datum that the owner stores with an outstanding request, and `E` is the
+/// type of the outcome, including the response.
 ///
-/// Contracts: they see the table by transaction ID, the numbers, and the number of the next
-/// request.
+/// Contracts: the value is a record of the table by transaction ID, the numbers, and the number of
+/// the next request.
 #[derive(Drop)]
 pub struct Requests<A: Allocator, D, E> {
     alloc: A,
@@ -133,9 +136,9 @@ impl<A: Allocator, D, E> Model for Requests<A, D, E> {
     ghost invariant = { λ r. IsOneTable r.table.attached r.numbers r.next };
 }
 
-impl<A: Allocator + Copy, D: Drop, E: Drop> Requests<A, D, E> {
-    /// Creates a store without requests, all of which will go to this address. It keeps statistics
-    /// if `stats` is true. This does not allocate.
+impl<A: Memory, D: Drop, E: Drop> Requests<A, D, E> {
+    /// Creates a store without requests. All requests go to the address `to`. It keeps statistics
+    /// if `stats` is true. The call does not allocate.
     pub fn new(alloc: A, transport: TransportType, to: SocketAddr, stats: bool) -> Self
         ensures { result ≡ new_requests transport to stats }
     {
@@ -147,7 +150,7 @@ impl<A: Allocator + Copy, D: Drop, E: Drop> Requests<A, D, E> {
         }
     }
 
-    /// Returns the statistics, if they are kept.
+    /// Returns the statistics, or `None` if the store keeps none.
     pub fn stats(&self) -> Option<&StunAgentStats>
         ensures { option_copied result ≡ self.now.table.statistics }
     {
@@ -175,7 +178,7 @@ impl<A: Allocator + Copy, D: Drop, E: Drop> Requests<A, D, E> {
         self.table.bytes_of(self.numbers.id_of(number)?)
     }
 
-    /// Returns what the owner stores of a request, while it is outstanding.
+    /// Returns the datum of a request, while it is outstanding.
     pub fn datum_of(&self, number: u64) -> Option<&D>
         ensures { option_copied result ≡ datum_of number self.now }
     {
@@ -199,15 +202,15 @@ impl<A: Allocator + Copy, D: Drop, E: Drop> Requests<A, D, E> {
         self.numbers.outstanding()
     }
 
-    /// Starts a request under a transaction ID, and returns its number. Its bytes are those of a
-    /// message with this ID, and `poll` then asks for them to be sent. It is sent again and ends as
-    /// its plan says.
+    /// Starts a request with this transaction ID, and returns its number. `bytes` must be a message
+    /// with this ID. `poll` then returns `Transmit` for the request, which is sent again and times
+    /// out according to its plan.
     ///
     /// # Errors
     ///
-    /// The first of these that applies. Nothing has changed then.
+    /// Fails with the first of these that applies, and then changes nothing.
     ///
-    /// - `IdTaken`: an outstanding request has the transaction ID.
+    /// - `IdTaken`: an outstanding request already has the transaction ID.
     /// - `NoNumber`: 2^64 - 1 requests were started.
     /// - `OutOfMemory`: an allocation failed.
     pub fn start(
@@ -221,6 +224,7 @@ impl<A: Allocator + Copy, D: Drop, E: Drop> Requests<A, D, E> {
         requires named { IsRequestOf id bytes.items }
         ensures refused { MatchOption (start_refusal self.old id)
             (IsOkUnless result StartRefusal.OutOfMemory) (λ why. result ≡ Err why) }
+        ensures granted { A.grants → start_refusal self.old id ≡ None → IsOk result }
         ensures number { IfOk result (λ number. number ≡ self.old.next) }
         ensures after { OnOk result
             (self.new ≡ after_start id bytes.items (settings_of plan) datum now self.old) }
@@ -245,17 +249,17 @@ impl<A: Allocator + Copy, D: Drop, E: Drop> Requests<A, D, E> {
         Ok(number)
     }
 
-    /// Sends an outstanding request by another message, under another transaction ID: because of a
-    /// challenge, or by a message that it was sent by earlier. `poll` then asks for its bytes to be
-    /// sent. A response of so many bytes ends the former message, whose bytes and datum are
-    /// returned, and is counted. No bytes are copied.
+    /// Replaces the current message of an outstanding request by another message, with another
+    /// transaction ID. `poll` then returns `Transmit` for the request. The response that ends the
+    /// former message, and whose length is in `response`, is counted in the statistics. Returns the
+    /// bytes and the datum of the former message. No bytes are copied.
     ///
     /// # Errors
     ///
-    /// The first of these that applies. Nothing has changed then.
+    /// Fails with the first of these that applies, and then changes nothing.
     ///
     /// - `NotOutstanding`: no outstanding request has the number.
-    /// - `IdTaken`: an outstanding request has the transaction ID.
+    /// - `IdTaken`: an outstanding request already has the transaction ID.
     /// - `OutOfMemory`: an allocation failed.
     pub fn again(
         &mut self,
@@ -270,6 +274,9 @@ impl<A: Allocator + Copy, D: Drop, E: Drop> Requests<A, D, E> {
         requires named { IsRequestOf id bytes.items }
         ensures refused { MatchOption (again_refusal self.old number id)
             (IsOkUnless result AgainRefusal.OutOfMemory) (λ why. result ≡ Err why) }
+        ensures granted { A.grants → again_refusal self.old number id ≡ None → IsOk result }
+        ensures taken { IsErrOf result AgainRefusal.IdTaken
+            → IsSome (number_at id self.old.table.attached) }
         ensures former { IfOk result (λ f. datum_of number self.old ≡ Some f.1) }
         ensures after { OnOk result (self.new ≡ after_again number
             (record { count = response.0; moment = response.1 }) id bytes.items (settings_of plan) datum
@@ -300,8 +307,8 @@ impl<A: Allocator + Copy, D: Drop, E: Drop> Requests<A, D, E> {
         })
     }
 
-    /// Stores another datum of an outstanding request, and returns the one before. It does not
-    /// allocate.
+    /// Replaces the datum of an outstanding request, and returns the former datum, or `None` if no
+    /// outstanding request has the number. It does not allocate.
     pub fn replace(&mut self, number: u64, datum: D) -> Option<D>
         ensures before { result ≡ datum_of number self.old }
         ensures after { self.new ≡ after_replacing number datum self.old }
@@ -311,9 +318,9 @@ impl<A: Allocator + Copy, D: Drop, E: Drop> Requests<A, D, E> {
         Some(before.datum)
     }
 
-    /// Ends a request by a response of so many bytes, which is counted, and returns what its owner
-    /// stored of it. `poll` then returns the end. The round trip is measured if the time is given,
-    /// and nothing was sent again.
+    /// Ends a request because of a response of `count` bytes, which is counted in the statistics,
+    /// and returns its datum. `poll` then returns the outcome `end`. The round-trip time is
+    /// measured if `moment` is passed, and the message was sent only once.
     ///
     /// Returns `None` if no outstanding request has the number. It does not allocate.
     pub fn answer(
@@ -332,8 +339,8 @@ impl<A: Allocator + Copy, D: Drop, E: Drop> Requests<A, D, E> {
         Some(request.datum)
     }
 
-    /// Ends a request without a response, and returns what its owner stored of it. `poll` then
-    /// returns the end.
+    /// Ends a request without a response, and returns its datum. `poll` then returns the outcome
+    /// `end`.
     ///
     /// Returns `None` if no outstanding request has the number. It does not allocate.
     pub fn cancel(&mut self, number: u64, end: E) -> Option<D>
@@ -346,8 +353,8 @@ impl<A: Allocator + Copy, D: Drop, E: Drop> Requests<A, D, E> {
         Some(request.datum)
     }
 
-    /// Ends a request without a response, and returns what its owner stored of it. Nothing is
-    /// stored of the request any more, so `poll` does not return its end. It counts as canceled.
+    /// Removes a request without a response, and returns its datum. Nothing of the request is
+    /// stored any more, so `poll` does not return an outcome for it. It counts as canceled.
     ///
     /// Returns `None` if no outstanding request has the number. It does not allocate.
     pub fn remove(&mut self, number: u64) -> Option<D>
@@ -362,9 +369,10 @@ impl<A: Allocator + Copy, D: Drop, E: Drop> Requests<A, D, E> {
 
     /// Returns the next thing to do. Call it until it returns `Wait`. It does not allocate.
     ///
-    /// First come the bytes that were not returned yet, by the numbers of their requests, then
-    /// those that are due to be sent again, by transaction ID, then the requests that have ended,
-    /// by number, and then those whose time is over, by transaction ID.
+    /// It returns first the requests whose bytes were not returned yet, in the order of their
+    /// numbers, and then the requests that are due to be sent again, in the order of their
+    /// transaction IDs. After these come the requests that have ended, in the order of their
+    /// numbers, and last the requests that have timed out, in the order of their transaction IDs.
     #[tactic(auto, unfolding(crate::specs::Requests::polled))]
     pub fn poll(&mut self, now: Instant) -> Polled<D, E>
         ensures { (result, self.new) ≡ polled now self.old }
@@ -375,7 +383,8 @@ impl<A: Allocator + Copy, D: Drop, E: Drop> Requests<A, D, E> {
         }
     }
 
-    /// Hands out bytes that are sent again, or goes on.
+    /// Returns a request that is due to be sent again, or continues with the requests that have
+    /// ended.
     fn poll_repeats(&mut self, now: Instant) -> Polled<D, E>
         ensures { (result, self.new) ≡ repeats_step now self.old }
     {
@@ -385,7 +394,7 @@ impl<A: Allocator + Copy, D: Drop, E: Drop> Requests<A, D, E> {
         }
     }
 
-    /// Hands out an end, or goes on.
+    /// Returns a request that has ended, or continues with the timers.
     fn poll_ends(&mut self, now: Instant) -> Polled<D, E>
         ensures { (result, self.new) ≡ ends_step now self.old }
     {
@@ -395,7 +404,7 @@ impl<A: Allocator + Copy, D: Drop, E: Drop> Requests<A, D, E> {
         }
     }
 
-    /// Hands out a request whose time is over, or returns until when to wait.
+    /// Returns a request that has timed out, or the time to wait until.
     fn poll_timers(&mut self, now: Instant) -> Polled<D, E>
         ensures { (result, self.new) ≡ over_step now self.old }
     {
@@ -409,7 +418,7 @@ impl<A: Allocator + Copy, D: Drop, E: Drop> Requests<A, D, E> {
         }
     }
 
-    /// Returns this time, if a request is outstanding.
+    /// Returns `until` if a request is outstanding, and `None` otherwise.
     fn wait_until(&self, until: Instant) -> Option<Instant>
         ensures { result ≡ (if outstanding_count self.now.numbers == 0 then None else Some until) }
     {
@@ -421,7 +430,8 @@ impl<A: Allocator + Copy, D: Drop, E: Drop> Requests<A, D, E> {
     }
 }
 
-/// Returns the number of the next request whose bytes are sent again.
+/// Advances the requests of the table that are due, like `Table::poll_transmit`, and returns the
+/// number of the request to send again. Returns `None` if no request is due.
 fn next_repeated<A: Allocator + Copy, D: Drop>(
     table: &mut Table<A, Request<D>>,
     now: Instant,

@@ -1,17 +1,17 @@
 -- A client stays in order over each change of its requests.
-use Rattle.std.proofs.Common.{◌≡◌, ◌∙◌, ◌⊎◌, ◌+◌, ℕ, Bool, true, false, List, Option}
-use Rattle.std.proofs.Common.{Some, None, Ok, ap, cond, inl, inr, refl, subst, sym}
+use Rattle.std.proofs.Common.{◌≡◌, ◌∙◌, ◌⊎◌, ℕ, Bool, true, false, List, Option, Some, None, Ok, ap}
+use Rattle.std.proofs.Common.{cond, inl, inr, refl, subst, sym}
 use Rattle.std.specs.BTreeMap.{is_at}
 use Rattle.std.specs.List.Sorted.{IsStrictlySortedBy}
 use Rattle.std.specs.Option.{IsSome, is_some, option_and_then, option_map, option_map_or}
 use Rattle.std.specs.Ordering.{nat_cmp}
-use Rattle.std.specs.Prelude.{◌&&◌, ◌||◌, suc, zero}
+use Rattle.std.specs.Prelude.{◌&&◌}
 use Rattle.std.specs.Set.{remove_key}
 use Rattle.stun_base.specs.Header.{transaction_id_field}
 use Rattle.stun_agent.specs.Statistics.{Statistics, Tally}
-use Rattle.stun_agent.specs.Tables.{Attached, after_transmission, counted, counted_sent}
-use Rattle.stun_agent.specs.Tables.{datum_at, request_in, sent_in, set_datum, with_datum}
-use Rattle.stun_agent.specs.Tables.{with_other_datum, without_datum, without_request}
+use Rattle.stun_agent.specs.Tables.{after_transmission, counted, counted_sent, datum_at, request_in}
+use Rattle.stun_agent.specs.Tables.{sent_in, set_datum, with_datum, with_other_datum, without_datum}
+use Rattle.stun_agent.specs.Tables.{without_request}
 use Rattle.stun_agent.specs.Transactions.{Transaction, Transactions, after_slot}
 use Rattle.stun_agent.specs.Transactions.{after_slots, at as transaction_at, is_due, is_reached}
 use Rattle.stun_agent.specs.Transactions.{slot_passed, with, without}
@@ -27,7 +27,7 @@ use Rattle.stun_client_endpoint.proofs.WrittenLemmas.{request_id}
 use Rattle.stun_client_requests.specs.Laws.{IsRequests}
 use Rattle.stun_client_requests.specs.Numbers.{AllKnown, IsAt, NumbersSeen, after_put, id_at, id_in}
 use Rattle.stun_client_requests.specs.OneTable.{IsOneTable}
-use Rattle.stun_client_requests.specs.Requests.{RequestsSeen, after_replacing, datum_of, number_at}
+use Rattle.stun_client_requests.specs.Requests.{after_replacing, datum_of, number_at}
 use Rattle.stun_client_requests.specs.declared.numbers.Known.{Known}
 use Rattle.stun_client_requests.specs.declared.numbers.Known.TheVariants.{Outstanding}
 use Rattle.stun_client_requests.specs.declared.requests.Request.{Request}
@@ -37,19 +37,15 @@ use Rattle.stun_client_requests.proofs.RequestLemmas.{one_out, one_replaced, one
 use Rattle.stun_client_calls.specs.Clients.{Client, chosen, first_asked, first_message, started_by}
 use Rattle.stun_client_calls.specs.Clients.{with_requests}
 use Rattle.stun_client_calls.specs.Endpoints.{EndSeen}
-use Rattle.stun_client_calls.specs.Ids.{Earlier, first_free, is_taken, number_in}
+use Rattle.stun_client_calls.specs.Ids.{Earlier}
 use Rattle.stun_client_calls.specs.Messages.{AskedSeen}
+use Rattle.stun_client_calls.specs.Options.{Options, challenge_by, identity_by, plan_by}
+use Rattle.stun_client_calls.proofs.EachLemmas.{Stored}
+use Rattle.stun_client_calls.proofs.HeardLemmas.{chosen_is_free}
+use Rattle.stun_client_calls.proofs.TurnLemmas.{All, some_is}
 use Rattle.stun_client_runs.specs.Kept.{AreDerived, IsClient, IsCurrent, IsDerived, is_unsent}
 use Rattle.stun_client_runs.proofs.EntryLemmas.{among_insert, among_remove, at_other, at_own}
-use Rattle.stun_client_runs.proofs.EntryLemmas.{at_set}
-use Rattle.stun_client_runs.proofs.EntryLemmas.{at_split, ordered_insert}
-use Rattle.stun_client_runs.proofs.EntryLemmas.{ordered_remove, some_is}
-
-abbrev pub All : Type 0
-All = RequestsSeen AskedSeen EndSeen
-
-abbrev pub Stored : Type 0
-Stored = Attached (Request AskedSeen)
+use Rattle.stun_client_runs.proofs.EntryLemmas.{at_set, at_split, ordered_insert, ordered_remove}
 
 -- ---- what two clients share
 
@@ -162,21 +158,27 @@ derived_on c after id same is = record {
 
 -- a request whose message stays
 pub current_on : (c after : Client) (id : ℕ) (a b : AskedSeen) → IsSame c after
-    → b.method ≡ a.method → b.body ≡ a.body → b.signed_for ≡ a.signed_for
+    → b.method ≡ a.method → b.body ≡ a.body → b.options ≡ a.options → b.signed_for ≡ a.signed_for
     → HasBytesOf id c.requests.table.requests after.requests.table.requests → IsCurrent c id a
     → IsCurrent after id b
-current_on c after id a b same method body challenge keeps is =
+current_on c after id a b same method body options challenge keeps is =
     let new = keeps is.transaction is.sent in
     record {
       from_seed = derived_on c after id same is.from_seed;
       transaction = new.0;
       sent = new.1;
       to = new.3 ∙ is.to ∙ sym same.server;
-      written = written_alike after.form c.form after.identity c.identity b.signed_for
-          a.signed_for b.method a.method id b.body a.body same.form same.identity challenge
-          method body ∙ is.written ∙ ap Ok (sym new.2);
+      written = written_alike after.form c.form (identity_by b.options after.identity)
+          (identity_by a.options c.identity) b.signed_for a.signed_for b.method a.method id b.body
+          a.body same.form (who same.identity options) challenge method body
+          ∙ is.written ∙ ap Ok (sym new.2);
       named = ap transaction_id_field new.2 ∙ is.named;
     }
+  where
+    who : after.identity ≡ c.identity → b.options ≡ a.options
+        → identity_by b.options after.identity ≡ identity_by a.options c.identity
+    who identity options = ap (identity_by b.options) identity
+        ∙ ap (λ o. identity_by o c.identity) options
 
 -- ---- the numbers, the standing challenge and the next ID
 
@@ -225,7 +227,7 @@ other_client c numbers standing next_id earlier is one known order unsent = reco
   in_order = order;
   unsent = unsent;
   server = is.server;
-  current = λ id q there. current_on c after id q.datum q.datum same refl refl refl
+  current = λ id q there. current_on c after id q.datum q.datum same refl refl refl refl
       (λ t here. (t, here, refl, refl)) (is.current id q there);
   earlier = is.earlier;
 }
@@ -251,40 +253,11 @@ around_client c standing next_id earlier is =
 
 -- ---- a request is started
 
-first_free_is : (taken : ℕ → Bool) (number many found : ℕ)
-    → first_free taken number many ≡ Some found → taken found ≡ false
-first_free_is taken number zero found is = cc
-first_free_is taken number (suc many) found is =
-    by (taken number) refl is (first_free_is taken (number + 1) many found)
-  where
-    by : (b : Bool) → taken number ≡ b
-        → cond b (first_free taken (number + 1) many) (Some number) ≡ Some found
-        → (first_free taken (number + 1) many ≡ Some found → taken found ≡ false)
-        → taken found ≡ false
-    by true here is rest = rest is
-    by false here is rest = subst (λ k. taken k ≡ false) (some_is number found is) here
-
--- the ID of a new message is that of no current message
-pub chosen_is : (c : Client) (number : ℕ) → chosen c ≡ Some number
-    → number_at (id_of c.seed number) c.requests.table.attached ≡ None
-chosen_is c number some =
-    not_some (number_at (id_of c.seed number) c.requests.table.attached)
-    (first (is_some (number_at (id_of c.seed number) c.requests.table.attached))
-    (is_some (number_in (id_of c.seed number) c.earlier))
-    (first_free_is (is_taken c.seed c.requests.table.attached c.earlier) c.next_id _ number some))
-  where
-    first : (a b : Bool) → (a || b) ≡ false → a ≡ false
-    first true b is = cc
-    first false b is = refl
-
-    not_some : (o : Option ℕ) → is_some o ≡ false → o ≡ None
-    not_some None is = refl
-    not_some (Some k) is = cc
-
-pub started_client : (c : Client) (number method : ℕ) (body : Body) (bytes : List ℕ) (now : ℕ)
-    → IsClient c → chosen c ≡ Some number → first_message c method number body ≡ Ok bytes
-    → IsClient (started_by c number method body bytes now)
-started_client c number method body bytes now is some written = record {
+pub started_client : (c : Client) (number method : ℕ) (body : Body) (options : Option Options)
+    (bytes : List ℕ) (now : ℕ) → IsClient c → chosen c ≡ Some number
+    → first_message c method number body options ≡ Ok bytes
+    → IsClient (started_by c number method body options bytes now)
+started_client c number method body options bytes now is some written = record {
   requests = record {
     one = one_started all (with_datum id q all) c.requests.numbers
         (after_put next id c.requests.numbers) next id q is.requests.one refl free refl
@@ -315,7 +288,7 @@ started_client c number method body bytes now is some written = record {
             subst (λ j. IsCurrent after j p.datum) (sym new.0)
             (subst (λ (x : Request AskedSeen). IsCurrent after id x.datum) (some_is q p new.1) own)
         | inr old ↦
-            current_on c after k p.datum p.datum same refl refl refl
+            current_on c after k p.datum p.datum same refl refl refl refl
             (bytes_same k timers (with id t timers)
             (at_other id (Some t) timers (with id t timers) timers_at k old.0))
             (is.current k p old.1)
@@ -342,19 +315,19 @@ started_client c number method body bytes now is some written = record {
     timers = c.requests.table.requests
 
     q : Request AskedSeen
-    q = record { number = c.requests.next; datum = first_asked c method body now }
+    q = record { number = c.requests.next; datum = first_asked c method body options now }
 
     t : Transaction
-    t = request_in c.requests.table bytes c.plan now
+    t = request_in c.requests.table bytes (plan_by options c.plan) now
 
     after : Client
-    after = started_by c number method body bytes now
+    after = started_by c number method body options bytes now
 
     same : IsSame c after
     same = record { server = refl; form = refl; identity = refl; seed = refl }
 
     free : number_at (id_of c.seed number) c.requests.table.attached ≡ None
-    free = chosen_is c number some
+    free = chosen_is_free c number some
 
     all_at : IsAt id (Some q) all (with_datum id q all)
     all_at = at_insert id q all
@@ -374,7 +347,8 @@ started_client c number method body bytes now is some written = record {
       to = is.server;
       written = written;
       named =
-          request_id c.form c.identity c.standing.current method number c.seed body bytes written;
+          request_id c.form (identity_by options c.identity)
+          (challenge_by options c.standing.current) method number c.seed body bytes written;
     }
 
 -- ---- a request is outstanding no more
@@ -411,7 +385,7 @@ out_client c id n q tally w known is there number shut at order = record {
   current = λ k p here. elim (at_split id None all (without_datum id all) all_at k (Some p) here) [
     | inl gone ↦ let no = gone.1 in cc
     | inr old ↦
-        current_on c after k p.datum p.datum same refl refl refl
+        current_on c after k p.datum p.datum same refl refl refl refl
         (bytes_same k timers (without id timers)
         (at_other id None timers (without id timers) timers_at k old.0))
         (is.current k p old.1)
@@ -457,6 +431,7 @@ out_client c id n q tally w known is there number shut at order = record {
 pub record HasSameMessages (a b : AskedSeen) : Type 0 where
   pub method : b.method ≡ a.method
   pub body : b.body ≡ a.body
+  pub options : b.options ≡ a.options
   pub signed_for : b.signed_for ≡ a.signed_for
   pub earlier : b.earlier ≡ a.earlier
   pub rank : b.rank ≡ a.rank
@@ -484,10 +459,11 @@ set_client c n id q b is named there number keeps = record {
         | inl new ↦
             subst (λ j. IsCurrent after j p.datum) (sym new.0)
             (subst (λ (x : Request AskedSeen). IsCurrent after id x.datum) (some_is w p new.1)
-            (current_on c after id q.datum b same keeps.method keeps.body keeps.signed_for
+            (current_on c after id q.datum b same keeps.method keeps.body keeps.options
+            keeps.signed_for
             (λ t found. (t, found, refl, refl)) (is.current id q there)))
         | inr old ↦
-            current_on c after k p.datum p.datum same refl refl refl
+            current_on c after k p.datum p.datum same refl refl refl refl
             (λ t found. (t, found, refl, refl))
             (is.current k p old.1)
       ];
@@ -560,7 +536,7 @@ slots_client c now last statistics is = record {
   in_order = is.in_order;
   unsent = is.unsent;
   server = is.server;
-  current = λ k p here. current_on c after k p.datum p.datum same refl refl refl
+  current = λ k p here. current_on c after k p.datum p.datum same refl refl refl refl
       (λ t found. (
         passed (k, t),
         lookup-map passed k timers ∙ ap (λ o. option_map (λ v. passed (k, v)) o) found,

@@ -29,7 +29,7 @@ use Rattle.stun_client_endpoint.specs.Written.{Page?}
 use Rattle.stun_client_endpoint.specs.declared.ended.DropReason.{DropReason}
 use Rattle.stun_client_endpoint.specs.declared.ended.DropReason.TheVariants as Reasons
 use Rattle.stun_client_endpoint.specs.declared.ended.RequestEnd.TheVariants as how
-use Rattle.stun_client_endpoint.specs.declared.told.Received.TheVariants.{NotOurs}
+use Rattle.stun_client_endpoint.specs.declared.told.Received.TheVariants.{Indication, NotOurs}
 use Rattle.stun_client_requests.specs.Laws.{IsOver as IsOverIn, IsRequests}
 use Rattle.stun_client_requests.specs.Laws.{polls as polls_in, removes, starts_one}
 use Rattle.stun_client_requests.specs.Numbers.{AllKnown, after_end, after_mark, after_removal}
@@ -52,17 +52,19 @@ use Rattle.stun_client_requests.proofs.RequestLemmas.{at_insert}
 use Rattle.stun_client_calls.specs.Clients.{Client, Poll, by_polled, changed}
 use Rattle.stun_client_calls.specs.Clients.{changed_at, chosen, ends, error_of, first_asked}
 use Rattle.stun_client_calls.specs.Clients.{first_message, given_up, handed_out_of}
-use Rattle.stun_client_calls.specs.Clients.{refusal_of_number}
+use Rattle.stun_client_calls.specs.Clients.{plan_for, refusal_of_number}
 use Rattle.stun_client_calls.specs.Clients.{refusal_of_page, refusal_to_start, sent_by, started}
 use Rattle.stun_client_calls.specs.Clients.{started_at, started_by, started_with, told, transmit}
 use Rattle.stun_client_calls.specs.Clients.{waits, with_requests}
 use Rattle.stun_client_calls.specs.Deciding.{DecisionSeen, answered, drops, refuses, turns}
 use Rattle.stun_client_calls.specs.Deciding.{unauthorized}
-use Rattle.stun_client_calls.specs.Endpoints.{EndSeen}
+use Rattle.stun_client_calls.specs.Endpoints.{EndSeen, bare_end}
+use Rattle.stun_client_calls.specs.Options.{Options, plan_by}
 use Rattle.stun_client_calls.specs.Messages.{AskedSeen, is_late, new_asked, turned}
-use Rattle.stun_client_calls.specs.Receiving.{Answer, Memory, Met, Spot, UnlessMemory, answered_in}
+use Rattle.stun_client_calls.specs.Receiving.{Answer, Memory, Met, Spot, UnlessMemory}
 use Rattle.stun_client_calls.specs.Receiving.{as_expected, by_class, by_decision, by_met, dropping}
-use Rattle.stun_client_calls.specs.Receiving.{decision_for, forgone, moment_of, received, spot_of}
+use Rattle.stun_client_calls.specs.Receiving.{decision_for, forgone, heard_in, moment_of, received}
+use Rattle.stun_client_calls.specs.Receiving.{round_trip_of, spot_of}
 use Rattle.stun_client_calls.specs.Receiving.{turn_to, turned_at, turned_by, turned_to, unwritten}
 use Rattle.stun_client_calls.specs.Receiving.{without_memory}
 use Rattle.stun_client_calls.specs.Runs.{Call, Calls, Event, call, cancels, changes_nothing}
@@ -73,8 +75,8 @@ use Rattle.stun_client_calls.specs.Writing.{message_bytes}
 use Rattle.stun_client_calls.specs.declared.asked.Change.{Change}
 use Rattle.stun_client_calls.specs.declared.asked.Change.TheVariants.{Noted, Refused, SentOut}
 use Rattle.stun_client_calls.specs.declared.turning.Why.{Why}
+use Rattle.stun_client_calls.proofs.TurnLemmas.{All}
 use Rattle.stun_client_runs.specs.Kept.{IsClient}
-use Rattle.stun_client_runs.proofs.ChangeLemmas.{All}
 use Rattle.stun_client_runs.proofs.KeptLemmas.{call_is}
 use Rattle.stun_client_runs.proofs.PollLemmas.{IsPolled, polled_client}
 
@@ -201,14 +203,14 @@ quiet_turned_to : (memory : Memory) (c : Client) (now : ℕ) (response : List �
     → IsQuiet c.requests (turned_to memory c now response m why d s bytes).1.requests
 quiet_turned_to memory c now response m why d s bytes =
     quiet_then c.requests again (after_replacing m.number turned_one again)
-    (quiet_again m.number (record { count = length response; moment = Some now }) s.id bytes c.plan
-    (new_asked m.asked.method [] 0 None) now c.requests)
+    (quiet_again m.number (record { count = length response; moment = Some now }) s.id bytes
+    (plan_for c m.asked) (new_asked m.asked.method [] None 0 None) now c.requests)
     (quiet_replacing m.number turned_one again)
   where
     again : All
     again =
         after_again m.number (record { count = length response; moment = Some now }) s.id bytes
-        c.plan (new_asked m.asked.method [] 0 None) now c.requests
+        (plan_for c m.asked) (new_asked m.asked.method [] None 0 None) now c.requests
 
     turned_one : AskedSeen
     turned_one =
@@ -231,10 +233,14 @@ quiet_decided : (memory : Memory) (c : Client) (now : ℕ) (bytes : List ℕ) (m
     (v : DecisionSeen) → IsQuiet c.requests (by_decision memory c now bytes m v).1.requests
 quiet_decided memory c now bytes m (answered by) =
     quiet_answering m.number (length bytes) (moment_of now m)
-    (record { end = how.Answered (outcome_of c.understood bytes) by; response = bytes }) c.requests
+    (record {
+      end = how.Answered (outcome_of c.understood bytes) by;
+      response = bytes;
+      round_trip = round_trip_of now m;
+    }) c.requests
 quiet_decided memory c now bytes m unauthorized =
     quiet_answering m.number (length bytes) (moment_of now m)
-    (record { end = how.Unauthorized; response = [] }) c.requests
+    (bare_end how.Unauthorized) c.requests
 quiet_decided memory c now bytes m (turns why place d) =
     quiet_turned memory c now bytes m why d (spot_of c m.asked place)
 quiet_decided memory c now bytes m refuses =
@@ -247,34 +253,40 @@ quiet_met memory c now bytes None = quiet_same c.requests
 quiet_met memory c now bytes (Some m) =
     quiet_decided memory c now bytes m (decision_for c now bytes m)
 
-quiet_class : (memory : Memory) (c : Client) (now : ℕ) (bytes : List ℕ) (class : MessageClass)
-    → IsQuiet c.requests (by_class memory c now bytes class).1.requests
-quiet_class memory c now bytes Classes.Request = quiet_same c.requests
-quiet_class memory c now bytes Classes.Indication = quiet_same c.requests
-quiet_class memory c now bytes Classes.Success = quiet_met memory c now bytes (answered_in bytes c)
-quiet_class memory c now bytes Classes.Error = quiet_met memory c now bytes (answered_in bytes c)
+quiet_class : (memory : Memory) (from : SocketAddr) (c : Client) (now : ℕ) (bytes : List ℕ)
+    (class : MessageClass)
+    → IsQuiet c.requests (by_class memory from c now bytes class).1.requests
+quiet_class memory from c now bytes Classes.Request = quiet_same c.requests
+quiet_class memory from c now bytes Classes.Indication = by (is_same_address from c.server)
+  where
+    by : (b : Bool)
+        → IsQuiet c.requests (cond {A = Answer} b (Indication bytes, c) (NotOurs, c)).1.requests
+    by true = quiet_same c.requests
+    by false = quiet_same c.requests
+quiet_class memory from c now bytes Classes.Success =
+    quiet_met memory c now bytes (heard_in from bytes c)
+quiet_class memory from c now bytes Classes.Error =
+    quiet_met memory c now bytes (heard_in from bytes c)
 
 quiet_received : (memory : Memory) (from : SocketAddr) (bytes : List ℕ) (now : ℕ) (c : Client)
     → IsQuiet c.requests (received memory from bytes now c).1.requests
-quiet_received memory from bytes now c =
-    by (is_some (refusal bytes)) (is_same_address from c.server)
+quiet_received memory from bytes now c = by (is_some (refusal bytes))
   where
-    by : (a b : Bool)
+    by : (b : Bool)
         → IsQuiet c.requests
-        (cond a (NotOurs, c) (cond b (by_class memory c now bytes (class_in bytes))
-        (NotOurs, c))).1.requests
-    by true b = quiet_same c.requests
-    by false true = quiet_class memory c now bytes (class_in bytes)
-    by false false = quiet_same c.requests
+        (cond b (NotOurs, c) (by_class memory from c now bytes (class_in bytes))).1.requests
+    by true = quiet_same c.requests
+    by false = quiet_class memory from c now bytes (class_in bytes)
 
 quiet_heard : (from : SocketAddr) (bytes : List ℕ) (now : ℕ) (c : Client) (answer : Answer)
-    → UnlessMemory (λ memory. received memory from bytes now c) bytes c answer
+    → UnlessMemory (λ memory. received memory from bytes now c) bytes (heard_in from bytes c) c
+    answer
     → IsQuiet c.requests answer.1.requests
 quiet_heard from bytes now c answer (as_expected memory same) =
     subst (λ (a : Answer). IsQuiet c.requests a.1.requests) (sym same)
     (quiet_received memory from bytes now c)
 quiet_heard from bytes now c answer (forgone same) =
-    subst (λ (a : Answer). IsQuiet c.requests a.1.requests) (sym same) (by (answered_in bytes c))
+    subst (λ (a : Answer). IsQuiet c.requests a.1.requests) (sym same) (by (heard_in from bytes c))
   where
     by : (o : Option Met) → IsQuiet c.requests (without_memory bytes c o).1.requests
     by None = quiet_same c.requests
@@ -312,25 +324,27 @@ quiet_step c after quiet = record {
 
 -- ---- a request is started
 
-pub record IsStart (c : Client) (method : ℕ) (body : Body) (now : ℕ) : Type 0 where
+pub record IsStart (c : Client) (method : ℕ) (body : Body) (options : Option Options) (now : ℕ)
+    : Type 0 where
   pub id_number : ℕ
   pub bytes : List ℕ
   pub chosen_is : chosen c ≡ Some id_number
-  pub written : first_message c method id_number body ≡ Ok bytes
+  pub written : first_message c method id_number body options ≡ Ok bytes
   pub unrefused : start_refusal c.requests (id_of c.seed id_number) ≡ None
-  pub made : started method body now c ≡ started_by c id_number method body bytes now
+  pub made : started method body options now c
+      ≡ started_by c id_number method body options bytes now
 
-pub start_is : (c : Client) (method : ℕ) (body : Body) (now : ℕ)
-    → refusal_to_start c method body ≡ None → IsStart c method body now
-start_is c method body now none = by (chosen c) refl none
+pub start_is : (c : Client) (method : ℕ) (body : Body) (options : Option Options) (now : ℕ)
+    → refusal_to_start c method body options ≡ None → IsStart c method body options now
+start_is c method body options now none = by (chosen c) refl none
   where
     unmapped : (o : Option StartRefusal) → option_map error_of o ≡ None → o ≡ None
     unmapped None is = refl
     unmapped (Some why) is = cc
 
     written : (number : ℕ) → chosen c ≡ Some number → (page : Page?)
-        → first_message c method number body ≡ page → refusal_of_page c number page ≡ None
-        → IsStart c method body now
+        → first_message c method number body options ≡ page → refusal_of_page c number page ≡ None
+        → IsStart c method body options now
     written number some (Err why) page is = cc
     written number some (Ok bytes) page is = record {
       id_number = number;
@@ -339,28 +353,30 @@ start_is c method body now none = by (chosen c) refl none
       written = page;
       unrefused = unmapped (start_refusal c.requests (id_of c.seed number)) is;
       made =
-          ap (λ o. started_at c method body now o) some
-          ∙ ap (λ p. started_with c number method body now p) page;
+          ap (λ o. started_at c method body options now o) some
+          ∙ ap (λ p. started_with c number method body options now p) page;
     }
 
-    by : (o : Option ℕ) → chosen c ≡ o → refusal_of_number c method body o ≡ None
-        → IsStart c method body now
+    by : (o : Option ℕ) → chosen c ≡ o → refusal_of_number c method body options o ≡ None
+        → IsStart c method body options now
     by None some is = cc
     by (Some number) some is =
-        written number some (first_message c method number body) refl is
+        written number some (first_message c method number body options) refl is
 
-started_step : (c : Client) (method : ℕ) (body : Body) (now : ℕ) → IsClient c
-    → refusal_to_start c method body ≡ None
-    → IsStep c (starts c.requests.next) (started method body now c)
-started_step c method body now is none =
-    let start = start_is c method body now none in
+started_step : (c : Client) (method : ℕ) (body : Body) (options : Option Options) (now : ℕ)
+    → IsClient c → refusal_to_start c method body options ≡ None
+    → IsStep c (starts c.requests.next) (started method body options now c)
+started_step c method body options now is none =
+    let start = start_is c method body options now none in
     subst (λ (x : Client). IsStep c (starts c.requests.next) x) (sym start.made) (record {
       up = omega arith;
       effect = λ n low.
-          effect n c.requests (started_by c start.id_number method body start.bytes now).requests
-          _ is.requests low
-          (starts_one c.requests _ (id_of c.seed start.id_number) start.bytes c.plan
-          (first_asked c method body now) now start.unrefused refl);
+          effect n c.requests
+          (started_by c start.id_number method body options start.bytes now).requests _ is.requests
+          low
+          (starts_one c.requests _ (id_of c.seed start.id_number) start.bytes
+          (plan_by options c.plan) (first_asked c method body options now) now start.unrefused
+          refl);
       named = refl;
     })
 
@@ -458,10 +474,10 @@ module _ (now k : ℕ) (c : Client) (r : All) (is : IsClient c)
     where
       by : (b : Bool)
           → IsStep c
-          (polled (cond b (given_up k a (with_requests r c)) (sent_by k (with_requests r c))).0)
-          (cond b (given_up k a (with_requests r c)) (sent_by k (with_requests r c))).1
+          (polled (cond b (given_up k a (with_requests r c)) (sent_by now k (with_requests r c))).0)
+          (cond b (given_up k a (with_requests r c)) (sent_by now k (with_requests r c))).1
       by true = given_step a
-      by false = sent_step (changed_at SentOut k r) (quiet_changed SentOut k r)
+      by false = sent_step (changed_at (SentOut now) k r) (quiet_changed (SentOut now) k r)
 
 told_step : (now : ℕ) (c : Client) → IsClient c
     → IsStep c (polled (told now c).0) (told now c).1
@@ -511,9 +527,9 @@ datum_has k a r some = by (id_at k r.numbers) refl some
 
 pub call_step : (c after : Client) (event : Event) → IsClient c → Call c event after
     → IsStep c event after
-call_step c after event is (requests _ _ method body now low none made) =
+call_step c after event is (requests _ _ method body options now low none made) =
     subst (λ (x : Client). IsStep c (starts c.requests.next) x) (sym made)
-    (started_step c method body now is none)
+    (started_step c method body options now is none)
 call_step c after event is (receives _ _ from bytes now answer low heard made) =
     subst (λ (x : Client). IsStep c silent x) (sym made)
     (quiet_step c answer.1 (quiet_heard from bytes now c answer heard))
@@ -521,7 +537,7 @@ call_step c after event is (polls _ _ now says said) =
     subst (λ (p : Poll). IsStep c (polled p.0) p.1) said (told_step now c is)
 call_step c after event is (ends_one _ _ number a some made) =
     let quiet =
-    quiet_canceling number (record { end = how.Cancelled; response = [] }) c.requests in
+    quiet_canceling number (bare_end how.Cancelled) c.requests in
     subst (λ (x : Client). IsStep c (cancels number) x) (sym made) (record {
       up = let same = quiet.next in omega (arith, same);
       effect = λ n low. inl (quiet.still n, refl);
@@ -651,8 +667,8 @@ ends_once n c after events is there (call _ next _ event others made rest) =
 pub starts_new : (c after : Client) (number : ℕ) → IsClient c → Call c (starts number) after
     → (has number after.requests.numbers.known ≡ true)
     × (known_at number c.requests.numbers.known ≡ None)
-starts_new c after number is (requests _ _ method body now low none made) =
-    let start = start_is c method body now none in (
+starts_new c after number is (requests _ _ method body options now low none made) =
+    let start = start_is c method body options now none in (
       ap (λ (x : Client). has c.requests.next x.requests.numbers.known) (made ∙ start.made)
           ∙ ap is_some (at_insert c.requests.next (Outstanding (id_of c.seed start.id_number))
           c.requests.numbers.known c.requests.next

@@ -17,9 +17,7 @@ use Rattle.stun_agent.proofs.Ascending.{lookup-set_other}
 use Rattle.stun_client_requests.specs.Numbers.{IsAt}
 use Rattle.stun_client_requests.proofs.NumberLemmas.{Ascend, apart, lookup_among, own_key, same_key}
 use Rattle.stun_client_requests.proofs.RequestLemmas.{differs, set_same}
-
-pub some_is : {X : Type 0} (x y : X) → Some x ≡ Some y → x ≡ y
-some_is x y e = cc
+use Rattle.stun_client_calls.proofs.TurnLemmas.{some_is}
 
 -- ---- entries
 

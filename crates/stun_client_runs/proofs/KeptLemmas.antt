@@ -1,5 +1,5 @@
 -- A client stays in order over any calls.
-use Rattle.std.proofs.Common.{◌≡◌, ◌≤◌, ℕ, Bool, List, [], Option, Some, None, Ok, Err, ap, arith}
+use Rattle.std.proofs.Common.{◌≡◌, ◌≤◌, ℕ, Bool, List, Option, Some, None, Ok, Err, ap, arith}
 use Rattle.std.proofs.Common.{refl}
 use Rattle.std.proofs.Common.{subst, sym}
 use Rattle.std.specs.declared.net.socket_addr.SocketAddr.{SocketAddr}
@@ -16,16 +16,18 @@ use Rattle.stun_client_calls.specs.Clients.{Client, Poll, cancelled, chosen, fir
 use Rattle.stun_client_calls.specs.Clients.{new_client}
 use Rattle.stun_client_calls.specs.Clients.{started, started_at, started_with}
 use Rattle.stun_client_calls.specs.Clients.{first_asked, forgetting}
-use Rattle.stun_client_calls.specs.Endpoints.{EndSeen}
+use Rattle.stun_client_calls.specs.Endpoints.{EndSeen, bare_end}
+use Rattle.stun_client_calls.specs.Options.{Options}
 use Rattle.stun_client_calls.specs.Runs.{Call, Calls, Event, call, changes_nothing, ends_one}
 use Rattle.stun_client_calls.specs.Runs.{no_call}
 use Rattle.stun_client_calls.specs.Runs.{polls, receives, requests}
 use Rattle.stun_client_calls.specs.Messages.{AskedSeen}
+use Rattle.stun_client_calls.proofs.EachLemmas.{cancel_each}
+use Rattle.stun_client_calls.proofs.HeardLemmas.{chosen_is_free}
 use Rattle.stun_client_runs.specs.Kept.{IsClient}
 use Rattle.stun_client_runs.specs.Noted.{AreNoted, AreRanked, NotesMessages}
-use Rattle.stun_client_runs.proofs.ChangeLemmas.{chosen_is, none_at, started_client}
-use Rattle.stun_client_runs.proofs.ChangeLemmas.{there_by_datum}
-use Rattle.stun_client_runs.proofs.EachLemmas.{IsAfter, Was, after_around, cancel_each, was_same}
+use Rattle.stun_client_runs.proofs.ChangeLemmas.{none_at, started_client, there_by_datum}
+use Rattle.stun_client_runs.proofs.EachLemmas.{IsAfter, Was, after_around, was_same}
 use Rattle.stun_client_runs.proofs.EntryLemmas.{no_keys}
 use Rattle.stun_client_runs.proofs.NotedLemmas.{noted_put}
 use Rattle.stun_client_runs.proofs.PollLemmas.{canceling_client, canceling_noted, told_after}
@@ -57,20 +59,20 @@ new_is transport server counts requires_fingerprint identity form understood tur
       earlier = λ id q there. cc;
     }
 
-pub started_is : (method : ℕ) (body : Body) (now : ℕ) (c : Client) → IsClient c
-    → IsClient (started method body now c)
-started_is method body now c is = by (chosen c) refl
+pub started_is : (method : ℕ) (body : Body) (options : Option Options) (now : ℕ) (c : Client)
+    → IsClient c → IsClient (started method body options now c)
+started_is method body options now c is = by (chosen c) refl
   where
     written : (number : ℕ) → chosen c ≡ Some number → (page : Page?)
-        → first_message c method number body ≡ page
-        → IsClient (started_with c number method body now page)
+        → first_message c method number body options ≡ page
+        → IsClient (started_with c number method body options now page)
     written number some (Err why) page = is
     written number some (Ok bytes) page =
-        started_client c number method body bytes now is some page
+        started_client c number method body options bytes now is some page
 
-    by : (o : Option ℕ) → chosen c ≡ o → IsClient (started_at c method body now o)
+    by : (o : Option ℕ) → chosen c ≡ o → IsClient (started_at c method body options now o)
     by None some = is
-    by (Some number) some = written number some (first_message c method number body) refl
+    by (Some number) some = written number some (first_message c method number body options) refl
 
 pub cancelled_after : (number : ℕ) (a : AskedSeen) (c : Client) → IsClient c
     → datum_of number c.requests ≡ Some a → IsAfter c (cancelled number c)
@@ -85,11 +87,11 @@ cancelled_after number a c is some =
     notes))
   where
     last : EndSeen
-    last = record { end = how.Cancelled; response = [] }
+    last = bare_end how.Cancelled
 
 pub call_is : (c after : Client) (event : Event) → IsClient c → Call c event after → IsClient after
-call_is c after event is (requests _ _ method body now low none made) =
-    subst IsClient (sym made) (started_is method body now c is)
+call_is c after event is (requests _ _ method body options now low none made) =
+    subst IsClient (sym made) (started_is method body options now c is)
 call_is c after event is (receives _ _ from bytes now answer low heard made) =
     subst IsClient (sym made) (heard_after from bytes now c answer is heard).client
 call_is c after event is (polls _ _ now says said) =
@@ -121,11 +123,11 @@ new_noted transport server counts requires_fingerprint identity form understood 
       noted = λ id number there. cc;
     }
 
-started_noted : (method : ℕ) (body : Body) (now : ℕ) (c : Client) → NotesMessages c
-    → NotesMessages (started method body now c)
-started_noted method body now c notes = by (chosen c) refl
+started_noted : (method : ℕ) (body : Body) (options : Option Options) (now : ℕ) (c : Client)
+    → NotesMessages c → NotesMessages (started method body options now c)
+started_noted method body options now c notes = by (chosen c) refl
   where
-    first : AreRanked c.turns (first_asked c method body now)
+    first : AreRanked c.turns (first_asked c method body options now)
     first = record {
       ascending = no_keys;
       turns = omega arith;
@@ -135,21 +137,21 @@ started_noted method body now c notes = by (chosen c) refl
     }
 
     written : (number : ℕ) → chosen c ≡ Some number → (page : Page?)
-        → NotesMessages (started_with c number method body now page)
+        → NotesMessages (started_with c number method body options now page)
     written number some (Err why) = notes
     written number some (Ok bytes) =
         noted_put c.turns c.earlier c.requests.table.attached notes (id_of c.seed number)
-        (record { number = c.requests.next; datum = first_asked c method body now })
-        (none_at (id_of c.seed number) c.requests.table.attached (chosen_is c number some)) first
+        (record { number = c.requests.next; datum = first_asked c method body options now })
+        (none_at (id_of c.seed number) c.requests.table.attached (chosen_is_free c number some)) first
 
-    by : (o : Option ℕ) → chosen c ≡ o → NotesMessages (started_at c method body now o)
+    by : (o : Option ℕ) → chosen c ≡ o → NotesMessages (started_at c method body options now o)
     by None some = notes
-    by (Some number) some = written number some (first_message c method number body)
+    by (Some number) some = written number some (first_message c method number body options)
 
 call_noted : (c after : Client) (event : Event) → IsClient c → NotesMessages c
     → Call c event after → NotesMessages after
-call_noted c after event is notes (requests _ _ method body now low none made) =
-    subst NotesMessages (sym made) (started_noted method body now c notes)
+call_noted c after event is notes (requests _ _ method body options now low none made) =
+    subst NotesMessages (sym made) (started_noted method body options now c notes)
 call_noted c after event is notes (receives _ _ from bytes now answer low heard made) =
     subst NotesMessages (sym made) ((heard_after from bytes now c answer is heard).noted notes)
 call_noted c after event is notes (polls _ _ now says said) =

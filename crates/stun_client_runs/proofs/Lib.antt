@@ -10,8 +10,12 @@ pub mod TurnLemmas
 pub mod NotedLemmas
 -- each request was there before
 pub mod EachLemmas
+-- what holds of each stored request and its transaction ID
+pub mod EachAtLemmas
 -- one poll
 pub mod PollLemmas
+-- what a poll of the table says of its requests
+pub mod PollAtLemmas
 -- one datagram
 pub mod ReceivingLemmas
 -- any calls
@@ -20,3 +24,5 @@ pub mod KeptLemmas
 pub mod EffectLemmas
 -- bytes, over any calls
 pub mod SentLemmas
+-- round trips, over any calls
+pub mod RoundTripLemmas

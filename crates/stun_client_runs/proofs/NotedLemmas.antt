@@ -16,10 +16,12 @@ use Rattle.stun_client_calls.specs.Messages.{AllSent, AskedSeen, SentSeen, TurnS
 use Rattle.stun_client_calls.specs.Messages.{leaves_doubt, rank_after, turned, with_former}
 use Rattle.stun_client_calls.specs.Messages.{without_message}
 use Rattle.stun_client_calls.specs.Receiving.{exchanged_ids}
+use Rattle.stun_client_calls.proofs.EachLemmas.{Stored}
+use Rattle.stun_client_calls.proofs.TurnLemmas.{some_is}
 use Rattle.stun_client_runs.specs.Kept.{sent_at}
 use Rattle.stun_client_runs.specs.Noted.{AreNoted, AreRanked, HasEarlier}
-use Rattle.stun_client_runs.proofs.ChangeLemmas.{HasSameMessages, Stored}
-use Rattle.stun_client_runs.proofs.EntryLemmas.{at_other, at_own, at_set, at_split, some_is}
+use Rattle.stun_client_runs.proofs.ChangeLemmas.{HasSameMessages}
+use Rattle.stun_client_runs.proofs.EntryLemmas.{at_other, at_own, at_set, at_split}
 
 -- ---- IDs that are forgotten
 

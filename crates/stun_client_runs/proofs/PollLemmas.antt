@@ -19,10 +19,8 @@ use Rattle.stun_agent.specs.Transactions.{Transaction, at as transaction_at, rou
 use Rattle.stun_agent.proofs.Ascending.{IsAscending-insert, IsAscending-remove}
 use Rattle.stun_client_requests.specs.Laws.{IsRequests}
 use Rattle.stun_client_requests.specs.Numbers.{AllKnown, IsAt, NumbersSeen, after_end}
-use Rattle.stun_client_requests.specs.Numbers.{after_removal}
-use Rattle.stun_client_requests.specs.Numbers.{end_in, end_of_first, first_ended, first_in}
-use Rattle.stun_client_requests.specs.Numbers.{first_unsent, id_at, id_in}
-use Rattle.stun_client_requests.specs.Numbers.{known_at, others_in, without_first}
+use Rattle.stun_client_requests.specs.Numbers.{after_removal, end_of_first, first_in, first_unsent}
+use Rattle.stun_client_requests.specs.Numbers.{id_at, id_in, known_at, others_in, without_first}
 use Rattle.stun_client_requests.specs.Numbers.{without_first_unsent}
 use Rattle.stun_client_requests.specs.Requests.{Poll as PollOf, after_answering, after_canceling}
 use Rattle.stun_client_requests.specs.Requests.{after_removing, after_replacing}
@@ -30,12 +28,12 @@ use Rattle.stun_client_requests.specs.Requests.{datum_of, ends_or}
 use Rattle.stun_client_requests.specs.Requests.{number_at, over, over_or, polled, repeated}
 use Rattle.stun_client_requests.specs.Requests.{repeats_or, unsent_or}
 use Rattle.stun_client_requests.specs.declared.numbers.Known.{Known}
-use Rattle.stun_client_requests.specs.declared.numbers.Known.TheVariants.{Ended, Outstanding}
+use Rattle.stun_client_requests.specs.declared.numbers.Known.TheVariants.{Ended}
 use Rattle.stun_client_requests.specs.declared.requests.Polled.{Polled as OfRequests}
 use Rattle.stun_client_requests.specs.declared.requests.Polled.TheVariants as Of
 use Rattle.stun_client_requests.specs.declared.requests.Request.{Request}
 use Rattle.stun_client_requests.proofs.IndexLemmas.{without_some}
-use Rattle.stun_client_requests.proofs.LawLemmas.{has}
+use Rattle.stun_client_requests.proofs.LawLemmas.{IsFirstEnd, first_end, has}
 use Rattle.stun_client_requests.proofs.NumberLemmas.{Ascend, own_key}
 use Rattle.stun_client_requests.proofs.RequestLemmas.{at_insert, at_remove, attached_over}
 use Rattle.stun_client_requests.proofs.RequestLemmas.{attached_sent}
@@ -47,24 +45,25 @@ use Rattle.stun_client_calls.specs.Endpoints.{EndSeen, without_all}
 use Rattle.stun_client_calls.specs.Messages.{AskedSeen, is_late, stepped_back}
 use Rattle.stun_client_calls.specs.declared.asked.Change.{Change}
 use Rattle.stun_client_calls.specs.declared.asked.Change.TheVariants.{Noted, Refused, SentOut}
+use Rattle.stun_client_calls.proofs.EachLemmas.{Each, Stored, polls_each, remove_each, replace_each}
+use Rattle.stun_client_calls.proofs.TurnLemmas.{All, some_is}
 use Rattle.stun_client_runs.specs.Kept.{IsClient}
 use Rattle.stun_client_runs.specs.Noted.{AreNoted, NotesMessages}
-use Rattle.stun_client_runs.proofs.ChangeLemmas.{All, HasSameMessages, IsThere, Stored, id_is}
-use Rattle.stun_client_runs.proofs.ChangeLemmas.{other_client, out_client, replaced_client}
-use Rattle.stun_client_runs.proofs.ChangeLemmas.{sent_client, there_by_datum, there_by_id}
-use Rattle.stun_client_runs.proofs.EachLemmas.{Each, IsAfter, Was, after_around, after_none}
-use Rattle.stun_client_runs.proofs.EachLemmas.{after_then}
-use Rattle.stun_client_runs.proofs.EachLemmas.{after_with, polls_each, remove_each, replace_each}
-use Rattle.stun_client_runs.proofs.EachLemmas.{was_same, was_there}
+use Rattle.stun_client_runs.proofs.ChangeLemmas.{HasSameMessages, IsThere, id_is, other_client}
+use Rattle.stun_client_runs.proofs.ChangeLemmas.{out_client, replaced_client, sent_client}
+use Rattle.stun_client_runs.proofs.ChangeLemmas.{there_by_datum, there_by_id}
+use Rattle.stun_client_runs.proofs.EachLemmas.{IsAfter, Was, after_around, after_none, after_then}
+use Rattle.stun_client_runs.proofs.EachLemmas.{after_with, was_same, was_there}
 use Rattle.stun_client_runs.proofs.NotedLemmas.{noted_out, noted_set}
-use Rattle.stun_client_runs.proofs.EntryLemmas.{among, at_split, some_is}
+use Rattle.stun_client_runs.proofs.EntryLemmas.{among, at_split}
 
 -- ---- changes of what is stored of a request
 
 same_messages : (change : Change) (a : AskedSeen) → HasSameMessages a (changed change a)
-same_messages SentOut a = record {
+same_messages (SentOut now) a = record {
   method = refl;
   body = refl;
+  options = refl;
   signed_for = refl;
   earlier = refl;
   rank = refl;
@@ -73,6 +72,7 @@ same_messages SentOut a = record {
 same_messages (Noted why code) a = record {
   method = refl;
   body = refl;
+  options = refl;
   signed_for = refl;
   earlier = refl;
   rank = refl;
@@ -81,6 +81,7 @@ same_messages (Noted why code) a = record {
 same_messages (Refused code) a = record {
   method = refl;
   body = refl;
+  options = refl;
   signed_for = refl;
   earlier = refl;
   rank = refl;
@@ -123,7 +124,7 @@ changed_after change n c is = by (datum_of n c.requests) refl
         (replaced_client c n (changed change a) is its)
         (replace_each (Was c) c.requests (was_same c) n (changed change a)
         (was_there c n a (changed change a) (there_by_datum c.requests n a is.requests some)
-        keeps.method keeps.body))
+        keeps.method keeps.body keeps.options))
         (λ notes. replaced_noted c n (changed change a) is.requests its notes)
 
 -- ---- ends
@@ -319,30 +320,6 @@ id_has k id s some = by (known_at k s.known) some
     by : (o : Option (Known EndSeen)) → option_and_then id_in o ≡ Some id → is_some o ≡ true
     by None some = cc
     by (Some v) some = refl
-
--- the first end is that of a request that has ended
-pub record IsFirstEnd (s : NumbersSeen EndSeen) (p : ℕ × EndSeen) : Type 0 where
-  pub first : first_ended s ≡ Some p.0
-  pub there : known_at p.0 s.known ≡ Some (Ended p.1)
-
-first_end : (s : NumbersSeen EndSeen) (p : ℕ × EndSeen) → end_of_first s ≡ Some p → IsFirstEnd s p
-first_end s p some = by (first_ended s) refl some
-  where
-    at : (k : ℕ) (o : Option (Known EndSeen)) → known_at k s.known ≡ o → first_ended s ≡ Some k
-        → option_map (λ end. (k, end)) (option_and_then end_in o) ≡ Some p → IsFirstEnd s p
-    at k None is first some = cc
-    at k (Some (Outstanding id)) is first some = cc
-    at k (Some (Ended end)) is first some =
-        let same : (k, end) ≡ p = some_is (k, end) p some in
-        subst (λ (x : ℕ × EndSeen). IsFirstEnd s x) same (record { first = first; there = is })
-
-    by : (o : Option ℕ) → first_ended s ≡ o
-        → option_and_then
-        (λ k. option_map (λ end. (k, end)) (option_and_then end_in (known_at k s.known))) o
-        ≡ Some p
-        → IsFirstEnd s p
-    by None is some = cc
-    by (Some k) is some = at k (known_at k s.known) refl is some
 
 -- an end is handed out
 pub ended_client : (c : Client) (p : ℕ × EndSeen) → IsClient c
@@ -549,13 +526,13 @@ handed_after : (now n : ℕ) (c : Client) → IsClient c → (o : Option AskedSe
 handed_after now n c is None some = after_none c is
 handed_after now n c is (Some a) some = by (is_late now a)
   where
-    by : (b : Bool) → IsAfter c (cond b (given_up n a c) (sent_by n c)).1
+    by : (b : Bool) → IsAfter c (cond b (given_up n a c) (sent_by now n c)).1
     by true =
         after_around c (after_removing n c.requests) (stepped_back a c.standing) c.next_id
         (without_all a.earlier c.earlier) (removing_client n c is)
         (remove_each (Was c) c.requests (was_same c) is.requests.one.in_order n)
         (λ notes. removing_noted n c a is (there_by_datum c.requests n a is.requests some) notes)
-    by false = changed_after SentOut n c is
+    by false = changed_after (SentOut now) n c is
 
 pub told_after : (now : ℕ) (c : Client) → IsClient c → IsAfter c (told now c).1
 told_after now c is =

@@ -3,9 +3,9 @@ use Rattle.std.proofs.Common.{◌<◌, ◌≡◌, ◌∙◌, ◌⊎◌, ℕ, Boo
 use Rattle.std.proofs.Common.{None, Ok, Err}
 use Rattle.std.proofs.Common.{◌+◌, cond, inl, inr, length, refl, subst, sym}
 use Rattle.std.specs.BTreeMap.{is_at}
-use Rattle.std.specs.Option.{is_none, is_some, option_and_then, option_map}
+use Rattle.std.specs.Option.{is_some, option_and_then, option_map}
 use Rattle.std.specs.Ordering.{nat_cmp}
-use Rattle.std.specs.Prelude.{◌&&◌, ◌||◌, ⊤, find}
+use Rattle.std.specs.Prelude.{◌&&◌, ⊤, find}
 use Rattle.std.specs.declared.net.socket_addr.SocketAddr.{SocketAddr}
 use Rattle.stun_base.specs.Header.{transaction_id_field}
 use Rattle.stun_base.specs.MessageType.{class_in}
@@ -17,77 +17,63 @@ use Rattle.stun_agent.specs.Statistics.{Tally}
 use Rattle.stun_agent.specs.Tables.{datum_at, request_in}
 use Rattle.stun_client.specs.Challenges.{Answered}
 use Rattle.stun_client.specs.Challenging.{code_in}
-use Rattle.stun_client.specs.Clients.{confirming}
+use Rattle.stun_client.specs.Standing.{confirming}
 use Rattle.stun_client.specs.Ids.{id_of}
-use Rattle.stun_client.specs.Judging.{Verdict, anew, believed, doubted, dropped, refused}
+use Rattle.stun_client.specs.Judging.{Verdict}
 use Rattle.stun_client.specs.Outcomes.{outcome_of}
-use Rattle.stun_client.specs.Requests.{is_answer}
+use Rattle.stun_client.specs.Answers.{is_answer}
 use Rattle.stun_client.specs.Standing.{StandingSeen}
 use Rattle.stun_client_calls.specs.Receiving.{is_success_class}
 use Rattle.stun_client_endpoint.specs.Written.{Page?}
 use Rattle.stun_client_endpoint.specs.declared.ended.DropReason.{DropReason}
-use Rattle.stun_client_endpoint.specs.declared.ended.DropReason.TheVariants.{LateChallenge}
 use Rattle.stun_client_endpoint.specs.declared.ended.DropReason.TheVariants as Reasons
-use Rattle.stun_client_endpoint.specs.declared.ended.DropReason.TheVariants.{NotVerified}
 use Rattle.stun_client_endpoint.specs.declared.ended.RequestEnd.TheVariants as how
-use Rattle.stun_client_endpoint.specs.declared.told.Received.TheVariants.{NotOurs}
+use Rattle.stun_client_endpoint.specs.declared.told.Received.TheVariants.{Indication, NotOurs}
 use Rattle.stun_client_requests.specs.Laws.{IsRequests}
 use Rattle.stun_client_requests.specs.Requests.{after_again, after_answering, after_replacing}
 use Rattle.stun_client_requests.specs.Requests.{datum_of, number_at}
 use Rattle.stun_client_requests.specs.declared.requests.Request.{Request}
 use Rattle.stun_client_requests.proofs.NumberLemmas.{apart}
-use Rattle.stun_client_calls.specs.Clients.{Client, chosen}
-use Rattle.stun_client_calls.specs.Deciding.{DecisionSeen, Place, answered, begun_again}
-use Rattle.stun_client_calls.specs.Deciding.{decided, drops, giving_way, is_idle, is_spent}
-use Rattle.stun_client_calls.specs.Deciding.{place_of, refuses, turns, turns_for, unauthorized}
-use Rattle.stun_client_calls.specs.Deciding.{undoubted}
-use Rattle.stun_client_calls.specs.Endpoints.{EndSeen, without_all}
+use Rattle.stun_client_calls.specs.Clients.{Client, chosen, plan_for}
+use Rattle.stun_client_calls.specs.Deciding.{DecisionSeen, Place, answered}
+use Rattle.stun_client_calls.specs.Deciding.{decided, drops}
+use Rattle.stun_client_calls.specs.Deciding.{refuses, turns, unauthorized}
+use Rattle.stun_client_calls.specs.Endpoints.{EndSeen, bare_end, without_all}
 use Rattle.stun_client_calls.specs.Ids.{number_in}
 use Rattle.stun_client_calls.specs.Laws.{IsAnswerOrDrop, decision_on}
-use Rattle.stun_client_calls.specs.Messages.{AllSent, AskedSeen, SentSeen, eligible, has_unsigned}
-use Rattle.stun_client_calls.specs.Messages.{is_late, message_at, message_for}
-use Rattle.stun_client_calls.specs.Messages.{counted_on, new_asked, rank_after, signed_eligible}
+use Rattle.stun_client_calls.specs.Messages.{AllSent, AskedSeen, SentSeen}
+use Rattle.stun_client_calls.specs.Messages.{message_at}
+use Rattle.stun_client_calls.specs.Messages.{counted_on, new_asked, rank_after}
 use Rattle.stun_client_calls.specs.Messages.{turned}
 use Rattle.stun_client_calls.specs.Receiving.{Answer, Memory, Met, Spot, UnlessMemory}
-use Rattle.stun_client_calls.specs.Receiving.{answered_in, as_current, as_earlier, as_expected}
+use Rattle.stun_client_calls.specs.Receiving.{as_current, as_earlier, as_expected}
 use Rattle.stun_client_calls.specs.Receiving.{by_class, by_decision, by_met, current_of}
 use Rattle.stun_client_calls.specs.Receiving.{decision_for}
 use Rattle.stun_client_calls.specs.Receiving.{dropping, earlier_of, ended_by, exchanged_ids}
-use Rattle.stun_client_calls.specs.Receiving.{forgone, if_method, notes as notes_of}
-use Rattle.stun_client_calls.specs.Receiving.{judge_of, met, met_by, moment_of, received, spot_of}
+use Rattle.stun_client_calls.specs.Receiving.{forgone, heard_in, if_method, judge_for, met, met_by}
+use Rattle.stun_client_calls.specs.Receiving.{moment_of, notes as notes_of, received}
+use Rattle.stun_client_calls.specs.Receiving.{round_trip_of, spot_of}
 use Rattle.stun_client_calls.specs.Receiving.{turn_to, turned_at, turned_by, turned_to}
 use Rattle.stun_client_calls.specs.Receiving.{unwritten, without_memory}
 use Rattle.stun_client_calls.specs.Writing.{message_bytes}
 use Rattle.stun_client_calls.specs.declared.asked.Change.TheVariants.{Noted, Refused as RefusedOf}
-use Rattle.stun_client_calls.specs.declared.deciding.Limits.{Limits}
 use Rattle.stun_client_calls.specs.declared.turning.Why.{Why}
-use Rattle.stun_client_calls.specs.declared.turning.Why.TheVariants.{Challenged, Doubted, Refused}
 use Rattle.stun_client_calls.proofs.DecidingLemmas.{earlier_answers_or_drops, within}
+use Rattle.stun_client_calls.proofs.EachLemmas.{answer_each}
+use Rattle.stun_client_calls.proofs.HeardLemmas.{chosen_is_free}
+use Rattle.stun_client_calls.proofs.PlaceLemmas.{IsPlace, IsPlaced, placed}
+use Rattle.stun_client_calls.proofs.ReceivingLemmas.{heard_is}
+use Rattle.stun_client_calls.proofs.TurnLemmas.{All, some_is}
 use Rattle.stun_client_runs.specs.Kept.{AreDerived, IsClient, IsCurrent, IsDerived, sent_at}
 use Rattle.stun_client_runs.specs.Noted.{AreNoted, AreRanked, NotesMessages}
-use Rattle.stun_client_runs.proofs.ChangeLemmas.{All, IsThere, chosen_is, none_at, number_is}
-use Rattle.stun_client_runs.proofs.ChangeLemmas.{there_by_datum}
-use Rattle.stun_client_runs.proofs.EachLemmas.{IsAfter, Was, after_around, after_none}
-use Rattle.stun_client_runs.proofs.EachLemmas.{answer_each, was_same, was_there}
-use Rattle.stun_client_runs.proofs.EntryLemmas.{find_there, some_is}
+use Rattle.stun_client_runs.proofs.ChangeLemmas.{IsThere, none_at, number_is, there_by_datum}
+use Rattle.stun_client_runs.proofs.EachLemmas.{IsAfter, Was, after_around, after_none, was_same}
+use Rattle.stun_client_runs.proofs.EachLemmas.{was_there}
+use Rattle.stun_client_runs.proofs.EntryLemmas.{find_there}
 use Rattle.stun_client_runs.proofs.NotedLemmas.{IsRankFor, former_earlier, noted_moved}
 use Rattle.stun_client_runs.proofs.NotedLemmas.{ranked_turned, stays_earlier}
 use Rattle.stun_client_runs.proofs.PollLemmas.{answering_client, answering_noted, changed_after}
 use Rattle.stun_client_runs.proofs.TurnLemmas.{IsMoved, derived_former, moved, moved_is, moved_so}
-
--- ---- where a message stands that becomes the current one again
-
--- something holds of its rank and its ID, if it is an earlier message
-abbrev IsPlace : (Place → Type 0) → Option Place → Type 0
-IsPlace P None = ⊤
-IsPlace P (Some p) = P p
-
-abbrev IsPlaced : (Place → Type 0) → DecisionSeen → Type 0
-IsPlaced P (answered by) = ⊤
-IsPlaced P unauthorized = ⊤
-IsPlaced P (turns why place d) = IsPlace P place
-IsPlaced P refuses = ⊤
-IsPlaced P (drops why) = ⊤
 
 found_derived : (seed : List ℕ) (p : ℕ × SentSeen → Bool) (es : AllSent) → AreDerived seed es
     → (e : ℕ × SentSeen) → find p es ≡ Some e → IsDerived seed e.1.id
@@ -99,67 +85,6 @@ found_derived seed p (x ∷ xs) are e is = by (p x) is (found_derived seed p xs 
     by true is rest =
         subst (λ (y : ℕ × SentSeen). IsDerived seed y.1.id) (some_is x e is) are.0
     by false is rest = rest is
-
--- it holds of each earlier message that a search finds
-module _ (P : Place → Type 0) (a : AskedSeen)
-    (found : (p : ℕ × SentSeen → Bool) (e : ℕ × SentSeen) → find p a.earlier ≡ Some e
-    → P (place_of e)) where
-  placed_for : (c : Answered) → IsPlace P (option_map place_of (message_for c a.earlier))
-  placed_for c = by (message_for c a.earlier) (found _)
-    where
-      by : (o : Option (ℕ × SentSeen)) → ((e : ℕ × SentSeen) → o ≡ Some e → P (place_of e))
-          → IsPlace P (option_map place_of o)
-      by None each = tt
-      by (Some e) each = each e refl
-
-  placed_anew : (why : Why) (c : Answered) (late spent : Bool)
-      → IsPlaced P
-      (cond late (drops LateChallenge) (cond spent unauthorized (turns_for why c a)))
-  placed_anew why c true spent = tt
-  placed_anew why c false true = tt
-  placed_anew why c false false = placed_for c
-
-  placed_undoubted : (o : Option (ℕ × SentSeen))
-      → ((e : ℕ × SentSeen) → o ≡ Some e → P (place_of e)) → IsPlaced P (undoubted o)
-  placed_undoubted None each = tt
-  placed_undoubted (Some e) each = each e refl
-
-  placed_again : (b : Bool) → IsPlaced P (cond b (drops NotVerified) (turns Doubted None None))
-  placed_again true = tt
-  placed_again false = tt
-
-  placed_without : (standing : StandingSeen) (b : Bool)
-      → IsPlaced P (cond b (undoubted (signed_eligible standing a.earlier)) (begun_again a))
-  placed_without standing true =
-      placed_undoubted (signed_eligible standing a.earlier) (found _)
-  placed_without standing false = placed_again (has_unsigned a.earlier)
-
-  placed_way : (standing : StandingSeen) (o : Option (ℕ × SentSeen))
-      → ((e : ℕ × SentSeen) → o ≡ Some e → P (place_of e))
-      → IsPlaced P (giving_way standing a o)
-  placed_way standing None each = placed_without standing (is_none a.signed_for)
-  placed_way standing (Some e) each = each e refl
-
-  placed_doubt : (standing : StandingSeen) (b : Bool)
-      → IsPlaced P
-      (cond b (drops NotVerified) (giving_way standing a (eligible standing a.earlier)))
-  placed_doubt standing true = tt
-  placed_doubt standing false = placed_way standing (eligible standing a.earlier) (found _)
-
-  placed_refusal : (b : Bool) → IsPlaced P (cond b unauthorized refuses)
-  placed_refusal true = tt
-  placed_refusal false = tt
-
-  placed : (limits : Limits) (standing : StandingSeen) (now : ℕ) (v : Verdict)
-      → IsPlaced P (decided limits standing now a v)
-  placed limits standing now (believed by) = tt
-  placed limits standing now (anew c) =
-      placed_anew Challenged c (is_late now a) (is_spent limits a)
-  placed limits standing now (refused None) =
-      placed_refusal (limits.is_reliable || a.refusals.is_earlier)
-  placed limits standing now (refused (Some c)) = placed_anew Refused c (is_late now a) _
-  placed limits standing now doubted = placed_doubt standing (is_idle limits now a)
-  placed limits standing now (dropped why) = tt
 
 -- its ID is derived from the seed
 abbrev FromSeed : List ℕ → Place → Type 0
@@ -210,7 +135,7 @@ met_earlier c id n m i is = by (datum_of n c.requests) refl is
     by None some is = cc
     by (Some a) some is = of a some (message_at id a.earlier) is
 
-met_is : (c : Client) (id : ℕ) (m : Met) → IsRequests c.requests → met id c ≡ Some m → IsMet c id m
+pub met_is : (c : Client) (id : ℕ) (m : Met) → IsRequests c.requests → met id c ≡ Some m → IsMet c id m
 met_is c id m i is = by (number_at id c.requests.table.attached) refl is
   where
     noted : (o : Option ℕ) → option_and_then (earlier_of id c) o ≡ Some m → IsMet c id m
@@ -250,7 +175,7 @@ spot_is c a None s at is = by (chosen c) refl is
     by None some is = cc
     by (Some number) some is =
         subst (λ (x : Spot). IsSpot c x) (some_is _ s is) (record {
-          free = chosen_is c number some;
+          free = chosen_is_free c number some;
           from_seed = record { id_number = number; derived = refl };
         })
 spot_is c a (Some p) s at is = by (number_at p.1 c.requests.table.attached) refl is
@@ -310,13 +235,13 @@ turned_to_after memory c now response m why d s bytes is at now_current spot ran
     b = turned memory.is_kept (transaction_id_field response) (turn_to s why d) m.asked
 
     empty : AskedSeen
-    empty = new_asked m.asked.method [] 0 None
+    empty = new_asked m.asked.method [] None 0 None
 
     requests : All
     requests =
         after_replacing m.number b
         (after_again m.number (record { count = length response; moment = Some now }) s.id bytes
-        c.plan empty now c.requests)
+        (plan_for c m.asked) empty now c.requests)
 
     current : IsCurrent c at.stored.id at.stored.q.datum
     current = is.current at.stored.id at.stored.q at.stored.there
@@ -339,20 +264,20 @@ turned_to_after memory c now response m why d s bytes is at now_current spot ran
     moves : (sent : Tally) × (answered : Tally)
         × (after_replacing m.number b
         (after_again m.number (record { count = length response; moment = Some now }) s.id bytes
-        c.plan empty now c.requests)
-        ≡ moved c.requests m.number at.stored.id s.id (request_in c.requests.table bytes c.plan now)
-        empty b sent answered)
+        (plan_for c m.asked) empty now c.requests)
+        ≡ moved c.requests m.number at.stored.id s.id
+        (request_in c.requests.table bytes (plan_for c m.asked) now) empty b sent answered)
     moves =
         moved_is c.requests m.number at.stored.id s.id now
-        (record { count = length response; moment = Some now }) bytes c.plan empty b
+        (record { count = length response; moment = Some now }) bytes (plan_for c m.asked) empty b
         current.transaction at.stored.named current.sent off
 
     moving : IsMoved c m.number at.stored.id s.id b requests
     moving =
         subst (λ (r : All). IsMoved c m.number at.stored.id s.id b r) (sym moves.2)
         (moved_so c m.number at.stored.id s.id at.stored.q empty b
-        (request_in c.requests.table bytes c.plan now) moves.0 moves.1 is at.stored.named
-        at.stored.there at.stored.number spot.free spot.from_seed is.server written
+        (request_in c.requests.table bytes (plan_for c m.asked) now) moves.0 moves.1 is
+        at.stored.named at.stored.there at.stored.number spot.free spot.from_seed is.server written
         (derived_former c.seed memory.is_kept m.asked.rank s.rank _ m.asked.earlier own
         (subst (λ (x : AskedSeen). AreDerived c.seed x.earlier) at.stored.datum
         (is.earlier at.stored.id at.stored.q at.stored.there))))
@@ -391,7 +316,7 @@ turned_to_after memory c now response m why d s bytes is at now_current spot ran
         → (record { number = m.number; datum = b } ≡ p)
         ⊎ (datum_at k c.requests.table.attached ≡ Some p) → Was c p
     by k p (inl new) = subst (λ (x : Request AskedSeen). Was c x) new
-        (was_there c m.number m.asked b at.stored refl refl)
+        (was_there c m.number m.asked b at.stored refl refl refl)
     by k p (inr old) = was_same c k p old
 
 dropping_after : (n : ℕ) (why : DropReason) (bytes : List ℕ) (c : Client) → IsClient c
@@ -456,7 +381,7 @@ IfRanked c a (drops why) = ⊤
 
 ranked_if : (c : Client) (now : ℕ) (a : AskedSeen) (w : Verdict) (v : DecisionSeen)
     → (NotesMessages c → AreRanked c.turns a)
-    → decided (judge_of c).limits c.standing now a w ≡ v → IfRanked c a v
+    → decided (judge_for c a).limits c.standing now a w ≡ v → IfRanked c a v
 ranked_if c now a w (answered by) ranked is = tt
 ranked_if c now a w unauthorized ranked is = tt
 ranked_if c now a w (turns why place d) ranked is = λ notes.
@@ -464,8 +389,8 @@ ranked_if c now a w (turns why place d) ranked is = λ notes.
       subst (IsPlaced (IsOf a)) is
           (placed (IsOf a) a
           (λ p e found. (e.1, find_there p a.earlier e its.ascending found, refl))
-          (judge_of c).limits c.standing now w),
-      (within (judge_of c).limits c.standing now a w why place d is).in_limit,
+          (judge_for c a).limits c.standing now w),
+      (within (judge_for c a).limits c.standing now a w why place d is).in_limit,
     )
 ranked_if c now a w refuses ranked is = tt
 ranked_if c now a w (drops why) ranked is = tt
@@ -488,11 +413,13 @@ decided_after : (memory : Memory) (c : Client) (now : ℕ) (bytes : List ℕ) (m
     → IsAfter c (by_decision memory c now bytes m v).1
 decided_after memory c now bytes m (answered by) is at where_it_is turn ranks =
     ended_after c (confirming (is_success_class (class_in bytes)) c.standing m.signed_for)
-    (record { end = how.Answered (outcome_of c.understood bytes) by; response = bytes }) bytes now m
-    is at.stored
+    (record {
+      end = how.Answered (outcome_of c.understood bytes) by;
+      response = bytes;
+      round_trip = round_trip_of now m;
+    }) bytes now m is at.stored
 decided_after memory c now bytes m unauthorized is at where_it_is turn ranks =
-    ended_after c c.standing (record { end = how.Unauthorized; response = [] }) bytes now m is
-    at.stored
+    ended_after c c.standing (bare_end how.Unauthorized) bytes now m is at.stored
 decided_after memory c now bytes m (turns why place d) is at where_it_is turn ranks =
     turned_at_after memory c now bytes m why d place is at turn where_it_is ranks
 decided_after memory c now bytes m refuses is at where_it_is turn ranks =
@@ -500,58 +427,62 @@ decided_after memory c now bytes m refuses is at where_it_is turn ranks =
 decided_after memory c now bytes m (drops why) is at where_it_is turn ranks =
     dropping_after m.number why bytes c is
 
-met_after : (memory : Memory) (c : Client) (now : ℕ) (bytes : List ℕ) → IsClient c
-    → IsAfter c (by_met memory c now bytes (answered_in bytes c)).1
-met_after memory c now bytes is = by (answered_in bytes c) refl
+met_after : (memory : Memory) (from : SocketAddr) (c : Client) (now : ℕ) (bytes : List ℕ)
+    → IsClient c → IsAfter c (by_met memory c now bytes (heard_in from bytes c)).1
+met_after memory from c now bytes is = by (heard_in from bytes c) refl
   where
-    by : (o : Option Met) → answered_in bytes c ≡ o → IsAfter c (by_met memory c now bytes o).1
+    by : (o : Option Met) → heard_in from bytes c ≡ o → IsAfter c (by_met memory c now bytes o).1
     by None none = after_none c is
     by (Some m) some =
         let at =
         met_is c (transaction_id_field bytes) m is.requests
-        (answered_is bytes (met (transaction_id_field bytes) c) m some) in
+        (answered_is bytes (met (transaction_id_field bytes) c) m
+        (heard_is from bytes c m some)) in
         let are : AreDerived c.seed m.asked.earlier =
         subst (λ (x : AskedSeen). AreDerived c.seed x.earlier) at.stored.datum
         (is.earlier at.stored.id at.stored.q at.stored.there) in
         decided_after memory c now bytes m (decision_for c now bytes m) is at
         (placed (FromSeed c.seed) m.asked
-        (λ p e found. found_derived c.seed p m.asked.earlier are e found) (judge_of c).limits
-        c.standing now _)
+        (λ p e found. found_derived c.seed p m.asked.earlier are e found)
+        (judge_for c m.asked).limits c.standing now _)
         (turn_of_current m.is_current (decision_for c now bytes m) (λ off.
         subst
-        (λ b. IsAnswerOrDrop (decision_on (judge_of c) b now m.asked m.signed_for bytes))
-        (sym off) (earlier_answers_or_drops (judge_of c) now m.asked m.signed_for bytes)))
+        (λ b. IsAnswerOrDrop (decision_on (judge_for c m.asked) b now m.asked m.signed_for bytes))
+        (sym off) (earlier_answers_or_drops (judge_for c m.asked) now m.asked m.signed_for bytes)))
         (ranked_if c now m.asked _ (decision_for c now bytes m)
         (λ notes.
         subst (λ (x : AskedSeen). AreRanked c.turns x) at.stored.datum
         (notes.ranked at.stored.id at.stored.q at.stored.there)) refl)
 
-class_after : (memory : Memory) (c : Client) (now : ℕ) (bytes : List ℕ) (class : MessageClass)
-    → IsClient c → IsAfter c (by_class memory c now bytes class).1
-class_after memory c now bytes Classes.Request is = after_none c is
-class_after memory c now bytes Classes.Indication is = after_none c is
-class_after memory c now bytes Classes.Success is = met_after memory c now bytes is
-class_after memory c now bytes Classes.Error is = met_after memory c now bytes is
+class_after : (memory : Memory) (from : SocketAddr) (c : Client) (now : ℕ) (bytes : List ℕ)
+    (class : MessageClass) → IsClient c → IsAfter c (by_class memory from c now bytes class).1
+class_after memory from c now bytes Classes.Request is = after_none c is
+class_after memory from c now bytes Classes.Indication is = by (is_same_address from c.server)
+  where
+    by : (b : Bool) → IsAfter c (cond {A = Answer} b (Indication bytes, c) (NotOurs, c)).1
+    by true = after_none c is
+    by false = after_none c is
+class_after memory from c now bytes Classes.Success is = met_after memory from c now bytes is
+class_after memory from c now bytes Classes.Error is = met_after memory from c now bytes is
 
 pub received_after : (memory : Memory) (from : SocketAddr) (bytes : List ℕ) (now : ℕ) (c : Client)
     → IsClient c → IsAfter c (received memory from bytes now c).1
-received_after memory from bytes now c is =
-    by (is_some (refusal bytes)) (is_same_address from c.server)
+received_after memory from bytes now c is = by (is_some (refusal bytes))
   where
-    by : (a b : Bool)
-        → IsAfter c (cond a (NotOurs, c) (cond b (by_class memory c now bytes (class_in bytes))
-        (NotOurs, c))).1
-    by true b = after_none c is
-    by false true = class_after memory c now bytes (class_in bytes) is
-    by false false = after_none c is
+    by : (b : Bool)
+        → IsAfter c (cond b (NotOurs, c) (by_class memory from c now bytes (class_in bytes))).1
+    by true = after_none c is
+    by false = class_after memory from c now bytes (class_in bytes) is
 
 pub heard_after : (from : SocketAddr) (bytes : List ℕ) (now : ℕ) (c : Client) (answer : Answer)
-    → IsClient c → UnlessMemory (λ memory. received memory from bytes now c) bytes c answer
+    → IsClient c
+    → UnlessMemory (λ memory. received memory from bytes now c) bytes (heard_in from bytes c) c
+    answer
     → IsAfter c answer.1
 heard_after from bytes now c answer is (as_expected memory same) =
     subst (λ (a : Answer). IsAfter c a.1) (sym same) (received_after memory from bytes now c is)
 heard_after from bytes now c answer is (forgone same) =
-    subst (λ (a : Answer). IsAfter c a.1) (sym same) (by (answered_in bytes c))
+    subst (λ (a : Answer). IsAfter c a.1) (sym same) (by (heard_in from bytes c))
   where
     by : (o : Option Met) → IsAfter c (without_memory bytes c o).1
     by None = after_none c is

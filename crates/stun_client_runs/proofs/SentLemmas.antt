@@ -19,17 +19,19 @@ use Rattle.stun_client_calls.specs.Clients.{sent_by, started, started_by, told, 
 use Rattle.stun_client_calls.specs.Clients.{with_requests}
 use Rattle.stun_client_calls.specs.Endpoints.{EndSeen}
 use Rattle.stun_client_calls.specs.Messages.{AskedSeen, is_late}
+use Rattle.stun_client_calls.specs.Options.{Options, identity_by}
 use Rattle.stun_client_calls.specs.Runs.{Call, Calls, Event, call, changes_nothing, ends_one}
 use Rattle.stun_client_calls.specs.Runs.{next_number}
 use Rattle.stun_client_calls.specs.Runs.{no_call, polls, receives, requests}
 use Rattle.stun_client_calls.specs.declared.asked.Change.{Change}
 use Rattle.stun_client_calls.specs.declared.asked.Change.TheVariants.{SentOut}
+use Rattle.stun_client_calls.proofs.EachLemmas.{Each, put_each}
+use Rattle.stun_client_calls.proofs.TurnLemmas.{All}
 use Rattle.stun_client_runs.specs.Kept.{IsClient, IsCurrent}
 use Rattle.stun_client_runs.specs.Sent.{Asking, HasItsBytes, IsSentAs, asking}
-use Rattle.stun_client_runs.proofs.ChangeLemmas.{All, IsSame, IsThere}
-use Rattle.stun_client_runs.proofs.ChangeLemmas.{there_by_datum, there_by_id, written_alike}
-use Rattle.stun_client_runs.proofs.EachLemmas.{Each, IsAfter, Was}
-use Rattle.stun_client_runs.proofs.EachLemmas.{put_each}
+use Rattle.stun_client_runs.proofs.ChangeLemmas.{IsSame, IsThere, there_by_datum, there_by_id}
+use Rattle.stun_client_runs.proofs.ChangeLemmas.{written_alike}
+use Rattle.stun_client_runs.proofs.EachLemmas.{IsAfter, Was}
 use Rattle.stun_client_runs.proofs.EffectLemmas.{call_step, start_is}
 use Rattle.stun_client_runs.proofs.KeptLemmas.{cancelled_after, started_is}
 use Rattle.stun_client_runs.proofs.PollLemmas.{IsPolled, polled_client}
@@ -38,7 +40,7 @@ use Rattle.stun_client_runs.proofs.ReceivingLemmas.{heard_after}
 
 -- ---- what is to be sent is there
 
-numbers_changed : (change : Change) (n : ℕ) (r : All) → (changed_at change n r).numbers ≡ r.numbers
+pub numbers_changed : (change : Change) (n : ℕ) (r : All) → (changed_at change n r).numbers ≡ r.numbers
 numbers_changed change n r = by (datum_of n r)
   where
     replaced : (b : AskedSeen) (o : Option ℕ) → (option_map_or (λ id. record r {
@@ -69,14 +71,14 @@ transmits now n c after is said = by (polled_in now c.requests) (polled_client n
     handed k r there (Some a) said = late (is_late now a) said
       where
         late : (b : Bool)
-            → cond b (given_up k a (with_requests r c)) (sent_by k (with_requests r c))
+            → cond b (given_up k a (with_requests r c)) (sent_by now k (with_requests r c))
             ≡ (transmit n, after)
             → IsSome (id_at n after.requests.numbers)
         late true said = let no = ap (λ (p : Poll). p.0) said in cc
         late false said =
             subst (λ (x : Client). IsSome (id_at n x.requests.numbers))
             (ap (λ (p : Poll). p.1) said)
-            (ap (λ s. is_some (id_at n s)) (numbers_changed SentOut k r)
+            (ap (λ s. is_some (id_at n s)) (numbers_changed (SentOut now) k r)
             ∙ subst (λ j. IsSome (id_at j r.numbers)) (told_is k n (ap (λ (p : Poll). p.0) said))
             there)
 
@@ -123,9 +125,10 @@ sends_what_is_there now n c after is said =
 
 -- ---- the request that was started
 
--- a request with its number has its method and its body
+-- a request with its number has its method, its body and its options
 abbrev Own : Asking → Request AskedSeen → Type 0
-Own s q = q.number ≡ s.number → (q.datum.method ≡ s.method) × (q.datum.body ≡ s.body)
+Own s q = q.number ≡ s.number
+    → (q.datum.method ≡ s.method) × (q.datum.body ≡ s.body) × (q.datum.options ≡ s.options)
 
 record IsLike (s : Asking) (c : Client) : Type 0 where
   pub is : IsClient c
@@ -153,7 +156,7 @@ own_was : (s : Asking) (c : Client) (p : Request AskedSeen) → Each (Own s) c.r
     → Was c p → Own s p
 own_was s c p each was number =
     let before = each was.id was.q was.there (was.number ∙ number) in
-    (was.method ∙ before.0, was.body ∙ before.1)
+    (was.method ∙ before.0, was.body ∙ before.1, was.options ∙ before.2)
 
 -- a call that starts nothing
 like_after : (s : Asking) (c after : Client) → IsAfter c after → s.number < after.requests.next
@@ -163,18 +166,19 @@ like_after s c after is low like =
     (λ id p there. own_was s c p like.each (is.each id p there)) like
 
 -- another request is started
-like_started : (s : Asking) (c : Client) (method : ℕ) (body : Body) (now : ℕ)
-    → s.number < (started method body now c).requests.next
-    → refusal_to_start c method body ≡ None → IsLike s c → IsLike s (started method body now c)
-like_started s c method body now low none like =
-    let start = start_is c method body now none in
+like_started : (s : Asking) (c : Client) (method : ℕ) (body : Body) (options : Option Options)
+    (now : ℕ) → s.number < (started method body options now c).requests.next
+    → refusal_to_start c method body options ≡ None → IsLike s c
+    → IsLike s (started method body options now c)
+like_started s c method body options now low none like =
+    let start = start_is c method body options now none in
     subst (λ (x : Client). IsLike s x) (sym start.made)
-    (like_same s c (started_by c start.id_number method body start.bytes now)
+    (like_same s c (started_by c start.id_number method body options start.bytes now)
     (record { server = refl; form = refl; identity = refl; seed = refl })
-    (subst IsClient start.made (started_is method body now c like.is))
+    (subst IsClient start.made (started_is method body options now c like.is))
     (subst (λ (x : Client). s.number < x.requests.next) start.made low)
     (put_each (Own s) c.requests.table.attached like.each (id_of c.seed start.id_number)
-    (record { number = c.requests.next; datum = first_asked c method body now })
+    (record { number = c.requests.next; datum = first_asked c method body options now })
     (λ equal. absurd (other equal)))
     like)
   where
@@ -193,9 +197,9 @@ like_call s c after event made like = by after event made low
 
     by : (after : Client) (event : Event) → Call c event after → s.number < after.requests.next
         → IsLike s after
-    by after event (requests _ _ method body now late none is) low =
+    by after event (requests _ _ method body options now late none is) low =
         subst (λ (x : Client). IsLike s x) (sym is)
-        (like_started s c method body now
+        (like_started s c method body options now
         (subst (λ (x : Client). s.number < x.requests.next) is low) none like)
     by after event (receives _ _ from bytes now answer late heard is) low =
         subst (λ (x : Client). IsLike s x) (sym is)
@@ -217,18 +221,18 @@ like_calls s c after events (call _ next _ event others made rest) like =
     like_calls s next after others rest (like_call s c next event made like)
 
 -- the request is started
-like_new : (c : Client) (method : ℕ) (body : Body) (now : ℕ) → IsClient c
-    → refusal_to_start c method body ≡ None
-    → IsLike (asking c method body) (started method body now c)
-like_new c method body now is none =
-    let start = start_is c method body now none in
-    subst (λ (x : Client). IsLike (asking c method body) x) (sym start.made) (record {
-      is = subst IsClient start.made (started_is method body now c is);
+like_new : (c : Client) (method : ℕ) (body : Body) (options : Option Options) (now : ℕ)
+    → IsClient c → refusal_to_start c method body options ≡ None
+    → IsLike (asking c method body options) (started method body options now c)
+like_new c method body options now is none =
+    let start = start_is c method body options now none in
+    subst (λ (x : Client). IsLike (asking c method body options) x) (sym start.made) (record {
+      is = subst IsClient start.made (started_is method body options now c is);
       low = omega arith;
-      each = put_each (Own (asking c method body)) c.requests.table.attached (λ id q there. old id q
-          there) (id_of c.seed start.id_number)
-          (record { number = c.requests.next; datum = first_asked c method body now })
-          (λ equal. (refl, refl));
+      each = put_each (Own (asking c method body options)) c.requests.table.attached
+          (λ id q there. old id q there) (id_of c.seed start.id_number)
+          (record { number = c.requests.next; datum = first_asked c method body options now })
+          (λ equal. (refl, refl, refl));
       server = refl;
       form = refl;
       identity = refl;
@@ -236,7 +240,7 @@ like_new c method body now is none =
     })
   where
     old : (id : ℕ) (q : Request AskedSeen) → datum_at id c.requests.table.attached ≡ Some q
-        → Own (asking c method body) q
+        → Own (asking c method body options) q
     old id q there equal =
         let named : id_at c.requests.next c.requests.numbers ≡ Some id =
         is.requests.one.named id c.requests.next
@@ -259,23 +263,29 @@ sent_as s c a low like some =
     (let own = like.each at.id at.q at.there at.number in (
       ap (λ (x : AskedSeen). x.method) (sym at.datum) ∙ own.0,
       ap (λ (x : AskedSeen). x.body) (sym at.datum) ∙ own.1,
+      ap (λ (x : AskedSeen). x.options) (sym at.datum) ∙ own.2,
     ))
   where
     by : (at : IsThere c.requests s.number a) → IsCurrent c at.id a
-        → (a.method ≡ s.method) × (a.body ≡ s.body) → IsSentAs s a c
+        → (a.method ≡ s.method) × (a.body ≡ s.body) × (a.options ≡ s.options) → IsSentAs s a c
     by at current own =
         let derived : at.id ≡ id_of s.seed current.from_seed.id_number =
         current.from_seed.derived
         ∙ ap (λ seed. id_of seed current.from_seed.id_number) like.seed in
-        let written : request_bytes s.form s.identity a.signed_for s.method at.id s.body
+        let who : identity_by s.options s.identity ≡ identity_by a.options c.identity =
+        ap (λ i. identity_by s.options i) (sym like.identity)
+        ∙ ap (λ o. identity_by o c.identity) (sym own.2) in
+        let written : request_bytes s.form (identity_by s.options s.identity) a.signed_for s.method
+        at.id s.body
         ≡ Ok current.transaction.bytes =
-        written_alike s.form c.form s.identity c.identity a.signed_for a.signed_for s.method
-        a.method at.id s.body a.body (sym like.form) (sym like.identity) refl (sym own.0)
-        (sym own.1)
+        written_alike s.form c.form (identity_by s.options s.identity)
+        (identity_by a.options c.identity) a.signed_for a.signed_for s.method a.method at.id s.body
+        a.body (sym like.form) who refl (sym own.0) (sym own.1)
         ∙ current.written in
         record {
           method = own.0;
           body = own.1;
+          options = own.2;
           id = at.id;
           id_number = current.from_seed.id_number;
           derived = derived;
@@ -283,9 +293,10 @@ sent_as s c a low like some =
           bytes = current.transaction.bytes;
           there = bytes_are c s.number at.id current.transaction at.named current.sent;
           written = written;
-          kind = request_type s.form s.identity a.signed_for s.method current.from_seed.id_number
-              s.seed s.body current.transaction.bytes low
-              (subst (λ k. request_bytes s.form s.identity a.signed_for s.method k s.body
+          kind = request_type s.form (identity_by s.options s.identity) a.signed_for s.method
+              current.from_seed.id_number s.seed s.body current.transaction.bytes low
+              (subst (λ k. request_bytes s.form (identity_by s.options s.identity) a.signed_for
+              s.method k s.body
               ≡ Ok current.transaction.bytes) derived written);
           named = current.named;
           transaction = current.transaction;
@@ -294,33 +305,37 @@ sent_as s c a low like some =
           same = refl;
         }
 
-pub keeps_its_bytes : (c later : Client) (between : List Event) (method : ℕ) (body : Body) (now : ℕ)
-    (a : AskedSeen) → IsClient c → method < 4096 → refusal_to_start c method body ≡ None
-    → Calls (started method body now c) between later
-    → datum_of (next_number c) later.requests ≡ Some a → IsSentAs (asking c method body) a later
-keeps_its_bytes c later between method body now a is low none calls some =
-    sent_as (asking c method body) later a low
-    (like_calls (asking c method body) (started method body now c) later between calls
-    (like_new c method body now is none)) some
+pub keeps_its_bytes : (c later : Client) (between : List Event) (method : ℕ) (body : Body)
+    (options : Option Options) (now : ℕ) (a : AskedSeen) → IsClient c → method < 4096
+    → refusal_to_start c method body options ≡ None
+    → Calls (started method body options now c) between later
+    → datum_of (next_number c) later.requests ≡ Some a
+    → IsSentAs (asking c method body options) a later
+keeps_its_bytes c later between method body options now a is low none calls some =
+    sent_as (asking c method body options) later a low
+    (like_calls (asking c method body options) (started method body options now c) later between
+    calls (like_new c method body options now is none)) some
 
 pub sends_its_bytes : (c later last : Client) (between : List Event) (method : ℕ) (body : Body)
-    (start now : ℕ) → IsClient c → method < 4096 → refusal_to_start c method body ≡ None
-    → Calls (started method body start c) between later
-    → told now later ≡ (transmit (next_number c), last) → HasItsBytes (asking c method body) last
-sends_its_bytes c later last between method body start now is low none calls said =
+    (options : Option Options) (start now : ℕ) → IsClient c → method < 4096
+    → refusal_to_start c method body options ≡ None
+    → Calls (started method body options start c) between later
+    → told now later ≡ (transmit (next_number c), last)
+    → HasItsBytes (asking c method body options) last
+sends_its_bytes c later last between method body options start now is low none calls said =
     let like =
-    like_calls (asking c method body) (started method body start c) later between calls
-    (like_new c method body start is none) in
-    by (like_call (asking c method body) later last _ (polls later last now _ said) like)
+    like_calls (asking c method body options) (started method body options start c) later between
+    calls (like_new c method body options start is none) in
+    by (like_call (asking c method body options) later last _ (polls later last now _ said) like)
     (transmits now (next_number c) later last like.is said)
   where
-    by : IsLike (asking c method body) last
+    by : IsLike (asking c method body options) last
         → IsSome (id_at (next_number c) last.requests.numbers)
-        → HasItsBytes (asking c method body) last
+        → HasItsBytes (asking c method body options) last
     by like some =
         let stored = stored_bytes last (next_number c) like.is some in
         record {
           asked = stored.0;
           there = stored.1;
-          sent = sent_as (asking c method body) last stored.0 low like stored.1;
+          sent = sent_as (asking c method body options) last stored.0 low like stored.1;
         }

@@ -30,16 +30,19 @@ use Rattle.stun_client_calls.specs.Clients.{Client, with_requests}
 use Rattle.stun_client_calls.specs.Endpoints.{EndSeen}
 use Rattle.stun_client_calls.specs.Messages.{AllSent, AskedSeen, SentSeen, with_former}
 use Rattle.stun_client_calls.specs.Messages.{without_message}
+use Rattle.stun_client_calls.specs.Options.{identity_by}
 use Rattle.stun_client_calls.specs.Writing.{message_bytes}
+use Rattle.stun_client_calls.proofs.EachLemmas.{Stored}
+use Rattle.stun_client_calls.proofs.TurnLemmas.{All, some_is}
 use Rattle.stun_client_runs.specs.Kept.{AreDerived, IsClient, IsCurrent, IsDerived}
-use Rattle.stun_client_runs.proofs.ChangeLemmas.{All, IsSame, Stored, bytes_same, current_on}
-use Rattle.stun_client_runs.proofs.ChangeLemmas.{number_is, put_unsent}
+use Rattle.stun_client_runs.proofs.ChangeLemmas.{IsSame, bytes_same, current_on, number_is}
+use Rattle.stun_client_runs.proofs.ChangeLemmas.{put_unsent}
 use Rattle.stun_client_runs.proofs.EntryLemmas.{among_insert, at_other, at_own, at_set, at_split}
-use Rattle.stun_client_runs.proofs.EntryLemmas.{ordered_insert, some_is}
+use Rattle.stun_client_runs.proofs.EntryLemmas.{ordered_insert}
 
 -- ---- earlier messages
 
-all_left : {X : Type 0} (P : X → Type 0) (test : ℕ → Bool) (es : List (ℕ × X))
+pub all_left : {X : Type 0} (P : X → Type 0) (test : ℕ → Bool) (es : List (ℕ × X))
     → AllByRecursion (λ (e : ℕ × X). P e.1) es
     → AllByRecursion (λ (e : ℕ × X). P e.1) (remove_entry test es)
 all_left P test [] a = tt
@@ -50,7 +53,7 @@ all_left {X} P test (e ∷ es) a = by (test e.0) (all_left P test es a.1)
     by true rest = a.1
     by false rest = (a.0, rest)
 
-all_with : {X : Type 0} (P : X → Type 0) (es : List (ℕ × X)) (k : ℕ) (w : X) → P w
+pub all_with : {X : Type 0} (P : X → Type 0) (es : List (ℕ × X)) (k : ℕ) (w : X) → P w
     → AllByRecursion (λ (e : ℕ × X). P e.1) es
     → AllByRecursion (λ (e : ℕ × X). P e.1) (insert_entry nat_cmp es k w)
 all_with P [] k w own a = (own, tt)
@@ -270,9 +273,10 @@ module _ (c : Client) (n former id : ℕ) (q : Request AskedSeen) (empty b : Ask
     to = to;
     written = written;
     named =
-        request_id c.form c.identity b.signed_for b.method own_id.id_number c.seed b.body t.bytes
-        (subst (λ k. request_bytes c.form c.identity b.signed_for b.method k b.body ≡ Ok t.bytes)
-        own_id.derived written)
+        request_id c.form (identity_by b.options c.identity) b.signed_for b.method
+        own_id.id_number c.seed b.body t.bytes
+        (subst (λ k. request_bytes c.form (identity_by b.options c.identity) b.signed_for b.method k
+        b.body ≡ Ok t.bytes) own_id.derived written)
         ∙ sym own_id.derived;
   }
 
@@ -330,7 +334,7 @@ module _ (c : Client) (n former id : ℕ) (q : Request AskedSeen) (empty b : Ask
           subst (λ j. IsCurrent after j p.datum) (sym new.0)
           (subst (λ (x : Request AskedSeen). IsCurrent after id x.datum) new.1 own)
       | inr old ↦
-          current_on c after k p.datum p.datum same refl refl refl
+          current_on c after k p.datum p.datum same refl refl refl refl
           (bytes_same k timers timers_left (other_timers k old.0 old.1)) (is.current k p old.2)
     ];
     earlier = λ k p here. elim (which k p here) [

@@ -1,4 +1,4 @@
--- What holds of every client, from its creation on and over any calls (RFC 8489, sections 5, 6.1,
+-- What holds for every client, from its creation on and over any calls (RFC 8489, sections 5, 6.1,
 -- 6.2.1 and 9.2.5).
 use Rattle.std.specs.Prelude.{◌≡◌, ℕ, Bool, true, List, Option, Some, Ok}
 use Rattle.std.specs.BTreeMap.{is_at}
@@ -34,8 +34,9 @@ pub record IsDerived (seed : List ℕ) (id : ℕ) : Type 0 where
   pub derived : id ≡ id_of seed id_number
 
 -- the current message of a request has this transaction ID, which is derived from the seed. Its
--- bytes are those of the request's method and body, signed for the challenge that is stored with
--- it. They have this ID, and the table has sent them to the server and sends them again
+-- bytes are those of the request's method and body, written with the identity of the client for
+-- this request with its options, and signed for the challenge that is stored with it. They have
+-- this ID, and the table has sent them to the server and sends them again
 pub record IsCurrent (c : Client) (id : ℕ) (a : AskedSeen) : Type 0 where
   pub from_seed : IsDerived c.seed id
   pub transaction : Transaction
@@ -54,14 +55,14 @@ AreDerived seed earlier = AllByRecursion (λ e. IsDerived seed e.1.id) earlier
 
 -- ---- a client
 
--- whether the bytes of the request with this number were not handed out yet
+-- whether the bytes of the request with this number were not returned yet
 abbrev pub is_unsent : ℕ → List ℕ → Bool
 is_unsent number unsent = list_any (is_at (nat_cmp number)) unsent
 
--- what holds of every client: each outstanding request is in its table once (`requests`), under the
--- transaction ID of its current message, and each timer is that of an outstanding request
--- (`owned`). Bytes that were not handed out yet are those of an outstanding request (`unsent`). The
--- table goes to the server. The messages of each request are in order (`current`, `earlier`)
+-- what holds for every client: each outstanding request is in its table once (`requests`), under
+-- the transaction ID of its current message, and each timer is that of an outstanding request
+-- (`owned`). Bytes that were not returned yet are those of an outstanding request (`unsent`). The
+-- table sends to the server. The messages of each request are in order (`current`, `earlier`)
 pub record IsClient (c : Client) : Type 0 where
   pub requests : IsRequests c.requests
   pub timers : IsAscending c.requests.table.requests
@@ -76,7 +77,7 @@ pub record IsClient (c : Client) : Type 0 where
   pub earlier : (id : ℕ) (q : Request AskedSeen) → datum_at id c.requests.table.attached ≡ Some q
       → AreDerived c.seed q.datum.earlier
 
--- it holds of a client that has asked nothing
+-- this holds for a client that has no requests yet
 abbrev pub BeginsAsClient : Type 0
 BeginsAsClient = (transport : TransportType) (server : SocketAddr)
     (counts requires_fingerprint : Bool) (identity : Identity) (form : Form)
@@ -85,7 +86,7 @@ BeginsAsClient = (transport : TransportType) (server : SocketAddr)
     (new_client transport server counts requires_fingerprint identity form understood turns plan
     seed)
 
--- over any calls, what holds of every client still holds
+-- over any calls, what holds for every client still holds
 abbrev pub StaysAClient : Type 0
 StaysAClient = (c after : Client) (events : List Event) → IsClient c → Calls c events after
     → IsClient after

@@ -9,11 +9,11 @@ use Rattle.stun_client_calls.specs.Clients.{Client, told, transmit}
 use Rattle.stun_client_calls.specs.Runs.{Call, Calls, Event, count_ends, count_names, starts}
 use Rattle.stun_client_runs.specs.Kept.{IsClient}
 
--- a request with this number was started, and its end was not handed out yet
+-- a request with this number was started, and its end was not returned yet
 abbrev pub IsStarted : ℕ → Client → Type 0
 IsStarted number c = IsStored number c.requests
 
--- it was started, and its end was handed out
+-- the request was started, and its end was returned
 abbrev pub IsOver : ℕ → Client → Type 0
 IsOver number c = IsOverIn number c.requests
 
@@ -22,8 +22,8 @@ abbrev pub StartsOne : Type 0
 StartsOne = (c after : Client) (number : ℕ) → IsClient c → Call c (starts number) after
     → IsStarted number after × (known_at number c.requests.numbers.known ≡ None)
 
--- over any calls, a started request is stored and its end was not handed out, or it is over and its
--- end was handed out once
+-- over any calls, a started request is stored and its end was not returned, or it is over and its
+-- end was returned once
 abbrev pub EndsOnce : Type 0
 EndsOnce = (number : ℕ) (c after : Client) (events : List Event) → IsClient c → IsStarted number c
     → Calls c events after
@@ -35,7 +35,7 @@ abbrev pub StaysOver : Type 0
 StaysOver = (number : ℕ) (c after : Client) (events : List Event) → IsClient c → IsOver number c
     → Calls c events after → IsOver number after × (count_names number events ≡ 0)
 
--- a request whose bytes a poll asks for is outstanding, so that there are bytes
+-- a request whose bytes a poll says to send is outstanding, so there are bytes
 abbrev pub TransmitsWhatIsThere : Type 0
 TransmitsWhatIsThere = (now number : ℕ) (c after : Client) → IsClient c
     → told now c ≡ (transmit number, after) → IsSome (bytes_at number after.requests)

@@ -1,10 +1,12 @@
--- What the contracts of this crate say, in the order to read it.
+-- What the contracts of this crate say, in reading order.
 
--- what holds of every client
+-- what holds for every client
 pub mod Kept
 -- which request an earlier message belongs to
 pub mod Noted
 -- the requests of a client over any calls
 pub mod Laws
--- whose bytes are sent
+-- which bytes are sent
 pub mod Sent
+-- the round trips of responses
+pub mod RoundTrips

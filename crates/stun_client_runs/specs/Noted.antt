@@ -29,7 +29,7 @@ pub record HasEarlier (id number : ℕ) (all : Attached (Request AskedSeen)) : T
   pub stored : sent_at rank request.datum.earlier ≡ Some message
   pub named : message.id ≡ id
 
--- the earlier messages of a request are in the order of their ranks, which are not that of the
+-- the earlier messages of a request are in the order of their ranks, none of which is that of the
 -- current one. The next message that is sent for the first time has a lower rank than all of them
 pub record AreRanked (most : ℕ) (a : AskedSeen) : Type 0 where
   pub ascending : IsStrictlySortedBy nat_cmp (keys_of a.earlier)
@@ -39,7 +39,7 @@ pub record AreRanked (most : ℕ) (a : AskedSeen) : Type 0 where
   pub above : (rank : ℕ) (s : SentSeen) → sent_at rank a.earlier ≡ Some s
       → rank_after a.turns ≤ rank
 
--- each ID that is noted is that of an earlier message of an outstanding request
+-- each ID that is recorded is that of an earlier message of an outstanding request
 pub record AreNoted (most : ℕ) (ids : Earlier) (all : Attached (Request AskedSeen)) : Type 0 where
   pub limit : most ≤ 4294967295
   pub in_order : IsStrictlySortedBy nat_cmp (keys_of ids)
@@ -49,7 +49,7 @@ pub record AreNoted (most : ℕ) (ids : Earlier) (all : Attached (Request AskedS
 abbrev pub NotesMessages : Client → Type 0
 NotesMessages c = AreNoted c.turns c.earlier c.requests.table.attached
 
--- it holds of a client that has asked nothing. The limit of other messages has 32 bits
+-- this holds for a client that has no requests yet. The limit of other messages has 32 bits
 abbrev pub BeginsNoted : Type 0
 BeginsNoted = (transport : TransportType) (server : SocketAddr)
     (counts requires_fingerprint : Bool) (identity : Identity) (form : Form)
@@ -59,7 +59,7 @@ BeginsNoted = (transport : TransportType) (server : SocketAddr)
     (new_client transport server counts requires_fingerprint identity form understood turns plan
     seed)
 
--- and any calls keep it
+-- and any calls preserve it
 abbrev pub StaysNoted : Type 0
 StaysNoted = (c after : Client) (events : List Event) → IsClient c → NotesMessages c
     → Calls c events after → NotesMessages after

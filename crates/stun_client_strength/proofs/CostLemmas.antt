@@ -2,18 +2,14 @@
 use Rattle.std.proofs.Common.{◌≡◌, ◌∙◌, ◌≤◌, ◌+◌, ℕ, Bool, true, false, List, [], ◌∷◌, length}
 use Rattle.std.proofs.Common.{Option, Some, None, Ok, Err, ap, arith, cond, refl, subst, sym}
 use Rattle.std.specs.Bool.{⊤}
-use Rattle.std.specs.Option.{IsSome, is_none, option_and_then, option_map}
+use Rattle.std.specs.Option.{is_none, option_and_then, option_map}
 use Rattle.std.specs.Prelude.{◌||◌}
 use Rattle.std.specs.declared.net.socket_addr.SocketAddr.{SocketAddr}
 use Rattle.stun_base.specs.Header.{transaction_id_field}
 use Rattle.stun_base.specs.Moments.{last_moment}
-use Rattle.stun_agent.specs.Tables.{datum_at}
-use Rattle.stun_agent.proofs.Ascending.{lookup-insert_same}
 use Rattle.stun_client.specs.Challenges.{Answered}
 use Rattle.stun_client.specs.Challenging.{code_in}
-use Rattle.stun_client.specs.Ids.{id_of}
 use Rattle.stun_client.specs.Judging.{anew, refused}
-use Rattle.stun_client_endpoint.specs.Bodies.{Body}
 use Rattle.stun_client_endpoint.specs.Settings.{is_reliable}
 use Rattle.stun_client_endpoint.specs.Refusals.{after_refusal, after_sending}
 use Rattle.stun_client_endpoint.specs.Written.{Page?}
@@ -21,40 +17,32 @@ use Rattle.stun_client_endpoint.specs.declared.ended.DropReason.TheVariants.{Lat
 use Rattle.stun_client_endpoint.specs.declared.ended.RequestEnd.TheVariants as how
 use Rattle.stun_client_endpoint.specs.declared.refusals.Refusals.{Refusals}
 use Rattle.stun_client_endpoint.specs.declared.told.Received.TheVariants.{Consumed}
-use Rattle.stun_client_requests.specs.Numbers.{id_at, id_in}
-use Rattle.stun_client_requests.specs.Requests.{Poll as PollOf, after_replacing}
-use Rattle.stun_client_requests.specs.Requests.{datum_of, polled}
-use Rattle.stun_client_requests.specs.declared.numbers.Known.TheVariants.{Outstanding}
+use Rattle.stun_client_requests.specs.Numbers.{id_in}
+use Rattle.stun_client_requests.specs.Requests.{Poll as PollOf, after_replacing, datum_of, polled}
 use Rattle.stun_client_requests.specs.declared.requests.Polled.TheVariants as Of
-use Rattle.stun_client_requests.specs.declared.requests.Request.{Request}
 use Rattle.stun_client_calls.specs.Clients.{Client, Poll, Told, by_polled, changed_at, given_up}
-use Rattle.stun_client_calls.specs.Clients.{chosen, first_asked, first_message, handed_out_of}
-use Rattle.stun_client_calls.specs.Clients.{refusal_to_start, sent_by, started, started_at}
-use Rattle.stun_client_calls.specs.Clients.{started_by, started_with, told, transmit}
-use Rattle.stun_client_calls.specs.Clients.{with_requests}
-use Rattle.stun_client_calls.specs.Deciding.{drops, is_spent, place_of, refuses}
-use Rattle.stun_client_calls.specs.Messages.{is_late}
-use Rattle.stun_client_calls.specs.Deciding.{turns_for, unauthorized}
-use Rattle.stun_client_calls.specs.Endpoints.{EndSeen}
-use Rattle.stun_client_calls.specs.Messages.{AskedSeen, is_late as is_late_in, message_for}
-use Rattle.stun_client_calls.specs.Messages.{refusing, sent_out, turned}
+use Rattle.stun_client_calls.specs.Clients.{handed_out_of, sent_by, told, transmit, with_requests}
+use Rattle.stun_client_calls.specs.Deciding.{drops, is_spent, place_of, refuses, turns_for}
+use Rattle.stun_client_calls.specs.Deciding.{unauthorized}
+use Rattle.stun_client_calls.specs.Messages.{is_late, AskedSeen, is_late as is_late_in}
+use Rattle.stun_client_calls.specs.Messages.{message_for, refusing, sent_out, turned}
+use Rattle.stun_client_calls.specs.Endpoints.{EndSeen, bare_end}
 use Rattle.stun_client_calls.specs.Receiving.{Answer, Memory, Met, Spot, as_expected, by_decision}
-use Rattle.stun_client_calls.specs.Receiving.{judge_of, moment_of, received, spot_of, turn_to}
+use Rattle.stun_client_calls.specs.Receiving.{judge_for, moment_of, received, spot_of, turn_to}
 use Rattle.stun_client_calls.specs.Receiving.{turned_at, turned_by, unauthorized_by}
-use Rattle.stun_client_calls.specs.Runs.{Call, Event, call, next_number, no_call}
-use Rattle.stun_client_calls.specs.Runs.{polled as says_so, polls, receives, requests}
-use Rattle.stun_client_calls.specs.Runs.{silent, starts}
+use Rattle.stun_client_calls.specs.Runs.{Call, Event, call, no_call, polled as says_so, polls}
+use Rattle.stun_client_calls.specs.Runs.{receives, silent}
 use Rattle.stun_client_calls.specs.Writing.{message_bytes}
 use Rattle.stun_client_calls.specs.declared.asked.Change.TheVariants.{Refused, SentOut}
 use Rattle.stun_client_calls.specs.declared.turning.Why.TheVariants as Why
+use Rattle.stun_client_calls.proofs.TurnLemmas.{All, IsOne}
 use Rattle.stun_client_runs.specs.Kept.{IsClient, StaysAClient}
 use Rattle.stun_client_runs.specs.Laws.{TransmitsWhatIsThere}
-use Rattle.stun_client_strength.specs.Costs.{IsRefusedRun, between, challenged, over}
-use Rattle.stun_client_strength.specs.Costs.{refused_by, sent}
+use Rattle.stun_client_strength.specs.Costs.{IsRefusedRun, between, challenged, over, refused_by}
+use Rattle.stun_client_strength.specs.Costs.{sent}
 use Rattle.stun_client_strength.specs.Hearing.{message_answered, response_verdict}
-use Rattle.stun_client_strength.proofs.EachLemmas.{All, IsOne, datum_in, numbered, replaced_is}
-use Rattle.stun_client_strength.proofs.EachLemmas.{some_is}
-use Rattle.stun_client_strength.proofs.PollLemmas.{outstanding, sent_datum}
+use Rattle.stun_client_runs.proofs.EachAtLemmas.{datum_in, replaced_is}
+use Rattle.stun_client_runs.proofs.PollAtLemmas.{outstanding, sent_datum}
 use Rattle.stun_client_strength.proofs.RefusingLemmas.{changed_is, decides, ended_there, heard_met}
 
 -- ---- what is stored then
@@ -66,7 +54,7 @@ ended_none : (c : Client) (now : ℕ) (bytes : List ℕ) (m : Met)
 ended_none c now bytes m some =
     ap (λ o. datum_in (unauthorized_by c now bytes m).1.requests (option_and_then id_in o))
     (ended_there m.number (length bytes) (moment_of now m)
-    (record { end = how.Unauthorized; response = [] }) m.asked c.requests some)
+    (bare_end how.Unauthorized) m.asked c.requests some)
 
 -- what one response leaves of a request
 pub record IsLeft (signed_for : Option Answered → Type 0) (refusals : Refusals) (b : AskedSeen)
@@ -74,7 +62,7 @@ pub record IsLeft (signed_for : Option Answered → Type 0) (refusals : Refusals
   pub signed : signed_for b.signed_for
   pub counts : b.refusals ≡ refusals
 
-nothing_left : (number : ℕ) (r : All) (b : AskedSeen) (P : Type 0) → datum_of number r ≡ None
+pub nothing_left : (number : ℕ) (r : All) (b : AskedSeen) (P : Type 0) → datum_of number r ≡ None
     → datum_of number r ≡ Some b → P
 nothing_left number r b P none some =
     let clash : ◌≡◌ {A = Option AskedSeen} None (Some b) = sym none ∙ some in
@@ -134,10 +122,10 @@ module _ (memory : Memory) (from : SocketAddr) (bytes : List ℕ) (now : ℕ) (c
       → datum_of m.number next.requests ≡ Some b
       → IsLeft (λ o. is_none o ≡ false) (after_sending false m.asked.refusals) b
   challenged_left x verdict is b some =
-      by (is_late now m.asked) (is_spent (judge_of c).limits m.asked)
+      by (is_late now m.asked) (is_spent (judge_for c m.asked).limits m.asked)
       (sym (decides memory from bytes now c m hears (anew x)
       (cond (is_late now m.asked) (drops LateChallenge)
-      (cond (is_spent (judge_of c).limits m.asked) unauthorized
+      (cond (is_spent (judge_for c m.asked).limits m.asked) unauthorized
       (turns_for Why.Challenged x m.asked))) verdict refl) ∙ is)
     where
       by_page : (s : Spot) (page : Page?)
@@ -174,10 +162,10 @@ module _ (memory : Memory) (from : SocketAddr) (bytes : List ℕ) (now : ℕ) (c
           at_spot (spot_of c m.asked (option_map place_of (message_for x m.asked.earlier))) same
 
 -- what a poll that asks for the bytes of a request leaves of it
-pub record IsSentOut (number : ℕ) (c : Client) (b : AskedSeen) : Type 0 where
+pub record IsSentOut (now number : ℕ) (c : Client) (b : AskedSeen) : Type 0 where
   pub before : AskedSeen
   pub there : datum_of number c.requests ≡ Some before
-  pub same : sent_out before ≡ b
+  pub same : sent_out now before ≡ b
 
 number_is : (x y : ℕ) → ◌≡◌ {A = Told} (transmit x) (transmit y) → x ≡ y
 number_is x y e = cc
@@ -187,11 +175,11 @@ module _ (now number : ℕ) (c next : Client) (b : AskedSeen) (one : IsOne c.req
   handed_left : (n : ℕ) (r : All) → polled now c.requests ≡ (Of.Transmit n, r)
       → (o : Option AskedSeen) → datum_of n r ≡ o
       → handed_out_of now n (with_requests r c) o ≡ (transmit number, next)
-      → IsSentOut number c b
+      → IsSentOut now number c b
   handed_left n r same None none said =
       let named : n ≡ number = number_is n number (ap (λ (p : Poll). p.0) said) in
       let left : r ≡ next.requests = ap (λ (p : Poll). p.1.requests) said in
-      nothing_left number next.requests b (IsSentOut number c b)
+      nothing_left number next.requests b (IsSentOut now number c b)
       (subst (λ (x : All). datum_of number x ≡ None) left
       (subst (λ k. datum_of k r ≡ None) named none)) some
   handed_left n r same (Some a) there said = by (is_late_in now a) said
@@ -202,29 +190,29 @@ module _ (now number : ℕ) (c next : Client) (b : AskedSeen) (one : IsOne c.req
           (ap (λ (x : PollOf AskedSeen EndSeen). datum_of n x.1) same ∙ there)
 
       by : (late : Bool)
-          → cond late (given_up n a (with_requests r c)) (sent_by n (with_requests r c))
+          → cond late (given_up n a (with_requests r c)) (sent_by now n (with_requests r c))
           ≡ (transmit number, next)
-          → IsSentOut number c b
+          → IsSentOut now number c b
       by true said = let no = ap (λ (p : Poll). p.0) said in cc
       by false said =
           let named : n ≡ number = number_is n number (ap (λ (p : Poll). p.0) said) in
-          let left : changed_at SentOut n r ≡ next.requests =
+          let left : changed_at (SentOut now) n r ≡ next.requests =
           ap (λ (p : Poll). p.1.requests) said in
-          let stored : datum_of n (after_replacing n (sent_out a) r) ≡ Some b =
-          ap (λ (x : All). datum_of n x) (sym (changed_is SentOut n a r there) ∙ left)
+          let stored : datum_of n (after_replacing n (sent_out now a) r) ≡ Some b =
+          ap (λ (x : All). datum_of n x) (sym (changed_is (SentOut now) n a r there) ∙ left)
           ∙ ap (λ k. datum_of k next.requests) named ∙ some in
           record {
             before = a;
             there = subst (λ k. datum_of k c.requests ≡ Some a) named before;
-            same = replaced_is n (sent_out a) b r stored;
+            same = replaced_is n (sent_out now a) b r stored;
           }
 
-  sent_left : told now c ≡ (transmit number, next) → IsSentOut number c b
+  sent_left : told now c ≡ (transmit number, next) → IsSentOut now number c b
   sent_left = by (polled now c.requests) refl
     where
       by : (p : PollOf AskedSeen EndSeen) → polled now c.requests ≡ p
           → by_polled now (with_requests p.1 c) p.0 ≡ (transmit number, next)
-          → IsSentOut number c b
+          → IsSentOut now number c b
       by (Of.Transmit n, r) same said = handed_left n r same (datum_of n r) refl said
       by (Of.Ended n end, r) same said = let no = ap (λ (p : Poll). p.0) said in cc
       by (Of.TimedOut n a, r) same said = let no = ap (λ (p : Poll). p.0) said in cc
@@ -240,12 +228,12 @@ units signed_for f =
 abbrev units_of : AskedSeen → ℕ
 units_of a = units a.signed_for a.refusals
 
-abbrev IsBound : Bool → ℕ → Option AskedSeen → Type 0
+abbrev pub IsBound : Bool → ℕ → Option AskedSeen → Type 0
 IsBound is_waiting count None = count ≤ 0
 IsBound is_waiting count (Some a) = count + cond is_waiting 1 0 ≤ units_of a
 
 -- a message that waits was not refused since it was sent
-abbrev IsFresh : Bool → Option AskedSeen → Type 0
+abbrev pub IsFresh : Bool → Option AskedSeen → Type 0
 IsFresh is_waiting None = ⊤
 IsFresh is_waiting (Some a) = is_waiting ≡ true → a.refusals.is_recent ≡ false
 
@@ -287,9 +275,9 @@ none_more count w None low = low
 none_more count w (Some a) low =
     no_more count w (is_none a.signed_for) (a.refusals.is_earlier || a.refusals.is_recent) low
 
-sent_bound : (count : ℕ) (a b : AskedSeen) → sent_out a ≡ b → count + 1 ≤ units_of b
+sent_bound : (now count : ℕ) (a b : AskedSeen) → sent_out now a ≡ b → count + 1 ≤ units_of b
     → count + 1 + 0 ≤ units_of a
-sent_bound count a b same low =
+sent_bound now count a b same low =
     one_more count (cond (is_none a.signed_for) 1 0)
     (a.refusals.is_earlier || a.refusals.is_recent)
     (subst (λ (x : AskedSeen). count + 1 ≤ units_of x) (sym same) low)
@@ -315,7 +303,7 @@ refused_bound count w a b off fresh left low =
     (subst (λ (o : Option Answered). count + 0 ≤ units o b.refusals) left.signed low))
 
 module _ (stays : StaysAClient) (transmits : TransmitsWhatIsThere) (number : ℕ) where
-  next_client : (c : Client) (event : Event) (next : Client) → IsClient c → Call c event next
+  pub next_client : (c : Client) (event : Event) (next : Client) → IsClient c → Call c event next
       → IsClient next
   next_client c event next is made =
       stays c next (event ∷ []) is (call c next next event [] made (no_call next))
@@ -329,7 +317,7 @@ module _ (stays : StaysAClient) (transmits : TransmitsWhatIsThere) (number : ℕ
       (receives c next from bytes now (received memory from bytes now c) low
       (as_expected memory refl) (sym same))
 
-  costs : (w : Bool) (c : Client) (count : ℕ) (later : Client) → IsClient c
+  pub costs : (w : Bool) (c : Client) (count : ℕ) (later : Client) → IsClient c
       → IsRefusedRun number w c count later → (o : Option AskedSeen)
       → datum_of number c.requests ≡ o
       → IsFresh w o → IsBound w count o
@@ -343,7 +331,7 @@ module _ (stays : StaysAClient) (transmits : TransmitsWhatIsThere) (number : ℕ
       let low = costs true next n later next_is rest (Some out.asked) out.there
       (λ so. ap (λ (x : AskedSeen). x.refusals.is_recent) (sym left.same)) in
       subst (λ (x : Option AskedSeen). IsBound false (n + 1) x) (sym left.there ∙ there)
-      (sent_bound n left.before out.asked left.same low)
+      (sent_bound now n left.before out.asked left.same low)
   costs w c count later is
       (challenged _ _ next _ memory from bytes now n m x low hears named unsigned verdict comes
       rest) o there fresh =
@@ -416,90 +404,3 @@ module _ (stays : StaysAClient) (transmits : TransmitsWhatIsThere) (number : ℕ
           (subst (λ (s : Option Answered). n + cond w 1 0 ≤ units s u.before.refusals)
           (sym u.signed_for)
           (subst (λ (f : Refusals). n + cond w 1 0 ≤ units b.signed_for f) (sym u.refusals) bound))
-
--- ---- the first message
-
--- a request that is started is signed for the standing challenge
-first_signed : (c : Client) (method : ℕ) (body : Body) (start : ℕ) (a : AskedSeen)
-    → IsOne c.requests → datum_of c.requests.next (started method body start c).requests ≡ Some a
-    → a.signed_for ≡ c.standing.current
-first_signed c method body start a one = by (chosen c)
-  where
-    fresh : datum_of c.requests.next c.requests ≡ Some a → a.signed_for ≡ c.standing.current
-    fresh some =
-        nothing_left c.requests.next c.requests a (a.signed_for ≡ c.standing.current)
-        (ap (λ o. datum_in c.requests (option_and_then id_in o))
-        (one.fresh c.requests.next (omega arith))) some
-
-    page : (number : ℕ) (p : Page?)
-        → datum_of c.requests.next (started_with c number method body start p).requests ≡ Some a
-        → a.signed_for ≡ c.standing.current
-    page number (Err why) some = fresh some
-    page number (Ok bytes) some =
-        let new = first_asked c method body start in
-        let after = (started_by c number method body bytes start).requests in
-        let id = id_of c.seed number in
-        let named : id_at c.requests.next after.numbers ≡ Some id =
-        ap (λ o. option_and_then id_in o)
-        (lookup-insert_same c.requests.next (Outstanding id) c.requests.numbers.known) in
-        let there : datum_at id after.table.attached ≡ Some (numbered c.requests.next new) =
-        lookup-insert_same id (numbered c.requests.next new) c.requests.table.attached in
-        let stored : datum_of c.requests.next after ≡ Some new =
-        ap (λ o. datum_in after o) named
-        ∙ ap (λ (o : Option (Request AskedSeen)). option_map (λ x. x.datum) o) there in
-        ap (λ (x : AskedSeen). x.signed_for) (some_is a new (sym some ∙ stored))
-
-    by : (o : Option ℕ)
-        → datum_of c.requests.next (started_at c method body start o).requests ≡ Some a
-        → a.signed_for ≡ c.standing.current
-    by None some = fresh some
-    by (Some number) some = page number (first_message c method number body) some
-
-up_to_three : (count : ℕ) (u x : Bool) → count + 0 ≤ cond u 1 0 + cond x 1 2 → count ≤ 3
-up_to_three count true true low = omega (arith, low)
-up_to_three count true false low = omega (arith, low)
-up_to_three count false true low = omega (arith, low)
-up_to_three count false false low = omega (arith, low)
-
-up_to_two : (count : ℕ) (u x : Bool) → u ≡ false → count + 0 ≤ cond u 1 0 + cond x 1 2 → count ≤ 2
-up_to_two count true x off low = cc
-up_to_two count false true off low = omega (arith, low)
-up_to_two count false false off low = omega (arith, low)
-
-signed_is : (o : Option Answered) → IsSome o → is_none o ≡ false
-signed_is None some = cc
-signed_is (Some x) some = refl
-
-three : (count : ℕ) (o : Option AskedSeen) → IsBound false count o → count ≤ 3
-three count None low = omega (arith, low)
-three count (Some a) low =
-    up_to_three count (is_none a.signed_for) (a.refusals.is_earlier || a.refusals.is_recent) low
-
-two : (count : ℕ) (o : Option AskedSeen) (current : Option Answered)
-    → ((a : AskedSeen) → o ≡ Some a → a.signed_for ≡ current) → IsSome current
-    → IsBound false count o → count ≤ 2
-two count None current its some low = omega (arith, low)
-two count (Some a) current its some low =
-    up_to_two count (is_none a.signed_for) (a.refusals.is_earlier || a.refusals.is_recent)
-    (ap (λ (o : Option Answered). is_none o) (its a refl) ∙ signed_is current some) low
-
-unforced : (o : Option AskedSeen) → IsFresh false o
-unforced None = tt
-unforced (Some a) = λ so. cc
-
-pub costs_three : StaysAClient → TransmitsWhatIsThere → (c later : Client) (method : ℕ)
-    (body : Body) (start count : ℕ) → IsClient c → start ≤ last_moment
-    → refusal_to_start c method body ≡ None → IsRefusedRun (next_number c) false (started method body start c) count later
-    → (count ≤ 3) × (IsSome c.standing.current → count ≤ 2)
-costs_three stays transmits c later method body start count is in_time none run =
-    let number = next_number c in
-    let first = started method body start c in
-    let first_is = next_client stays transmits number c (starts number) first is
-    (requests c first method body start in_time none refl) in
-    let o = datum_of number first.requests in
-    let bound =
-    costs stays transmits number false first count later first_is run o refl (unforced o) in (
-      three count o bound,
-      λ some. two count o c.standing.current
-          (λ a there. first_signed c method body start a is.requests.one there) some bound,
-    )

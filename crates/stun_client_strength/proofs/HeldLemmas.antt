@@ -14,43 +14,45 @@ use Rattle.stun_agent.specs.Timing.{Settings}
 use Rattle.stun_extra.specs.CanonicalAddress.{is_same_address}
 use Rattle.stun_client.specs.Challenges.{Answered}
 use Rattle.stun_client.specs.Challenging.{code_in}
-use Rattle.stun_client.specs.Clients.{answering, confirming}
+use Rattle.stun_client.specs.Standing.{answering, confirming}
 use Rattle.stun_client.specs.Ids.{id_of}
 use Rattle.stun_client.specs.Judging.{Identity}
 use Rattle.stun_client.specs.Outcomes.{outcome_of}
-use Rattle.stun_client.specs.Requests.{is_answer}
 use Rattle.stun_client.specs.Standing.{StandingSeen, after_success}
-use Rattle.stun_client_calls.specs.Receiving.{is_success_class}
+use Rattle.stun_client_calls.specs.Receiving.{is_success_class, Answer, Memory, Met, Spot}
+use Rattle.stun_client_calls.specs.Receiving.{UnlessMemory, answered_by, answered_in, as_current}
+use Rattle.stun_client_calls.specs.Receiving.{as_earlier, as_expected, by_class, by_decision}
+use Rattle.stun_client_calls.specs.Receiving.{by_met, decision_for, dropping, earlier_of, ended_by}
+use Rattle.stun_client_calls.specs.Receiving.{forgone, heard_in, if_from, judge_for, met, met_by}
+use Rattle.stun_client_calls.specs.Receiving.{moment_of, round_trip_of, received, spot_of, turn_to}
+use Rattle.stun_client_calls.specs.Receiving.{turned_at, turned_by, turned_to, unwritten}
+use Rattle.stun_client_calls.specs.Receiving.{without_memory}
 use Rattle.stun_client_endpoint.specs.Bodies.{Body}
 use Rattle.stun_client_endpoint.specs.Written.{Form, Page?}
 use Rattle.stun_client_endpoint.specs.declared.ended.DropReason.{DropReason}
 use Rattle.stun_client_endpoint.specs.declared.ended.DropReason.TheVariants as Reasons
 use Rattle.stun_client_endpoint.specs.declared.ended.RequestEnd.TheVariants as how
-use Rattle.stun_client_endpoint.specs.declared.told.Received.TheVariants.{NotOurs}
+use Rattle.stun_client_endpoint.specs.declared.told.Received.TheVariants.{Indication, NotOurs}
 use Rattle.stun_client_requests.specs.Numbers.{id_at}
 use Rattle.stun_client_requests.specs.Requests.{Answering, Poll as PollOf, after_again}
 use Rattle.stun_client_requests.specs.Requests.{after_replacing, datum_of, number_at, polled}
 use Rattle.stun_client_requests.specs.declared.requests.Polled.TheVariants as Of
 use Rattle.stun_client_requests.specs.declared.requests.Request.{Request}
 use Rattle.stun_client_requests.proofs.TimelyLemmas.{named_is_one}
-use Rattle.stun_client_calls.specs.Clients.{Client, Poll, Told, by_polled, cancelled, changed}
+use Rattle.stun_client_calls.specs.Clients.{Client, Poll, Told, address_for, by_polled, cancelled}
+use Rattle.stun_client_calls.specs.Clients.{changed, plan_for}
 use Rattle.stun_client_calls.specs.Clients.{changed_at, chosen, ends, first_asked, first_message}
 use Rattle.stun_client_calls.specs.Clients.{given_up, handed_out_of, sent_by, started, started_at}
 use Rattle.stun_client_calls.specs.Clients.{started_with, told, with_requests}
 use Rattle.stun_client_calls.specs.Deciding.{DecisionSeen, Place, answered, drops, refuses, turns}
 use Rattle.stun_client_calls.specs.Deciding.{unauthorized}
-use Rattle.stun_client_calls.specs.Endpoints.{EndSeen}
+use Rattle.stun_client_calls.specs.Endpoints.{EndSeen, bare_end}
 use Rattle.stun_client_calls.specs.Ids.{number_in}
-use Rattle.stun_client_calls.specs.Laws.{IsAnswerOrDrop, Judge, decision_on}
+use Rattle.stun_client_calls.specs.Laws.{Judge, decision_on}
 use Rattle.stun_client_calls.specs.Messages.{AskedSeen, SentSeen, TurnSeen, is_late, message_at}
 use Rattle.stun_client_calls.specs.Messages.{new_asked, stepped_back, turned}
-use Rattle.stun_client_calls.specs.Receiving.{Answer, Memory, Met, Spot, UnlessMemory, answered_by}
-use Rattle.stun_client_calls.specs.Receiving.{answered_in, as_current, as_earlier, as_expected}
-use Rattle.stun_client_calls.specs.Receiving.{by_class, by_decision, by_met, decision_for}
-use Rattle.stun_client_calls.specs.Receiving.{dropping, earlier_of, ended_by}
-use Rattle.stun_client_calls.specs.Receiving.{forgone, if_method, judge_of, met, met_by, moment_of}
-use Rattle.stun_client_calls.specs.Receiving.{received, spot_of, turn_to, turned_at, turned_by}
-use Rattle.stun_client_calls.specs.Receiving.{turned_to, unwritten, without_memory}
+use Rattle.stun_client_calls.specs.OptionLaws.{is_unsigned}
+use Rattle.stun_client_calls.specs.Options.{Options, challenge_by, plan_by}
 use Rattle.stun_client_calls.specs.Runs.{Call, Calls, Event, call, changes_nothing, ends_one}
 use Rattle.stun_client_calls.specs.Runs.{no_call, polls, receives, requests}
 use Rattle.stun_client_calls.specs.Writing.{message_bytes}
@@ -58,13 +60,16 @@ use Rattle.stun_client_calls.specs.declared.asked.Change.{Change}
 use Rattle.stun_client_calls.specs.declared.asked.Change.TheVariants.{Noted, Refused, SentOut}
 use Rattle.stun_client_calls.specs.declared.turning.Why.{Why}
 use Rattle.stun_client_calls.proofs.DecidingLemmas.{earlier_answers_or_drops}
-use Rattle.stun_client_calls.proofs.ReceivingLemmas.{met_is_stored}
+use Rattle.stun_client_calls.proofs.ReceivingLemmas.{if_method_is, met_is_stored}
+use Rattle.stun_client_calls.proofs.TurnLemmas.{All, IsOne}
 use Rattle.stun_client_runs.specs.Kept.{IsClient, StaysAClient}
 use Rattle.stun_client_strength.specs.Strength.{OfCall, OfEachPoll}
-use Rattle.stun_client_strength.proofs.EachLemmas.{All, Each, IsOne, answer_each, asked_at}
-use Rattle.stun_client_strength.proofs.EachLemmas.{cancel_each, is_there, numbered, remove_each}
-use Rattle.stun_client_strength.proofs.EachLemmas.{replace_each, same_next, start_each, turn_each}
-use Rattle.stun_client_strength.proofs.PollLemmas.{poll_next, polls_each, sent_datum, timed_is}
+use Rattle.stun_client_runs.proofs.EachAtLemmas.{Each, answer_each, asked_at, cancel_each, is_there}
+use Rattle.stun_client_runs.proofs.EachAtLemmas.{numbered, remove_each, replace_each, same_next}
+use Rattle.stun_client_runs.proofs.EachAtLemmas.{start_each, turn_each}
+use Rattle.stun_client_runs.proofs.PollAtLemmas.{poll_next, polls_each, sent_datum, timed_is}
+use Rattle.stun_client_strength.proofs.UnsignedLemmas.{for_signed, no_turn_of_answer}
+use Rattle.stun_client_strength.proofs.UnsignedLemmas.{turn_is_signed}
 
 -- ---- messages
 
@@ -117,45 +122,58 @@ met_message id c m None is = by (number_in id c.earlier) is
     by None is = cc
     by (Some number) is = earlier_message id number m (datum_of number c.requests) is
 
-with_method : (bytes : List ℕ) (o : Option Met) (m : Met) → if_method bytes o ≡ Some m → o ≡ Some m
-with_method bytes None m is = cc
-with_method bytes (Some n) m is = by (is_answer n.asked.method bytes) is
-  where
-    by : (b : Bool) → ◌≡◌ {A = Option Met} (cond b (Some n) None) (Some m)
-        → ◌≡◌ {A = Option Met} (Some n) (Some m)
-    by true is = is
-    by false is = cc
-
 pub met_of : (bytes : List ℕ) (c : Client) (m : Met) → answered_in bytes c ≡ Some m → IsMet c m
 met_of bytes c m found =
     let id = transaction_id_field bytes in
     let message = met_message id c m (number_at id c.requests.table.attached)
-    (with_method bytes (met id c) m found) in
+    (if_method_is bytes (met id c) m found) in
     record {
       stored = met_is_stored bytes c m m.number found refl;
       signed = message.signed;
       current = message.current;
     }
 
+-- a response that comes from the address that answers its request
+pub heard_is : (from : SocketAddr) (bytes : List ℕ) (c : Client) (m : Met)
+    → heard_in from bytes c ≡ Some m → answered_in bytes c ≡ Some m
+heard_is from bytes c m = by (answered_in bytes c)
+  where
+    of_address : (n : Met) (b : Bool)
+        → ◌≡◌ {A = Option Met} (cond b (Some n) None) (Some m)
+        → ◌≡◌ {A = Option Met} (Some n) (Some m)
+    of_address n true is = is
+    of_address n false is = cc
+
+    by : (o : Option Met) → if_from from c o ≡ Some m → o ≡ Some m
+    by None is = cc
+    by (Some n) is = of_address n (is_same_address from (address_for c n.asked)) is
+
+-- an indication, of the server or not
+abbrev indicated_if : Bool → List ℕ → Client → Answer
+indicated_if b bytes c = cond b (Indication bytes, c) (NotOurs, c)
+
 -- ---- rules
 
 -- a fact of the standing challenges of a client and one of each of its requests, which hold after
--- each change. The number of a request that is started is not below this one
+-- each change. The number of a request that is started is not below this one. Another message
+-- becomes the current one only of a request that is to be signed
 pub record AreRules (identity : Identity) (from : ℕ) (Stands : StandingSeen → Type 0)
     (Asked : ℕ → Request AskedSeen → Type 0) (Lapses : StandingSeen → AskedSeen → Type 0)
     : Type 0 where
-  pub starts : (s : StandingSeen) (id number method until : ℕ) (body : Body) → from ≤ number
-      → Stands s → Asked id (numbered number (new_asked method body until s.current))
+  pub starts : (s : StandingSeen) (id number method until : ℕ) (body : Body)
+      (options : Option Options) → from ≤ number → Stands s
+      → Asked id (numbered number (new_asked method body options until (challenge_by options
+      s.current)))
   pub changes : (id number : ℕ) (change : Change) (a : AskedSeen) → Asked id (numbered number a)
       → Asked id (numbered number (changed change a))
   pub turns_so : (j : Judge) (now id new number former : ℕ) (a : AskedSeen) (bytes : List ℕ)
-      (place : Option Place) (t : TurnSeen) (is_kept : Bool) → j.identity ≡ identity
-      → Stands j.standing → Asked id (numbered number a)
+      (place : Option Place) (t : TurnSeen) (is_kept : Bool) → is_unsigned a.options ≡ false
+      → j.identity ≡ identity → Stands j.standing → Asked id (numbered number a)
       → decision_on j true now a a.signed_for bytes ≡ turns t.why place t.signed_for
       → Asked new (numbered number (turned is_kept former t a))
   pub answers : (j : Judge) (now id number : ℕ) (a : AskedSeen) (bytes : List ℕ)
-      (place : Option Place) (why : Why) (d : Option Answered) → j.identity ≡ identity
-      → Stands j.standing → Asked id (numbered number a)
+      (place : Option Place) (why : Why) (d : Option Answered) → is_unsigned a.options ≡ false
+      → j.identity ≡ identity → Stands j.standing → Asked id (numbered number a)
       → decision_on j true now a a.signed_for bytes ≡ turns why place d
       → Stands (answering j.standing d)
   pub succeeds : (s : StandingSeen) (id number : ℕ) (a : AskedSeen) (o : Option Answered) → Stands s
@@ -171,14 +189,6 @@ pub record AreHeld (identity : Identity) (form : Form) (from : ℕ) (Stands : St
   pub next_is : from ≤ c.requests.next
   pub standing : Stands c.standing
   pub asked : Each Asked c.requests.table.attached
-
-no_turn_of_answer : (d : DecisionSeen) (why : Why) (place : Option Place) (c : Option Answered)
-    → IsAnswerOrDrop d → d ≡ turns why place c → ⊥
-no_turn_of_answer (answered by) why place c so is = cc
-no_turn_of_answer unauthorized why place c so is = cc
-no_turn_of_answer (turns w p x) why place c so is = absurd so
-no_turn_of_answer refuses why place c so is = cc
-no_turn_of_answer (drops w) why place c so is = cc
 
 changed_next : (change : Change) (n : ℕ) (r : All) → (changed_at change n r).next ≡ r.next
 changed_next change n r = by (datum_of n r)
@@ -207,26 +217,26 @@ module _ (identity : Identity) (form : Form) (from : ℕ) (Stands : StandingSeen
 
   -- ---- requests that start
 
-  pub started_held : (method : ℕ) (body : Body) (now : ℕ) (c : Client) → Held c
-      → Held (started method body now c)
-  started_held method body now c held = by (chosen c)
+  pub started_held : (method : ℕ) (body : Body) (options : Option Options) (now : ℕ) (c : Client)
+      → Held c → Held (started method body options now c)
+  started_held method body options now c held = by (chosen c)
     where
-      page : (number : ℕ) (p : Page?) → Held (started_with c number method body now p)
+      page : (number : ℕ) (p : Page?) → Held (started_with c number method body options now p)
       page number (Err why) = held
       page number (Ok bytes) = record {
         identity_is = held.identity_is;
         form_is = held.form_is;
         next_is = omega (arith, held.next_is);
         standing = held.standing;
-        asked = start_each Asked c.requests held.asked (id_of c.seed number) bytes c.plan
-            (first_asked c method body now) now
+        asked = start_each Asked c.requests held.asked (id_of c.seed number) bytes
+            (plan_by options c.plan) (first_asked c method body options now) now
             (rules.starts c.standing (id_of c.seed number) c.requests.next method
-            (first_asked c method body now).until body held.next_is held.standing);
+            (first_asked c method body options now).until body options held.next_is held.standing);
       }
 
-      by : (o : Option ℕ) → Held (started_at c method body now o)
+      by : (o : Option ℕ) → Held (started_at c method body options now o)
       by None = held
-      by (Some number) = page number (first_message c method number body)
+      by (Some number) = page number (first_message c method number body options)
 
   -- ---- changes and ends
 
@@ -271,7 +281,7 @@ module _ (identity : Identity) (form : Form) (from : ℕ) (Stands : StandingSeen
         (same_next c.requests _ (id_at number c.requests.numbers) (λ id. refl)) held.next_is;
     standing = held.standing;
     asked = cancel_each Asked c.requests held.asked one.in_order number
-        (record { end = how.Cancelled; response = [] });
+        (bare_end how.Cancelled);
   }
 
   -- ---- responses
@@ -307,24 +317,41 @@ module _ (identity : Identity) (form : Form) (from : ℕ) (Stands : StandingSeen
             is.signed)
         by false = held.standing
 
-    -- another message becomes the current one only for a response to the current one
+    -- another message becomes the current one only of a request that is to be signed
+    signed_turn : (why : Why) (place : Option Place) (d : Option Answered)
+        → decision_for c now bytes m ≡ turns why place d
+        → is_unsigned m.asked.options ≡ false
+    signed_turn why place d decides =
+        turn_is_signed (judge_for c m.asked) m.is_current now m.asked m.signed_for bytes why place d
+        c.identity refl decides
+
+    judge_is : (why : Why) (place : Option Place) (d : Option Answered)
+        → decision_for c now bytes m ≡ turns why place d
+        → (judge_for c m.asked).identity ≡ identity
+    judge_is why place d decides =
+        for_signed m.asked.options c.identity (signed_turn why place d decides)
+        ∙ held.identity_is
+
+    -- and only for a response to the current one
     on_current : (why : Why) (place : Option Place) (d : Option Answered)
         → decision_for c now bytes m ≡ turns why place d
-        → decision_on (judge_of c) true now m.asked m.asked.signed_for bytes ≡ turns why place d
+        → decision_on (judge_for c m.asked) true now m.asked m.asked.signed_for bytes
+        ≡ turns why place d
     on_current why place d decides = by m.is_current refl
       where
         by : (b : Bool) → m.is_current ≡ b
-            → decision_on (judge_of c) true now m.asked m.asked.signed_for bytes ≡ turns why place d
+            → decision_on (judge_for c m.asked) true now m.asked m.asked.signed_for bytes
+            ≡ turns why place d
         by true so =
-            sym (ap (λ b. decision_on (judge_of c) b now m.asked m.signed_for bytes) so
-            ∙ ap (λ (o : Option Answered). decision_on (judge_of c) true now m.asked o bytes)
-            (is.current so))
+            sym (ap (λ b. decision_on (judge_for c m.asked) b now m.asked m.signed_for bytes) so
+            ∙ ap (λ (o : Option Answered).
+            decision_on (judge_for c m.asked) true now m.asked o bytes) (is.current so))
             ∙ decides
         by false so =
             absurd (no_turn_of_answer
-            (decision_on (judge_of c) false now m.asked m.signed_for bytes) why place d
-            (earlier_answers_or_drops (judge_of c) now m.asked m.signed_for bytes)
-            (sym (ap (λ b. decision_on (judge_of c) b now m.asked m.signed_for bytes) so)
+            (decision_on (judge_for c m.asked) false now m.asked m.signed_for bytes) why place d
+            (earlier_answers_or_drops (judge_for c m.asked) now m.asked m.signed_for bytes)
+            (sym (ap (λ b. decision_on (judge_for c m.asked) b now m.asked m.signed_for bytes) so)
             ∙ decides))
 
     turned_held : (why : Why) (place : Option Place) (d : Option Answered) (s : Spot)
@@ -338,21 +365,23 @@ module _ (identity : Identity) (form : Form) (from : ℕ) (Stands : StandingSeen
           (replaced_next m.number
           (turned memory.is_kept (transaction_id_field bytes) (turn_to s why d) m.asked)
           (after_again m.number (record { count = length bytes; moment = Some now }) s.id page
-          c.plan (new_asked m.asked.method [] 0 None) now c.requests)
+          (plan_for c m.asked) (new_asked m.asked.method [] None 0 None) now c.requests)
           ∙ again_next m.number (record { count = length bytes; moment = Some now }) s.id page
-          c.plan (new_asked m.asked.method [] 0 None) now c.requests)
+          (plan_for c m.asked) (new_asked m.asked.method [] None 0 None) now c.requests)
           held.next_is;
       standing = its_own (Stands (answering c.standing d))
-          (λ id own. rules.answers (judge_of c) now id m.number m.asked bytes place why d
-          held.identity_is held.standing own (on_current why place d decides));
+          (λ id own. rules.answers (judge_for c m.asked) now id m.number m.asked bytes place why d
+          (signed_turn why place d decides) (judge_is why place d decides) held.standing own
+          (on_current why place d decides));
       asked = turn_each Asked c.requests held.asked one.in_order m.number
           (turned memory.is_kept (transaction_id_field bytes) (turn_to s why d) m.asked)
-          (record { count = length bytes; moment = Some now }) s.id page c.plan
-          (new_asked m.asked.method [] 0 None) now
+          (record { count = length bytes; moment = Some now }) s.id page (plan_for c m.asked)
+          (new_asked m.asked.method [] None 0 None) now
           (its_own (Asked s.id (numbered m.number
           (turned memory.is_kept (transaction_id_field bytes) (turn_to s why d) m.asked)))
-          (λ id own. rules.turns_so (judge_of c) now id s.id m.number (transaction_id_field bytes)
-          m.asked bytes place (turn_to s why d) memory.is_kept held.identity_is held.standing own
+          (λ id own. rules.turns_so (judge_for c m.asked) now id s.id m.number
+          (transaction_id_field bytes) m.asked bytes place (turn_to s why d) memory.is_kept
+          (signed_turn why place d decides) (judge_is why place d decides) held.standing own
           (on_current why place d decides)));
     }
 
@@ -362,9 +391,10 @@ module _ (identity : Identity) (form : Form) (from : ℕ) (Stands : StandingSeen
         answered_held (record {
           end = how.Answered (outcome_of c.understood bytes) by;
           response = bytes;
+          round_trip = round_trip_of now m;
         })
     decided_held unauthorized decides =
-        ended_held (record { end = how.Unauthorized; response = [] }) bytes now m c one held
+        ended_held (bare_end how.Unauthorized) bytes now m c one held
     decided_held (turns why place d) decides = at_spot (spot_of c m.asked place)
       where
         by_page : (s : Spot) (page : Page?)
@@ -380,50 +410,51 @@ module _ (identity : Identity) (form : Form) (from : ℕ) (Stands : StandingSeen
     decided_held (drops why) decides = dropping_held why
 
   module _ (c : Client) (one : IsOne c.requests) (held : Held c) where
-    response_held : (memory : Memory) (now : ℕ) (bytes : List ℕ) (o : Option Met)
-        → answered_in bytes c ≡ o → Held (by_met memory c now bytes o).1
-    response_held memory now bytes None found = held
-    response_held memory now bytes (Some m) found =
-        decided_held memory c now bytes m one (met_of bytes c m found) held
+    response_held : (memory : Memory) (now : ℕ) (from_address : SocketAddr) (bytes : List ℕ)
+        (o : Option Met) → heard_in from_address bytes c ≡ o → Held (by_met memory c now bytes o).1
+    response_held memory now from_address bytes None found = held
+    response_held memory now from_address bytes (Some m) found =
+        decided_held memory c now bytes m one
+        (met_of bytes c m (heard_is from_address bytes c m found)) held
         (decision_for c now bytes m) refl
 
     received_held : (memory : Memory) (from_address : SocketAddr) (bytes : List ℕ) (now : ℕ)
         → Held (received memory from_address bytes now c).1
-    received_held memory from_address bytes now =
-        by (is_some (refusal bytes)) (is_same_address from_address c.server) (class_in bytes)
+    received_held memory from_address bytes now = by (is_some (refusal bytes)) (class_in bytes)
       where
-        by : (r s : Bool) (class : MessageClass)
-            → Held (cond r (NotOurs, c) (cond s (by_class memory c now bytes class) (NotOurs, c))).1
-        by true s class = held
-        by false false class = held
-        by false true Classes.Request = held
-        by false true Classes.Indication = held
-        by false true Classes.Success =
-            response_held memory now bytes (answered_in bytes c) refl
-        by false true Classes.Error = response_held memory now bytes (answered_in bytes c) refl
+        of_server : (b : Bool) → Held (indicated_if b bytes c).1
+        of_server true = held
+        of_server false = held
 
-    forgone_held : (bytes : List ℕ) → Held (without_memory bytes c (answered_in bytes c)).1
-    forgone_held bytes = by (answered_in bytes c)
-      where
-        by : (o : Option Met) → Held (without_memory bytes c o).1
-        by None = held
-        by (Some m) =
-            changed_held (Noted Reasons.OutOfMemory (code_in bytes)) m.number c one held
+        by : (r : Bool) (class : MessageClass)
+            → Held (cond r (NotOurs, c) (by_class memory from_address c now bytes class)).1
+        by true class = held
+        by false Classes.Request = held
+        by false Classes.Indication = of_server (is_same_address from_address c.server)
+        by false Classes.Success =
+            response_held memory now from_address bytes (heard_in from_address bytes c) refl
+        by false Classes.Error =
+            response_held memory now from_address bytes (heard_in from_address bytes c) refl
 
-    heard_held : (bytes : List ℕ) (expected : Memory → Answer) (answer : Answer)
+    forgone_held : (bytes : List ℕ) (o : Option Met) → Held (without_memory bytes c o).1
+    forgone_held bytes None = held
+    forgone_held bytes (Some m) =
+        changed_held (Noted Reasons.OutOfMemory (code_in bytes)) m.number c one held
+
+    heard_held : (bytes : List ℕ) (o : Option Met) (expected : Memory → Answer) (answer : Answer)
         → ((memory : Memory) → Held (expected memory).1)
-        → UnlessMemory expected bytes c answer → Held answer.1
-    heard_held bytes expected answer each (as_expected memory is) =
+        → UnlessMemory expected bytes o c answer → Held answer.1
+    heard_held bytes o expected answer each (as_expected memory is) =
         subst (λ (a : Answer). Held a.1) (sym is) (each memory)
-    heard_held bytes expected answer each (forgone is) =
-        subst (λ (a : Answer). Held a.1) (sym is) (forgone_held bytes)
+    heard_held bytes o expected answer each (forgone is) =
+        subst (λ (a : Answer). Held a.1) (sym is) (forgone_held bytes o)
 
   -- ---- polls
 
   -- a fact of each poll, which lets a request lapse
   module _ (fact : Client → Told → Type 0)
       (lets : (c : Client) (n : ℕ) (a : AskedSeen)
-      → fact c (ends n (record { end = how.TimedOut a.drops; response = [] }))
+      → fact c (ends n (bare_end (how.TimedOut a.drops)))
       → datum_of n c.requests ≡ Some a → Lapses c.standing a) where
     module _ (now : ℕ) (c : Client) (one : IsOne c.requests) (held : Held c) where
       left_held : (p : PollOf AskedSeen EndSeen) → polled now c.requests ≡ p
@@ -461,8 +492,10 @@ module _ (identity : Identity) (form : Form) (from : ℕ) (Stands : StandingSeen
               (ap (λ (x : PollOf AskedSeen EndSeen). datum_of n x.1) same ∙ some)
 
           by : (b : Bool)
-              → fact c (cond b (given_up n a (with_requests r c)) (sent_by n (with_requests r c))).0
-              → Held (cond b (given_up n a (with_requests r c)) (sent_by n (with_requests r c))).1
+              → fact c
+              (cond b (given_up n a (with_requests r c)) (sent_by now n (with_requests r c))).0
+              → Held
+              (cond b (given_up n a (with_requests r c)) (sent_by now n (with_requests r c))).1
           by true said = record {
             identity_is = left.identity_is;
             form_is = left.form_is;
@@ -472,7 +505,7 @@ module _ (identity : Identity) (form : Form) (from : ℕ) (Stands : StandingSeen
             standing = rules.lapses c.standing a (lets c n a said before) held.standing;
             asked = remove_each Asked r left.asked still.in_order n;
           }
-          by false said = changed_held SentOut n (with_requests r c) still left
+          by false said = changed_held (SentOut now) n (with_requests r c) still left
 
       told_held : fact c (told now c).0 → Held (told now c).1
       told_held = by (polled now c.requests) refl
@@ -507,11 +540,12 @@ module _ (identity : Identity) (form : Form) (from : ℕ) (Stands : StandingSeen
 
     pub call_held : (c : Client) (event : Event) (after : Client) → IsClient c
         → (made : Call c event after) → OfCall fact c event after made → Held c → Held after
-    call_held c event after is (requests _ _ method body now low none so) its held =
-        subst Held (sym so) (started_held method body now c held)
+    call_held c event after is (requests _ _ method body options now low none so) its held =
+        subst Held (sym so) (started_held method body options now c held)
     call_held c event after is (receives _ _ address bytes now answer low made so) its held =
         subst Held (sym so)
-        (heard_held c is.requests.one held bytes (λ memory. received memory address bytes now c)
+        (heard_held c is.requests.one held bytes (heard_in address bytes c)
+        (λ memory. received memory address bytes now c)
         answer (λ memory. received_held c is.requests.one held memory address bytes now) made)
     call_held c event after is (polls _ _ now says said) its held =
         poll_held now c after says is said its held

@@ -1,11 +1,9 @@
 -- Lemmas of the crate.
 
--- what holds of each stored request
-pub mod EachLemmas
--- what a poll of the table says of its requests
-pub mod PollLemmas
 -- which message becomes the current one
 pub mod TurnLemmas
+-- requests that are not to be signed
+pub mod UnsignedLemmas
 -- what holds over any calls
 pub mod HeldLemmas
 -- challenges by the client's own rule
@@ -16,3 +14,9 @@ pub mod StrengthLemmas
 pub mod RefusingLemmas
 -- how often the bytes of a request are handed out that is refused
 pub mod CostLemmas
+-- and how often by its options
+pub mod CheapLemmas
+-- what a change of one request leaves of the others
+pub mod OtherLemmas
+-- what a request that is not to be signed leaves of the challenges
+pub mod ApartLemmas

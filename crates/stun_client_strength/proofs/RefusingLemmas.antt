@@ -13,7 +13,6 @@ use Rattle.stun_base.specs.declared.wire.transport.TransportType.TheVariants.{Tc
 use Rattle.stun_types.specs.Message.{refusal}
 use Rattle.stun_agent.specs.Tables.{after_answer, datum_at, set_datum, with_other_datum}
 use Rattle.stun_agent.proofs.Ascending.{lookup-insert_same}
-use Rattle.stun_extra.specs.CanonicalAddress.{is_same_address}
 use Rattle.stun_client.specs.Challenges.{Answered}
 use Rattle.stun_client.specs.Challenging.{code_in}
 use Rattle.stun_client.specs.Judging.{Identity, Verdict, refused}
@@ -38,26 +37,28 @@ use Rattle.stun_client_calls.specs.Clients.{told, transmit, waits, with_requests
 use Rattle.stun_client_calls.specs.Deciding.{DecisionSeen, decided, drops, is_spent}
 use Rattle.stun_client_calls.specs.Messages.{is_late}
 use Rattle.stun_client_calls.specs.Deciding.{refuses, turns_for, unauthorized}
-use Rattle.stun_client_calls.specs.Endpoints.{EndSeen}
+use Rattle.stun_client_calls.specs.Endpoints.{EndSeen, bare_end}
 use Rattle.stun_client_calls.specs.Messages.{AskedSeen, refusing, sent_out}
-use Rattle.stun_client_calls.specs.Receiving.{Memory, Met, answered_in, by_class}
-use Rattle.stun_client_calls.specs.Receiving.{by_decision, by_met, dropping_refusal, judge_of}
+use Rattle.stun_client_calls.specs.Receiving.{Memory, Met, by_class}
+use Rattle.stun_client_calls.specs.Receiving.{by_decision, by_met, dropping_refusal, heard_in}
+use Rattle.stun_client_calls.specs.Receiving.{judge_for}
 use Rattle.stun_client_calls.specs.Receiving.{received, unauthorized_by}
 use Rattle.stun_client_calls.specs.Runs.{Call, Calls, Event, call, changes_nothing, ends_one}
 use Rattle.stun_client_calls.specs.Runs.{no_call, polled as says_so, polls, receives, requests}
 use Rattle.stun_client_calls.specs.declared.asked.Change.{Change}
 use Rattle.stun_client_calls.specs.declared.asked.Change.TheVariants.{Noted, Refused, SentOut}
 use Rattle.stun_client_calls.specs.declared.turning.Why.TheVariants as Why
+use Rattle.stun_client_calls.proofs.TurnLemmas.{All, IsOne, some_is}
 use Rattle.stun_client_runs.specs.Kept.{IsClient, StaysAClient}
 use Rattle.stun_client_strength.specs.Hearing.{message_answered, response_verdict}
 use Rattle.stun_client_strength.specs.Refusing.{IsGivenUp, IsRemembered, is_sending, is_sent_in}
 use Rattle.stun_client_strength.specs.Refusing.{sends}
 use Rattle.stun_client_strength.specs.Strength.{OfCall, OfEachPoll}
-use Rattle.stun_client_strength.proofs.EachLemmas.{All, Each, IsOne, datum_in, is_there, numbered}
-use Rattle.stun_client_strength.proofs.EachLemmas.{replaced_is, some_is, stored_one}
+use Rattle.stun_client_runs.proofs.EachAtLemmas.{Each, datum_in, is_there, numbered, replaced_is}
+use Rattle.stun_client_runs.proofs.EachAtLemmas.{stored_one}
 use Rattle.stun_client_strength.proofs.HeldLemmas.{AreHeld, AreRules, IsMet, call_held, calls_held}
-use Rattle.stun_client_strength.proofs.HeldLemmas.{met_of}
-use Rattle.stun_client_strength.proofs.PollLemmas.{polls_each}
+use Rattle.stun_client_strength.proofs.HeldLemmas.{heard_is, met_of}
+use Rattle.stun_client_runs.proofs.PollAtLemmas.{polls_each}
 
 or_right : (a b : Bool) → b ≡ true → (a || b) ≡ true
 or_right true b is = refl
@@ -76,32 +77,29 @@ none_of false b one other = other
 pub heard_comes : (memory : Memory) (from : SocketAddr) (bytes : List ℕ) (now : ℕ) (c : Client)
     (m : Met) → message_answered c from bytes ≡ Some m
     → received memory from bytes now c ≡ by_met memory c now bytes (Some m)
-heard_comes memory from bytes now c m =
-    by (is_some (refusal bytes)) (is_same_address from c.server) (class_in bytes)
+heard_comes memory from bytes now c m = by (is_some (refusal bytes)) (class_in bytes)
   where
-    by : (r s : Bool) (class : MessageClass)
-        → cond r None (cond s (cond (is_response class) (answered_in bytes c) None) None) ≡ Some m
-        → cond r (NotOurs, c) (cond s (by_class memory c now bytes class) (NotOurs, c))
+    by : (r : Bool) (class : MessageClass)
+        → cond r None (cond (is_response class) (heard_in from bytes c) None) ≡ Some m
+        → cond r (NotOurs, c) (by_class memory from c now bytes class)
         ≡ by_met memory c now bytes (Some m)
-    by true s class is = cc
-    by false false class is = cc
-    by false true Classes.Request is = cc
-    by false true Classes.Indication is = cc
-    by false true Classes.Success is = ap (λ (o : Option Met). by_met memory c now bytes o) is
-    by false true Classes.Error is = ap (λ (o : Option Met). by_met memory c now bytes o) is
+    by true class is = cc
+    by false Classes.Request is = cc
+    by false Classes.Indication is = cc
+    by false Classes.Success is = ap (λ (o : Option Met). by_met memory c now bytes o) is
+    by false Classes.Error is = ap (λ (o : Option Met). by_met memory c now bytes o) is
 
 pub heard_met : (from : SocketAddr) (bytes : List ℕ) (c : Client) (m : Met)
     → message_answered c from bytes ≡ Some m → IsMet c m
 heard_met from bytes c m is =
     met_of bytes c m
-    (by (is_some (refusal bytes)) (is_same_address from c.server) (is_response (class_in bytes)) is)
+    (heard_is from bytes c m (by (is_some (refusal bytes)) (is_response (class_in bytes)) is))
   where
-    by : (r s a : Bool) → cond r None (cond s (cond a (answered_in bytes c) None) None) ≡ Some m
-        → answered_in bytes c ≡ Some m
-    by true s a is = cc
-    by false false a is = cc
-    by false true false is = cc
-    by false true true is = is
+    by : (r a : Bool) → cond r None (cond a (heard_in from bytes c) None) ≡ Some m
+        → heard_in from bytes c ≡ Some m
+    by true a is = cc
+    by false false is = cc
+    by false true is = is
 
 -- ---- what is stored then
 
@@ -160,14 +158,15 @@ module _ (memory : Memory) (from : SocketAddr) (bytes : List ℕ) (now : ℕ) (c
     (hears : message_answered c from bytes ≡ Some m) where
   comes_to : (v : Verdict) → response_verdict c bytes m ≡ v
       → received memory from bytes now c
-      ≡ by_decision memory c now bytes m (decided (judge_of c).limits c.standing now m.asked v)
+      ≡ by_decision memory c now bytes m
+      (decided (judge_for c m.asked).limits c.standing now m.asked v)
   comes_to v is =
       heard_comes memory from bytes now c m hears
       ∙ ap (λ (x : Verdict). by_decision memory c now bytes m
-      (decided (judge_of c).limits c.standing now m.asked x)) is
+      (decided (judge_for c m.asked).limits c.standing now m.asked x)) is
 
   pub decides : (v : Verdict) (d : DecisionSeen) → response_verdict c bytes m ≡ v
-      → decided (judge_of c).limits c.standing now m.asked v ≡ d
+      → decided (judge_for c m.asked).limits c.standing now m.asked v ≡ d
       → received memory from bytes now c ≡ by_decision memory c now bytes m d
   decides v d is so =
       comes_to v is ∙ ap (λ (x : DecisionSeen). by_decision memory c now bytes m x) so
@@ -178,7 +177,7 @@ module _ (memory : Memory) (from : SocketAddr) (bytes : List ℕ) (now : ℕ) (c
   is_given_up is = record {
     next = (unauthorized_by c now bytes m).1;
     consumed = is;
-    ended = ended_there m.number (length bytes) _ (record { end = how.Unauthorized; response = [] })
+    ended = ended_there m.number (length bytes) _ (bare_end how.Unauthorized)
         m.asked c.requests (heard_met from bytes c m hears).stored;
   }
 
@@ -222,7 +221,7 @@ module _ (memory : Memory) (from : SocketAddr) (bytes : List ℕ) (now : ℕ) (c
       → now ≤ m.asked.until → OTHERS ≤ m.asked.refusals.others
       → IsGivenUp memory from bytes now m.number c
   third_ends x is in_time many =
-      let limits = (judge_of c).limits in
+      let limits = (judge_for c m.asked).limits in
       let spent = is_spent limits m.asked || nat_le OTHERS m.asked.refusals.others in
       is_given_up (decides (refused (Some x)) unauthorized is
       (ap (λ b. cond b (drops LateChallenge)
@@ -244,23 +243,23 @@ abbrev pub CountsRefusal : ℕ → ℕ → Request AskedSeen → Type 0
 CountsRefusal number id q = q.number ≡ number → q.datum.refusals.is_earlier ≡ true
 
 -- whatever stands, and whatever lapses
-abbrev any_standing : StandingSeen → Type 0
+abbrev pub any_standing : StandingSeen → Type 0
 any_standing s = ⊤
 
-abbrev any_lapse : StandingSeen → AskedSeen → Type 0
+abbrev pub any_lapse : StandingSeen → AskedSeen → Type 0
 any_lapse s a = ⊤
 
-abbrev any_poll : Client → Told → Type 0
+abbrev pub any_poll : Client → Told → Type 0
 any_poll c says = ⊤
 
-not_new : (number other : ℕ) → number + 1 ≤ other → other ≡ number → ⊥
+pub not_new : (number other : ℕ) → number + 1 ≤ other → other ≡ number → ⊥
 not_new number other low same = absurd (omega (arith, low, same))
 
 module _ (identity : Identity) (number : ℕ) where
   refused_changed : (other : ℕ) (change : Change) (a : AskedSeen)
       → WasRefused number 0 (numbered other a)
       → WasRefused number 0 (numbered other (changed change a))
-  refused_changed other SentOut a its = λ same.
+  refused_changed other (SentOut now) a its = λ same.
       or_left (a.refusals.is_earlier || a.refusals.is_recent) false (its same)
   refused_changed other (Noted why code) a its = its
   refused_changed other (Refused code) a its = λ same. or_right a.refusals.is_earlier true refl
@@ -268,49 +267,53 @@ module _ (identity : Identity) (number : ℕ) where
   counts_changed : (other : ℕ) (change : Change) (a : AskedSeen)
       → CountsRefusal number 0 (numbered other a)
       → CountsRefusal number 0 (numbered other (changed change a))
-  counts_changed other SentOut a its = λ same.
+  counts_changed other (SentOut now) a its = λ same.
       or_left a.refusals.is_earlier a.refusals.is_recent (its same)
   counts_changed other (Noted why code) a its = its
   counts_changed other (Refused code) a its = its
 
   refused_rules : AreRules identity (number + 1) any_standing (WasRefused number) any_lapse
   refused_rules = record {
-    starts = λ s id other method until body low any. λ same. absurd (not_new number other low same);
+    starts = λ s id other method until body options low any. λ same.
+        absurd (not_new number other low same);
     changes = λ id other change a its. refused_changed other change a its;
-    turns_so = λ j now id new other former a bytes place t is_kept same any its is. λ its_number.
+    turns_so = λ j now id new other former a bytes place t is_kept signed same any its is.
+        λ its_number.
         or_left (a.refusals.is_earlier || a.refusals.is_recent) false (its its_number);
-    answers = λ j now id other a bytes place why d same any its is. tt;
+    answers = λ j now id other a bytes place why d signed same any its is. tt;
     succeeds = λ s id other a o any its signed. tt;
     lapses = λ s a so any. tt;
   }
 
   counts_rules : AreRules identity (number + 1) any_standing (CountsRefusal number) any_lapse
   counts_rules = record {
-    starts = λ s id other method until body low any. λ same. absurd (not_new number other low same);
+    starts = λ s id other method until body options low any. λ same.
+        absurd (not_new number other low same);
     changes = λ id other change a its. counts_changed other change a its;
-    turns_so = λ j now id new other former a bytes place t is_kept same any its is. λ its_number.
+    turns_so = λ j now id new other former a bytes place t is_kept signed same any its is.
+        λ its_number.
         or_left a.refusals.is_earlier a.refusals.is_recent (its its_number);
-    answers = λ j now id other a bytes place why d same any its is. tt;
+    answers = λ j now id other a bytes place why d signed same any its is. tt;
     succeeds = λ s id other a o any its signed. tt;
     lapses = λ s a so any. tt;
   }
 
 no_fact : (c : Client) (event : Event) (after : Client) (made : Call c event after)
     → OfCall any_poll c event after made
-no_fact c event after (requests _ _ method body now low none so) = tt
+no_fact c event after (requests _ _ method body options now low none so) = tt
 no_fact c event after (receives _ _ from bytes now answer low made so) = tt
 no_fact c event after (polls _ _ now says said) = tt
 no_fact c event after (ends_one _ _ number a there so) = tt
 no_fact c event after (changes_nothing _) = tt
 
-no_facts : (c : Client) (events : List Event) (after : Client) (calls : Calls c events after)
+pub no_facts : (c : Client) (events : List Event) (after : Client) (calls : Calls c events after)
     → OfEachPoll any_poll c events after calls
 no_facts c events after (no_call _) = tt
 no_facts c events after (call _ next _ event others made rest) =
     (no_fact c event next made, no_facts next others after rest)
 
-abbrev any_lets : (c : Client) (n : ℕ) (a : AskedSeen)
-    → any_poll c (ends n (record { end = how.TimedOut a.drops; response = [] }))
+abbrev pub any_lets : (c : Client) (n : ℕ) (a : AskedSeen)
+    → any_poll c (ends n (bare_end (how.TimedOut a.drops)))
     → datum_of n c.requests ≡ Some a → any_lapse c.standing a
 any_lets c n a fact there = tt
 
@@ -346,18 +349,18 @@ module _ (now number : ℕ) (c after : Client) (b : AskedSeen) (one : IsOne c.re
           (polls_each (WasRefused number) c.requests each one.in_order now)
 
       by : (late : Bool)
-          → cond late (given_up_at n a (with_requests r c)) (sent_by n (with_requests r c))
+          → cond late (given_up_at n a (with_requests r c)) (sent_by now n (with_requests r c))
           ≡ (transmit number, after)
           → b.refusals.is_earlier ≡ true
       by true said = let no = ap (λ (p : Poll). p.0) said in cc
       by false said =
           let named : n ≡ number = number_is n number (ap (λ (p : Poll). p.0) said) in
-          let left : changed_at SentOut n r ≡ after.requests =
+          let left : changed_at (SentOut now) n r ≡ after.requests =
           ap (λ (p : Poll). p.1.requests) said in
-          let stored : datum_of n (after_replacing n (sent_out a) r) ≡ Some b =
-          ap (λ (x : All). datum_of n x) (sym (changed_is SentOut n a r there) ∙ left)
+          let stored : datum_of n (after_replacing n (sent_out now a) r) ≡ Some b =
+          ap (λ (x : All). datum_of n x) (sym (changed_is (SentOut now) n a r there) ∙ left)
           ∙ ap (λ k. datum_of k after.requests) named ∙ some in
-          let sent : sent_out a ≡ b = replaced_is n (sent_out a) b r stored in
+          let sent : sent_out now a ≡ b = replaced_is n (sent_out now a) b r stored in
           let t = is_there n a r still there in
           ap (λ (x : AskedSeen). x.refusals.is_earlier) (sym sent)
           ∙ each_left t.id (numbered n a) t.there named
@@ -416,7 +419,7 @@ module _ (stays : StaysAClient) (identity : Identity) (form : Form) (number : �
 
   sends_counts : (c : Client) (event : Event) (after : Client) → IsClient c → Call c event after
       → Remembers c → sends number event ≡ true → Counts after
-  sends_counts c event after is (requests _ _ method body now low none so) held sent = cc
+  sends_counts c event after is (requests _ _ method body options now low none so) held sent = cc
   sends_counts c event after is (receives _ _ from bytes now answer low made so) held sent = cc
   sends_counts c event after is (ends_one _ _ other a there so) held sent = cc
   sends_counts c event after is (changes_nothing _) held sent = cc
@@ -451,7 +454,8 @@ module _ (stays : StaysAClient) (identity : Identity) (form : Form) (number : �
           (sends_counts c event next is made held so)
       by false so sent later = later sent
 
-low_number : (n : ℕ) (a : AskedSeen) (r : All) → IsOne r → datum_of n r ≡ Some a → n + 1 ≤ r.next
+pub low_number : (n : ℕ) (a : AskedSeen) (r : All) → IsOne r → datum_of n r ≡ Some a
+    → n + 1 ≤ r.next
 low_number n a r one some = by (nat_le r.next n) refl
   where
     gone : r.next ≤ n → ⊥

@@ -26,7 +26,7 @@ use Rattle.stun_auth.specs.ClientStep.{naming_of}
 use Rattle.stun_auth.specs.Signed.{IsText, hashed_name, plain_name}
 use Rattle.stun_client.specs.Challenge.{Challenge, added_under}
 use Rattle.stun_client.specs.Challenges.{Answered, IsOfMessage, challenge_of, is_one}
-use Rattle.stun_client.specs.Clients.{answering}
+use Rattle.stun_client.specs.Standing.{answering}
 use Rattle.stun_client.specs.Judging.{Identity, IsAnsweredAnew, IsSentAgain, judged, long_term}
 use Rattle.stun_client.specs.Rule.{IsByRule, is_hashed}
 use Rattle.stun_client.specs.Standing.{StandingSeen, after_answer, after_success, after_timeout}
@@ -41,12 +41,15 @@ use Rattle.stun_client_calls.specs.Messages.{AllSent, AskedSeen, SentSeen, chall
 use Rattle.stun_client_calls.specs.Messages.{leaves_doubt}
 use Rattle.stun_client_calls.specs.Messages.{with_former}
 use Rattle.stun_client_calls.specs.Messages.{without_message}
+use Rattle.stun_client_calls.specs.Options.{Options, challenge_by}
 use Rattle.stun_client_calls.specs.declared.asked.Change.{Change}
 use Rattle.stun_client_calls.specs.declared.asked.Change.TheVariants.{Noted, Refused, SentOut}
 use Rattle.stun_client_calls.specs.declared.turning.Why.{Why}
 use Rattle.stun_client_runs.specs.Kept.{sent_at}
 use Rattle.stun_client_strength.proofs.HeldLemmas.{AreRules, IsSignedAs, current_is, earlier_is}
 use Rattle.stun_client_strength.proofs.TurnLemmas.{IsTurn, answers, doubts, returns, turn_of}
+use Rattle.stun_client_strength.proofs.UnsignedLemmas.{StaysUnsigned, changed_unsigned}
+use Rattle.stun_client_strength.proofs.UnsignedLemmas.{starts_unsigned, turned_unsigned}
 
 -- ---- earlier messages
 
@@ -153,10 +156,11 @@ pub record AreFine (p : Preferences) (who : NameAndPassword) (s : StandingSeen) 
   pub current : IfSome s.current (IsFine p who)
   pub validated : IfSome s.validated (IsFine p who)
 
--- the challenge of each message of a request is
+-- the challenge of each message of a request is, which has none if it is not to be signed
 pub record IsFineOf (p : Preferences) (who : NameAndPassword) (a : AskedSeen) : Type 0 where
   pub current : IfSome a.signed_for (IsFine p who)
   pub earlier : EachSent (IsFine p who) a.earlier
+  pub unsigned : StaysUnsigned a
 
 abbrev pub IsFineFor : Preferences → NameAndPassword → ℕ → Request AskedSeen → Type 0
 IsFineFor p who id q = IsFineOf p who q.datum
@@ -288,25 +292,49 @@ module _ (laws : ChallengeLaws) (p : Preferences) (who : NameAndPassword) (accep
 
   changed_fine : (change : Change) (a : AskedSeen) → IsFineOf p who a
       → IsFineOf p who (changed change a)
-  changed_fine SentOut a fine = record { current = fine.current; earlier = fine.earlier }
-  changed_fine (Noted why code) a fine = record { current = fine.current; earlier = fine.earlier }
-  changed_fine (Refused code) a fine = record { current = fine.current; earlier = fine.earlier }
+  changed_fine (SentOut now) a fine = record {
+    current = fine.current;
+    earlier = fine.earlier;
+    unsigned = changed_unsigned (SentOut now) a fine.unsigned;
+  }
+  changed_fine (Noted why code) a fine = record {
+    current = fine.current;
+    earlier = fine.earlier;
+    unsigned = changed_unsigned (Noted why code) a fine.unsigned;
+  }
+  changed_fine (Refused code) a fine = record {
+    current = fine.current;
+    earlier = fine.earlier;
+    unsigned = changed_unsigned (Refused code) a fine.unsigned;
+  }
+
+  -- the challenge that a request is signed for which starts
+  starting_fine : (options : Option Options) (o : Option Answered) → IfSome o (IsFine p who)
+      → IfSome (challenge_by options o) (IsFine p who)
+  starting_fine None o its = its
+  starting_fine (Some x) o its = by x.is_signed
+    where
+      by : (b : Bool) → IfSome (cond b o None) (IsFine p who)
+      by true = its
+      by false = tt
 
   pub fine_rules : AreRules (long_term who p accepts) 0 (AreFine p who) (IsFineFor p who) always
   fine_rules = record {
-    starts = λ s id number method until body low fine. record {
-      current = fine.current;
+    starts = λ s id number method until body options low fine. record {
+      current = starting_fine options s.current fine.current;
       earlier = tt;
+      unsigned = starts_unsigned method until body options s.current;
     };
     changes = λ id number change a fine. changed_fine change a fine;
-    turns_so = λ j now id new number former a bytes place t is_kept same fine its is. record {
+    turns_so = λ j now id new number former a bytes place t is_kept on same fine its is. record {
       current = turn_fine j now a bytes place t.why t.signed_for same its is;
       earlier = sent_former (IsFine p who) is_kept a.rank
           (record { id = former; signed_for = a.signed_for; is_doubted = leaves_doubt t.why })
           (without_message t.rank a.earlier)
           (sent_left (IsFine p who) (is_at (nat_cmp t.rank)) a.earlier its.earlier) its.current;
+      unsigned = turned_unsigned is_kept former t a on;
     };
-    answers = λ j now id number a bytes place why d same fine its is.
+    answers = λ j now id number a bytes place why d signed same fine its is.
         answering_fine j.standing d (turn_fine j now a bytes place why d same its is) fine;
     succeeds = λ s id number a o fine its signed.
         success_fine s o (signed_fine a o its signed) fine;

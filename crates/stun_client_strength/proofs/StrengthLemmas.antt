@@ -9,25 +9,31 @@ use Rattle.stun_auth.specs.Algorithms.{is_sha256}
 use Rattle.stun_auth.specs.Signed.{plain_name}
 use Rattle.stun_client.specs.Challenge.{Challenge}
 use Rattle.stun_client.specs.Challenges.{Answered, is_one, is_weaker}
-use Rattle.stun_client.specs.Clients.{answering}
+use Rattle.stun_client.specs.Standing.{answering}
 use Rattle.stun_client.specs.Judging.{Identity, judged}
 use Rattle.stun_client.specs.Standing.{StandingSeen, after_answer, after_success, after_timeout}
 use Rattle.stun_client.specs.Standing.{confirmed, gives_way, is_ignored, is_standing}
 use Rattle.stun_client.specs.Standing.{is_stronger_than, is_weaker_than}
+use Rattle.stun_client_endpoint.specs.Bodies.{Body}
 use Rattle.stun_client_requests.specs.declared.requests.Request.{Request}
 use Rattle.stun_client_calls.specs.Clients.{changed}
 use Rattle.stun_client_calls.specs.Deciding.{Place, turns}
 use Rattle.stun_client_calls.specs.Laws.{Judge, decision_on}
 use Rattle.stun_client_calls.specs.Messages.{AskedSeen, TurnSeen, challenge_for}
-use Rattle.stun_client_calls.specs.Messages.{is_doubt, is_too_weak, turned}
+use Rattle.stun_client_calls.specs.Messages.{is_doubt, is_too_weak, new_asked, turned}
+use Rattle.stun_client_calls.specs.OptionLaws.{is_unsigned}
+use Rattle.stun_client_calls.specs.Options.{Options, challenge_by}
 use Rattle.stun_client_calls.specs.declared.asked.Change.{Change}
 use Rattle.stun_client_calls.specs.declared.asked.Change.TheVariants.{Noted, Refused, SentOut}
 use Rattle.stun_client_calls.specs.declared.turning.Why.{Why}
+use Rattle.stun_client_calls.proofs.EachLemmas.{Stored}
 use Rattle.stun_client_strength.specs.Strength.{IsNoWeaker}
-use Rattle.stun_client_strength.proofs.EachLemmas.{Stored, numbered}
+use Rattle.stun_client_strength.specs.Unsigned.{IsNeverSigned}
+use Rattle.stun_client_runs.proofs.EachAtLemmas.{numbered}
 use Rattle.stun_client_strength.proofs.HeldLemmas.{AreRules}
 use Rattle.stun_client_strength.proofs.RuleLemmas.{always}
 use Rattle.stun_client_strength.proofs.TurnLemmas.{turn_of, unsigned_is_doubt}
+use Rattle.stun_client_strength.proofs.UnsignedLemmas.{standing_signed, starts_unsigned}
 
 -- ---- no weaker than what is confirmed
 
@@ -91,13 +97,15 @@ pub record AreStrong (strong : Answered) (s : StandingSeen) : Type 0 where
   pub confirmed_one : IsNoWeaker strong (confirmed s)
 
 -- the current message of a request is signed for a challenge that is not weaker, is not signed
--- because of a doubt, or was the current one at a time
+-- because of a doubt, was the current one at a time, or is not to be signed
 pub data IsStrongFor (strong : Answered) (then_stored : Stored) (id : ℕ) (q : Request AskedSeen)
     : Type 0 where
   by_challenge : IsNoWeaker strong q.datum.signed_for → IsStrongFor strong then_stored id q
   by_doubt : q.datum.signed_for ≡ None → 1 ≤ q.datum.doubts → IsStrongFor strong then_stored id q
   by_time : (b : AskedSeen) → datum_at id then_stored ≡ Some (numbered q.number b)
       → b.signed_for ≡ q.datum.signed_for → IsStrongFor strong then_stored id q
+  by_options : is_unsigned q.datum.options ≡ true → IsNeverSigned q.datum
+      → IsStrongFor strong then_stored id q
 
 -- what times out has no message for the confirmed challenge
 abbrev pub is_other : StandingSeen → AskedSeen → Type 0
@@ -188,10 +196,10 @@ module _ (never : NeverWeaker) (identity : Identity) where
 
   pub sound_rules : AreRules identity 0 IsSound any_asked always
   sound_rules = record {
-    starts = λ s id number method until body low sound. tt;
+    starts = λ s id number method until body options low sound. tt;
     changes = λ id number change a its. tt;
-    turns_so = λ j now id new number former a bytes place t is_kept same sound its is. tt;
-    answers = λ j now id number a bytes place why d same sound its is.
+    turns_so = λ j now id new number former a bytes place t is_kept signed same sound its is. tt;
+    answers = λ j now id number a bytes place why d signed same sound its is.
         answering_sound j.standing d (never j true now a a.signed_for bytes why place d is) sound;
     succeeds = λ s id number a o sound its signed. success_sound s o sound;
     lapses = λ s a let_so sound. timeout_sound s (challenge_for s.current a) sound;
@@ -281,24 +289,45 @@ module _ (never : NeverWeaker) (identity : Identity) where
 
     -- the same message
     same_message : (id number : ℕ) (a b : AskedSeen) → a.signed_for ≡ b.signed_for
-        → a.doubts ≡ b.doubts → IsStrongFor strong then_stored id (numbered number a)
+        → a.doubts ≡ b.doubts → a.options ≡ b.options → a.earlier ≡ b.earlier
+        → IsStrongFor strong then_stored id (numbered number a)
         → IsStrongFor strong then_stored id (numbered number b)
-    same_message id number a b signed count (by_challenge is) =
+    same_message id number a b signed count options earlier (by_challenge is) =
         by_challenge (subst (λ (o : Option Answered). IsNoWeaker strong o) signed is)
-    same_message id number a b signed count (by_doubt none many) =
+    same_message id number a b signed count options earlier (by_doubt none many) =
         by_doubt (sym signed ∙ none) (subst (λ n. 1 ≤ n) count many)
-    same_message id number a b signed count (by_time c there same) =
+    same_message id number a b signed count options earlier (by_time c there same) =
         by_time c there (same ∙ signed)
+    same_message id number a b signed count options earlier (by_options off never) =
+        by_options (sym (ap is_unsigned options) ∙ off)
+        (record { current = sym signed ∙ never.current; earlier = sym earlier ∙ never.earlier })
 
     changed_strong : (id number : ℕ) (change : Change) (a : AskedSeen)
         → IsStrongFor strong then_stored id (numbered number a)
         → IsStrongFor strong then_stored id (numbered number (changed change a))
-    changed_strong id number SentOut a its =
-        same_message id number a (changed SentOut a) refl refl its
+    changed_strong id number (SentOut now) a its =
+        same_message id number a (changed (SentOut now) a) refl refl refl refl its
     changed_strong id number (Noted why code) a its =
-        same_message id number a (changed (Noted why code) a) refl refl its
+        same_message id number a (changed (Noted why code) a) refl refl refl refl its
     changed_strong id number (Refused code) a its =
-        same_message id number a (changed (Refused code) a) refl refl its
+        same_message id number a (changed (Refused code) a) refl refl refl refl its
+
+    -- a request that starts
+    new_strong : (id number method until : ℕ) (body : Body) (options : Option Options)
+        (current : Option Answered) → IsNoWeaker strong current
+        → IsStrongFor strong then_stored id
+        (numbered number (new_asked method body options until (challenge_by options current)))
+    new_strong id number method until body options current is =
+        by (is_unsigned options) refl
+      where
+        by : (b : Bool) → is_unsigned options ≡ b
+            → IsStrongFor strong then_stored id
+            (numbered number (new_asked method body options until (challenge_by options current)))
+        by false signed =
+            by_challenge (subst (λ (o : Option Answered). IsNoWeaker strong o)
+            (sym (standing_signed options current signed)) is)
+        by true off =
+            by_options off (starts_unsigned method until body options current off)
 
     answering_strong : (s : StandingSeen) (d : Option Answered) → is_too_weak s d ≡ false
         → AreStrong strong s → AreStrong strong (answering s d)
@@ -331,9 +360,10 @@ module _ (never : NeverWeaker) (identity : Identity) where
     pub strong_rules : AreRules identity 0 (AreStrong strong) (IsStrongFor strong then_stored)
         is_other
     strong_rules = record {
-      starts = λ s id number method until body low are. by_challenge are.current;
+      starts = λ s id number method until body options low are.
+          new_strong id number method until body options s.current are.current;
       changes = λ id number change a its. changed_strong id number change a its;
-      turns_so = λ j now id new number former a bytes place t is_kept same are its is.
+      turns_so = λ j now id new number former a bytes place t is_kept signed same are its is.
           turn_strong j.standing former new number a t is_kept
           (never j true now a a.signed_for bytes t.why place t.signed_for is)
           (λ none. unsigned_is_doubt a
@@ -341,7 +371,7 @@ module _ (never : NeverWeaker) (identity : Identity) where
           (turn_of j.limits j.standing now a
           (judged j.required true j.identity j.standing a.signed_for bytes) t.why place t.signed_for
           is) none) are;
-      answers = λ j now id number a bytes place why d same are its is.
+      answers = λ j now id number a bytes place why d signed same are its is.
           answering_strong j.standing d (never j true now a a.signed_for bytes why place d is) are;
       succeeds = λ s id number a o are its signed. success_strong s o are;
       lapses = λ s a other are. timeout_strong s a other are;

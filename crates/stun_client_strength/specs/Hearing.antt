@@ -4,21 +4,20 @@ use Rattle.std.specs.Option.{is_some}
 use Rattle.std.specs.declared.net.socket_addr.SocketAddr.{SocketAddr}
 use Rattle.stun_base.specs.MessageType.{class_in, is_response}
 use Rattle.stun_types.specs.Message.{refusal}
-use Rattle.stun_extra.specs.CanonicalAddress.{is_same_address}
 use Rattle.stun_client.specs.Judging.{Verdict, judged}
-use Rattle.stun_client_calls.specs.Clients.{Client}
-use Rattle.stun_client_calls.specs.Receiving.{Met, answered_in}
+use Rattle.stun_client_calls.specs.Clients.{Client, identity_for}
+use Rattle.stun_client_calls.specs.Receiving.{Met, heard_in}
 
--- the message that a datagram from an address answers, if it is a response from the server to a
--- message of an outstanding request
+-- the message that a datagram from an address answers, if it is a response to a message of an
+-- outstanding request, and comes from the address that answers this request
 abbrev pub message_answered : Client → SocketAddr → List ℕ → Option Met
 message_answered c from bytes =
     if is_some (refusal bytes) then None
-    else if is_same_address from c.server
-    then (if is_response (class_in bytes) then answered_in bytes c else None)
+    else if is_response (class_in bytes) then heard_in from bytes c
     else None
 
--- what it is judged to be
+-- the judgement of the response, with the identity of the client for the request
 abbrev pub response_verdict : Client → List ℕ → Met → Verdict
 response_verdict c bytes m =
-    judged c.requires_fingerprint m.is_current c.identity c.standing m.signed_for bytes
+    judged c.requires_fingerprint m.is_current (identity_for c m.asked) c.standing m.signed_for
+    bytes

@@ -2,6 +2,8 @@
 
 -- which message a datagram answers
 pub mod Hearing
+-- requests that are not signed
+pub mod Unsigned
 -- what is sent is not bid down
 pub mod Strength
 -- how often a request may be refused

@@ -13,21 +13,22 @@ use Rattle.stun_client_requests.specs.Numbers.{known_at}
 use Rattle.stun_client_requests.specs.Requests.{datum_of}
 use Rattle.stun_client_requests.specs.declared.numbers.Known.TheVariants.{Ended}
 use Rattle.stun_client_calls.specs.Clients.{Client, Told, ends, transmit, waits}
+use Rattle.stun_client_calls.specs.Endpoints.{bare_end}
 use Rattle.stun_client_calls.specs.Messages.{AskedSeen}
 use Rattle.stun_client_calls.specs.Receiving.{Memory, Met, received}
 use Rattle.stun_client_calls.specs.Runs.{Calls, Event, cancels, polled, silent, starts}
 use Rattle.stun_client_runs.specs.Kept.{IsClient}
 use Rattle.stun_client_strength.specs.Hearing.{message_answered, response_verdict}
 
--- a datagram ends a request as not authorized, which `poll` hands out
+-- a datagram ends a request as unauthorized, and `poll` returns this end
 pub record IsGivenUp (memory : Memory) (from : SocketAddr) (bytes : List ℕ) (now number : ℕ)
     (c : Client) : Type 0 where
   pub next : Client
   pub consumed : received memory from bytes now c ≡ (Consumed, next)
   pub ended : known_at number next.requests.numbers.known
-      ≡ Some (Ended (record { end = how.Unauthorized; response = [] }))
+      ≡ Some (Ended (bare_end how.Unauthorized))
 
--- a datagram is dropped as a refusal, which is remembered, and the request goes on by its timer,
+-- a datagram is dropped as a refusal, which is remembered, and the request continues by its timer,
 -- with the message that it had
 pub record IsRemembered (memory : Memory) (from : SocketAddr) (bytes : List ℕ) (now number : ℕ)
     (signed_for : Option Answered) (c : Client) : Type 0 where
@@ -81,7 +82,7 @@ abbrev pub is_sent_in : ℕ → List Event → Bool
 is_sent_in number [] = false
 is_sent_in number (event ∷ events) = sends number event || is_sent_in number events
 
--- a refusal is remembered, any calls follow, and one of them hands out the bytes of the request. If
+-- a refusal is remembered, any calls follow, and one of them returns the bytes of the request. If
 -- the request is still outstanding, the next refusal ends it
 abbrev pub RefusalsAreRemembered : Type 0
 RefusalsAreRemembered =

@@ -1,64 +1,38 @@
 -- What a client sends is not bid down, whatever it has received (RFC 8489, sections 9.2.5 and
 -- 16.1.3).
-use Rattle.std.specs.Prelude.{◌≡◌, ◌≤◌, ◌<◌, ◌&&◌, ℕ, Bool, true, false, List, Option, Some, None}
-use Rattle.std.specs.Prelude.{⊤, IsUtf8}
+use Rattle.std.specs.Prelude.{◌≡◌, ◌≤◌, ◌<◌, ◌&&◌, ℕ, true, false, List, Option, Some, None, ⊤}
+use Rattle.std.specs.Prelude.{IsUtf8}
 use Rattle.std.specs.Option.{IfSome}
 use Rattle.std.specs.declared.net.socket_addr.SocketAddr.{SocketAddr}
-use Rattle.stun_base.specs.Credentials.{NameAndPassword}
 use Rattle.stun_base.specs.Moments.{last_moment}
 use Rattle.stun_base.specs.declared.keys.algorithm.IntegrityAlgorithm.{IntegrityAlgorithm}
-use Rattle.stun_base.specs.declared.wire.attribute_type.AttributeType.{AttributeType}
-use Rattle.stun_base.specs.declared.wire.transport.TransportType.{TransportType}
-use Rattle.stun_agent.specs.Timing.{Settings}
 use Rattle.stun_auth.specs.Reading.{reading_of}
 use Rattle.stun_client.specs.Challenges.{Answered, is_weaker}
 use Rattle.stun_client.specs.Downgrade.{IsNowhereBidDown}
-use Rattle.stun_client.specs.Judging.{long_term}
 use Rattle.stun_client.specs.Rule.{IsByRule}
 use Rattle.stun_client.specs.Standing.{confirmed, is_standing, is_stronger_than}
-use Rattle.stun_client.specs.declared.preferences.Preferences.{Preferences}
 use Rattle.stun_client_calls.specs.Receiving.{is_success_class}
 use Rattle.stun_client_endpoint.specs.Bodies.{Body}
-use Rattle.stun_client_endpoint.specs.Written.{Form}
 use Rattle.stun_client_endpoint.specs.declared.ended.RequestEnd.{RequestEnd}
 use Rattle.stun_client_endpoint.specs.declared.ended.RequestEnd.TheVariants as how
 use Rattle.stun_client_requests.specs.Numbers.{id_at}
 use Rattle.stun_client_requests.specs.Requests.{bytes_at, datum_of}
-use Rattle.stun_client_calls.specs.Clients.{Client, Told, ends, new_client, refusal_to_start}
-use Rattle.stun_client_calls.specs.Clients.{started, told, transmit, waits}
+use Rattle.stun_client_calls.specs.Clients.{Client, Told, ends, refusal_to_start, started, told}
+use Rattle.stun_client_calls.specs.Clients.{transmit, waits}
 use Rattle.stun_client_calls.specs.Deciding.{answered}
 use Rattle.stun_client_calls.specs.Messages.{AskedSeen, SentSeen, challenge_for}
+use Rattle.stun_client_calls.specs.NewClients.{NewClient, made_of}
+use Rattle.stun_client_calls.specs.OptionLaws.{is_unsigned}
+use Rattle.stun_client_calls.specs.Options.{Options}
 use Rattle.stun_client_calls.specs.Receiving.{Memory, Met, decision_for, received}
 use Rattle.stun_client_calls.specs.Runs.{Call, Calls, Event, call, changes_nothing, ends_one}
 use Rattle.stun_client_calls.specs.Runs.{next_number, no_call, polls, receives, requests}
 use Rattle.stun_client_runs.specs.Kept.{sent_at}
 use Rattle.stun_client_strength.specs.Hearing.{message_answered}
+use Rattle.stun_client_strength.specs.Unsigned.{IsNeverSigned}
 use Rattle.stun_requests.specs.Fitting.{IsBuiltBody}
 use Rattle.stun_requests.specs.ReadBack.{IsReadAsMade, added_to}
 use Rattle.stun_base.specs.MessageType.{class_in}
-
--- ---- a new client
-
--- what a client with long-term credentials is made of
-pub record NewClient : Type 0 where
-  pub transport : TransportType
-  pub server : SocketAddr
-  pub counts : Bool
-  pub requires_fingerprint : Bool
-  pub who : NameAndPassword
-  pub preferences : Preferences
-  pub accepts_unsigned : Bool
-  pub form : Form
-  pub understood : List AttributeType
-  pub turns : ℕ
-  pub plan : Settings
-  pub seed : List ℕ
-
--- the client that has asked nothing
-abbrev pub made_of : NewClient → Client
-made_of c =
-    new_client c.transport c.server c.counts c.requires_fingerprint
-    (long_term c.who c.preferences c.accepts_unsigned) c.form c.understood c.turns c.plan c.seed
 
 -- ---- whatever is received
 
@@ -66,14 +40,18 @@ made_of c =
 abbrev pub IsByRuleFor : NewClient → Option Answered → Type 0
 IsByRuleFor c signed_for = IfSome signed_for (λ x. IsByRule c.preferences c.who x.challenge)
 
--- the bytes that are sent of a request with this method: they read as signed for the challenge that
--- is stored with its current message, which is by the client's own rule, or as not signed at all.
--- No server whose nonce and offer are up to date accepts less by them than the strongest algorithm
--- that both support. The challenges of its earlier messages, which may become the current one
--- again, are by the rule, too
-pub record IsSentByRule (c : NewClient) (method number : ℕ) (last : Client) : Type 0 where
+-- the bytes that are sent for a request with these options and this method: they read as signed for
+-- the challenge that is stored with its current message, which is by the client's own rule, or as
+-- not signed at all. If the options say that the request is not signed, it has no other message,
+-- and this one is not signed (`unsigned`). No server whose nonce and offer are up to date accepts
+-- the bytes with a weaker algorithm than the strongest that both support. The challenges of its
+-- earlier messages, which may become the current one again, are by the rule, too
+pub record IsSentByRule (c : NewClient) (options : Option Options) (method number : ℕ)
+    (last : Client) : Type 0 where
   pub asked : AskedSeen
   pub there : datum_of number last.requests ≡ Some asked
+  pub options_are : asked.options ≡ options
+  pub unsigned : is_unsigned options ≡ true → IsNeverSigned asked
   pub by_rule : IsByRuleFor c asked.signed_for
   pub earlier : (rank : ℕ) (s : SentSeen) → sent_at rank asked.earlier ≡ Some s
       → IsByRuleFor c s.signed_for
@@ -82,16 +60,17 @@ pub record IsSentByRule (c : NewClient) (method number : ℕ) (last : Client) : 
   pub reads : IsReadAsMade c.form method (added_to asked.signed_for) bytes
   pub not_bid_down : IsNowhereBidDown c.preferences (reading_of bytes)
 
--- a request is started after any calls of a new client, any calls follow, and `poll` says to send
--- it
+-- a request with any options is started after any calls of a new client, any calls follow, and
+-- `poll` says to send it
 abbrev pub NothingIsBidDown : Type 0
 NothingIsBidDown =
     (c : NewClient) (e later last : Client) (before between : List Event) (method : ℕ) (body : Body)
-    (start now : ℕ) → IsUtf8 c.who.username → Calls (made_of c) before e → method < 4096
-    → IsBuiltBody body → start ≤ last_moment → refusal_to_start e method body ≡ None
-    → Calls (started method body start e) between later
+    (options : Option Options) (start now : ℕ) → IsUtf8 c.who.username
+    → Calls (made_of c) before e → method < 4096 → IsBuiltBody body → start ≤ last_moment
+    → refusal_to_start e method body options ≡ None
+    → Calls (started method body options start e) between later
     → told now later ≡ (transmit (next_number e), last)
-    → IsSentByRule c method (next_number e) last
+    → IsSentByRule c options method (next_number e) last
 
 -- ---- after a success
 
@@ -116,7 +95,7 @@ pub record IsConfirmed (memory : Memory) (c : Client) (from : SocketAddr) (bytes
       → is_stronger_than x (confirmed c.standing) ≡ true
       → confirmed (received memory from bytes now c).1.standing ≡ Some x
 
--- each success confirms so
+-- each success confirms in this way
 abbrev pub SuccessesConfirm : Type 0
 SuccessesConfirm =
     (memory : Memory) (c : Client) (from : SocketAddr) (bytes : List ℕ) (now : ℕ) (m : Met)
@@ -130,7 +109,7 @@ IsNotConfirmed c number =
     → (c.standing.is_validated && is_standing c.standing (challenge_for c.standing.current a))
     ≡ false
 
--- no request that has one times out, at the poll that says so
+-- no request that has such a message times out, at the poll that returns this
 abbrev pub IsNoTimeout : Client → ℕ → RequestEnd → Type 0
 IsNoTimeout c number (how.Answered outcome signed_by) = ⊤
 IsNoTimeout c number how.Unauthorized = ⊤
@@ -142,11 +121,11 @@ SaysNoTimeout c (transmit number) = ⊤
 SaysNoTimeout c (ends number end) = IsNoTimeout c number end.end
 SaysNoTimeout c (waits until) = ⊤
 
--- a fact of the client before each poll among calls, and of what it says
+-- a fact about the client before each poll among calls, and about its result
 abbrev pub OfCall : (Client → Told → Type 0) → (c : Client) (event : Event) (after : Client)
     → Call c event after
     → Type 0
-OfCall fact c event after (requests _ _ method body now low none so) = ⊤
+OfCall fact c event after (requests _ _ method body options now low none so) = ⊤
 OfCall fact c event after (receives _ _ from bytes now answer low made so) = ⊤
 OfCall fact c event after (polls _ _ now says said) = fact c says
 OfCall fact c event after (ends_one _ _ number a there so) = ⊤
@@ -174,15 +153,18 @@ pub record IsSentAsBefore (e : Client) (number : ℕ) (last : Client) (a : Asked
   pub signed_for : before.signed_for ≡ a.signed_for
 
 -- the current message of a request is signed for a challenge that is not weaker than another one;
--- it is not signed, because a response has thrown doubt on a message of the request; or it was the
--- current one at an earlier client already
+-- or it is not signed, because a response has thrown doubt on a message of the request; or it was
+-- the current one at an earlier client already; or it is not signed, because the options of the
+-- request say so
 pub data IsStrongSince (e : Client) (strong : Answered) (number : ℕ) (last : Client) (a : AskedSeen)
     : Type 0 where
   signed : IsNoWeaker strong a.signed_for → IsStrongSince e strong number last a
   in_doubt : a.signed_for ≡ None → 1 ≤ a.doubts → IsStrongSince e strong number last a
   as_before : IsSentAsBefore e number last a → IsStrongSince e strong number last a
+  unsigned : is_unsigned a.options ≡ true → IsNeverSigned a
+      → IsStrongSince e strong number last a
 
--- what `poll` says to send is so
+-- this holds for each request that `poll` says to send
 pub record IsSentStrongly (e : Client) (strong : Answered) (number : ℕ) (last : Client)
     : Type 0 where
   pub asked : AskedSeen
@@ -198,7 +180,8 @@ NothingWeakerIsSent =
     → (calls : Calls e between later) → OfEachPoll SaysNoTimeout e between later calls
     → told now later ≡ (transmit number, last) → IsSentStrongly e strong number last
 
--- and the challenge that new requests are signed for is not weaker
+-- and the challenge that new requests are signed for, unless their options say that they are not
+-- signed, is not weaker
 abbrev pub NewRequestsAreStrong : Type 0
 NewRequestsAreStrong =
     (c : NewClient) (e later : Client) (before between : List Event) (strong : Answered)

@@ -1,19 +1,25 @@
-//! What a client sends is not bid down, and how soon it gives up.
+//! Laws about downgrades, which the messages of a client prevent, and about wrong passwords, which
+//! end a request soon.
 ghost use Rattle.stun_client_strength.specs.Costs.{CostsThreeDatagrams};
 ghost use Rattle.stun_client_strength.specs.Refusing.{RefusalsAreRemembered, SecondRefusalsEnd};
 ghost use Rattle.stun_client_strength.specs.Refusing.{ThirdRefusalsEnd};
 ghost use Rattle.stun_client_strength.specs.Strength.{NewRequestsAreStrong, NothingIsBidDown};
 ghost use Rattle.stun_client_strength.specs.Strength.{NothingWeakerIsSent, SuccessesConfirm};
+ghost use Rattle.stun_client_strength.specs.Unsigned.{UnsignedRequestsAnswerNothing};
+ghost use Rattle.stun_client_strength.specs.Unsigned.{UnsignedRequestsDoubtNothing};
+ghost use Rattle.stun_client_strength.specs.Unsigned.{UnsignedRequestsStayUnsigned};
 
-/// A wrong password ends a request soon. The challenge that the current message of a request is
-/// signed for is dropped as `Refused` the first time, and the request goes on by its timer. It ends
-/// the request as `Unauthorized` once the request was sent again after that, and at once over a
-/// reliable transport (`second`). Whatever is called between, the first refusal is not forgotten
-/// (`remembered`). So if the password is wrong, a server that answers each datagram in time gets
-/// the signed message twice over UDP, and once over a reliable transport. A 401 for the same realm
-/// and security bits with another nonce or list ends the request after it was sent by another
-/// message for two of these (`third`). Which challenges count is said by
-/// `refusals_ask_for_the_same_credentials` of `stun_exchanges`.
+/// A wrong password ends a signed request soon, whatever its plan is, and whatever address answers
+/// it. If a response repeats the challenge that the current message is signed for, it is dropped as
+/// `Refused` the first time, and the request continues by its timer. Once the request was sent
+/// again after that, the next such response ends it as `Unauthorized`. Over a reliable transport,
+/// the first such response already ends it (`second`). Whatever is called between, the first
+/// refusal is not forgotten (`remembered`). So if the password is wrong, a server that answers each
+/// datagram in time gets the signed message twice over UDP, and once over a reliable transport. A
+/// 401 with the same realm and security bits, but another nonce or list, ends the request if the
+/// request has been sent again for two such responses before (`third`). Law
+/// `refusals_ask_for_the_same_credentials` of `stun_exchanges` states which challenges count. A
+/// request that is not signed is not refused (`unsigned_requests_change_no_challenge`).
 pub fn refusals_end_requests()
     ensures second { SecondRefusalsEnd }
     ensures remembered { RefusalsAreRemembered }
@@ -22,13 +28,15 @@ pub fn refusals_end_requests()
     stun_client_runs::laws::clients_stay_in_order();
 }
 
-/// A request with a wrong password costs at most three datagrams: one without a signature, and the
-/// signed one twice. It costs two if the client has a challenge to sign the request for when it
-/// starts.
+/// A request with a wrong password costs at most three datagrams, whatever its options are: the
+/// unsigned message once, and the signed message twice. It costs two if the client already has a
+/// challenge to sign the request for, and one if its options say that it is not signed, because the
+/// client answers no challenge for such a request.
 ///
-/// Premises (`IsRefusedRun`): each datagram is answered before the next one is sent, one without a
-/// signature with a challenge and a signed one with the challenge that it is signed for. Other
-/// calls between may be any, if they leave the message of the request and its refusals as they are.
+/// Premises (`IsRefusedRun`): each datagram is answered before the next one is sent, an unsigned
+/// datagram with a challenge, and a signed datagram with the challenge that it is signed for. Any
+/// other calls may be made between, also for other requests with any options, if they do not change
+/// the message of the request and its refusals.
 pub fn a_wrong_password_costs_three_datagrams()
     ensures { CostsThreeDatagrams }
 {
@@ -36,22 +44,29 @@ pub fn a_wrong_password_costs_three_datagrams()
     stun_client_runs::laws::what_is_to_be_sent_is_there();
 }
 
-/// No downgrade, of the bytes that `poll` says to send. Whatever datagrams a client with long-term
-/// credentials has received, and whatever else was called, the bytes of a request read as signed
-/// for a challenge by the client's own rule, or as not signed. No server whose settings do not
-/// change accepts them by less than the strongest algorithm that both support (`any`).
+/// No downgrade in the bytes that a client sends. Whatever datagrams a client with long-term
+/// credentials has received, and whatever else was called, a reader of the bytes for which `poll`
+/// returns `Transmit` finds a request that is not signed, or is signed for a challenge by the
+/// client's own rule. If the options of the request say that it is not signed, it never is. No
+/// server whose settings do not change accepts these bytes with a weaker algorithm than the
+/// strongest that both support (`any`).
 ///
 /// A success confirms the challenge of the message that it answers, if new requests are signed for
-/// that one, or if it is stronger than the one that was confirmed last (`confirms`). From then on,
-/// new requests are signed for a challenge that is not weaker than the confirmed one (`starts`):
-/// they are not signed by HMAC-SHA1 in place of HMAC-SHA256, and do not name the user in place of a
-/// hash. The same is true of each message by which `poll` says to send a request, with two
-/// exceptions (`since`). Either the message was the current one of its request before that success,
-/// and is sent again as it was. Or it is not signed at all, because a response threw doubt on a
-/// message of the request: it gives away neither password nor digest, and a server with long-term
-/// credentials answers it with a challenge. All of this holds until `poll` returns the timeout of a
-/// request that has a message for the confirmed challenge. After that, the client answers any
-/// challenge, because the server may have been set up anew.
+/// that challenge, or if it is stronger than the challenge that was confirmed last (`confirms`).
+/// From then on, new requests that must be signed are signed for a challenge that is not weaker
+/// than the confirmed one (`starts`): they are not signed with HMAC-SHA1 in place of HMAC-SHA256,
+/// and do not have the user name in clear in place of a hash. The same is true of each message that
+/// `poll` returns for a request that must be signed, with two exceptions (`since`). First, the
+/// message may have been the current one of its request before that success: it is sent again
+/// unchanged. Second, the message may be unsigned, because a response cast doubt on a message of
+/// the request: it reveals neither password nor signature, and a server with long-term credentials
+/// answers it with a challenge. All of this holds until `poll` returns the timeout of a request
+/// that has a message for the confirmed challenge. After that, the client answers any challenge,
+/// because the server may have been set up again.
+///
+/// Requests whose options say that they are not signed may be outstanding at any time, and change
+/// none of this (`unsigned_requests_change_no_challenge`). They are sent without a signature, as
+/// their caller has asked.
 ///
 /// Premises of `any`: the name of the user is UTF-8, the body is one that `Body` builds, the method
 /// has 12 bits, and the time is that of an `Instant`.
@@ -71,4 +86,20 @@ pub fn nothing_sent_is_bid_down()
     stun_requests::laws::requests_are_read_back();
     stun_requests::laws::written_requests_are_not_bid_down();
     stun_requests::laws::requests_can_be_written();
+}
+
+/// A request whose options say that it is not signed has no effect on the challenges that its
+/// client answers, whatever credentials the client has, and whatever was called before. The request
+/// has one message, which is not signed (`unsigned`). A response to it ends the request or is
+/// dropped: the client does not answer it as a challenge, it does not count as a refusal or as a
+/// doubt, and it does not confirm a challenge. The challenge that new requests are signed for does
+/// not change, and neither does any other request, with its messages and their challenges
+/// (`responses`). The challenge does not change either when `poll` returns the outcome of the
+/// request, even if it has timed out (`ends`).
+pub fn unsigned_requests_change_no_challenge()
+    ensures unsigned { UnsignedRequestsStayUnsigned }
+    ensures responses { UnsignedRequestsAnswerNothing }
+    ensures ends { UnsignedRequestsDoubtNothing }
+{
+    stun_client_runs::laws::clients_stay_in_order();
 }

@@ -1,6 +1,7 @@
-//! What a client sends is not bid down, whatever it has received, and a wrong password ends a
-//! request soon (RFC 8489, sections 9.2.5 and 16.1.3). Laws over the definitions of
-//! `stun_client_calls`, which do nothing when they run.
+//! Laws about the strength of a client: no server accepts its messages with a weaker algorithm than
+//! necessary, whatever the client has received, a wrong password ends a request soon, and unsigned
+//! requests do not change this (RFC 8489, sections 9.2.5 and 16.1.3). They are about the
+//! definitions of `stun_client_calls`, and do nothing when they run.
 #![tactic(auto)]
 
 pub mod laws;

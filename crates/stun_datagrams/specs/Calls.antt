@@ -1,4 +1,4 @@
--- The calls of a server that keeps records which events come to. For each request that is not
+-- The calls that events stand for at a server that keeps records. For each request that is not
 -- dropped and each nonce that its source may have: the request is validated, a response is signed,
 -- the request is validated again, and its address is forgotten.
 use Rattle.std.specs.Prelude.{◌≡◌, ◌≤◌, ℕ, zero, suc, List, [], ◌∷◌, ◌++◌, Bool, true, false}
@@ -34,11 +34,11 @@ use Rattle.stun_datagrams.specs.Events.{Secrets}
 
 -- ---- the server
 
--- a server with these settings and users, which has a record of no address
+-- a server with these settings and users, which has no record of any address
 abbrev pub server_with : Settings → Secrets → ServerSeen
 server_with s users = with_users (table_of s) (users_with s users)
 
--- the calls that make it of a new server of the realm, as long as it has no users
+-- the calls that make this server from a new server of the realm, as long as it has no users
 abbrev pub algorithm_calls : AlgorithmSet → List ServerCall
 algorithm_calls OnlySha1 = []
 algorithm_calls OnlySha256 = Call.SetIntegrity Sha256 ∷ []
@@ -55,7 +55,8 @@ words_under s secret from zero = words_of s.algorithms secret from 0 ∷ []
 words_under s secret from (suc e) =
     words_of s.algorithms secret from (suc e) ∷ words_of s.algorithms secret from e ∷ []
 
--- of all nonces that a source may have: those of the secret, and then those of the previous secret
+-- the random numbers of all nonces that a source may have: those of the secret, and then those of
+-- the previous secret
 abbrev pub words_for : Settings → SocketAddr → ℕ → List (List ℕ)
 words_for s from now =
     words_under s s.secret from (epoch_of s now)
@@ -110,13 +111,13 @@ abbrev pub first_accepted : List Reply → Option Reply
 first_accepted [] = None
 first_accepted (r ∷ more) = Some (unwrap_or (find is_validated (r ∷ more)) r)
 
--- what the replies to the calls for one event say of it
+-- the verdict that follows from the replies to the calls for one event
 abbrev pub verdict_told : List Reply → Option Reply
 verdict_told given = first_accepted (second_validations given)
 
 -- ---- premises
 
--- a response without the attributes that signing adds, which `serve` writes anew as it is
+-- a response without the attributes that signing adds, which `serve` writes again unchanged
 pub record IsPlainResponse (message : List ℕ) : Type 0 where
   pub is_message : refusal message ≡ None
   pub responds : is_response (class_in message) ≡ true
@@ -125,8 +126,8 @@ pub record IsPlainResponse (message : List ℕ) : Type 0 where
   pub error : Option ℕ
   pub built : IsBuilt message class error
 
--- The realm fits its attribute, as that of each server that is built does. The clock is within the
--- times that the server counts
+-- The realm fits into its attribute, as that of each server that is built does. The clock is within
+-- the times that the server counts
 pub record CanBeCalled (s : Settings) (clock : ℕ → ℕ) (response : Vec ℕ) : Type 0 where
   pub realm_fits : length s.realm ≤ TEXT_LIMIT
   pub clock_fits : (now : ℕ) → clock now ≤ last_moment

@@ -1,5 +1,5 @@
--- What happens at a server, in order: its users change, and datagrams arrive. What each datagram
--- comes to (RFC 8489, sections 6.3 and 9.2.4).
+-- The events at a server, in order: its users change, and datagrams arrive; and the outcome of each
+-- datagram (RFC 8489, sections 6.3 and 9.2.4).
 use Rattle.std.specs.Prelude.{ℕ, List, [], ◌∷◌, Bool, true, if◌then◌else◌, Option, Some, None}
 use Rattle.std.specs.Prelude.{string_bytes}
 use Rattle.std.specs.FinMap as fin
@@ -42,7 +42,7 @@ users_after users (e ∷ later) = users_after (users_after_event users e) later
 abbrev pub realm_with : Settings → Secrets → Realm
 realm_with s users = realm_of_user s (Some (users_with s users))
 
--- ---- what each event comes to: nothing, if it is no datagram
+-- ---- the outcome of each event: none, if it is not a datagram
 
 abbrev pub outcome_of_event : Settings → Secrets → ServerEvent → Option Outcome
 outcome_of_event s users (UserAdded name password) = None
@@ -55,8 +55,8 @@ outcomes s users [] = []
 outcomes s users (e ∷ later) =
     outcome_of_event s users e ∷ outcomes s (users_after_event users e) later
 
--- the verdict on a datagram, if it is a request that is not dropped: as a server that keeps records
--- replies to it
+-- the verdict on a datagram, if it is a request that is not dropped, as the reply of a server that
+-- keeps records
 abbrev pub verdict_of_event : Settings → Secrets → ServerEvent → Option Reply
 verdict_of_event s users (UserAdded name password) = None
 verdict_of_event s users (UserRemoved name) = None
@@ -82,7 +82,7 @@ abbrev pub own_events : SocketAddr → List ServerEvent → List ServerEvent
 own_events a [] = []
 own_events a (e ∷ later) = if is_of_source a e then e ∷ own_events a later else own_events a later
 
--- what they come to
+-- their outcomes
 abbrev pub own_outcomes : SocketAddr → List ServerEvent → List (Option Outcome)
     → List (Option Outcome)
 own_outcomes a [] given = []

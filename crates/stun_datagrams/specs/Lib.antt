@@ -1,10 +1,10 @@
--- What the contracts of this crate say, in the order to read it.
+-- What the contracts of this crate say, in reading order.
 
--- the first sentence, of datagrams: read this first
+-- the first sentence, about datagrams: read this first
 pub mod Sentence
--- what happens at a server, and what each datagram comes to
+-- the events at a server, and the outcome of each datagram
 pub mod Events
--- the calls of a server that keeps records which they come to
+-- the calls that they stand for at a server that keeps records
 pub mod Calls
 -- a request that a registered user signs
 pub mod Example

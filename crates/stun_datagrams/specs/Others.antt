@@ -1,5 +1,5 @@
 -- Datagrams at a server without credentials, and at one with short-term credentials (RFC 8489,
--- sections 6.3 and 9.1.3): what each of a list comes to.
+-- sections 6.3 and 9.1.3): the outcome of each in a list.
 use Rattle.std.specs.Prelude.{ℕ, List, map}
 use Rattle.std.specs.declared.net.socket_addr.SocketAddr.{SocketAddr}
 use Rattle.stun_endpoint.specs.Open.{OpenOutcome, received_openly}

@@ -1,4 +1,4 @@
--- The first sentence, of datagrams (RFC 8489, section 9.2.4). Whatever was received before, a
+-- The first sentence, about datagrams (RFC 8489, section 9.2.4). Whatever was received before, a
 -- request is accepted from a user with an algorithm if and only if it has a REALM, a nonce that is
 -- current at its source, algorithms that agree, and the digest under the key of the user whom it
 -- names. What other sources send changes nothing about that.
@@ -28,14 +28,14 @@ use Rattle.stun_datagrams.specs.Events.{outcomes, realm_with, users_after, verdi
 -- ---- what is accepted
 
 -- a datagram is a request that is not dropped, and is accepted from a client: under the nonce of
--- the epoch or of the epoch before, of the secret or of the previous secret (`IsAcceptedAt`)
+-- the epoch or of the epoch before, under the secret or the previous secret (`IsAcceptedAt`)
 abbrev pub IsAcceptedFrom : Settings → Secrets → SocketAddr → ℕ → List ℕ → ClientSeen → Type 0
 IsAcceptedFrom s users from now bytes client =
     (is_undropped_request s.requires_fingerprint bytes ≡ true)
     × IsAcceptedAt s (realm_with s users) from now (reading_of bytes) client
 
 -- whether the server leaves the response to an accepted request to its caller: its attributes are
--- understood, and it is no Binding request that the server answers
+-- understood, and it is not a Binding request that the server answers
 abbrev pub is_for_caller : Settings → List ℕ → Bool
 is_for_caller s bytes =
     is_empty (unknown_types s.known bytes) && not (s.answers_binding && is_binding bytes)
@@ -46,9 +46,9 @@ IsHandedOut given client =
     (request : AcceptedRequest) × (given ≡ Some (Some (requested request)))
     × (request.client ≡ client)
 
--- At each index of a list of events: a datagram is handed out as an accepted request of a client if
--- and only if it is accepted from that client, with the users at that time, and the response is the
--- caller's
+-- At each index of a list of events: a datagram is returned as an accepted request of a client if
+-- and only if it is accepted from that client, with the users at that time, and the response is up
+-- to the caller
 abbrev pub HandsOutAccepted : Settings → Secrets → List ServerEvent → List (Option Outcome) → Type 0
 HandsOutAccepted s start events given =
     (i : ℕ) (from : SocketAddr) (now : ℕ) (message : Vec ℕ) (client : ClientSeen)
@@ -57,8 +57,8 @@ HandsOutAccepted s start events given =
     ↔ ((is_for_caller s message.items ≡ true)
     × IsAcceptedFrom s (users_after start (take i events)) from now message.items client)
 
--- the same of verdicts: `Validated` with an algorithm, if and only if the datagram is accepted from
--- some client with it
+-- at each index, the verdict is `Validated` with an algorithm if and only if the datagram is
+-- accepted from some client with it
 abbrev pub ValidatesAcceptedDatagrams : Settings → Secrets → List ServerEvent → List (Option Reply)
     → Type 0
 ValidatesAcceptedDatagrams s start events given =
@@ -68,13 +68,13 @@ ValidatesAcceptedDatagrams s start events given =
     ↔ ((name : List ℕ) × IsAcceptedFrom s (users_after start (take i events)) from now message.items
     (record { name = name; algorithm = a }))
 
--- whatever other sources send: what the datagrams of a source come to is what they come to alone,
--- with the same changes of the users
+-- whatever other sources send, the outcomes of the datagrams of a source are those that they have
+-- alone, with the same changes of the users
 abbrev pub AreIsolated : Settings → Secrets → List ServerEvent → List (Option Outcome) → Type 0
 AreIsolated s start events given =
     (from : SocketAddr) → own_outcomes from events given ≡ outcomes s start (own_events from events)
 
--- whatever came before: with the same users, an event comes to the same
+-- whatever came before, an event has the same outcome with the same users
 abbrev pub AreJudgedAlone : Settings → Type 0
 AreJudgedAlone s =
     (start other : Secrets) (before instead after then : List ServerEvent) (e : ServerEvent)
@@ -82,7 +82,7 @@ AreJudgedAlone s =
     → slice_get (outcomes s start (before ++ e ∷ after)) (length before)
     ≡ slice_get (outcomes s other (instead ++ e ∷ then)) (length instead)
 
--- ---- the same by the calls of a server that keeps records
+-- ---- the verdicts by the calls of a server that keeps records
 
 -- the reply to a request that is the verdict under the nonce of some random numbers
 abbrev pub replied_under : Settings → Secrets → List ℕ → List ℕ → Reply
@@ -90,9 +90,9 @@ replied_under s users bytes words =
     reply_of_answer (answer_to (verdict_under (realm_with s users)
     (nonce_of s.algorithms s.feature words) (reading_of bytes)))
 
--- What `serve` replies to the calls of a list of events, and what they leave. A server that uses a
--- security feature has the nonces of the one that keeps records. Without a feature its nonces begin
--- with the nonce cookie, and those of the other do not (RFC 8489, section 9.2)
+-- The replies of `serve` to the calls of a list of events, and the server after them. A server that
+-- uses a security feature has the nonces of the one that keeps records. Without a feature its
+-- nonces begin with the nonce cookie, and those of the other do not (RFC 8489, section 9.2)
 pub record TellsEachVerdict (s : Settings) (start : Secrets) (events : List ServerEvent)
     (calls : ServerEvent → List ServerCall) (given : List Reply) (left : ServerSeen) : Type 0 where
   -- the replies to the second validations give the verdict on each datagram

@@ -1,5 +1,6 @@
-//! The first sentence of `stun_proto`, of lists of datagrams. The functions that are called `..()`
-//! do nothing when they run; the others make one call.
+//! Laws about lists of datagrams at a server. They state the main promise of `stun_proto`: which
+//! requests a server accepts. The functions without arguments do nothing when they run. Each of the
+//! others makes one call.
 ghost use Rattle.std.specs.FinMap as fin;
 ghost use Rattle.std.specs.Global.{Vec as TheVec};
 ghost use Rattle.std.specs.Prelude.{◌≡◌, ◌∷◌, ◌++◌, ℕ, List, IfOk, Some, length, slice_get};
@@ -35,22 +36,24 @@ use stun_endpoint::unix_time::UnixTime;
 use stun_endpoint::users::Users;
 use stun_proto::replay::{ServerCall, ServerReply, Stopped, serve};
 
-/// The first sentence of `stun_proto`, of datagrams (RFC 8489, section 9.2.4). For every list of
-/// datagrams, and of changes of the users between them:
+/// States which datagrams a server accepts (RFC 8489, section 9.2.4). For every list of datagrams,
+/// and of changes of the users between them:
 ///
-/// - `handed`: a datagram is handed out as an accepted request of a client if and only if it is a
-///   request that is not dropped and is accepted from that client, with the users at its time, and
-///   the server leaves the response to its caller.
+/// - `handed`: the server returns a datagram to its caller as an accepted request of a client if
+///   and only if three things hold: the datagram is a request that is not dropped, it is accepted
+///   from that client with the users at that time, and the server leaves the response to its
+///   caller.
 /// - `validated`: the verdict on a datagram is `Validated` with an algorithm if and only if it is a
-///   request that is not dropped and is accepted from some client with it.
-/// - `isolated`: what the datagrams of a source come to is what they come to alone. What other
-///   sources send changes nothing about it.
-/// - `alone`: whatever came before, an event comes to the same with the same users.
+///   request that is not dropped and is accepted from some client with that algorithm.
+/// - `isolated`: the datagrams of a source have the outcomes that they have without the datagrams
+///   of other sources.
+/// - `alone`: the outcome of an event depends only on the event and the users at that time,
+///   whatever came before.
 ///
 /// A client is accepted (`IsAcceptedAt`) if the request has a REALM, a nonce that is current at its
-/// source (that of the epoch or of the epoch before, of the secret or of the previous secret),
-/// algorithms that agree with those that were offered, and the digest under the key of the
-/// registered user whom it names.
+/// source, algorithms that agree with those that were offered, and a valid signature under the key
+/// of the registered user whom it names. A nonce is current if it is the nonce of the epoch or of
+/// the epoch before, under the secret or the previous secret.
 pub fn accepted_datagrams_are_handed_out()
     ensures handed { (s : Settings) (start : Secrets) (events : List ServerEvent)
         → HandsOutAccepted s start events (outcomes s start events) }
@@ -62,20 +65,21 @@ pub fn accepted_datagrams_are_handed_out()
 {}
 
 /// The verdicts of the endpoint on a list of datagrams are the replies of a run of `serve`. For
-/// each request that is not dropped and each nonce that its source may have, the request is
-/// validated with the random numbers of that nonce, a response is signed, the request is validated
-/// again, and its address is forgotten. Users are added and removed by the calls for that.
+/// each request that is not dropped, and for each nonce that its source may have, the run validates
+/// the request with the random numbers of that nonce, signs a response, validates the request
+/// again, and forgets its address. Changes of the users are calls of the run too.
 ///
-/// - `headline`: the first sentence holds of these calls.
-/// - `told`: the reply to each second validation is the verdict under its nonce. If the server uses a
-///   security feature, that is a nonce of the endpoint, so together they give the verdict on the
-///   datagram, and say exactly which datagrams are accepted. Without a feature the endpoint's nonces
-///   begin with the nonce cookie and `LongTermServerAuth`'s do not, so the two accept different
-///   requests (`accepted_datagrams_are_handed_out` says which, whatever the settings are). No record
-///   of an address is left.
+/// - `headline`: a request is `Validated` in these calls if and only if it is accepted.
+/// - `told`: the reply to each second validation is the verdict under its nonce. If the server uses
+///   a security feature, these nonces are those of the endpoint, so the replies together give the
+///   verdict on the datagram, and determine exactly which datagrams are accepted. Without a
+///   security feature, the endpoint's nonces begin with the nonce cookie and those of
+///   `LongTermServerAuth` do not, so the two accept different requests
+///   (`accepted_datagrams_are_handed_out` states which ones the endpoint accepts, whatever the
+///   settings are). No record of an address is left.
 ///
-/// The server starts with any users, and with no record of an address. Its clock and the response
-/// may be any that it can work with (`CanBeCalled`).
+/// The server starts with any users, and without a record of an address. The law holds for every
+/// clock and every response for which the premise `CanBeCalled` holds.
 pub fn datagrams_are_served<A: Allocator + Copy>(
     alloc: A,
     server: &mut LongTermServerAuth<A>,
@@ -93,9 +97,9 @@ pub fn datagrams_are_served<A: Allocator + Copy>(
     serve(alloc, server, calls)
 }
 
-/// What `datagrams_are_served` starts with: a new server of the realm, once its settings are made
-/// by calls (`settings`), and a response that can be signed, a success without attributes
-/// (`response`).
+/// The premises of `datagrams_are_served` hold for a new server of the realm, once calls have made
+/// its settings (`settings`), and for a response that can be signed, such as a success without
+/// attributes (`response`).
 pub fn served_datagrams_begin()
     ensures settings { (s : Settings)
         → after_calls (new_server s.realm) (settings_calls s) ≡ server_with s fin.empty }
@@ -104,9 +108,10 @@ pub fn served_datagrams_begin()
     auth_laws::built_messages_can_be_signed();
 }
 
-/// There are datagrams that are accepted. A Binding request that a registered user signs under the
-/// nonce which is current at its source is accepted from that user with the strongest algorithm of
-/// the server, whatever the source, the time and the settings are, if these require no FINGERPRINT.
+/// Some datagrams are accepted: if a registered user signs a Binding request under the nonce that
+/// is current at its source, it is accepted from that user with the strongest algorithm of the
+/// server, whatever the source, the time and the settings are, if the settings require no
+/// FINGERPRINT.
 pub fn signed_requests_are_accepted()
     ensures { SignedRequestsAreAccepted }
 {
@@ -117,9 +122,10 @@ pub fn signed_requests_are_accepted()
     endpoint_laws::nonces_have_the_bits_of_their_server();
 }
 
-/// What `receive` returns for a datagram is what the datagram comes to in any list of datagrams and
-/// changes of the users, if the users are the same at its time: no earlier datagram changes the
-/// result. So `accepted_datagrams_are_handed_out`, which speaks of lists, holds for this call.
+/// `receive` returns the outcome that the datagram has in any list of datagrams and changes of the
+/// users in which the users are the same at the time of the datagram. So no earlier datagram
+/// changes the result, and law `accepted_datagrams_are_handed_out`, which is about lists, also
+/// holds for this call.
 pub fn a_datagram_is_one_of_a_list<'a, A: Allocator + Copy>(
     server: &Server<A>,
     bytes: &'a [u8],
@@ -137,7 +143,8 @@ pub fn a_datagram_is_one_of_a_list<'a, A: Allocator + Copy>(
     server.receive(bytes, from, now, users)
 }
 
-/// Like `a_datagram_is_one_of_a_list`, for a server without credentials.
+/// `OpenServer::receive` returns the outcome that the datagram has in any list, like
+/// `a_datagram_is_one_of_a_list`, at a server without credentials.
 pub fn an_open_datagram_is_one_of_a_list<'a, A: Allocator + Copy>(
     server: &OpenServer<A>,
     bytes: &'a [u8],
@@ -151,7 +158,8 @@ pub fn an_open_datagram_is_one_of_a_list<'a, A: Allocator + Copy>(
     server.receive(bytes, from)
 }
 
-/// Like `a_datagram_is_one_of_a_list`, for a server with short-term credentials.
+/// `ShortTermServer::receive` returns the outcome that the datagram has in any list, like
+/// `a_datagram_is_one_of_a_list`, at a server with short-term credentials.
 pub fn a_short_term_datagram_is_one_of_a_list<'a, A: Allocator + Copy>(
     server: &ShortTermServer<A>,
     bytes: &'a [u8],

@@ -6,19 +6,16 @@ use Rattle.std.proofs.Common.{Ok, Err}
 use Rattle.std.specs.Prelude.{cond, not, ◌||◌, ◌&&◌}
 use Rattle.std.specs.FinMap as fin
 use Rattle.std.specs.List.{find}
-use Rattle.std.specs.Option.{is_none, option_and_then, option_map, unwrap_or}
+use Rattle.std.specs.Option.{is_none, option_and_then, unwrap_or}
 use Rattle.std.specs.Str.{bytes_eq}
 use Rattle.std.proofs.lemmas.Slice.Eq.{bytes_eq-Decides}
 use Rattle.std.specs.declared.net.socket_addr.SocketAddr.{SocketAddr}
 use Rattle.std.specs.declared.result.Result.{Result}
 use Rattle.stun_base.specs.declared.keys.algorithm.IntegrityAlgorithm.{IntegrityAlgorithm}
-use Rattle.stun_types.specs.Integrity.{deciding, deciding_algorithm, integrity_algorithm, is_digest}
-use Rattle.stun_types.specs.Integrity.{verified_algorithm, verified_at}
-use Rattle.stun_types.specs.Walk.{Member}
 use Rattle.stun_auth.specs.Feature.{is_possible}
 use Rattle.stun_auth.specs.Found.{ClaimSeen, claim_of, found_key, found_verdict}
 use Rattle.stun_auth.specs.Judged.{AcceptedSeen, client_judged}
-use Rattle.stun_auth.specs.Reading.{Reading, has_visible_integrity, reading_of, verified_under}
+use Rattle.stun_auth.specs.Reading.{Reading, reading_of}
 use Rattle.stun_auth.specs.Registered.{Registered, RegisteredUser, UserSecret, name_cmp}
 use Rattle.stun_auth.specs.Registered.{user_named, user_with_hash}
 use Rattle.stun_auth.specs.Seen.{ClientSeen}
@@ -26,19 +23,16 @@ use Rattle.stun_auth.specs.Server.{agreement, client_of, named_by, named_user, n
 use Rattle.stun_auth.specs.Server.{their_nonce, verdict, verified_named}
 use Rattle.stun_auth.specs.declared.server.reason.VerdictRefusal.{VerdictRefusal}
 use Rattle.stun_auth.proofs.Accepting.{accepted_from_verdict}
-use Rattle.stun_auth.proofs.FoundLemmas.{claim_message, found_judged, found_key_of_user}
-use Rattle.stun_auth.proofs.FoundLemmas.{found_unproven}
+use Rattle.stun_auth.proofs.FoundLemmas.{found_judged, found_key_of_user, found_unproven}
 use Rattle.stun_auth.proofs.MeantUser.{has_hash, nobody, with_secret}
 use Rattle.stun_auth.proofs.VerdictLemmas.{verdict-rows}
-use Rattle.stun_endpoint.specs.Answers.{Signature}
 use Rattle.stun_endpoint.specs.Judged.{IsAcceptedBy, IsAcceptedByPrevious, IsAcceptedUnder, Realm}
 use Rattle.stun_endpoint.specs.Judged.{judged, judged_in, key_of_client}
 use Rattle.stun_endpoint.specs.Lookups.{accepted_nonces, has_one_of, nonces_of, previous_nonces}
 use Rattle.stun_endpoint.specs.Nonces.{epoch_of, nonce_in}
 use Rattle.stun_endpoint.specs.Received.{by_verdict, outcome_of_accepted, refused_with}
-use Rattle.stun_endpoint.specs.Received.{signature_for}
 use Rattle.stun_endpoint.specs.Settings.{Settings, registered_of}
-use Rattle.stun_endpoint.specs.code.Found.{IsAcceptedBySignature, IsRefusedAsNobody}
+use Rattle.stun_endpoint.specs.code.Found.{IsAcceptedByKey, IsRefusedAsNobody}
 use Rattle.stun_endpoint.specs.code.Found.{realm_of_found, waiting_claim}
 use Rattle.stun_endpoint.specs.code.Judgements.{by_judgement}
 use Rattle.stun_endpoint.proofs.AcceptedLemmas.{accepted_at}
@@ -53,38 +47,6 @@ waits_with : (one : Bool) (o : Option ClaimSeen) (claim : ClaimSeen)
     → cond one o None ≡ Some claim → (one ≡ true) × (o ≡ Some claim)
 waits_with true o claim h = (refl, h)
 waits_with false o claim h = cc
-
--- ---- the signature
-
-by_member : (bytes key : List ℕ) (a : IntegrityAlgorithm) (o : Option Member)
-    → option_and_then (verified_at (λ _. key) bytes) o ≡ Some a
-    → option_map (λ (m : Member). integrity_algorithm m.1) o ≡ Some a
-by_member bytes key a None h = cc
-by_member bytes key a (Some m) h = by (is_digest bytes key m) h
-  where
-    by : (b : Bool) → cond b (Some (integrity_algorithm m.1)) None ≡ Some a
-        → Some (integrity_algorithm m.1) ≡ Some a
-    by true e = e
-    by false e = cc
-
-by_integrity : (bytes key : List ℕ) (a : IntegrityAlgorithm) (b : Bool)
-    → option_and_then (λ (verify : List ℕ → Option IntegrityAlgorithm). verify key)
-    (cond b (Some (verified_algorithm bytes)) None) ≡ Some a
-    → verified_algorithm bytes key ≡ Some a
-by_integrity bytes key a true h = h
-by_integrity bytes key a false h = cc
-
--- the digest that verifies is the one that decides
-verified_decides : (bytes key : List ℕ) (a : IntegrityAlgorithm)
-    → verified_under (reading_of bytes) key ≡ Some a → deciding_algorithm bytes ≡ Some a
-unfolding reading_of
-verified_decides bytes key a h =
-    by_member bytes key a (deciding bytes)
-    (by_integrity bytes key a (has_visible_integrity bytes) h)
-
--- what is signed by an algorithm under a key
-abbrev signature_with : List ℕ → IntegrityAlgorithm → Signature
-signature_with key a = record { algorithm = a; key = key }
 
 -- ---- acceptance
 
@@ -147,8 +109,7 @@ pub found_accepted : (s : Settings) (user : RegisteredUser) (from : SocketAddr) 
     (bytes : List ℕ) (claim : ClaimSeen) (key : IntegrityAlgorithm × List ℕ)
     → waiting_claim s from e bytes ≡ Some claim
     → found_key (registered_of s) claim user ≡ Some key
-    → IsAcceptedBySignature s user from e bytes claim.algorithm
-    (record { algorithm = key.0; key = key.1 })
+    → IsAcceptedByKey s user from e (reading_of bytes) claim.algorithm key.1
 found_accepted s user from e bytes claim key waits is =
     let r = reading_of bytes in
     let realm = realm_of_found s user in
@@ -156,19 +117,13 @@ found_accepted s user from e bytes claim key waits is =
     let parts =
     waits_with (has_one_of r (accepted_nonces s from e)) (claim_of s.algorithms s.feature bytes)
     claim waits in
-    let of_user = found_key_of_user (registered_of s) user claim key is in
-    let same = claim_message s.algorithms s.feature bytes claim parts.1 in
     let theirs =
     accepted_from_verdict realm.users realm.feature (their_nonce r) (Some realm.offered) r client
     (found_judged (registered_of s) user s.feature bytes claim parts.1
     ∙ ap (found_verdict claim user) is) in
-    let verified : verified_under r key.1 ≡ Some key.0 =
-    sym (ap (λ m. verified_under (reading_of m) key.1) same) ∙ of_user.1 in
     record {
       judged = under_accepted s realm from r client theirs e parts.0;
-      key = of_user.0;
-      signs = ap (option_map (signature_with key.1))
-          (verified_decides bytes key.1 key.0 verified);
+      has = (found_key_of_user (registered_of s) user claim key is).0;
     }
 
 -- ---- refusal
@@ -262,16 +217,16 @@ found_refused s user from e bytes claim waits none =
 module _ (s : Settings) (user : RegisteredUser) (from : SocketAddr) (now : ℕ) (bytes : List ℕ)
   where
     -- one that is accepted
-    pub accepted_comes : (algorithm : IntegrityAlgorithm) (signature : Signature)
-        → IsAcceptedBySignature s user from (epoch_of s now) bytes algorithm signature
-        → outcome_of_accepted s signature.key from bytes
+    pub accepted_comes : (algorithm : IntegrityAlgorithm) (key : List ℕ)
+        → IsAcceptedByKey s user from (epoch_of s now) (reading_of bytes) algorithm key
+        → outcome_of_accepted s key from bytes
         (record { name = user.username; algorithm = algorithm })
         ≡ by_verdict s (realm_of_found s user) from now bytes
         (judged s (realm_of_found s user) from now (reading_of bytes))
-    accepted_comes algorithm signature is =
+    accepted_comes algorithm key is =
         let client : ClientSeen = record { name = user.username; algorithm = algorithm } in
-        let same : key_of_client (realm_of_found s user) client ≡ signature.key =
-        ap (λ o. unwrap_or o []) is.key in
+        let same : key_of_client (realm_of_found s user) client ≡ key =
+        ap (λ o. unwrap_or o []) is.has in
         ap (λ k. outcome_of_accepted s k from bytes client) (sym same)
         ∙ sym (ap (by_verdict s (realm_of_found s user) from now bytes) is.judged)
 

@@ -11,6 +11,7 @@ pub mod OfferLemmas
 pub mod KeyLemmas
 pub mod SignerLemmas
 pub mod SignedLemmas
+pub mod ServedLemmas
 pub mod VerifyingLemmas
 pub mod PreviousLemmas
 pub mod UnderstoodLemmas
@@ -27,3 +28,6 @@ pub mod RunLemmas
 pub mod EndedLemmas
 -- results of a batch, while its answers grow
 pub mod BatchLemmas
+-- responses that take what is added
+pub mod RoomLemmas
+pub mod OfferedLemmas

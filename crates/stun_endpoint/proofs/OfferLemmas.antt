@@ -51,11 +51,11 @@ attributes_added (a ∷ others) page done h =
     (with_attributes next.bytes others) (attributes_added others next done) h
 
 -- what a challenge adds, as attributes
-abbrev challenge_attributes : Registered → List ℕ → List TypedValue
+abbrev pub challenge_attributes : Registered → List ℕ → List TypedValue
 challenge_attributes users nonce =
     added.nonce nonce ∷ added.realm users.realm ∷ offered users.algorithms
 
-challenge_is : (users : Registered) (nonce : List ℕ)
+pub challenge_is : (users : Registered) (nonce : List ℕ)
     → asks_for_algorithms nonce ≡ contains Sha256 users.algorithms
     → challenge_under users nonce ≡ map attribute (challenge_attributes users nonce)
 challenge_is users nonce asks =

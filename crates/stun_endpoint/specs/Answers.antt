@@ -22,12 +22,13 @@ use Rattle.stun_endpoint.specs.Settings.{Settings}
 
 -- ---- how each response ends
 
--- what a response is signed by: the algorithm of its integrity attribute, and the key
+-- the signature of a response: the algorithm of its integrity attribute, and the key
 pub record Signature : Type 0 where
   pub algorithm : IntegrityAlgorithm
   pub key : List ℕ
 
--- SOFTWARE, the integrity attribute and FINGERPRINT, each if the response has it
+-- the end of a response: SOFTWARE, the integrity attribute and FINGERPRINT, each if the response
+-- has it
 pub record Ending : Type 0 where
   pub software : Option (List ℕ)
   pub signature : Option Signature
@@ -51,19 +52,19 @@ with_end ending page =
     with_last ending.has_fingerprint
     (with_signature ending.signature (with_software ending.software page))
 
--- whether a FINGERPRINT is there and right
+-- whether there is a FINGERPRINT and it is valid
 abbrev pub is_right : Fingerprint → Bool
 is_right Right = true
 is_right Wrong = false
 is_right Misplaced = false
 is_right Absent = false
 
--- a response has FINGERPRINT if and only if its request has a right one
+-- a response has FINGERPRINT if and only if its request has a valid one
 abbrev pub is_fingerprinted : List ℕ → Bool
 is_fingerprinted request = is_right (fingerprint_in request)
 
--- the digest of a response verifies under the key that signs it. Nothing is said of one that is not
--- signed
+-- the digest of a response verifies under the key that signs it. Nothing is required of a response
+-- that is not signed
 abbrev pub VerifiesBy : Option Signature → List ℕ → Type 0
 VerifiesBy None response = Unit {0}
 VerifiesBy (Some by) response =
@@ -82,8 +83,8 @@ abbrev pub with_attributes : List ℕ → List TypedValue → List ℕ
 with_attributes page [] = page
 with_attributes page (attribute ∷ others) = with_attributes (with_attribute page attribute) others
 
--- the algorithms that a server offers, the strongest first. One that supports HMAC-SHA1 alone offers
--- none, and its nonces do not ask for a choice
+-- the algorithms that a server offers, the strongest first. A server that supports HMAC-SHA1 alone
+-- offers none, and its nonces do not ask for a choice
 abbrev pub offered : AlgorithmSet → List TypedValue
 offered algorithms =
     if contains Sha256 algorithms

@@ -1,4 +1,4 @@
--- What the datagrams of a batch come to: what each does alone, in their order.
+-- The outcomes of the datagrams of a batch: the outcome of each alone, in their order.
 use Rattle.std.specs.Prelude.{◌≡◌, ◌≤◌, ℕ, List, [], ◌∷◌, length, map, slice_get, slice_range}
 use Rattle.std.specs.Prelude.{Option, Some, None}
 use Rattle.std.specs.declared.net.socket_addr.SocketAddr.{SocketAddr}
@@ -15,17 +15,17 @@ pub record Datagram : Type 0 where
   pub bytes : List ℕ
   pub from : SocketAddr
 
--- what a datagram comes to at a time
+-- the outcome of a datagram at a time
 abbrev pub received_one : Settings → Realm → ℕ → Datagram → Outcome
 received_one s realm now d = received_by s realm d.from now d.bytes
 
--- what the datagrams of a batch come to
+-- the outcomes of the datagrams of a batch
 abbrev pub received_all : Settings → Realm → ℕ → List Datagram → List Outcome
 received_all s realm now datagrams = map (received_one s realm now) datagrams
 
 -- ---- results, whose responses are parts of one buffer
 
--- what a result says, with its response in the buffer
+-- the outcome that a result describes, with its response in the buffer
 abbrev pub outcome_at : {A : Type 0} → List ℕ → ReceivedAt A → Outcome
 outcome_at answers result =
     outcome_in result.received (slice_range answers result.start result.end)
@@ -33,7 +33,7 @@ outcome_at answers result =
 abbrev pub outcomes_at : {A : Type 0} → List ℕ → List (ReceivedAt A) → List Outcome
 outcomes_at answers results = map (outcome_at answers) results
 
--- what is no response takes no room in the buffer
+-- an outcome that is not a response takes no room in the buffer
 abbrev pub TakesRoom : {A : Type 0} → ReceivedInto A → ℕ → ℕ → Type 0
 TakesRoom (code.Answer answer) start end = start ≤ end
 TakesRoom (code.Request request) start end = start ≡ end
@@ -41,8 +41,8 @@ TakesRoom (code.Indication message) start end = start ≡ end
 TakesRoom (code.Response message) start end = start ≡ end
 TakesRoom (code.Dropped reason) start end = start ≡ end
 
--- the responses follow one another in the order of the results, from one place to another, and
--- nothing is between them
+-- the responses follow one another in the order of the results, from one offset to another, with
+-- nothing between them
 abbrev pub FollowOneAnother : {A : Type 0} → ℕ → List (ReceivedAt A) → ℕ → Type 0
 FollowOneAnother from [] to = from ≡ to
 FollowOneAnother from (result ∷ later) to =
@@ -51,7 +51,7 @@ FollowOneAnother from (result ∷ later) to =
 
 -- ---- another order
 
--- the elements at some places, in that order. Places that a list does not have are passed over
+-- the elements at some indices, in that order. Indices that the list does not have are skipped
 abbrev pub and_found : {X : Type 0} → Option X → List X → List X
 and_found None later = later
 and_found (Some x) later = x ∷ later

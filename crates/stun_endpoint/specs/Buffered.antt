@@ -1,4 +1,5 @@
--- What the results of `receive_into` say, with the bytes that the call leaves in the buffer.
+-- The outcomes that the results of `receive_into` describe, with the bytes that the call leaves in
+-- the buffer.
 use Rattle.std.specs.Prelude.{◌≡◌, ℕ, List, []}
 use Rattle.stun_endpoint.specs.Received.{Answer, Outcome}
 use Rattle.stun_endpoint.specs.Received as long_term
@@ -42,7 +43,7 @@ abbrev pub identification_in : {A : Type 0} → IdentifiedInto A → List ℕ �
 identification_in (known_code.Done received) bytes = done (outcome_in received bytes)
 identification_in (known_code.Lookup lookup) bytes = looked_up lookup
 
--- the buffer is empty if there is no response, as while the request waits for its user
+-- the buffer is empty if there is no response, for example while the request waits for its user
 abbrev pub LeavesNothingKnown : {A : Type 0} → IdentifiedInto A → List ℕ → Type 0
 LeavesNothingKnown (known_code.Done received) bytes = LeavesNothing received bytes
 LeavesNothingKnown (known_code.Lookup lookup) bytes = bytes ≡ []

@@ -1,5 +1,5 @@
--- Why settings make no server. A realm and a text of SOFTWARE have at most 763 bytes (RFC 8489,
--- sections 14.9 and 14.14).
+-- Why no server can be built from some settings. A realm and a text of SOFTWARE have at most 763
+-- bytes (RFC 8489, sections 14.9 and 14.14).
 use Rattle.std.specs.Prelude.{ℕ, List, [], Bool, ◌||◌, length, nat_lt, unwrap_or}
 use Rattle.std.specs.Prelude.{if◌then◌else◌, Option, Some, None}
 use Rattle.stun_types.specs.Limits.{TEXT_LIMIT}
@@ -9,8 +9,8 @@ use Rattle.stun_endpoint.specs.declared.server.settings.BuildError.TheVariants.{
 use Rattle.stun_endpoint.specs.declared.server.settings.BuildError.TheVariants.{NonceLifetime}
 use Rattle.stun_endpoint.specs.declared.server.settings.BuildError.TheVariants.{NoAlgorithm}
 
--- why no server is built, the first reason that holds. The RFC sets no lifetime of a nonce: 30
--- seconds, the least, are a choice of this library
+-- why no server is built: the first reason that applies. The RFC sets no lifetime of a nonce; the
+-- least, 30 seconds, is a choice of this library
 abbrev pub build_refusal : List ℕ → Option (List ℕ) → ℕ → Bool → Bool → Option BuildError
 build_refusal realm software lifetime sha1 sha256 =
     if nat_lt TEXT_LIMIT (length realm) then Some RealmTooLong
@@ -19,7 +19,7 @@ build_refusal realm software lifetime sha1 sha256 =
     else if sha1 || sha256 then None
     else Some NoAlgorithm
 
--- the same of a server without a realm
+-- why no server without a realm is built
 abbrev pub software_refusal : Option (List ℕ) → Option BuildError
 software_refusal software =
     if nat_lt TEXT_LIMIT (length (unwrap_or software [])) then Some SoftwareTooLong else None

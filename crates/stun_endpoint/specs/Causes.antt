@@ -1,7 +1,7 @@
--- Why a server with long-term credentials refuses a request: the first check that the request fails,
--- in the order of the RFC (RFC 8489, sections 9.2.4 and 6.3.1), with two exceptions. The nonce is
--- checked before the user. Algorithms that do not agree under another nonce than the current one
--- count as a stale nonce, because the response is then a 438.
+-- Why a server with long-term credentials refuses a request: the first check that the request
+-- fails, in the order of the RFC (RFC 8489, sections 9.2.4 and 6.3.1), with two exceptions. The
+-- nonce is checked before the user. Algorithms that do not agree, with a nonce that is not the
+-- current one, count as a stale nonce, because the response is then a 438.
 use Rattle.std.specs.Prelude.{ℕ, List, Bool, not, ◌&&◌, ◌||◌, if◌then◌else◌, Option, Some, None}
 use Rattle.std.specs.Option.{is_none, is_some, option_map}
 use Rattle.std.specs.Str.{bytes_eq}
@@ -46,7 +46,7 @@ code_of_cause UnknownAttribute = 420
 abbrev pub is_agreed : Realm → Reading → Bool
 is_agreed realm r = is_some (agreement r (their_nonce r) (Some realm.offered))
 
--- whether the nonce has other security bits than this one, where both have them
+-- whether the nonce has other security bits than this one, if both have such bits
 abbrev pub has_other_bits : List ℕ → Reading → Bool
 has_other_bits ours r = bits_differ (security_bits ours) (security_bits (their_nonce r))
 
@@ -60,17 +60,18 @@ is_signed_by_user realm r =
 abbrev pub is_current : Settings → SocketAddr → ℕ → Reading → Bool
 is_current s from now r = bytes_eq (their_nonce r) (current_nonce s from now)
 
--- whether the nonce is valid still. The current one is. The others that the server accepts are valid
--- in a request that a user has signed: whoever signs wrongly under one of them learns the current one
+-- whether the nonce is still valid. The current one is. The others that the server accepts are
+-- valid in a request that a user has signed: a client with a wrong signature under one of them
+-- learns the current nonce
 abbrev pub is_valid_still : Settings → Realm → SocketAddr → ℕ → Reading → Bool
 is_valid_still s realm from now r =
     is_current s from now r
     || (has_one_of r (accepted_nonces s from (epoch_of s now)) && is_signed_by_user realm r)
 
--- ---- the first that fails
+-- ---- the first check that fails
 
--- why credentials are refused. A list of algorithms that came with another nonce than the current
--- one is as stale as that nonce
+-- why credentials are refused. A list of algorithms that was sent with another nonce than the
+-- current one is as stale as that nonce
 abbrev pub credential_cause : Settings → Realm → SocketAddr → ℕ → Reading → Option Cause
 credential_cause s realm from now r =
     if is_none r.integrity then Some NoSignature
@@ -82,7 +83,7 @@ credential_cause s realm from now r =
     else if not (is_signed_by_user realm r) then Some WrongCredentials
     else None
 
--- and then why the attributes are
+-- or else why the attributes are refused
 abbrev pub or_unknown : Settings → List ℕ → Option Cause → Option Cause
 or_unknown s bytes (Some cause) = Some cause
 or_unknown s bytes None =
@@ -97,7 +98,7 @@ cause_by_class s realm from now bytes Indication = None
 cause_by_class s realm from now bytes Success = None
 cause_by_class s realm from now bytes Error = None
 
--- why a datagram is refused, if it is a request that is
+-- why a datagram is refused, if it is a request that is refused
 abbrev pub cause_of : Settings → Realm → SocketAddr → ℕ → List ℕ → Option Cause
 cause_of s realm from now bytes =
     if is_some (drop_reason s.requires_fingerprint bytes) then None
@@ -105,7 +106,7 @@ cause_of s realm from now bytes =
 
 -- ---- the response
 
--- the code of the response that refuses a request, if a datagram comes to one
+-- the code of the response that refuses a request, if that is the outcome
 abbrev pub refused_code : Outcome → Option ℕ
 refused_code (answered answer) = option_map code_of answer.refusal
 refused_code (requested request) = None

@@ -1,5 +1,5 @@
--- Why a response cannot be ended: the first of SOFTWARE, the integrity attribute and FINGERPRINT that
--- it does not take (RFC 8489, sections 14.14, 14.5, 14.6 and 14.7).
+-- Why a response cannot be ended: the first of SOFTWARE, the integrity attribute and FINGERPRINT
+-- that cannot be added to it (RFC 8489, sections 14.14, 14.5, 14.6 and 14.7).
 use Rattle.std.specs.Prelude.{ℕ, ◌-◌, List, Bool, true, false, length, nat_lt}
 use Rattle.std.specs.Prelude.{if◌then◌else◌, Option, Some, None}
 use Rattle.std.specs.Option.{option_or}
@@ -15,7 +15,7 @@ use Rattle.stun_endpoint.specs.Answers.{Ending, Signature, with_signature, with_
 abbrev pub room_after : List ℕ → ℕ
 room_after page = LENGTH_LIMIT - length page
 
--- SOFTWARE has a text of at most 763 bytes, and is no attribute that the response has
+-- why SOFTWARE cannot be added: its text has more than 763 bytes, or the response has the attribute
 abbrev pub refused_software : Option (List ℕ) → List ℕ → Option StunWriteError
 refused_software None page = None
 refused_software (Some text) page =
@@ -30,7 +30,7 @@ abbrev pub refused_last : Bool → List ℕ → Option StunWriteError
 refused_last true page = fingerprint_refusal page (room_after page)
 refused_last false page = None
 
--- why a response cannot be ended, the first reason that holds
+-- why a response cannot be ended: the first reason that applies
 abbrev pub finish_refusal : Ending → List ℕ → Option StunWriteError
 finish_refusal ending page =
     let described = with_software ending.software page in

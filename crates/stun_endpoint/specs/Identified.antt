@@ -1,4 +1,4 @@
--- What the result of `Server::identify` says.
+-- The outcome that the result of `Server::identify` describes.
 use Rattle.stun_endpoint.specs.Lookups.{Identification, done, looked_up}
 use Rattle.stun_endpoint.specs.Outcomes.{outcome_of}
 use Rattle.stun_endpoint.specs.declared.lookup.Identified.{Identified}

@@ -1,5 +1,5 @@
--- Who is accepted: under the nonce of the epoch, or where that is stale under the nonce of the epoch
--- before, or under one of the previous secret (RFC 8489, section 9.2.4).
+-- Which client is accepted: under the nonce of the epoch, or if that is stale under the nonce of
+-- the epoch before, or under one of the previous secret (RFC 8489, section 9.2.4).
 use Rattle.std.specs.Prelude.{ℕ, zero, suc, List, [], Option, Some, None, ◌⊎◌, unwrap_or}
 use Rattle.std.specs.declared.net.socket_addr.SocketAddr.{SocketAddr}
 use Rattle.std.specs.declared.result.Result.{Result}
@@ -15,7 +15,7 @@ use Rattle.stun_auth.specs.Validation.{ServerSeen}
 use Rattle.stun_endpoint.specs.Nonces.{epoch_of, nonce_in}
 use Rattle.stun_endpoint.specs.Settings.{Settings, registered_of}
 
--- by what a request is judged: the users at the realm, whether they may be named by a hash, and the
+-- what a request is judged by: the users at the realm, whether they may be named by a hash, and the
 -- algorithms that were offered
 pub record Realm : Type 0 where
   pub users : Registered
@@ -50,7 +50,7 @@ judged_under s realm secret from (suc e) r =
     or_before (verdict_under realm (nonce_in s secret from (suc e)) r)
     (verdict_under realm (nonce_in s secret from e) r)
 
--- a verdict, or where the nonce is stale the acceptance by the nonces of the previous secret
+-- a verdict, or if the nonce is stale the acceptance by the nonces of the previous secret
 abbrev pub or_previous : Settings → Realm → Option (List ℕ) → SocketAddr → ℕ → Reading
     → Result ClientSeen VerdictRefusal
     → Result ClientSeen VerdictRefusal
@@ -68,11 +68,11 @@ judged_in s realm from epoch r =
 abbrev pub judged : Settings → Realm → SocketAddr → ℕ → Reading → Result ClientSeen VerdictRefusal
 judged s realm from now r = judged_in s realm from (epoch_of s now) r
 
--- the key of an accepted client, which is there
+-- the key of an accepted client, which has one
 abbrev pub key_of_client : Realm → ClientSeen → List ℕ
 key_of_client realm client = unwrap_or (key_at realm.users client.name client.algorithm) []
 
--- ---- the same as a conjunction
+-- ---- the verdict as a conjunction
 
 -- a client is accepted under a nonce
 abbrev pub IsAcceptedBy : Realm → List ℕ → Reading → ClientSeen → Type 0
@@ -88,7 +88,7 @@ IsAcceptedUnder s realm secret from (suc e) r client =
     IsAcceptedBy realm (nonce_in s secret from (suc e)) r client
     ⊎ IsAcceptedBy realm (nonce_in s secret from e) r client
 
--- the same under the previous secret, if there is one
+-- a client is accepted under a nonce of the previous secret, if there is one
 abbrev pub IsAcceptedByPrevious : Settings → Realm → Option (List ℕ) → SocketAddr → ℕ → Reading
     → ClientSeen
     → Type 0

@@ -1,5 +1,5 @@
--- Whose user a server looks up elsewhere: a request is judged as far as that is possible without its
--- user, and waits for the user if that decides (RFC 8489, section 9.2.4).
+-- Requests whose user a server looks up elsewhere: a request is judged as far as that is possible
+-- without its user, and waits for the user if the outcome depends on it (RFC 8489, section 9.2.4).
 use Rattle.std.specs.Prelude.{◌≡◌, ◌⊎◌, ℕ, zero, suc, List, [], ◌∷◌, ◌++◌, Bool, false}
 use Rattle.std.specs.Prelude.{◌&&◌, ◌||◌, if◌then◌else◌, Option, Some, None}
 use Rattle.std.specs.FinMap as map
@@ -24,17 +24,17 @@ use Rattle.stun_endpoint.specs.Settings.{Settings, registered_of}
 
 -- ---- the nonces that are accepted
 
--- those of a secret: that of the epoch, and that of the epoch before
+-- the nonces of a secret: that of the epoch, and that of the epoch before
 abbrev pub nonces_of : Settings → List ℕ → SocketAddr → ℕ → List (List ℕ)
 nonces_of s secret from zero = nonce_in s secret from 0 ∷ []
 nonces_of s secret from (suc e) = nonce_in s secret from (suc e) ∷ nonce_in s secret from e ∷ []
 
--- those of the previous secret, if there is one
+-- the nonces of the previous secret, if there is one
 abbrev pub previous_nonces : Settings → Option (List ℕ) → SocketAddr → ℕ → List (List ℕ)
 previous_nonces s None from epoch = []
 previous_nonces s (Some secret) from epoch = nonces_of s secret from epoch
 
--- those that a server accepts for an address in an epoch
+-- the nonces that a server accepts for an address in an epoch
 abbrev pub accepted_nonces : Settings → SocketAddr → ℕ → List (List ℕ)
 accepted_nonces s from epoch =
     nonces_of s s.secret from epoch ++ previous_nonces s s.previous from epoch
@@ -46,7 +46,7 @@ has_one_of r (nonce ∷ nonces) = bytes_eq (their_nonce r) nonce || has_one_of r
 
 -- ---- the user whom a request waits for
 
--- whether only nonce and user are left to look at: the request is signed, has a realm, a nonce and a
+-- whether only nonce and user are left to check: the request is signed, has a realm, a nonce and a
 -- name, and its algorithms are those that were offered
 abbrev pub is_ready : Settings → Reading → Bool
 is_ready s r =
@@ -74,14 +74,14 @@ awaited s from now bytes =
 
 -- ---- the first of two steps
 
--- a request that waits for its user: its source, when it arrived, and whom it names
+-- a request that waits for its user: its source, when it arrived, and the user whom it names
 pub record LookupSeen : Type 0 where
   pub message : List ℕ
   pub from : SocketAddr
   pub arrived : ℕ
   pub user : Named
 
--- what a datagram comes to, or that it waits
+-- the outcome of a datagram, or that it waits
 pub data Identification : Type 0 where
   done : Outcome → Identification
   looked_up : LookupSeen → Identification
@@ -91,7 +91,7 @@ identified_as s from now bytes None = done (received_by s (realm_of_user s None)
 identified_as s from now bytes (Some user) =
     looked_up (record { message = bytes; from = from; arrived = now; user = user })
 
--- a datagram that waits for nobody comes to what it does at a server without users
+-- a datagram that waits for nobody has the outcome that it has at a server without users
 abbrev pub identified_by : Settings → SocketAddr → ℕ → List ℕ → Identification
 identified_by s from now bytes = identified_as s from now bytes (awaited s from now bytes)
 
@@ -99,7 +99,7 @@ identified_by s from now bytes = identified_as s from now bytes (awaited s from 
 abbrev pub users_with : Settings → map.FinMap name_cmp UserSecret → Registered
 users_with s secrets = record (registered_of s) { secrets = secrets }
 
--- ---- what a look-up says of its request
+-- ---- what is known of the request of a look-up
 
 -- a nonce is one of these
 abbrev pub IsOneOf : List ℕ → List (List ℕ) → Type 0

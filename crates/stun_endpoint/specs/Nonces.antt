@@ -1,5 +1,5 @@
--- The nonce of an address in an epoch. It is a function of the secret, the address and the epoch, so
--- a server stores no nonce (RFC 8489, section 9.2).
+-- The nonce of an address in an epoch. It is a function of the secret, the address and the epoch,
+-- so a server stores no nonce (RFC 8489, section 9.2).
 use Rattle.std.specs.Prelude.{ℕ, ◌/◌, Bool, ◌||◌, List, [], ◌∷◌, ◌++◌, map, take}
 use Rattle.std.specs.Net.Socket.{socket_ip, socket_port}
 use Rattle.std.specs.declared.net.socket_addr.SocketAddr.{SocketAddr}
@@ -24,23 +24,23 @@ algorithms_number OnlySha256 = 2
 algorithms_number Both = 3
 
 -- what is hashed: the address, whose octets are the same in both spellings of IPv4, the port in 2
--- bytes, the epoch in 8, and the algorithms. A client whose list is of other settings then has
--- another nonce too, and is answered with a 438: the security bits of a nonce do not tell
--- HMAC-SHA256 alone from both
+-- bytes, the epoch in 8, and the algorithms. So a client whose list is from other settings also has
+-- another nonce, and is answered with a 438. Without the algorithms it would not, because the
+-- security bits do not distinguish HMAC-SHA256 alone from both
 abbrev pub nonce_text : AlgorithmSet → SocketAddr → ℕ → List ℕ
 nonce_text algorithms from epoch =
     address_octets (socket_ip from) ++ big_bytes 2 (socket_port from) ++ big_bytes 8 epoch
     ++ algorithms_number algorithms ∷ []
 
 -- the sixteen numbers that a nonce is made of: the first bytes of the HMAC-SHA1. The letter of a
--- number is its remainder modulo 62, so eight of the letters come a quarter more often than the
+-- number is its remainder modulo 62, so eight of the letters are a quarter more frequent than the
 -- others. The best guess at all sixteen is right once in 2 ^ 90 times (their entropy is 95 bits)
 abbrev pub words_of : AlgorithmSet → List ℕ → SocketAddr → ℕ → List ℕ
 words_of algorithms secret from epoch =
     take 16 (hmac sha1 secret (nonce_text algorithms from epoch))
 
--- the 24 security bits of a server, in three bytes (section 18.1): the first bit is set if it supports
--- HMAC-SHA256, and the second if users may be named by a hash
+-- the 24 security bits of a server, in three bytes (section 18.1): the first bit is set if it
+-- supports HMAC-SHA256, and the second if users may be named by a hash
 abbrev pub security_bytes : AlgorithmSet → Feature → List ℕ
 security_bytes algorithms feature = security_byte algorithms feature ∷ 0 ∷ 0 ∷ []
 
@@ -48,8 +48,8 @@ security_bytes algorithms feature = security_byte algorithms feature ∷ 0 ∷ 0
 abbrev pub uses_features : Settings → Bool
 uses_features s = contains Sha256 s.algorithms || is_possible s.feature
 
--- what each nonce of a server begins with: the nonce cookie, and the security bits in base64. They are
--- zero if the server uses no security feature (section 9.2)
+-- the beginning of each nonce of a server: the nonce cookie, and the security bits in base64. The
+-- bits are zero if the server uses no security feature (section 9.2)
 abbrev pub front_of : AlgorithmSet → Feature → List ℕ
 front_of algorithms feature = spelled_bits (security_bytes algorithms feature)
 

@@ -1,5 +1,6 @@
--- What a datagram comes to at a server without credentials (RFC 8489, section 6.3). It is a function
--- of what the server understands, the source and the datagram, and so of no earlier datagram.
+-- The outcome of a datagram at a server without credentials (RFC 8489, section 6.3). It is a
+-- function of what the server understands, the source and the datagram, and so of no earlier
+-- datagram.
 use Rattle.std.specs.Prelude.{List, ℕ, if◌then◌else◌, Option, Some, None}
 use Rattle.std.specs.declared.net.socket_addr.SocketAddr.{SocketAddr}
 use Rattle.stun_base.specs.MessageType.{class_in}
@@ -13,12 +14,12 @@ use Rattle.stun_endpoint.specs.Responding.{own_answer, reply_by}
 use Rattle.stun_endpoint.specs.declared.received.DropReason.{DropReason}
 use Rattle.stun_endpoint.specs.declared.received.DropReason.TheVariants.{UnknownAttribute}
 
--- a request for the caller: the message, and the means to respond
+-- a request that is returned to the caller: the message, and the means to respond
 pub record OpenRequest : Type 0 where
   pub message : List ℕ
   pub reply : Reply
 
--- what a datagram comes to
+-- the outcome of a datagram
 pub data OpenOutcome : Type 0 where
   answered : Answer → OpenOutcome
   requested : OpenRequest → OpenOutcome
@@ -26,7 +27,7 @@ pub data OpenOutcome : Type 0 where
   responded : List ℕ → OpenOutcome
   dropped : DropReason → OpenOutcome
 
--- a request gets the response that the server is to give, or else is for the caller
+-- a request gets the server's own response, or else is returned to the caller
 abbrev pub or_requested : Responding → SocketAddr → List ℕ → Option Answer → OpenOutcome
 or_requested s from bytes (Some answer) = answered answer
 or_requested s from bytes None =
@@ -42,7 +43,7 @@ by_class_openly s from bytes Indication =
 by_class_openly s from bytes Success = responded bytes
 by_class_openly s from bytes Error = responded bytes
 
--- what a datagram comes to
+-- the outcome of a datagram that may be dropped first
 abbrev pub unless_dropped : OpenOutcome → Option DropReason → OpenOutcome
 unless_dropped outcome None = outcome
 unless_dropped outcome (Some reason) = dropped reason

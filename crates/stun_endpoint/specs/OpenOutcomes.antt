@@ -1,4 +1,4 @@
--- What the result of `OpenServer::receive` says.
+-- The outcome that the result of `OpenServer::receive` describes.
 use Rattle.stun_endpoint.specs.Open.{OpenOutcome, answered, dropped, indicated}
 use Rattle.stun_endpoint.specs.Open.{requested, responded}
 use Rattle.stun_endpoint.specs.declared.open.OpenReceived.{OpenReceived}

@@ -1,4 +1,4 @@
--- What the result of `Server::receive` says.
+-- The outcome that the result of `Server::receive` describes.
 use Rattle.stun_endpoint.specs.Received.{Outcome, answered, dropped, indicated}
 use Rattle.stun_endpoint.specs.Received.{requested, responded}
 use Rattle.stun_endpoint.specs.declared.received.Received.{Received}

@@ -10,14 +10,14 @@ use Rattle.stun_auth.specs.Registered.{Registered}
 use Rattle.stun_auth.specs.Validation.{ServerSeen}
 use Rattle.stun_endpoint.specs.Settings.{Settings, registered_of}
 
--- the algorithms, of which one at least is supported
+-- the supported algorithms, of which there is at least one
 abbrev pub algorithms_for : Bool → Bool → AlgorithmSet
 algorithms_for true true = Both
 algorithms_for false true = OnlySha256
 algorithms_for true false = OnlySha1
 algorithms_for false false = OnlySha1
 
--- hashed names where the client wants them, or never
+-- hashed names if the client asks for them, or never
 abbrev pub feature_for : Bool → Feature
 feature_for true = Auto
 feature_for false = Disabled

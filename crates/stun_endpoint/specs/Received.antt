@@ -1,4 +1,4 @@
--- What a datagram comes to at a server (RFC 8489, sections 6.3 and 9.2.4). It is a function of the
+-- The outcome of a datagram at a server (RFC 8489, sections 6.3 and 9.2.4). It is a function of the
 -- settings, the users, the source, the time and the datagram, and so of no earlier datagram.
 use Rattle.std.specs.Prelude.{ℕ, List, if◌then◌else◌, Option, Some, None}
 use Rattle.std.specs.Option.{option_map}
@@ -37,7 +37,7 @@ pub record AcceptedRequest : Type 0 where
   pub client : ClientSeen
   pub reply : Reply
 
--- what a datagram comes to
+-- the outcome of a datagram
 pub data Outcome : Type 0 where
   answered : Answer → Outcome
   requested : AcceptedRequest → Outcome
@@ -47,7 +47,7 @@ pub data Outcome : Type 0 where
 
 -- ---- an accepted request
 
--- what the settings say of responses
+-- what the settings determine about responses
 abbrev pub responding_of : Settings → Responding
 responding_of s = record {
   known = s.known;
@@ -56,13 +56,13 @@ responding_of s = record {
   requires_fingerprint = s.requires_fingerprint;
 }
 
--- what the responses to an accepted request are signed by: the integrity attribute that the request
+-- the signature of the responses to an accepted request: the integrity attribute that the request
 -- has, under the key of its user (section 9.2.4)
 abbrev pub signature_for : List ℕ → List ℕ → Option Signature
 signature_for key bytes =
     option_map (λ a. record { algorithm = a; key = key }) (deciding_algorithm bytes)
 
--- an accepted request gets the response that the server is to give, or else is for the caller
+-- an accepted request gets the server's own response, or else is returned to the caller
 abbrev pub or_handed : Settings → List ℕ → SocketAddr → List ℕ → ClientSeen → Option Answer
     → Outcome
 or_handed s key from bytes client (Some answer) = answered answer
@@ -79,7 +79,7 @@ outcome_of_accepted s key from bytes client =
 
 -- ---- a refused request
 
--- 401 and 438: an error response that asks for credentials, with the nonce that is current
+-- 401 and 438: an error response that asks for credentials, with the current nonce
 unfoldable pub challenge_answer : Settings → Refusal → List ℕ → SocketAddr → List ℕ → Answer
 challenge_answer s refusal nonce from request = record {
   to = from;
@@ -97,8 +97,8 @@ answer_to_refused s nonce from bytes verdict.StaleNonce =
 answer_to_refused s nonce from bytes verdict.BadRequest =
     refusal_by (responding_of s) refused.BadRequest from bytes
 
--- a refused request is answered. A 400 is for one that is malformed, or that has the current nonce
--- and algorithms that were not offered with it
+-- a refused request is answered. A 400 goes only to a request that is malformed, or that has the
+-- current nonce and algorithms that were not offered with it
 abbrev pub refused_with : Settings → List ℕ → SocketAddr → List ℕ → VerdictRefusal → Outcome
 refused_with s nonce from bytes refusal =
     answered (answer_to_refused s nonce from bytes (told_refusal nonce (reading_of bytes) refusal))
@@ -113,9 +113,9 @@ by_verdict s realm from now bytes (Ok client) =
 by_verdict s realm from now bytes (Err refusal) =
     refused_with s (current_nonce s from now) from bytes refusal
 
--- a request is judged, and then its attributes are looked at (section 6.3.1). Long-term credentials
--- protect no indication (section 9.2): one whose attributes are not understood is dropped (section
--- 6.3.2). A response is for a client on the same socket
+-- a request is judged, and then its attributes are checked (section 6.3.1). Long-term credentials
+-- do not protect indications (section 9.2): one whose attributes are not understood is dropped
+-- (section 6.3.2). A response is for a client on the same socket
 abbrev pub by_class : Settings → Realm → SocketAddr → ℕ → List ℕ → MessageClass → Outcome
 by_class s realm from now bytes Request =
     by_verdict s realm from now bytes (judged s realm from now (reading_of bytes))
@@ -124,12 +124,12 @@ by_class s realm from now bytes Indication =
 by_class s realm from now bytes Success = responded bytes
 by_class s realm from now bytes Error = responded bytes
 
--- a message may be dropped before
+-- the outcome of a datagram that may be dropped first
 abbrev pub unless_dropped : Outcome → Option DropReason → Outcome
 unless_dropped outcome None = outcome
 unless_dropped outcome (Some why) = dropped why
 
--- what a datagram comes to
+-- the outcome of a datagram
 abbrev pub received_by : Settings → Realm → SocketAddr → ℕ → List ℕ → Outcome
 received_by s realm from now bytes =
     unless_dropped (by_class s realm from now bytes (class_in bytes))

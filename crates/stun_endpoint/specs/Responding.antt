@@ -1,5 +1,5 @@
--- How a server responds, whatever its credentials are: why it drops a datagram, what it understands,
--- and the responses that it writes by itself (RFC 8489, sections 6.3 and 14.8).
+-- How a server responds, whatever its credentials are: why it drops a datagram, what it
+-- understands, and the responses that it writes by itself (RFC 8489, sections 6.3 and 14.8).
 use Rattle.std.specs.Prelude.{ℕ, List, Bool, ◌&&◌}
 use Rattle.std.specs.Prelude.{if◌then◌else◌, Option, Some, None}
 use Rattle.std.specs.Option.{is_none, is_some}
@@ -25,14 +25,14 @@ use Rattle.stun_endpoint.specs.declared.received.DropReason.TheVariants.{Missing
 use Rattle.stun_endpoint.specs.declared.received.Refusal.{Refusal}
 use Rattle.stun_endpoint.specs.declared.received.Refusal.TheVariants as refused
 
--- a response to send: its bytes, where it goes, and how it refuses the request, if it does
+-- a response to send: its bytes, its destination, and how it refuses the request, if it does
 pub record Answer : Type 0 where
   pub to : SocketAddr
   pub refusal : Option Refusal
   pub bytes : List ℕ
 
--- what is needed to respond to a request: its method, its id, where the response goes, and how each
--- response ends
+-- what is needed to respond to a request: its method, its ID, the destination of the response, and
+-- what each response ends with
 pub record Reply : Type 0 where
   pub method : ℕ
   pub id : ℕ
@@ -41,21 +41,22 @@ pub record Reply : Type 0 where
 
 -- ---- why a datagram is dropped, whatever its class is
 
--- why a message is dropped by what its FINGERPRINT is (sections 7.3 and 14.7). One that is not the
--- last attribute, or has no value of 4 bytes, is as wrong as one with another CRC. There must be one
--- if the server requires it
+-- why a message is dropped because of its FINGERPRINT (sections 7.3 and 14.7). One that is not the
+-- last attribute, or whose value does not have 4 bytes, is as wrong as one with another CRC. There
+-- must be one if the server requires it
 abbrev pub fault_of : Bool → Fingerprint → Option DropReason
 fault_of required Right = None
 fault_of required Wrong = Some WrongFingerprint
 fault_of required Misplaced = Some WrongFingerprint
 fault_of required Absent = if required then Some MissingFingerprint else None
 
--- why a datagram that is no message is dropped: it has no header, or is not what its header says
+-- why a datagram that is not a message is dropped: it has no header, or is not what its header says
+-- header
 abbrev pub no_message : List ℕ → DropReason
 no_message bytes = if is_some (header_refusal bytes) then NotStun else Malformed
 
--- why a datagram is dropped, if it is no message, or for its FINGERPRINT (section 7.3), at a server
--- that requires FINGERPRINT or does not
+-- why a datagram is dropped, if it is: it is not a message, or because of its FINGERPRINT (section
+-- 7.3), at a server that requires FINGERPRINT or does not
 abbrev pub drop_reason : Bool → List ℕ → Option DropReason
 drop_reason required bytes =
     if is_some (refusal bytes) then Some (no_message bytes)
@@ -73,12 +74,12 @@ pub record Responding : Type 0 where
   pub known : List AttributeType
   -- the text of SOFTWARE
   pub software : Option (List ℕ)
-  -- whether a Binding request gets its answer without the caller
+  -- whether the server itself responds to a Binding request
   pub answers_binding : Bool
   -- whether a message without FINGERPRINT is dropped
   pub requires_fingerprint : Bool
 
--- the end of each response to a request, which is signed by this, or by nothing
+-- the end of each response to a request, which has this signature or is not signed
 abbrev pub ending_by : Responding → Option Signature → List ℕ → Ending
 ending_by s by request = record {
   software = s.software;
@@ -97,7 +98,7 @@ reply_by s by from request = record {
 
 -- ---- the responses that a server writes by itself
 
--- the 420 to an accepted request, with the types that it must not have (section 6.3.1)
+-- the 420 to an accepted request, with the types that are not understood (section 6.3.1)
 unfoldable pub unknown_by : Responding → Option Signature → SocketAddr → List ℕ → Answer
 unknown_by s by from request = record {
   to = from;
@@ -113,8 +114,9 @@ binding_by s by from request = record {
   bytes = with_end (ending_by s by request) (binding_page from request);
 }
 
--- the response to an accepted request, if the server is to give it. One that has attributes which
--- are not understood gets a 420, and a Binding request its answer. All others are for the caller
+-- the server's own response to an accepted request, if it has one. A request with attributes that
+-- are not understood gets a 420, and a Binding request its answer. All others are returned to the
+-- caller
 abbrev pub own_answer : Responding → Option Signature → SocketAddr → List ℕ → Option Answer
 own_answer s by from request =
     if is_empty (unknown_types s.known request)
@@ -122,7 +124,7 @@ own_answer s by from request =
     else None
     else Some (unknown_by s by from request)
 
--- an error response that nobody's key signs, with ERROR-CODE alone
+-- an error response that is not signed, with ERROR-CODE alone
 unfoldable pub refusal_by : Responding → Refusal → SocketAddr → List ℕ → Answer
 refusal_by s refusal from request = record {
   to = from;

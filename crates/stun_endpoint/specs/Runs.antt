@@ -1,7 +1,8 @@
--- The same by the calls of a server that keeps records: each request is validated, a response is
--- signed, it is validated again, and its address is forgotten, once for each nonce that is accepted.
--- These are `validate_incoming_message`, `sign_outgoing_message` and `forget` of
--- `LongTermServerAuth`, whose contracts cite these definitions.
+-- The verdicts of the endpoint by the calls of a server that keeps records: each request is
+-- validated, a response is signed, the request is validated again, and its address is forgotten,
+-- once for each nonce that is accepted. These calls are `validate_incoming_message`,
+-- `sign_outgoing_message` and `forget` of `LongTermServerAuth`, whose contracts cite these
+-- definitions.
 use Rattle.std.specs.Prelude.{ℕ, zero, suc, List, [], ◌∷◌, if◌then◌else◌}
 use Rattle.std.specs.Prelude.{Option, Some, None}
 use Rattle.std.specs.FinMap as fin
@@ -40,9 +41,9 @@ pub record Arrival : Type 0 where
 abbrev pub users_at : Settings → Arrival → Registered
 users_at s d = record (registered_of s) { secrets = d.users }
 
--- ---- what the endpoint says
+-- ---- the verdicts of the endpoint
 
--- the verdict on a request, as the other server tells it
+-- the verdict on a request, as the other server reports it
 abbrev pub verdict_by_class : Settings → Arrival → MessageClass → Option Validation
 verdict_by_class s d Request =
     Some (answer_to (judged s (realm_of_user s (Some (users_at s d))) d.from d.now
@@ -57,9 +58,9 @@ verdict_on s d =
     if is_some (drop_reason s.requires_fingerprint d.bytes) then None
     else verdict_by_class s d (class_in d.bytes)
 
--- ---- what a server that keeps records says
+-- ---- the verdicts of a server that keeps records
 
--- four calls at a time of its clock, and what they leave: the answer is that of the second
+-- four calls at a time of its clock, and the server after them: the answer is that of the second
 -- validation
 abbrev pub asked : ServerSeen → SocketAddr → ℕ → List ℕ → Reading → Validation × ServerSeen
 asked server from moment words r = (
@@ -68,7 +69,7 @@ asked server from moment words r = (
       from,
 )
 
--- where a nonce is stale, the next is tried
+-- if a nonce is stale, the next is tried
 abbrev pub or_accepted : LongTermServerAuthErrorReason → Validation → Validation
 or_accepted why.StaleNonce (Ok by) = Ok by
 or_accepted why.StaleNonce (Err reason) = Err why.StaleNonce
@@ -92,7 +93,7 @@ asked_under s secret server from moment (suc e) r =
     let two = asked one.1 from moment (words_of s.algorithms secret from e) r in
     (or_next one.0 two.0, two.1)
 
--- and then those of the previous secret
+-- and then the nonces of the previous secret
 abbrev pub asked_previous : Settings → Option (List ℕ) → Validation × ServerSeen → SocketAddr → ℕ
     → ℕ → Reading → Validation × ServerSeen
 asked_previous s None given from moment e r = given
@@ -117,7 +118,7 @@ served_by_class s clock server d Indication = (None, server)
 served_by_class s clock server d Success = (None, server)
 served_by_class s clock server d Error = (None, server)
 
--- the calls for a datagram. For one that is dropped or no request there are none
+-- the calls for a datagram. There are none if it is dropped or is not a request
 abbrev pub served : Settings → (ℕ → ℕ) → ServerSeen → Arrival → Option Validation × ServerSeen
 served s clock server d =
     if is_some (drop_reason s.requires_fingerprint d.bytes) then (None, server)
@@ -129,7 +130,7 @@ run s clock server [] = []
 run s clock server (d ∷ later) =
     (served s clock server d).0 ∷ run s clock (served s clock server d).1 later
 
--- the server that they leave
+-- the server after them
 abbrev pub after_run : Settings → (ℕ → ℕ) → ServerSeen → List Arrival → ServerSeen
 after_run s clock server [] = server
 after_run s clock server (d ∷ later) = after_run s clock (served s clock server d).1 later

@@ -1,4 +1,4 @@
--- The settings of a server. They are all that it is made of: none is of an address.
+-- The settings of a server. They are all that it is made of, and none depends on an address.
 use Rattle.std.specs.Prelude.{ℕ, List, Bool, Option}
 use Rattle.stun_base.specs.declared.wire.attribute_type.AttributeType.{AttributeType}
 use Rattle.stun_auth.specs.declared.feature.Feature.{Feature}
@@ -12,16 +12,16 @@ pub record Settings : Type 0 where
   pub algorithms : AlgorithmSet
   -- whether users may be named by a hash
   pub feature : Feature
-  -- the key of the nonces, and one whose nonces are accepted too
+  -- the key of the nonces, and another one whose nonces are accepted too
   pub secret : List ℕ
   pub previous : Option (List ℕ)
-  -- how many seconds an epoch has
+  -- the number of seconds of an epoch
   pub lifetime : ℕ
   -- the types of attributes that are understood
   pub known : List AttributeType
   -- the text of SOFTWARE
   pub software : Option (List ℕ)
-  -- whether a Binding request gets its answer without the caller
+  -- whether the server itself responds to a Binding request
   pub answers_binding : Bool
   -- whether a message without FINGERPRINT is dropped
   pub requires_fingerprint : Bool

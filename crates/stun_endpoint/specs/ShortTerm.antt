@@ -1,6 +1,6 @@
--- What a datagram comes to at a server with short-term credentials (RFC 8489, section 9.1.3). It is a
--- function of what the server understands, the users, the source and the datagram, and so of no
--- earlier datagram.
+-- The outcome of a datagram at a server with short-term credentials (RFC 8489, section 9.1.3). It
+-- is a function of what the server understands, the users, the source and the datagram, and so of
+-- no earlier datagram.
 use Rattle.std.specs.Prelude.{◌≡◌, ℕ, List, if◌then◌else◌, Option, Some, None}
 use Rattle.std.specs.FinMap as map
 use Rattle.std.specs.Option.{is_none}
@@ -38,12 +38,12 @@ Keys = map.FinMap name_cmp (List ℕ)
 
 -- ---- who has signed a message
 
--- a user whose key signed a message, and by which algorithm
+-- a user whose key signed a message, and the algorithm of the signature
 pub record Signer : Type 0 where
   pub client : ClientSeen
   pub key : List ℕ
 
--- the digest must be the one under the user's key
+-- the digest must be that under the user's key
 abbrev pub by_digest : List ℕ → List ℕ → Option IntegrityAlgorithm → Result Signer Refusal
 by_digest name key None = Err Unauthenticated
 by_digest name key (Some algorithm) =
@@ -54,7 +54,7 @@ abbrev pub by_key : List ℕ → List ℕ → Option (List ℕ) → Result Signe
 by_key bytes name None = Err Unauthenticated
 by_key bytes name (Some key) = by_digest name key (verified_algorithm bytes key)
 
--- the name in USERNAME. One that is no name is nobody's
+-- the name in USERNAME. A text that is not a name belongs to no user
 abbrev pub name_or_refusal : Option (List ℕ) → Result (List ℕ) Refusal
 name_or_refusal None = Err Unauthenticated
 name_or_refusal (Some name) = Ok name
@@ -72,19 +72,19 @@ abbrev pub signer_named : Keys → List ℕ → Result (List ℕ) Refusal → Re
 signer_named users bytes (Err refusal) = Err refusal
 signer_named users bytes (Ok name) = by_key bytes name (map.get users name)
 
--- who has signed a message, or the first reason that holds against it. First of all it must have
--- MESSAGE-INTEGRITY or MESSAGE-INTEGRITY-SHA256
+-- who has signed a message, or the first reason that applies why nobody has. First of all the
+-- message must have MESSAGE-INTEGRITY or MESSAGE-INTEGRITY-SHA256
 abbrev pub signer_of : Keys → List ℕ → Result Signer Refusal
 signer_of users bytes =
     if is_none (deciding bytes) then Err BadRequest else signer_named users bytes (named_by bytes)
 
--- the same as a conjunction: the message names the user, whose key verifies its digest
+-- `signer_of` as a conjunction: the message names the user, whose key verifies its digest
 pub record IsSignedBy (users : Keys) (bytes : List ℕ) (signer : Signer) : Type 0 where
   pub name : named_by bytes ≡ Ok signer.client.name
   pub key : map.get users signer.client.name ≡ Some signer.key
   pub digest : verified_algorithm bytes signer.key ≡ Some signer.client.algorithm
 
--- ---- what a datagram comes to
+-- ---- the outcome of a datagram
 
 -- an indication, and who has signed it
 pub record SignedIndication : Type 0 where
@@ -96,15 +96,15 @@ pub data ShortTermOutcome : Type 0 where
   requested : AcceptedRequest → ShortTermOutcome
   indicated : SignedIndication → ShortTermOutcome
   responded : List ℕ → ShortTermOutcome
-  -- an indication that no user has signed: the refusal that a request would get
+  -- an indication that is not signed by a user: the refusal that a request would get
   not_signed : Refusal → ShortTermOutcome
   dropped : DropReason → ShortTermOutcome
 
--- what the responses to a signed request are signed by: the same key and algorithm
+-- the signature of the responses to a signed request: the same key and algorithm
 abbrev pub signature_of : Signer → Signature
 signature_of signer = record { algorithm = signer.client.algorithm; key = signer.key }
 
--- an accepted request gets the response that the server is to give, or else is for the caller
+-- an accepted request gets the server's own response, or else is returned to the caller
 abbrev pub or_handed : Responding → SocketAddr → List ℕ → Signer → Option Answer
     → ShortTermOutcome
 or_handed s from bytes signer (Some answer) = answered answer
@@ -114,7 +114,7 @@ or_handed s from bytes signer None = requested (record {
   reply = reply_by s (Some (signature_of signer)) from bytes;
 })
 
--- a request of somebody else is refused, and the response is not signed
+-- a request that is not signed by a user is refused, and the response is not signed
 abbrev pub by_signer : Responding → SocketAddr → List ℕ → Result Signer Refusal
     → ShortTermOutcome
 by_signer s from bytes (Err refusal) = answered (refusal_by s refusal from bytes)
@@ -141,7 +141,7 @@ abbrev pub unless_dropped : ShortTermOutcome → Option DropReason → ShortTerm
 unless_dropped outcome None = outcome
 unless_dropped outcome (Some reason) = dropped reason
 
--- what a datagram comes to
+-- the outcome of a datagram
 abbrev pub received_signed : Responding → Keys → SocketAddr → List ℕ → ShortTermOutcome
 received_signed s users from bytes =
     unless_dropped (by_class_signed s users from bytes (class_in bytes)) (drop_reason s.requires_fingerprint bytes)

@@ -1,4 +1,4 @@
--- What the result of `ShortTermServer::receive` says.
+-- The outcome that the result of `ShortTermServer::receive` describes.
 use Rattle.stun_endpoint.specs.ShortTerm.{ShortTermOutcome, answered, dropped, indicated}
 use Rattle.stun_endpoint.specs.ShortTerm.{not_signed, requested, responded}
 use Rattle.stun_endpoint.specs.declared.short_term.ShortTermReceived.{ShortTermReceived}

@@ -1,4 +1,5 @@
 -- Definitions that no clause of a public call cites.
+pub mod Arriving
 pub mod Bits
 pub mod Judges
 pub mod Waiting
@@ -6,3 +7,4 @@ pub mod Found
 pub mod Judgements
 pub mod Keys
 pub mod Refusing
+pub mod Room

@@ -1,5 +1,6 @@
-//! A batch of datagrams, whose responses are written one after another into one buffer: for a socket
-//! that delivers several datagrams at once (`recvmmsg`, GRO) and takes several (`sendmmsg`).
+//! A batch of datagrams, whose responses are written one after another into one buffer. A batch is
+//! for a socket that receives several datagrams at once (`recvmmsg`, UDP GRO) and sends several at
+//! once (`sendmmsg`).
 
 ghost use Rattle.std.specs.Prelude.{◌≡◌, []};
 
@@ -10,13 +11,13 @@ use std::net::SocketAddr;
 
 /// A datagram of a batch: its bytes, and the address that it came from.
 ///
-/// Contracts see both.
+/// Contracts: a record of both.
 #[derive(Debug, Drop)]
 pub struct Datagram<'a> {
     /// The whole datagram.
     pub bytes: &'a [u8],
-    /// The address that it came from. An IPv4 address is the same in both spellings, `a.b.c.d` and
-    /// `::ffff:a.b.c.d`.
+    /// The address that the datagram came from. The two forms of an IPv4 address, `a.b.c.d` and
+    /// `::ffff:a.b.c.d`, count as the same address.
     pub from: SocketAddr,
 }
 
@@ -28,25 +29,25 @@ impl<'a> Model for Datagram<'a> {
     ghost view = { λ datagram. record { bytes = datagram.bytes.now; from = datagram.from } };
 }
 
-/// What a datagram of a batch comes to, and where its response is.
+/// The outcome of a datagram of a batch, and where its response is.
 #[derive(Debug, Drop)]
 pub struct ReceivedAt<'a, A: Allocator = Global> {
-    /// What the datagram comes to.
+    /// The outcome of the datagram.
     pub received: ReceivedInto<'a, A>,
-    /// Where its response begins in `Answers::bytes`.
+    /// The offset in `Answers::bytes` at which its response begins.
     pub start: usize,
-    /// Where its response ends there. If there is none, this is `start`.
+    /// The offset at which its response ends. If the datagram has no response, this is `start`.
     pub end: usize,
 }
 
-/// The responses to a batch of datagrams, one after another. Keep it between batches: its memory is
-/// used again.
+/// The responses to a batch of datagrams, one after another in one buffer. Reuse it for the next
+/// batch, so that its memory is used again.
 ///
-/// Contracts see the bytes of the responses.
+/// Contracts: the bytes of the responses.
 #[derive(Debug, Drop)]
 pub struct Answers<A: Allocator = Global> {
     pub(crate) bytes: Vec<u8, A>,
-    // The response that was written last, whose memory is for the next one.
+    // The response that was written last. The next response reuses its memory.
     pub(crate) page: Vec<u8, A>,
 }
 
@@ -71,14 +72,14 @@ impl<A: Allocator + Copy> Answers<A> {
 }
 
 impl<A: Allocator> Answers<A> {
-    /// Returns the bytes of all responses, each at the place that its result names.
+    /// Returns the bytes of all responses, each at the offsets in its result.
     pub fn bytes(&self) -> &[u8]
         ensures { result.now ≡ self.now }
     {
         self.bytes.as_slice()
     }
 
-    /// Removes all responses, and keeps the memory.
+    /// Removes all responses, and keeps the memory for the responses to the next batch.
     pub(crate) fn clear(&mut self)
         ensures { self.new ≡ [] }
     {

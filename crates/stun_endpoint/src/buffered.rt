@@ -1,4 +1,4 @@
-//! What a datagram comes to, if its response is written into a buffer of the caller.
+//! The outcome of a datagram whose response is written into a buffer of the caller.
 
 ghost use Rattle.std.specs.Prelude.{◌≡◌};
 ghost use Rattle.stun_endpoint.specs.Buffered.{LeavesNothing, outcome_in};
@@ -18,16 +18,17 @@ use std::alloc::{Allocator, Global};
 use std::net::SocketAddr;
 use stun_types::message::Message;
 
-/// A response to send, whose bytes are in the buffer that was passed.
+/// A response to send, whose bytes are in the buffer that you passed.
 #[derive(Clone, Copy, Debug, PartialEq, Eq)]
 pub struct BufferedAnswer {
-    /// The address that the request came from, as it was passed.
+    /// The address to send the response to: the source address that you passed.
     pub to: SocketAddr,
-    /// How the response refuses the request, and `None` if it is a success.
+    /// The error with which the response refuses the request, or `None` if the response is a
+    /// success.
     pub refusal: Option<Refusal>,
 }
 
-/// What a datagram comes to at a server with long-term credentials.
+/// The outcome of a datagram at a server with long-term credentials.
 #[derive(Debug, Drop)]
 #[non_exhaustive]
 pub enum ReceivedInto<'a, A: Allocator = Global> {
@@ -43,17 +44,17 @@ pub enum ReceivedInto<'a, A: Allocator = Global> {
     Dropped(DropReason),
 }
 
-/// What `Server::identify_into` says of a datagram.
+/// The result of `Server::identify_into` for a datagram.
 #[derive(Debug, Drop)]
 #[non_exhaustive]
 pub enum IdentifiedInto<'a, A: Allocator = Global> {
-    /// What the datagram comes to, whoever the users are.
+    /// The outcome of the datagram, which does not depend on the user.
     Done(ReceivedInto<'a, A>),
     /// The request waits for its user. Look that user up, and pass both to `Server::resume_into`.
     Lookup(Lookup<'a>),
 }
 
-/// What a datagram comes to at a server without credentials.
+/// The outcome of a datagram at a server without credentials.
 #[derive(Debug, Drop)]
 #[non_exhaustive]
 pub enum OpenReceivedInto<'a, A: Allocator = Global> {
@@ -69,7 +70,7 @@ pub enum OpenReceivedInto<'a, A: Allocator = Global> {
     Dropped(DropReason),
 }
 
-/// What a datagram comes to at a server with short-term credentials.
+/// The outcome of a datagram at a server with short-term credentials.
 #[derive(Debug, Drop)]
 #[non_exhaustive]
 pub enum ShortTermReceivedInto<'a, A: Allocator = Global> {
@@ -81,14 +82,15 @@ pub enum ShortTermReceivedInto<'a, A: Allocator = Global> {
     Indication(ShortTermIndication<'a>),
     /// A response, for a client on the same socket.
     Response(Message<'a>),
-    /// The datagram is dropped: it is an indication that no user has signed.
+    /// The datagram is dropped, because it is an indication that no user has signed. A request with
+    /// the same attributes would get this refusal.
     NotSigned(Refusal),
     /// The datagram is dropped, for this reason.
     Dropped(DropReason),
 }
 
 impl<A: Allocator> Answer<A> {
-    /// Puts the bytes into a buffer, in place of what it has.
+    /// Moves the bytes of the response into a buffer, replacing its contents.
     fn into_buffer(self, buffer: &mut Vec<u8, A>) -> BufferedAnswer
         ensures to { result.to ≡ self.to }
         ensures refusal { result.refusal ≡ self.refusal }
@@ -102,7 +104,8 @@ impl<A: Allocator> Answer<A> {
 }
 
 impl<'a, A: Allocator> Received<'a, A> {
-    /// Puts the bytes of a response into a buffer, which is empty if there is no response.
+    /// Moves the bytes of a response into a buffer. If there is no response, the buffer is empty
+    /// afterwards.
     pub(crate) fn into_buffer(self, buffer: &mut Vec<u8, A>) -> ReceivedInto<'a, A>
         ensures outcome { outcome_in result buffer.new.items ≡ outcome_of self.entry }
         ensures rest { LeavesNothing result buffer.new.items }
@@ -130,7 +133,8 @@ impl<'a, A: Allocator> Received<'a, A> {
 }
 
 impl<'a, A: Allocator> Identified<'a, A> {
-    /// Puts the bytes of a response into a buffer, which is empty if there is no response.
+    /// Moves the bytes of a response into a buffer. If there is no response, the buffer is empty
+    /// afterwards.
     pub(crate) fn into_buffer(self, buffer: &mut Vec<u8, A>) -> IdentifiedInto<'a, A>
         ensures identified { identification_in result buffer.new.items
             ≡ identification_of self.entry }
@@ -147,7 +151,8 @@ impl<'a, A: Allocator> Identified<'a, A> {
 }
 
 impl<'a, A: Allocator> OpenReceived<'a, A> {
-    /// Puts the bytes of a response into a buffer, which is empty if there is no response.
+    /// Moves the bytes of a response into a buffer. If there is no response, the buffer is empty
+    /// afterwards.
     pub(crate) fn into_buffer(self, buffer: &mut Vec<u8, A>) -> OpenReceivedInto<'a, A>
         ensures outcome { open_outcome_in result buffer.new.items ≡ open_outcome_of self.entry }
         ensures rest { LeavesNothingOpenly result buffer.new.items }
@@ -175,7 +180,8 @@ impl<'a, A: Allocator> OpenReceived<'a, A> {
 }
 
 impl<'a, A: Allocator> ShortTermReceived<'a, A> {
-    /// Puts the bytes of a response into a buffer, which is empty if there is no response.
+    /// Moves the bytes of a response into a buffer. If there is no response, the buffer is empty
+    /// afterwards.
     pub(crate) fn into_buffer(self, buffer: &mut Vec<u8, A>) -> ShortTermReceivedInto<'a, A>
         ensures outcome { short_term_outcome_in result buffer.new.items
             ≡ short_term_outcome_of self.entry }

@@ -1,7 +1,7 @@
-//! Laws over the definitions that the contracts of this crate cite. They do nothing when they run.
+//! Laws about the definitions that the contracts of this crate cite. They do nothing when they run.
 ghost use Rattle.std.specs.FinMap as fin;
 ghost use Rattle.std.specs.Prelude.{◌≡◌, ◌↔◌, ◌⊎◌, ◌≤◌, ◌+◌, ◌++◌, ℕ, Bool, List, None, Ok, Option};
-ghost use Rattle.std.specs.Prelude.{IsUtf8, Some, false, length, map, slice_get, true};
+ghost use Rattle.std.specs.Prelude.{◌&&◌, IsUtf8, Some, false, length, map, slice_get, true};
 ghost use Rattle.std.specs.Option.{is_none, option_map};
 ghost use Rattle.std.specs.Str.{bytes_eq};
 ghost use Rattle.std.specs.declared.net.socket_addr.SocketAddr.{SocketAddr};
@@ -28,26 +28,31 @@ ghost use Rattle.stun_endpoint.specs.Nonces.{current_nonce, front_of, nonce_in};
 ghost use Rattle.stun_endpoint.specs.Nonces.{security_bytes, uses_features};
 ghost use Rattle.stun_endpoint.specs.Realm.{table_of};
 ghost use Rattle.stun_endpoint.specs.Received.{AcceptedRequest, Answer as TheAnswer, Outcome};
-ghost use Rattle.stun_endpoint.specs.Received.{answered, outcome_of_accepted, received_by};
-ghost use Rattle.stun_endpoint.specs.Received.{refused_with, requested};
-ghost use Rattle.stun_endpoint.specs.Responding.{Responding, drop_reason, own_answer, refusal_by};
+ghost use Rattle.stun_endpoint.specs.Received.{answered, dropped, indicated, outcome_of_accepted};
+ghost use Rattle.stun_endpoint.specs.Received.{received_by, refused_with, requested};
+ghost use Rattle.stun_endpoint.specs.Open as openly;
+ghost use Rattle.stun_endpoint.specs.Open.{OpenRequest, received_openly};
+ghost use Rattle.stun_endpoint.specs.Responding.{Responding, drop_reason, is_binding, is_empty};
+ghost use Rattle.stun_endpoint.specs.Responding.{is_undropped_request, own_answer, refusal_by};
 ghost use Rattle.stun_endpoint.specs.Runs.{Arrival, after_run, run, users_at, verdict_on};
 ghost use Rattle.stun_endpoint.specs.Settings.{Settings};
 ghost use Rattle.stun_extra.specs.Fingerprint.{fingerprint_in};
+ghost use Rattle.stun_extra.specs.Unknown.{unknown_types};
 ghost use Rattle.stun_extra.specs.declared.fingerprint.Fingerprint.TheVariants as Fingerprint;
 ghost use Rattle.stun_endpoint.specs.ShortTerm as short_term;
 ghost use Rattle.stun_endpoint.specs.ShortTerm.{IsSignedBy, Keys, SignedIndication, Signer};
 ghost use Rattle.stun_endpoint.specs.ShortTerm.{or_handed, received_signed, signature_of};
 ghost use Rattle.stun_endpoint.specs.ShortTerm.{signer_of};
+ghost use Rattle.stun_endpoint.specs.declared.received.DropReason.TheVariants.{UnknownAttribute};
 ghost use Rattle.stun_endpoint.specs.declared.received.Refusal.{Refusal};
 ghost use Rattle.stun_endpoint.specs.declared.received.Refusal.TheVariants as refused;
 ghost use Rattle.stun_endpoint.specs.declared.server.causes.Cause.TheVariants.{OtherFeatures};
 
 /// A client is accepted at a time if and only if it is accepted under one of the nonces of its
-/// address: that of the epoch or of the epoch before, of the secret or of the previous secret
-/// (`verdict`). No earlier datagram is looked at.
+/// address: the nonce of the epoch or of the epoch before, under the secret or the previous secret
+/// (`verdict`). Earlier datagrams have no influence.
 ///
-/// So a request that is not dropped comes to what an accepted one does if a client is accepted
+/// So a request that is not dropped has the outcome of an accepted request if a client is accepted
 /// (`accepted`), and is refused otherwise (`refused`).
 pub fn requests_are_accepted_under_their_nonces()
     ensures verdict { (s : Settings) (realm : Realm) (from : SocketAddr) (now : ℕ) (r : Reading)
@@ -65,14 +70,16 @@ pub fn requests_are_accepted_under_their_nonces()
         ≡ refused_with s (current_nonce s from now) from bytes why) }
 {}
 
-/// Each nonce of a server begins with the nonce cookie (`cookie`) and has exactly the security bits of
-/// the server's settings (`bits`): the first if it supports HMAC-SHA256, the second if users may be
-/// named by a hash, and no other. If it uses neither feature, all 24 bits are zero (RFC 8489, sections
-/// 9.2 and 18.1). A nonce is a text of at most 13 bytes more than it has letters (`text`, `short`).
+/// Each nonce of a server begins with the nonce cookie (`cookie`) and has exactly the security bits
+/// of the server's settings (`bits`). The first bit is set if the server supports HMAC-SHA256, the
+/// second if users may be named by a hash, and the others never. If it uses neither feature, all 24
+/// bits are zero (RFC 8489, sections 9.2 and 18.1). A nonce is UTF-8 (`text`), and has at most 13
+/// bytes in addition to its letters (`short`).
 ///
-/// So a request whose nonce has other security bits is told from one whose nonce is stale: if it is
-/// signed and complete, and its algorithms agree with its nonce, the cause is `OtherFeatures`
-/// (`other_bits`). One whose nonce has no such bits is never refused for that cause (`no_bits`).
+/// So the server distinguishes a request whose nonce has other security bits from a request whose
+/// nonce is stale. If a request with other bits is signed and complete, and its algorithms agree
+/// with its nonce, the cause is `OtherFeatures` (`other_bits`). A request whose nonce has no such
+/// bits is never refused for that cause (`no_bits`).
 pub fn nonces_have_the_bits_of_their_server()
     ensures cookie { (s : Settings) (secret : List ℕ) (from : SocketAddr) (epoch : ℕ)
         → begins_with_cookie (nonce_in s secret from epoch) ≡ true }
@@ -93,13 +100,13 @@ pub fn nonces_have_the_bits_of_their_server()
         → has_other_bits (current_nonce s from now) r ≡ false }
 {}
 
-/// What `received_by` says of a datagram, in three sentences:
+/// Three facts about the outcome of a datagram:
 ///
-/// - A request that is handed out is of a client that is accepted under one of the nonces of its
-///   address (`accepted`).
+/// - A request that is returned to the caller comes from a client that is accepted under one of the
+///   nonces of its address (`accepted`).
 /// - A success or a 420 goes only to a client that is accepted in this sense (`answered`).
-/// - A 400 goes only to a request that is malformed, or that has the nonce which is current for its
-///   address (`no_lockout`).
+/// - A 400 goes only to a request that is malformed, or that has the current nonce of its address
+///   (`no_lockout`).
 pub fn outcomes_are_of_accepted_clients()
     ensures accepted { (s : Settings) (realm : Realm) (from : SocketAddr) (now : ℕ) (bytes : List ℕ)
         (request : AcceptedRequest) → received_by s realm from now bytes ≡ requested request
@@ -116,33 +123,35 @@ pub fn outcomes_are_of_accepted_clients()
         ⊎ (bytes_eq (their_nonce (reading_of bytes)) (current_nonce s from now) ≡ true) }
 {}
 
-/// A datagram that is not dropped is a message whose FINGERPRINT is right, or that has none although
-/// the server does not require one (RFC 8489, sections 7.3 and 14.7). One that is not the last
-/// attribute, or whose value does not have 4 bytes, is dropped like one with a wrong value.
+/// A datagram that is not dropped is a message with a valid FINGERPRINT, or a message without one
+/// at a server that does not require it (RFC 8489, sections 7.3 and 14.7). A message whose
+/// FINGERPRINT is not the last attribute, or has a value that is not 4 bytes long, is dropped like
+/// a message with a wrong FINGERPRINT.
 pub fn undropped_messages_are_whole()
     ensures { (required : Bool) (bytes : List ℕ) → drop_reason required bytes ≡ None
         → (fingerprint_in bytes ≡ Fingerprint.Right)
         ⊎ ((fingerprint_in bytes ≡ Fingerprint.Absent) × (required ≡ false)) }
 {}
 
-/// The cause of a refusal tells what `received_by` does: there is a cause if and only if the datagram
-/// comes to a response that refuses it, and the code of the cause is that of the response.
+/// The cause of a refusal agrees with the outcome: there is a cause if and only if the outcome is a
+/// response that refuses the datagram, and the code of the cause is that of the response.
 pub fn causes_have_their_codes()
     ensures { (s : Settings) (realm : Realm) (from : SocketAddr) (now : ℕ) (bytes : List ℕ)
         → option_map code_of_cause (cause_of s realm from now bytes)
         ≡ refused_code (received_by s realm from now bytes) }
 {}
 
-/// What `identify` says without the user is what the datagram comes to, whoever the user is.
+/// If `identify` returns the outcome of a datagram, the outcome is the same whichever user the
+/// datagram is judged with.
 pub fn identify_needs_no_user()
     ensures { (s : Settings) (from : SocketAddr) (now : ℕ) (bytes : List ℕ) (outcome : Outcome)
         → identified_by s from now bytes ≡ done outcome → (user : Option Registered)
         → received_by s (realm_of_user s user) from now bytes ≡ outcome }
 {}
 
-/// A look-up comes to what `receive` does with a table of all users, if the user whom it names is
-/// looked up among them: by name, or by hash. `resume` with that user, or with nobody if there is no
-/// such user, returns what `receive` does at the time at which the request arrived.
+/// A look-up and `resume` have the same outcome as `receive` with a table of all users, at the time
+/// at which the request arrived. For this, find the user whom the look-up names in that table, by
+/// name or by hash, and pass the user to `resume`, or no user if there is none.
 pub fn resume_is_receive_with_all_users()
     ensures { (s : Settings) (secrets : fin.FinMap name_cmp UserSecret) (from : SocketAddr) (now : ℕ)
         (bytes : List ℕ) (lookup : LookupSeen)
@@ -156,7 +165,7 @@ pub fn resume_is_receive_with_all_users()
 }
 
 /// A look-up of `identify` comes from a signed request with a nonce that the server accepts for its
-/// source at the time at which the request arrived: a nonce of that epoch or of the one before,
+/// source at the time at which the request arrived: a nonce of that epoch or of the epoch before,
 /// under the secret or the previous secret.
 pub fn lookups_have_accepted_nonces()
     ensures { (s : Settings) (from : SocketAddr) (now : ℕ) (bytes : List ℕ) (lookup : LookupSeen)
@@ -165,14 +174,16 @@ pub fn lookups_have_accepted_nonces()
         × WaitsUnderItsNonce s lookup }
 {}
 
-/// What the datagrams of a batch come to is what `receive` returns for each, with the same users at the
-/// same time.
+/// The outcomes of the datagrams of a batch are those that `receive` returns for each, with the
+/// same users at the same time.
 ///
-/// - `each`: the outcome at a place is that of the datagram at this place, as if it had come alone.
-/// - `parts`: a batch comes to what its parts do, one after another. So the outcome of a datagram is
-///   the same at a server that has received those before it, and at one that has not.
+/// - `each`: the outcome at an index is the outcome of the datagram at this index, as if it had
+///   come alone.
+/// - `parts`: the outcomes of a batch are those of its parts, one after another. So the outcome of
+///   a datagram is the same at a server that has received the datagrams before it, and at a server
+///   that has not.
 /// - `order`: the server stores nothing about its clients, so the order does not matter. In another
-///   order, or without some of them, the same datagrams come to the same outcomes.
+///   order, or without some of them, the same datagrams have the same outcomes.
 pub fn a_batch_is_its_single_calls()
     ensures each { (s : Settings) (realm : Realm) (now : ℕ) (datagrams : List Datagram) (place : ℕ)
         (d : Datagram) → slice_get datagrams place ≡ Some d
@@ -186,17 +197,19 @@ pub fn a_batch_is_its_single_calls()
         ≡ picked places (received_all s realm now datagrams) }
 {}
 
-/// The verdicts of the endpoint are those of a server that keeps records, call by call, for every
-/// list of datagrams with the users at the time of each: for each request and each nonce that is
-/// accepted, the request is validated, a response is signed, the request is validated again, and
-/// its address is forgotten. The clock of that server may be any.
+/// For every list of datagrams, with the users at the time of each, this server has the same
+/// verdicts as a server that keeps records of addresses and is called step by step. For each
+/// request and each nonce that is accepted, that other server validates the request, signs a
+/// response, validates the request again, and forgets its address. The clock of the other server
+/// may show any times.
 ///
-/// - `verdicts`: the answers of that run are the endpoint's verdicts, if the server uses a security
-///   feature. Then both servers make the same nonces. Without a feature the nonces of the endpoint
-///   begin with the nonce cookie, as RFC 8489 says in section 9.2, and those of the other server do
-///   not.
-/// - `left`: the run leaves no record of an address.
-/// - `handed`: a request that the endpoint hands out was `Validated` in the run, with its algorithm.
+/// - `verdicts`: that run of calls returns this server's verdicts, if the settings use a security
+///   feature, because then both servers make the same nonces. Without a feature, the nonces of this
+///   server begin with the nonce cookie, as RFC 8489, section 9.2, says, and the nonces of the
+///   other server do not.
+/// - `left`: the other server has no record of an address after the run.
+/// - `handed`: for a request that this server returns to its caller, the verdict is `Validated`
+///   with the algorithm of the request.
 pub fn datagrams_are_a_run_of_calls()
     ensures verdicts { (s : Settings) (clock : ℕ → ℕ) (datagrams : List Arrival)
         → uses_features s ≡ true → ((now : ℕ) → clock now ≤ last_moment)
@@ -210,11 +223,12 @@ pub fn datagrams_are_a_run_of_calls()
         → verdict_on s d ≡ Some (Ok (Validated request.client.algorithm)) }
 {}
 
-/// A server with short-term credentials regards a message as a user's if and only if `IsSignedBy`
-/// holds: the first USERNAME before the signature is the name of the user, and the signature is the
-/// digest under the user's key (`signer`). No earlier datagram is looked at.
+/// A server with short-term credentials accepts a message as signed by a user if and only if
+/// `IsSignedBy` holds (`signer`). `IsSignedBy` says that the first USERNAME before the signature is
+/// the name of the user, and that the signature is the digest under the user's key. Earlier
+/// datagrams have no influence.
 ///
-/// So a request that is not dropped comes to what a user's does if a user has signed it
+/// So a request that is not dropped has the outcome of a user's request if a user has signed it
 /// (`accepted`), and is refused otherwise (`refused`).
 pub fn signers_are_known_exactly()
     ensures signer { (users : Keys) (bytes : List ℕ) (signer : Signer)
@@ -231,9 +245,9 @@ pub fn signers_are_known_exactly()
         × (received_signed s users from bytes ≡ short_term.answered (refusal_by s why from bytes)) }
 {}
 
-/// What `received_signed` says of a datagram: a request or an indication that is handed out is of the
-/// user who has signed it (`requested`, `indicated`), and a success or a 420 goes only to a request
-/// that a user has signed (`answered`).
+/// A request or an indication that `received_signed` returns to the caller comes from the user who
+/// has signed it (`requested`, `indicated`), and a success or a 420 goes only to a request that a
+/// user has signed (`answered`).
 pub fn outcomes_are_of_signers()
     ensures requested { (s : Responding) (users : Keys) (from : SocketAddr) (bytes : List ℕ)
         (request : AcceptedRequest)
@@ -248,4 +262,109 @@ pub fn outcomes_are_of_signers()
         (answer : TheAnswer) → received_signed s users from bytes ≡ short_term.answered answer
         → (answer.refusal ≡ None) ⊎ (answer.refusal ≡ Some refused.UnknownAttribute)
         → (signer : Signer) × IsSignedBy users bytes signer }
+{}
+
+/// Only a request that is not dropped gets a response, and the response goes to the address that
+/// the request came from. This holds at a server with long-term credentials (`long_term`), with
+/// short-term credentials (`short_term`) and without credentials (`no_credentials`). An indication
+/// or a response never gets a response, so two servers cannot keep each other busy (RFC 8489,
+/// section 6.3).
+pub fn only_requests_are_answered()
+    ensures long_term { (s : Settings) (realm : Realm) (from : SocketAddr) (now : ℕ)
+        (bytes : List ℕ) (answer : TheAnswer)
+        → received_by s realm from now bytes ≡ answered answer
+        → (is_undropped_request s.requires_fingerprint bytes ≡ true) × (answer.to ≡ from) }
+    ensures short_term { (s : Responding) (users : Keys) (from : SocketAddr) (bytes : List ℕ)
+        (answer : TheAnswer) → received_signed s users from bytes ≡ short_term.answered answer
+        → (is_undropped_request s.requires_fingerprint bytes ≡ true) × (answer.to ≡ from) }
+    ensures no_credentials { (s : Responding) (from : SocketAddr) (bytes : List ℕ)
+        (answer : TheAnswer) → received_openly s from bytes ≡ openly.answered answer
+        → (is_undropped_request s.requires_fingerprint bytes ≡ true) × (answer.to ≡ from) }
+{}
+
+/// A request from a client that the server accepts gets a 420 if it has an attribute that is not
+/// understood, whatever its method is (RFC 8489, section 6.3.1). This holds at a server with
+/// long-term credentials (`long_term`), with short-term credentials (`short_term`), and without
+/// credentials, which accepts everybody (`no_credentials`).
+pub fn unknown_attributes_are_refused()
+    ensures long_term { (s : Settings) (realm : Realm) (from : SocketAddr) (now : ℕ)
+        (bytes : List ℕ) (client : ClientSeen)
+        → drop_reason s.requires_fingerprint bytes ≡ None → class_in bytes ≡ MessageClass.Request
+        → IsAcceptedAt s realm from now (reading_of bytes) client
+        → is_empty (unknown_types s.known bytes) ≡ false
+        → (answer : TheAnswer) × (received_by s realm from now bytes ≡ answered answer)
+        × (answer.refusal ≡ Some refused.UnknownAttribute) }
+    ensures short_term { (s : Responding) (users : Keys) (from : SocketAddr) (bytes : List ℕ)
+        (signer : Signer)
+        → drop_reason s.requires_fingerprint bytes ≡ None → class_in bytes ≡ MessageClass.Request
+        → IsSignedBy users bytes signer → is_empty (unknown_types s.known bytes) ≡ false
+        → (answer : TheAnswer) × (received_signed s users from bytes ≡ short_term.answered answer)
+        × (answer.refusal ≡ Some refused.UnknownAttribute) }
+    ensures no_credentials { (s : Responding) (from : SocketAddr) (bytes : List ℕ)
+        → drop_reason s.requires_fingerprint bytes ≡ None → class_in bytes ≡ MessageClass.Request
+        → is_empty (unknown_types s.known bytes) ≡ false
+        → (answer : TheAnswer) × (received_openly s from bytes ≡ openly.answered answer)
+        × (answer.refusal ≡ Some refused.UnknownAttribute) }
+{}
+
+/// A request from a client that the server accepts is returned to the caller if its attributes are
+/// understood, unless it is a Binding request that the server answers itself (RFC 8489, section
+/// 6.3.1). The request is returned unchanged, as a request of that client, and its reply goes to
+/// the address that the request came from. The clauses have the same names as in
+/// `unknown_attributes_are_refused`.
+pub fn understood_requests_are_handed_out()
+    ensures long_term { (s : Settings) (realm : Realm) (from : SocketAddr) (now : ℕ)
+        (bytes : List ℕ) (client : ClientSeen)
+        → drop_reason s.requires_fingerprint bytes ≡ None → class_in bytes ≡ MessageClass.Request
+        → IsAcceptedAt s realm from now (reading_of bytes) client
+        → is_empty (unknown_types s.known bytes) ≡ true
+        → (s.answers_binding && is_binding bytes) ≡ false
+        → (request : AcceptedRequest) × (received_by s realm from now bytes ≡ requested request)
+        × (request.message ≡ bytes) × (request.client ≡ client) × (request.reply.to ≡ from) }
+    ensures short_term { (s : Responding) (users : Keys) (from : SocketAddr) (bytes : List ℕ)
+        (signer : Signer)
+        → drop_reason s.requires_fingerprint bytes ≡ None → class_in bytes ≡ MessageClass.Request
+        → IsSignedBy users bytes signer → is_empty (unknown_types s.known bytes) ≡ true
+        → (s.answers_binding && is_binding bytes) ≡ false
+        → (request : AcceptedRequest)
+        × (received_signed s users from bytes ≡ short_term.requested request)
+        × (request.message ≡ bytes) × (request.client ≡ signer.client)
+        × (request.reply.to ≡ from) }
+    ensures no_credentials { (s : Responding) (from : SocketAddr) (bytes : List ℕ)
+        → drop_reason s.requires_fingerprint bytes ≡ None → class_in bytes ≡ MessageClass.Request
+        → is_empty (unknown_types s.known bytes) ≡ true
+        → (s.answers_binding && is_binding bytes) ≡ false
+        → (request : OpenRequest) × (received_openly s from bytes ≡ openly.requested request)
+        × (request.message ≡ bytes) × (request.reply.to ≡ from) }
+{}
+
+/// An indication is returned to the caller if its attributes are understood, and is dropped
+/// otherwise (RFC 8489, section 6.3.2). Long-term credentials protect no indication (section 9.2).
+/// With short-term credentials, this holds for indications that a user has signed. The clauses have
+/// the same names as in `unknown_attributes_are_refused`.
+pub fn understood_indications_are_handed_out()
+    ensures long_term { (s : Settings) (realm : Realm) (from : SocketAddr) (now : ℕ)
+        (bytes : List ℕ)
+        → drop_reason s.requires_fingerprint bytes ≡ None
+        → class_in bytes ≡ MessageClass.Indication
+        → ((is_empty (unknown_types s.known bytes) ≡ true)
+        → received_by s realm from now bytes ≡ indicated bytes)
+        × ((is_empty (unknown_types s.known bytes) ≡ false)
+        → received_by s realm from now bytes ≡ dropped UnknownAttribute) }
+    ensures short_term { (s : Responding) (users : Keys) (from : SocketAddr) (bytes : List ℕ)
+        (signer : Signer)
+        → drop_reason s.requires_fingerprint bytes ≡ None
+        → class_in bytes ≡ MessageClass.Indication → IsSignedBy users bytes signer
+        → ((is_empty (unknown_types s.known bytes) ≡ true)
+        → received_signed s users from bytes
+        ≡ short_term.indicated (record { message = bytes; client = signer.client }))
+        × ((is_empty (unknown_types s.known bytes) ≡ false)
+        → received_signed s users from bytes ≡ short_term.dropped UnknownAttribute) }
+    ensures no_credentials { (s : Responding) (from : SocketAddr) (bytes : List ℕ)
+        → drop_reason s.requires_fingerprint bytes ≡ None
+        → class_in bytes ≡ MessageClass.Indication
+        → ((is_empty (unknown_types s.known bytes) ≡ true)
+        → received_openly s from bytes ≡ openly.indicated bytes)
+        × ((is_empty (unknown_types s.known bytes) ≡ false)
+        → received_openly s from bytes ≡ openly.dropped UnknownAttribute) }
 {}

@@ -1,7 +1,8 @@
-//! A STUN server as one value: what a datagram comes to, without a record of any address (RFC 8489,
+//! A STUN server as one value: it judges datagrams without a record of any address (RFC 8489,
 //! sections 6.3 and 9.2).
 #![tactic(auto)]
 
+mod arrived;
 pub mod batch;
 pub mod buffered;
 pub mod laws;

@@ -16,26 +16,27 @@ use stun_auth::auth::NamedUser;
 use stun_extra::canonical_address::canonical;
 use stun_types::message::{Message, TransactionId};
 
-/// What `Server::identify` says of a datagram.
+/// The result of `Server::identify` for a datagram.
 #[derive(Debug, Drop)]
 #[non_exhaustive]
 pub enum Identified<'a, A: Allocator = Global> {
-    /// What the datagram comes to, whoever the users are.
+    /// The outcome of the datagram, which does not depend on the user.
     Done(Received<'a, A>),
     /// The request waits for its user. Look that user up, and pass both to `Server::resume`.
     Lookup(Lookup<'a>),
 }
 
-/// A request that has a nonce which the server accepts for its source address, and waits for its
-/// user.
+/// A request that waits until you have looked up its user. It has a nonce that the server accepts
+/// for its source address.
 ///
-/// Only such requests reach your database. An attacker who invents a nonce causes no look-up. One
-/// who forges a source address causes look-ups only after having seen a nonce of that address, as
-/// somebody on the path has, and while that nonce is accepted. The request is judged at the time at
-/// which it arrived, so a slow database does not make its nonce stale. A client that sends its
-/// request again causes another look-up; merge them by `transaction_id`.
+/// Only such requests reach your database. An attacker who invents a nonce causes no look-up. An
+/// attacker who forges a source address must be on the path to cause look-ups, because he needs to
+/// see a nonce that is still accepted for that address. The request is judged at the time at which
+/// it arrived, so a slow database does not make its nonce stale. A client that sends its request
+/// again causes another look-up; merge them by `transaction_id`.
 ///
-/// Contracts see the message, its source, the time, and whom it names.
+/// Contracts: a look-up is a record of the message, its source address, the time at which it
+/// arrived, and the user whom it names.
 #[derive(Debug, Drop)]
 pub struct Lookup<'a> {
     message: Message<'a>,
@@ -66,7 +67,7 @@ impl<'a> Model for Lookup<'a> {
 }
 
 impl<'a> Lookup<'a> {
-    /// A request that waits for a user.
+    /// Creates the look-up for a request that waits for `user`.
     pub(crate) fn new(
         message: Message<'a>,
         from: SocketAddr,
@@ -92,29 +93,31 @@ impl<'a> Lookup<'a> {
         }
     }
 
-    /// Returns whom the request names: a user by name, or by the hash of the name at the server's
-    /// realm. Anybody with a nonce can name anybody, because the signature is not checked yet.
+    /// Returns the user whom the request names, by name or by the hash of the name at the server's
+    /// realm. The signature is not checked yet, so anybody who has a nonce can name any user.
     pub fn user_id(&self) -> NamedUser<'a>
         ensures { named_seen result ≡ self.now.user }
     {
         self.user
     }
 
-    /// Returns the transaction ID of the request. A client that sends it again uses the same one.
+    /// Returns the transaction ID of the request. A client that sends the request again uses the
+    /// same transaction ID.
     pub fn transaction_id(&self) -> TransactionId
         ensures { result ≡ transaction_id_field self.now.message }
     {
         self.message.transaction_id()
     }
 
-    /// Returns the address that the request came from, an IPv4 address as IPv4 in either spelling.
+    /// Returns the address that the request came from. An IPv4 address is returned as `a.b.c.d`,
+    /// even if it came as `::ffff:a.b.c.d`.
     pub fn from(&self) -> SocketAddr
         ensures { IsCanonical self.now.from result }
     {
         canonical(self.from)
     }
 
-    /// Returns that address as it was passed to `identify`.
+    /// Returns the source address as it was passed to `identify`.
     pub(crate) fn source(&self) -> SocketAddr
         ensures { result ≡ self.now.from }
     {
@@ -135,7 +138,7 @@ impl<'a> Lookup<'a> {
         &self.message
     }
 
-    /// Returns whether the request has a right FINGERPRINT.
+    /// Returns whether the request has a valid FINGERPRINT.
     pub(crate) fn has_fingerprint(&self) -> bool
         ensures { result ≡ is_fingerprinted self.now.message }
     {

@@ -1,7 +1,7 @@
-//! The nonce of an address: its security bits, and the sixteen numbers that its letters are made of
-//! (RFC 8489, sections 9.2 and 18.1).
+//! The nonce of an address: its security bits, and the sixteen numbers that its letters are made
+//! from (RFC 8489, sections 9.2 and 18.1).
 
-ghost use Rattle.std.specs.Prelude.{◌≡◌, ◌++◌, IfOk, map, take};
+ghost use Rattle.std.specs.Prelude.{◌≡◌, ◌++◌, IfOk, IsOk, length, map, take};
 ghost use Rattle.std.specs.String.{string_bytes};
 ghost use Rattle.stun_auth.specs.Nonces.{letter};
 ghost use Rattle.stun_endpoint.specs.Nonces.{algorithms_number, front_of, words_of};
@@ -11,7 +11,8 @@ ghost use Rattle.stun_endpoint.specs.code.Bits.{bits_text};
 use std::alloc::{AllocError, Allocator};
 use std::net::SocketAddr;
 use stun_auth::auth::LONG_TERM_RFC8489_NONCE_COOKIE;
-use stun_auth::letters::push_letters;
+use stun_auth::letters::{push_letters, text_with_room};
+use stun_base::memory::Memory;
 use stun_base::prepared_key::PreparedKey;
 use stun_extra::canonical_address::address_octets;
 
@@ -19,10 +20,12 @@ use stun_extra::canonical_address::address_octets;
 /// for each of sixteen numbers.
 const NONCE_LENGTH: usize = 29;
 
-/// Returns the security bits of a server's nonces, as four characters of base64. The first bit asks for
-/// a choice of password algorithms, the second allows hashed names, and all others are zero.
+/// Returns the security bits of a server's nonces, as four characters of base64. The first bit
+/// (*Password algorithms*) is set if HMAC-SHA256 is supported, and the second (*Username
+/// anonymity*) if names may be hashed. All others are zero.
 fn spelled_bits(hmac_sha256: bool, user_hashes: bool) -> &'static str
-    ensures { result.now ≡ bits_text hmac_sha256 user_hashes }
+    ensures bits { result.now ≡ bits_text hmac_sha256 user_hashes }
+    ensures length { length result.now ≡ 4 }
 {
     match (hmac_sha256, user_hashes) {
         (true, true) => "wAAA",
@@ -32,11 +35,11 @@ fn spelled_bits(hmac_sha256: bool, user_hashes: bool) -> &'static str
     }
 }
 
-/// Returns the nonce of an address in an epoch, under a secret, at a server with these settings: the
-/// nonce cookie, the security bits and a letter for each of sixteen numbers. If the server uses no
-/// security feature, all bits are zero (section 9.2). Fails if the one allocation fails.
+/// Returns the nonce of an address in an epoch, under a secret, at a server with these settings:
+/// the nonce cookie, the security bits and a letter for each of sixteen numbers. If the server uses
+/// no security feature, all bits are zero (section 9.2). Fails if the one allocation fails.
 #[tactic(auto, using(crate::proofs::FrontLemmas::spelled_front))]
-pub(crate) fn nonce_of<A: Allocator>(
+pub(crate) fn nonce_of<A: Memory>(
     alloc: A,
     secret: &PreparedKey<A>,
     from: SocketAddr,
@@ -45,19 +48,20 @@ pub(crate) fn nonce_of<A: Allocator>(
     hmac_sha256: bool,
     user_hashes: bool,
 ) -> Result<String<A>, AllocError>
-    ensures { IfOk result (λ nonce. string_bytes nonce
+    ensures nonce { IfOk result (λ nonce. string_bytes nonce
         ≡ front_of (algorithms_for hmac_sha1 hmac_sha256) (feature_for user_hashes)
         ++ map letter (words_of (algorithms_for hmac_sha1 hmac_sha256) secret.now from epoch)) }
+    ensures granted { A.grants → IsOk result }
 {
     let words = words_of(secret, from, epoch, hmac_sha1, hmac_sha256);
-    let mut nonce = String::with_capacity(alloc, NONCE_LENGTH)?;
+    let mut nonce = text_with_room(alloc, NONCE_LENGTH)?;
     nonce.push_str(LONG_TERM_RFC8489_NONCE_COOKIE)?;
     nonce.push_str(spelled_bits(hmac_sha256, user_hashes))?;
     push_letters(&mut nonce, &words)?;
     Ok(nonce)
 }
 
-/// Returns a number for the supported algorithms.
+/// Returns the number that represents the supported algorithms in the HMAC of a nonce.
 fn algorithms_number(hmac_sha1: bool, hmac_sha256: bool) -> u8
     ensures { result ≡ algorithms_number (algorithms_for hmac_sha1 hmac_sha256) }
 {
@@ -69,8 +73,8 @@ fn algorithms_number(hmac_sha1: bool, hmac_sha256: bool) -> u8
     }
 }
 
-/// Returns the numbers that the nonce of an address in an epoch is made of: the first sixteen bytes
-/// of an HMAC-SHA1 of the address, the port, the epoch and the supported algorithms.
+/// Returns the numbers that the nonce of an address in an epoch is made from: the first sixteen
+/// bytes of an HMAC-SHA1 of the address, the port, the epoch and the supported algorithms.
 fn words_of<A: Allocator>(
     secret: &PreparedKey<A>,
     from: SocketAddr,
@@ -88,7 +92,7 @@ fn words_of<A: Allocator>(
     first_sixteen(&secret.hmac_sha1(&[&octets, &port, &epoch, &number]))
 }
 
-/// Returns the first sixteen of these bytes, each as a number.
+/// Returns the first sixteen bytes of a digest, each as a number.
 fn first_sixteen(digest: &[u8; 20]) -> [u32; 16]
     ensures { result ≡ take 16 digest.now }
 {

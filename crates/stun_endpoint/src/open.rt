@@ -1,9 +1,8 @@
-//! A server without credentials (RFC 8489, section 6.3): whoever asks is answered, and nothing is
-//! signed.
+//! A server without credentials (RFC 8489, section 6.3), which answers everybody and signs nothing.
 //!
-//! It is a type of its own, and not a mode of `Server`, because nothing of a realm is in it: its
-//! calls have no users, no time and no user of an accepted request. Both write their responses by
-//! the same `Responder`.
+//! This server is a type of its own, and not a mode of `Server`, because it has no realm: its calls
+//! take neither users nor a time, and an accepted request has no user. Both types write their
+//! responses with the same `Responder`.
 
 ghost use Rattle.std.specs.Fmt.{WritesOnOk, WritesStyledOnOk};
 ghost use Rattle.std.specs.Option.{option_map};
@@ -11,17 +10,17 @@ ghost use Rattle.std.specs.Prelude.{◌≡◌, ◌++◌, [], Err, IfOk, IsOk, Is
 ghost use Rattle.std.specs.Prelude.{OnErr, Some, codes, false, if◌then◌else◌};
 ghost use Rattle.std.specs.String.{string_bytes};
 ghost use Rattle.stun_base.specs.Header.{type_field};
-ghost use Rattle.stun_base.specs.MessageType.{class_in, is_request, method_of};
+ghost use Rattle.stun_base.specs.MessageType.{class_in, method_of};
 ghost use Rattle.stun_endpoint.specs.Answers.{is_fingerprinted};
 ghost use Rattle.stun_endpoint.specs.Buffered.{LeavesNothingOpenly, open_outcome_in};
 ghost use Rattle.stun_endpoint.specs.Built.{software_refusal};
-ghost use Rattle.stun_endpoint.specs.Open.{by_class_openly, dropped, indicated, or_requested};
-ghost use Rattle.stun_endpoint.specs.Open.{received_openly};
+ghost use Rattle.stun_endpoint.specs.Open.{dropped, indicated, or_requested, received_openly};
 ghost use Rattle.stun_endpoint.specs.OpenOutcomes.{open_outcome_of};
 ghost use Rattle.stun_endpoint.specs.Responding.{is_empty, is_undropped_request, own_answer};
 ghost use Rattle.stun_extra.specs.CanonicalAddress.{IsCanonical};
 ghost use Rattle.stun_extra.specs.Unknown.{unknown_types};
 
+use crate::arrived::Arrived;
 use crate::buffered::OpenReceivedInto;
 use crate::received::{Answer, DropReason};
 use crate::reply::Reply;
@@ -31,13 +30,14 @@ use std::alloc::{AllocError, Allocator, Global};
 use std::fmt;
 use std::marker::Model;
 use std::net::SocketAddr;
+use stun_base::memory::Memory;
 use stun_extra::canonical_address::canonical;
 use stun_types::message::{Message, MessageClass, Method};
 
-/// A STUN server without credentials: it answers everybody. It stores nothing about its clients, and
-/// no call changes it, so threads share it without a lock.
+/// A STUN server without credentials, which answers everybody and signs nothing. It stores nothing
+/// about its clients, and no call changes it, so threads share it without a lock.
 ///
-/// Contracts see what it understands and what it adds to its responses.
+/// Contracts: a server is a record of what it understands, and of what it adds to its responses.
 #[derive(Drop)]
 pub struct OpenServer<A: Allocator = Global> {
     responder: Responder<A>,
@@ -58,7 +58,7 @@ impl<A: Allocator> fmt::Debug for OpenServer<A> {
         ensures writes { WritesOnOk W.write_str_gives f.old result
             (codes "OpenServer { .. }") f.new }
 
-        // It writes the same with every width, precision and other option.
+        // The text does not depend on the width, the precision or any other option.
         ensures styled { WritesStyledOnOk W.write_str_gives f.old result
             (codes "OpenServer { .. }") f.new }
     {
@@ -66,7 +66,7 @@ impl<A: Allocator> fmt::Debug for OpenServer<A> {
     }
 }
 
-/// What a datagram comes to at a server without credentials.
+/// The outcome of a datagram at a server without credentials.
 #[derive(Debug, Drop)]
 #[non_exhaustive]
 pub enum OpenReceived<'a, A: Allocator = Global> {
@@ -84,7 +84,7 @@ pub enum OpenReceived<'a, A: Allocator = Global> {
 
 /// A request to a server without credentials. Anybody may have sent it.
 ///
-/// Contracts see its message and its reply.
+/// Contracts: a request is a record of its message and its reply.
 #[derive(Debug, Drop)]
 pub struct OpenRequest<'a, A: Allocator = Global> {
     message: Message<'a>,
@@ -100,7 +100,7 @@ impl<'a, A: Allocator> Model for OpenRequest<'a, A> {
 }
 
 impl<'a, A: Allocator> OpenRequest<'a, A> {
-    /// A request with the means to respond.
+    /// Creates a request from its message and the handle with which you respond.
     fn new(message: Message<'a>, reply: Reply<A>) -> Self
         ensures { result ≡ record { message = message.entry; reply = reply } }
     {
@@ -121,22 +121,23 @@ impl<'a, A: Allocator> OpenRequest<'a, A> {
         self.message.method()
     }
 
-    /// Returns the address that the request came from, an IPv4 address as IPv4 in either spelling. The
-    /// address that was passed to `receive`, which the response goes to, is `reply().to()`.
+    /// Returns the address that the request came from. An IPv4 address is returned as `a.b.c.d`,
+    /// even if it came as `::ffff:a.b.c.d`. Send the response to `reply().to()`, which is the
+    /// address as it was passed to `receive`.
     pub fn from(&self) -> SocketAddr
         ensures { IsCanonical self.now.reply.to result }
     {
         canonical(self.reply.to())
     }
 
-    /// Returns the means to respond. Responses are not signed.
+    /// Returns the handle with which you respond. Responses are not signed.
     pub fn reply(&self) -> &Reply<A>
         ensures { result.now ≡ self.now.reply }
     {
         &self.reply
     }
 
-    /// Returns the means to respond, and drops the rest. Keep it if the response comes later.
+    /// Returns the handle with which you respond, and drops the rest. Keep it to respond later.
     pub fn into_reply(self) -> Reply<A>
         ensures { result ≡ self.entry.reply }
     {
@@ -144,8 +145,8 @@ impl<'a, A: Allocator> OpenRequest<'a, A> {
     }
 }
 
-impl<A: Allocator> OpenServer<A> {
-    /// Builds a server. Of the reasons to fail, the first that holds is returned:
+impl<A: Memory> OpenServer<A> {
+    /// Builds a server. Fails with the first of these errors that applies:
     ///
     /// - `SoftwareTooLong`: the text of SOFTWARE has more than 763 bytes.
     /// - `OutOfMemory`: an allocation failed.
@@ -158,27 +159,31 @@ impl<A: Allocator> OpenServer<A> {
           answers_binding = settings.answers_binding;
           requires_fingerprint = settings.requires_fingerprint;
         }) }
+        ensures granted { A.grants
+            → software_refusal (option_map string_bytes settings.software) ≡ None → IsOk result }
     {
         let responder = Responder::new(alloc, settings)?;
         Ok(OpenServer { responder })
     }
 }
 
-impl<A: Allocator + Copy> OpenServer<A> {
-    /// Judges a datagram, and writes the response if it gets one at once.
+impl<A: Memory> OpenServer<A> {
+    /// Judges a datagram, and writes the response if the server itself responds.
     ///
-    /// `from` is the address that it came from. An IPv4 address is the same in both spellings,
-    /// `a.b.c.d` and `::ffff:a.b.c.d`.
+    /// `from` is the address that the datagram came from. The two forms of an IPv4 address,
+    /// `a.b.c.d` and `::ffff:a.b.c.d`, count as the same address.
     ///
-    /// - Bytes are dropped that are no message, whose FINGERPRINT is wrong, is not the last attribute
-    ///   or does not have 4 bytes, or that have no FINGERPRINT if the settings require one.
-    /// - A request gets a 420 if it has an attribute that is not understood, and the answer to
-    ///   Binding if the server is to give it. All others are for you. Signatures are not looked at.
-    /// - An indication with an attribute that is not understood is dropped. Others, and responses,
-    ///   are for you.
+    /// - Bytes that are not a message are dropped. So are messages whose FINGERPRINT is wrong, is
+    ///   not the last attribute or does not have 4 bytes, and messages without FINGERPRINT if the
+    ///   settings require one.
+    /// - A request gets a 420 if it has an attribute that is not understood, and a success if it is
+    ///   a Binding request and `answers_binding` is set. All other requests are returned to you.
+    ///   Signatures are not checked.
+    /// - An indication with an attribute that is not understood is dropped. Other indications, and
+    ///   responses, are returned to you.
     ///
-    /// Fails if an allocation fails. Nothing is lost then, because the client sends again. Memory is
-    /// allocated for requests alone.
+    /// Fails if an allocation fails, which can happen only for a request. Over UDP nothing is lost
+    /// then, because the client sends its request again.
     pub fn receive<'a>(
         &self,
         bytes: &'a [u8],
@@ -188,30 +193,32 @@ impl<A: Allocator + Copy> OpenServer<A> {
             ≡ received_openly self.now from bytes.now) }
         ensures no_memory { is_undropped_request self.now.requires_fingerprint bytes.now
             ≡ false → IsOk result }
+        ensures granted { A.grants → IsOk result }
     {
         let mut buffer = self.responder.buffer();
         self.received(bytes, from, &mut buffer)
     }
 
-    /// Judges a datagram like `receive`, and writes the response into a buffer, in place of what it
-    /// has. The buffer is empty afterwards if there is no response, or if the call fails. Its memory
-    /// is used again, so that nothing is allocated for a response that it has the capacity for.
+    /// Judges a datagram like `receive`, and writes the response into a buffer, replacing its
+    /// contents. If the buffer has the capacity for the response, no memory is allocated for it.
+    /// The buffer is empty afterwards if there is no response, or if the call fails.
     ///
-    /// Fails if an allocation fails. Nothing is lost then, because the client sends again. Memory is
-    /// allocated for requests alone.
+    /// Fails if an allocation fails, which can happen only for a request. Over UDP nothing is lost
+    /// then, because the client sends its request again.
     pub fn receive_into<'a>(
         &self,
         bytes: &'a [u8],
         from: SocketAddr,
         buffer: &mut Vec<u8, A>,
     ) -> Result<OpenReceivedInto<'a, A>, AllocError>
-        // With the bytes in the buffer, the result is that of `receive`.
+        // With the bytes in the buffer, the result is what `receive` returns.
         ensures received { IfOk result (λ received. open_outcome_in received buffer.new.items
             ≡ received_openly self.now from bytes.now) }
         ensures rest { IfOk result (λ received.
             LeavesNothingOpenly received buffer.new.items) }
         ensures no_memory { is_undropped_request self.now.requires_fingerprint bytes.now
             ≡ false → IsOk result }
+        ensures granted { A.grants → IsOk result }
         ensures err { OnErr result (buffer.new.items ≡ []) }
     {
         match self.received(bytes, from, buffer) {
@@ -223,7 +230,7 @@ impl<A: Allocator + Copy> OpenServer<A> {
         }
     }
 
-    /// What a datagram comes to. A response has the memory of the buffer.
+    /// Returns the outcome of a datagram. A response takes over the memory of the buffer.
     fn received<'a>(
         &self,
         bytes: &'a [u8],
@@ -234,37 +241,19 @@ impl<A: Allocator + Copy> OpenServer<A> {
             ≡ received_openly self.now from bytes.now) }
         ensures no_memory { is_undropped_request self.now.requires_fingerprint bytes.now
             ≡ false → IsOk result }
+        ensures granted { A.grants → IsOk result }
     {
         match self.responder.read(bytes) {
-            Ok((message, has_fingerprint)) => {
-                self.by_class(message, from, has_fingerprint, buffer)
+            Arrived::Request(message, has_fingerprint) => {
+                self.request(message, from, has_fingerprint, buffer)
             }
-            Err(reason) => Ok(OpenReceived::Dropped(reason)),
+            Arrived::Indication(message) => Ok(self.indication(message)),
+            Arrived::Response(message) => Ok(OpenReceived::Response(message)),
+            Arrived::Dropped(reason) => Ok(OpenReceived::Dropped(reason)),
         }
     }
 
-    /// What a message comes to.
-    fn by_class<'a>(
-        &self,
-        message: Message<'a>,
-        from: SocketAddr,
-        has_fingerprint: bool,
-        buffer: &mut Vec<u8, A>,
-    ) -> Result<OpenReceived<'a, A>, AllocError>
-        requires { has_fingerprint ≡ is_fingerprinted message }
-        ensures received { IfOk result (λ received. open_outcome_of received
-            ≡ by_class_openly self.now from message.entry (class_in message.entry)) }
-        ensures no_memory { is_request (class_in message.entry) ≡ false → IsOk result }
-    {
-        match message.class() {
-            MessageClass::Request => self.request(message, from, has_fingerprint, buffer),
-            MessageClass::Indication => Ok(self.indication(message)),
-            MessageClass::Success => Ok(OpenReceived::Response(message)),
-            MessageClass::Error => Ok(OpenReceived::Response(message)),
-        }
-    }
-
-    /// What a request comes to.
+    /// Returns the outcome of a request.
     fn request<'a>(
         &self,
         message: Message<'a>,
@@ -272,10 +261,12 @@ impl<A: Allocator + Copy> OpenServer<A> {
         has_fingerprint: bool,
         buffer: &mut Vec<u8, A>,
     ) -> Result<OpenReceived<'a, A>, AllocError>
-        requires { has_fingerprint ≡ is_fingerprinted message }
-        ensures { IfOk result (λ received. open_outcome_of received
+        requires fingerprint { has_fingerprint ≡ is_fingerprinted message }
+        requires request { class_in message ≡ MessageClass.Request }
+        ensures received { IfOk result (λ received. open_outcome_of received
             ≡ or_requested self.now from message.entry
             (own_answer self.now None from message.entry)) }
+        ensures granted { A.grants → IsOk result }
     {
         match self
             .responder
@@ -289,7 +280,7 @@ impl<A: Allocator + Copy> OpenServer<A> {
         }
     }
 
-    /// What an indication comes to.
+    /// Returns the outcome of an indication.
     fn indication<'a>(&self, message: Message<'a>) -> OpenReceived<'a, A>
         ensures { open_outcome_of result
             ≡ (if is_empty (unknown_types self.now.known message.entry)

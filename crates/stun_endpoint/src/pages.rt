@@ -1,24 +1,26 @@
-//! Responses before they are ended: an error response with ERROR-CODE, and a success response with
-//! the address that a request came from (RFC 8489, sections 14.2 and 14.8).
+//! Responses that have not been ended yet: an error response with ERROR-CODE, and a success
+//! response with the address that a request came from (RFC 8489, sections 14.2 and 14.8).
 
-ghost use Rattle.std.specs.Prelude.{◌≡◌, ◌≤◌, IfOk, length, []};
+ghost use Rattle.std.specs.Prelude.{◌≡◌, ◌≤◌, IfOk, IsOk, None, length, []};
 ghost use Rattle.stun_base.specs.declared.wire.message_type.MessageClass.TheVariants.{Success};
 ghost use Rattle.stun_endpoint.specs.Answers.{binding_page, error_page};
+ghost use Rattle.stun_endpoint.specs.code.Room.{HasRoom, IsEndable, LATER};
 ghost use Rattle.stun_extra.specs.CanonicalAddress.{mapped_address};
-ghost use Rattle.stun_types.specs.Writing.{IsOpen, empty_answer, with_attribute};
+ghost use Rattle.stun_types.specs.ErrorCode.{error_refusal};
+ghost use Rattle.stun_types.specs.Writing.{empty_answer, with_attribute};
 
-use std::alloc::{AllocError, Allocator};
+use std::alloc::AllocError;
 use std::net::SocketAddr;
 use stun_base::header::HEADER_LENGTH;
+use stun_base::memory::Memory;
 use stun_buffer::writer::BufferWriter;
 use stun_extra::canonical_address::mapped_address;
 use stun_types::attribute::ErrorCode;
 use stun_types::message::{Message, StunWriteError};
 use stun_types::prelude::*;
 
-/// Begins an error response with ERROR-CODE alone, and reserves this many bytes for what comes
-/// after it.
-pub(crate) fn error_page<A: Allocator + Copy>(
+/// Begins an error response with ERROR-CODE, and reserves `more` bytes for the attributes after it.
+pub(crate) fn error_page<A: Memory>(
     buffer: &mut Vec<u8, A>,
     request: &Message<'_>,
     code: u16,
@@ -27,7 +29,9 @@ pub(crate) fn error_page<A: Allocator + Copy>(
 ) -> Result<BufferWriter<A>, AllocError>
     ensures bytes { IfOk result (λ page. page.bytes
         ≡ error_page request.now code reason.now) }
-    ensures open { IfOk result (λ page. IsOpen page.bytes) }
+    ensures room { IfOk result (λ page. HasRoom LATER 1000 page.bytes) }
+    ensures granted { A.grants → error_refusal (record { code = code; reason = reason.now }) ≡ None
+        → more ≤ 5000 → IsOk result }
 {
     match try_error_page(buffer, request, code, reason, more) {
         Ok(page) => Ok(page),
@@ -35,10 +39,9 @@ pub(crate) fn error_page<A: Allocator + Copy>(
     }
 }
 
-/// Begins an error response with ERROR-CODE alone, and reserves this many bytes for what comes
-/// after it.
+/// Begins an error response with ERROR-CODE, and reserves `more` bytes for the attributes after it.
 #[tactic(auto, unfolding(crate::specs::Answers::error_page))]
-fn try_error_page<A: Allocator + Copy>(
+fn try_error_page<A: Memory>(
     buffer: &mut Vec<u8, A>,
     request: &Message<'_>,
     code: u16,
@@ -47,7 +50,9 @@ fn try_error_page<A: Allocator + Copy>(
 ) -> Result<BufferWriter<A>, StunWriteError>
     ensures bytes { IfOk result (λ page. page.bytes
         ≡ error_page request.now code reason.now) }
-    ensures open { IfOk result (λ page. IsOpen page.bytes) }
+    ensures room { IfOk result (λ page. HasRoom LATER 1000 page.bytes) }
+    ensures granted { A.grants → error_refusal (record { code = code; reason = reason.now }) ≡ None
+        → more ≤ 5000 → IsOk result }
 {
     let error = ErrorCode::builder(code).reason(reason).build()?;
     let writer = writer_with_room(buffer, error.padded_len().saturating_add(more))?;
@@ -56,10 +61,10 @@ fn try_error_page<A: Allocator + Copy>(
     Ok(page)
 }
 
-/// Begins a success response with the address that a request came from, and reserves this many
-/// bytes for what comes after it.
+/// Begins a success response with the address that a request came from, and reserves `more` bytes
+/// for the attributes after it.
 #[tactic(auto, unfolding(crate::specs::Answers::binding_page))]
-pub(crate) fn mapped_page<A: Allocator + Copy>(
+pub(crate) fn mapped_page<A: Memory>(
     buffer: &mut Vec<u8, A>,
     request: &Message<'_>,
     from: SocketAddr,
@@ -67,6 +72,8 @@ pub(crate) fn mapped_page<A: Allocator + Copy>(
 ) -> Result<BufferWriter<A>, AllocError>
     ensures bytes { IfOk result (λ page. page.bytes ≡ binding_page from request.now) }
     ensures header { IfOk result (λ page. 20 ≤ length page.bytes) }
+    ensures room { IfOk result (λ page. IsEndable page.bytes) }
+    ensures granted { A.grants → more ≤ 5000 → IsOk result }
 {
     match try_mapped_page(buffer, request, from, more) {
         Ok(page) => Ok(page),
@@ -74,9 +81,9 @@ pub(crate) fn mapped_page<A: Allocator + Copy>(
     }
 }
 
-/// Begins a success response with the address that a request came from, and reserves this many
-/// bytes for what comes after it.
-fn try_mapped_page<A: Allocator + Copy>(
+/// Begins a success response with the address that a request came from, and reserves `more` bytes
+/// for the attributes after it.
+fn try_mapped_page<A: Memory>(
     buffer: &mut Vec<u8, A>,
     request: &Message<'_>,
     from: SocketAddr,
@@ -86,6 +93,8 @@ fn try_mapped_page<A: Allocator + Copy>(
         ≡ with_attribute (empty_answer Success request.now)
         (mapped_address from request.now)) }
     ensures header { IfOk result (λ page. 20 ≤ length page.bytes) }
+    ensures room { IfOk result (λ page. IsEndable page.bytes) }
+    ensures granted { A.grants → more ≤ 5000 → IsOk result }
 {
     let address = mapped_address(from, request.transaction_id());
     let writer = writer_with_room(buffer, address.padded_len().saturating_add(more))?;
@@ -94,13 +103,14 @@ fn try_mapped_page<A: Allocator + Copy>(
     Ok(page)
 }
 
-/// Creates a writer over a buffer, which has room for attributes of this many bytes from the start, so
-/// that a response takes one allocation at most.
-pub(crate) fn writer_with_room<A: Allocator + Copy>(
+/// Creates a writer in the memory of a buffer, with room for a header and `attributes` bytes of
+/// attributes, so that a response takes at most one allocation.
+pub(crate) fn writer_with_room<A: Memory>(
     buffer: &mut Vec<u8, A>,
     attributes: usize,
 ) -> Result<BufferWriter<A>, StunWriteError>
-    ensures { IfOk result (λ writer. writer.bytes ≡ []) }
+    ensures empty { IfOk result (λ writer. writer.bytes ≡ []) }
+    ensures granted { A.grants → attributes ≤ 10000 → IsOk result }
 {
     let mut writer = BufferWriter::over(buffer);
     writer.reserve(HEADER_LENGTH.saturating_add(attributes))?;

@@ -1,4 +1,4 @@
-//! What a datagram comes to.
+//! The outcome of a datagram.
 
 ghost use Rattle.std.specs.Prelude.{◌≡◌, Some, codes};
 ghost use Rattle.std.specs.Fmt.{WritesOnOk, WritesStyledOnOk};
@@ -16,7 +16,7 @@ use stun_base::algorithm::IntegrityAlgorithm;
 use stun_extra::canonical_address::canonical;
 use stun_types::message::{Message, Method};
 
-/// What a datagram comes to.
+/// The outcome of a datagram.
 #[derive(Debug, Drop)]
 #[non_exhaustive]
 pub enum Received<'a, A: Allocator = Global> {
@@ -37,35 +37,41 @@ pub enum Received<'a, A: Allocator = Global> {
 #[derive(Clone, Copy, Debug, PartialEq, Eq)]
 #[non_exhaustive]
 pub enum DropReason {
-    /// It does not begin with the header of a STUN message.
+    /// The datagram does not begin with the header of a STUN message.
     NotStun,
-    /// Its length or its attributes are not what its header says.
+    /// The datagram begins with the header of a STUN message, but its length is not the length in
+    /// the header, or an attribute extends past its end.
     Malformed,
-    /// It has a FINGERPRINT that is wrong, is not the last attribute, or does not have 4 bytes: it is
-    /// damaged, or belongs to another protocol (RFC 8489, section 14.7).
+    /// The datagram has a FINGERPRINT whose value is wrong or does not have 4 bytes, or that is not
+    /// the last attribute. So the datagram is damaged, or belongs to another protocol (RFC 8489,
+    /// section 14.7).
     WrongFingerprint,
-    /// It has no FINGERPRINT, although the settings require one (RFC 8489, section 7.3).
+    /// The datagram has no FINGERPRINT, although the settings require one (RFC 8489, section 7.3).
     MissingFingerprint,
-    /// It is an indication with an attribute that must be understood and is not.
+    /// The datagram is an indication with an attribute that the server must understand, but does
+    /// not.
     UnknownAttribute,
 }
 
-/// How a response refuses a request.
+/// The error with which a response refuses a request.
 #[derive(Clone, Copy, Debug, PartialEq, Eq)]
 #[non_exhaustive]
 pub enum Refusal {
-    /// 400. With long-term credentials, the realm, the nonce or the name is missing, or the
-    /// algorithms are not those that were offered with the current nonce. With short-term
-    /// credentials, the signature or the name is missing.
+    /// 400: with long-term credentials, the realm, the nonce or the user name is missing, or the
+    /// request has the current nonce, but not the algorithms that were offered with it. With
+    /// short-term credentials, the signature or the user name is missing.
     BadRequest,
-    /// 401: the request is not signed by one of the users. With long-term credentials, a request
-    /// that is not signed gets it too, and one with a nonce whose security bits (RFC 8489, section
-    /// 9.2) are not the server's.
+    /// 401: the request is not signed by one of the users. With long-term credentials, a signed
+    /// request also gets a 401 if its nonce has other security bits (RFC 8489, section 9.2) than
+    /// the server's nonces, and its algorithms agree with that nonce.
     Unauthenticated,
-    /// 420: the request is accepted, but has an attribute that must be understood and is not.
+    /// 420: the user is accepted, but the request has an attribute that the server must understand,
+    /// and does not.
     UnknownAttribute,
-    /// 438: the nonce is not one that is accepted, and has the server's security bits. Only a server
-    /// with long-term credentials has it.
+    /// 438: the nonce is not accepted, or it is an earlier one that is still accepted, but the
+    /// algorithms or the credentials are wrong. If the nonce has other security bits than the
+    /// server's nonces, and the algorithms agree with it, the code is 401 instead. Only a server
+    /// with long-term credentials sends this code.
     StaleNonce,
 }
 
@@ -97,7 +103,7 @@ impl Refusal {
 
 /// A response to send.
 ///
-/// Contracts see its bytes, where it goes, and how it refuses the request.
+/// Contracts: an answer is a record of its destination, its refusal and its bytes.
 #[derive(Debug, Drop)]
 pub struct Answer<A: Allocator = Global> {
     to: SocketAddr,
@@ -121,14 +127,16 @@ impl<A: Allocator> Answer<A> {
         Answer { to, refusal, bytes }
     }
 
-    /// Returns the address that the request came from, as it was passed to `receive`.
+    /// Returns the address to send the response to: the source address that was passed to
+    /// `receive`.
     pub fn to(&self) -> SocketAddr
         ensures { result ≡ self.now.to }
     {
         self.to
     }
 
-    /// Returns how the response refuses the request, and `None` if it is a success.
+    /// Returns the error with which the response refuses the request, or `None` if the response is
+    /// a success.
     pub fn refusal(&self) -> Option<Refusal>
         ensures { result ≡ self.now.refusal }
     {
@@ -152,7 +160,8 @@ impl<A: Allocator> Answer<A> {
 
 /// An accepted request.
 ///
-/// Contracts see its message, its user, the algorithm, and its reply. `Debug` shows none of it.
+/// Contracts: a request is a record of its message, its user with the algorithm, and its reply.
+/// `Debug` shows none of them.
 #[derive(Drop)]
 pub struct Request<'a, A: Allocator = Global> {
     message: Message<'a>,
@@ -180,7 +189,7 @@ impl<'a, A: Allocator> fmt::Debug for Request<'a, A> {
         ensures writes { WritesOnOk W.write_str_gives f.old result
             (codes "Request { .. }") f.new }
 
-        // It writes the same with every width, precision and other option.
+        // The text does not depend on the width, the precision or any other option.
         ensures styled { WritesStyledOnOk W.write_str_gives f.old result
             (codes "Request { .. }") f.new }
     {
@@ -221,37 +230,39 @@ impl<'a, A: Allocator> Request<'a, A> {
         self.message.method()
     }
 
-    /// Returns the address that the request came from, an IPv4 address as IPv4 in either spelling. The
-    /// address that was passed to `receive`, which the response goes to, is `reply().to()`.
+    /// Returns the address that the request came from. An IPv4 address is returned as `a.b.c.d`,
+    /// even if it came as `::ffff:a.b.c.d`. Send the response to `reply().to()`, which is the
+    /// address as it was passed to `receive`.
     pub fn from(&self) -> SocketAddr
         ensures { IsCanonical self.now.reply.to result }
     {
         canonical(self.reply.to())
     }
 
-    /// Returns the name of the user who sent the request, also if the request has a hash of it.
+    /// Returns the name of the user who sent the request, even if the request has only a hash of
+    /// the name.
     pub fn user(&self) -> &'a str
         ensures { result.now ≡ self.now.client.name }
     {
         self.user
     }
 
-    /// Returns the algorithm that both sides agreed on: with short-term credentials, that of the
-    /// signature.
+    /// Returns the algorithm that both sides agreed on. With short-term credentials, this is the
+    /// algorithm of the signature.
     pub fn algorithm(&self) -> IntegrityAlgorithm
         ensures { result ≡ self.now.client.algorithm }
     {
         self.algorithm
     }
 
-    /// Returns the means to respond.
+    /// Returns the handle with which you respond.
     pub fn reply(&self) -> &Reply<A>
         ensures { result.now ≡ self.now.reply }
     {
         &self.reply
     }
 
-    /// Returns the means to respond, and drops the rest. Keep it if the response comes later.
+    /// Returns the handle with which you respond, and drops the rest. Keep it to respond later.
     pub fn into_reply(self) -> Reply<A>
         ensures { result ≡ self.entry.reply }
     {

@@ -1,7 +1,7 @@
-//! How a request gets its response: when it is received, or later.
+//! The handle with which you respond to a request, at once or later.
 
 ghost use Rattle.std.specs.Prelude.{◌≡◌, ◌≤◌, ◌⊎◌, [], Err, Some, None, IfErr, IfOk};
-ghost use Rattle.std.specs.Prelude.{IsOkUnless, MatchOption, OnOk, length, codes};
+ghost use Rattle.std.specs.Prelude.{IsOk, IsOkUnless, MatchOption, OnOk, length, codes, unwrap_or};
 ghost use Rattle.std.specs.Fmt.{WritesOnOk, WritesStyledOnOk};
 ghost use Rattle.std.specs.Option.{option_map, option_map_or};
 ghost use Rattle.std.specs.String.{string_bytes};
@@ -10,6 +10,7 @@ ghost use Rattle.stun_base.specs.Header.{transaction_id_field, type_field};
 ghost use Rattle.stun_base.specs.MessageType.{method_of};
 ghost use Rattle.stun_types.specs.Attribute.{attribute_length};
 ghost use Rattle.stun_types.specs.ErrorCode.{error_refusal};
+ghost use Rattle.stun_types.specs.Limits.{TEXT_LIMIT};
 ghost use Rattle.stun_types.specs.Message.{IsMessage};
 ghost use Rattle.stun_types.specs.Walk.{walk};
 ghost use Rattle.stun_types.specs.Writing.{IsOpen, RefusedBy, empty_message, with_attribute};
@@ -24,6 +25,7 @@ use std::alloc::{AllocError, Allocator, Global};
 use std::fmt;
 use std::marker::Model;
 use std::net::SocketAddr;
+use stun_base::memory::Memory;
 use stun_base::prepared_key::PreparedKey;
 use stun_buffer::writer::BufferWriter;
 use stun_extra::attribute::Software;
@@ -35,7 +37,9 @@ use stun_types::message::{
 };
 use stun_types::prelude::*;
 
-/// What a response is signed by. Contracts see the algorithm and the key.
+/// The algorithm and the key that a response is signed with.
+///
+/// Contracts: a record of both.
 #[derive(Drop)]
 pub(crate) struct Signature<A: Allocator> {
     algorithm: IntegrityAlgorithm,
@@ -57,7 +61,7 @@ impl<A: Allocator> Signature<A> {
         Signature { algorithm, key }
     }
 
-    /// Returns how many bytes the integrity attribute has.
+    /// Returns the number of bytes of the integrity attribute, with its header.
     pub(crate) fn length(&self) -> usize
         ensures { result ≡ attribute_length (digest_length self.now.algorithm) }
     {
@@ -65,16 +69,18 @@ impl<A: Allocator> Signature<A> {
     }
 }
 
-/// The means to respond to one accepted request, now or later, on any thread, without the server.
+/// A handle with which you respond to one accepted request, now or later, on any thread, without
+/// the server.
 ///
-/// A response has the request's method and transaction ID. It is signed under the key of the user
-/// who sent the request, also if it is an error, with the integrity attribute that the request has.
-/// It ends with FINGERPRINT if the request does. Respond to each request at least once, because the
-/// client sends it again until then.
+/// A response has the request's method and transaction ID. It is signed with the key of the user
+/// who sent the request, even if it is an error, and has the integrity attribute that the request
+/// has. It ends with FINGERPRINT if the request does. Respond to each request at least once,
+/// because the client sends it again until then.
 ///
 /// `success` or `error` begins a response, to which you add attributes, and `finish` ends it.
 ///
-/// Contracts see all of it. It contains a key, so `Debug` shows none of it.
+/// Contracts: a reply is a record of the method, the transaction ID, the destination, and what each
+/// response ends with. A reply contains a key, so `Debug` shows none of it.
 #[derive(Drop)]
 pub struct Reply<A: Allocator = Global> {
     alloc: A,
@@ -88,7 +94,9 @@ pub struct Reply<A: Allocator = Global> {
 
 impl<A: Allocator> Model for Reply<A> {
     ghost use Rattle.std.specs.Option.{option_map};
+    ghost use Rattle.std.specs.Prelude.{◌≤◌, [], length, unwrap_or};
     ghost use Rattle.std.specs.String.{string_bytes};
+    ghost use Rattle.stun_types.specs.Limits.{TEXT_LIMIT};
     ghost use Rattle.stun_endpoint.specs.Received.{Reply as ReplySeen};
 
     ghost Value = { ReplySeen };
@@ -103,6 +111,10 @@ impl<A: Allocator> Model for Reply<A> {
         has_fingerprint = reply.has_fingerprint;
       };
     } };
+
+    // SOFTWARE fits into a response.
+    ghost invariant = { λ reply.
+        length (unwrap_or (option_map string_bytes reply.software) []) ≤ TEXT_LIMIT };
 }
 
 impl<A: Allocator> fmt::Debug for Reply<A> {
@@ -112,7 +124,7 @@ impl<A: Allocator> fmt::Debug for Reply<A> {
         ensures writes { WritesOnOk W.write_str_gives f.old result
             (codes "Reply { .. }") f.new }
 
-        // It writes the same with every width, precision and other option.
+        // The text does not depend on the width, the precision or any other option.
         ensures styled { WritesStyledOnOk W.write_str_gives f.old result
             (codes "Reply { .. }") f.new }
     {
@@ -121,8 +133,8 @@ impl<A: Allocator> fmt::Debug for Reply<A> {
 }
 
 impl<A: Allocator> Reply<A> {
-    /// Returns the address that the request came from, as it was passed to `receive`. The response
-    /// goes there.
+    /// Returns the address to send the response to: the source address that was passed to
+    /// `receive`.
     pub fn to(&self) -> SocketAddr
         ensures { result ≡ self.now.to }
     {
@@ -143,7 +155,7 @@ impl<A: Allocator> Reply<A> {
         self.method
     }
 
-    /// Returns the algorithm of the integrity attribute that each response gets, and `None` if
+    /// Returns the algorithm of the integrity attribute that each response gets, or `None` if
     /// responses are not signed.
     pub fn integrity(&self) -> Option<IntegrityAlgorithm>
         ensures { result
@@ -155,8 +167,8 @@ impl<A: Allocator> Reply<A> {
         }
     }
 
-    /// Returns the key that signs each response, and no bytes if responses are not signed. Whoever
-    /// has it can sign in the name of the user and of the server.
+    /// Returns the key that signs each response, or no bytes if responses are not signed. Anybody
+    /// who has the key can sign in the name of the user and of the server.
     pub fn key(&self) -> &[u8]
         ensures { result.now
             ≡ option_map_or (λ (by : SignatureSeen). by.key) self.now.ending.signature [] }
@@ -175,8 +187,10 @@ impl<A: Allocator> Reply<A> {
     }
 }
 
-impl<A: Allocator + Copy> Reply<A> {
-    /// The means to respond to a request, with the end that its response gets.
+impl<A: Memory> Reply<A> {
+    /// Creates the handle with which you respond to a request. Each response ends with SOFTWARE,
+    /// the integrity attribute and FINGERPRINT, as `software`, `signature` and `has_fingerprint`
+    /// say.
     pub(crate) fn new(
         alloc: A,
         request: &Message<'_>,
@@ -185,6 +199,7 @@ impl<A: Allocator + Copy> Reply<A> {
         signature: Option<Signature<A>>,
         has_fingerprint: bool,
     ) -> Self
+        requires { length (unwrap_or (option_map string_bytes software) []) ≤ TEXT_LIMIT }
         ensures { result ≡ record {
           method = method_of (type_field request.now);
           id = transaction_id_field request.now;
@@ -212,12 +227,13 @@ impl<A: Allocator + Copy> Reply<A> {
         ensures bytes { IfOk result (λ page. page.bytes
             ≡ empty_message MessageClass.Success self.now.method self.now.id) }
         ensures open { IfOk result (λ page. IsOpen page.bytes) }
+        ensures granted { A.grants → IsOk result }
     {
         self.begin(MessageClass::Success)
     }
 
-    /// Begins an error response with this code and this reason phrase. Of the reasons to fail, the
-    /// first that holds is returned:
+    /// Begins an error response with this code and this reason phrase. Fails with the first of
+    /// these errors that applies:
     ///
     /// - `NotAllowed`: the code is not between 300 and 699.
     /// - `TooLarge`: the reason phrase has more than 763 bytes.
@@ -229,6 +245,8 @@ impl<A: Allocator + Copy> Reply<A> {
             ≡ with_attribute (empty_message MessageClass.Error self.now.method self.now.id)
             (error_code_attribute code reason.now)) }
         ensures open { IfOk result (λ page. IsOpen page.bytes) }
+        ensures granted { A.grants
+            → error_refusal (record { code = code; reason = reason.now }) ≡ None → IsOk result }
     {
         let error = ErrorCode::builder(code).reason(reason).build()?;
         let mut page = self.begin(MessageClass::Error)?;
@@ -242,10 +260,12 @@ impl<A: Allocator + Copy> Reply<A> {
             ≡ empty_message class self.now.method self.now.id) }
         ensures open { IfOk result (λ page. IsOpen page.bytes) }
         ensures empty { IfOk result (λ page. walk page.bytes ≡ []) }
+        ensures granted { A.grants → IsOk result }
     {
         let end = end_length(&self.software, &self.signature, self.has_fingerprint);
         let mut page = MessageWriteVec::new(self.alloc);
-        // A response with one IPv4 address, as that to Binding, is written in this one block.
+        // This one block is enough for a response with one IPv4 address, such as a Binding
+        // response.
         if page.reserve(MAPPED_LENGTH.saturating_add(end)).is_err() {
             return Err(AllocError);
         }
@@ -257,12 +277,12 @@ impl<A: Allocator + Copy> Reply<A> {
     }
 
     /// Ends a response: adds SOFTWARE if the server has one, signs the response, and adds
-    /// FINGERPRINT if the request had one. Pass a response that `success` or `error` began, to which
-    /// you may have added attributes.
+    /// FINGERPRINT if the request had one. Pass a response that `success` or `error` began, to
+    /// which you may have added attributes.
     ///
     /// Fails with the error of the first attribute that cannot be added: `AttributeExists` if you
-    /// added SOFTWARE or FINGERPRINT, `MessageIntegrityExists` if you signed the response, `TooLarge`
-    /// if it would be longer than a message can be, or `OutOfMemory`.
+    /// added SOFTWARE or FINGERPRINT, `MessageIntegrityExists` if you signed the response,
+    /// `TooLarge` if the response would be longer than a message can be, or `OutOfMemory`.
     pub fn finish(&self, page: MessageWriteVec<A>) -> Result<Vec<u8, A>, StunWriteError>
         requires { 20 ≤ length page.bytes }
         ensures bytes { IfOk result (λ response. response.items
@@ -270,29 +290,32 @@ impl<A: Allocator + Copy> Reply<A> {
         ensures verifies { IfOk result (λ response. IsOpen page.bytes
             → VerifiesBy self.now.ending.signature response.items) }
 
-        // The error is the first reason that holds, unless an allocation failed.
+        // The error is the first one that applies, unless an allocation failed.
         ensures ok { OnOk result (finish_refusal self.now.ending page.bytes ≡ None) }
         ensures refused { IfErr result (λ why. (why ≡ StunWriteError.OutOfMemory)
             ⊎ (finish_refusal self.now.ending page.bytes ≡ Some why)) }
+        ensures granted { A.grants → finish_refusal self.now.ending page.bytes ≡ None
+            → IsOk result }
     {
         self.finish_over(BufferWriter::after(page.finish()))
     }
 
-    /// Begins a success response like `success`, in the memory of a buffer, which is empty and without
-    /// memory afterwards. `finish_over` returns a vector with that memory. Nothing is allocated for a
-    /// response that it has the capacity for.
+    /// Begins a success response like `success`, in the memory of a buffer. The buffer is empty and
+    /// without memory afterwards, and `finish_over` returns a vector with that memory. If the
+    /// memory has room for the response, nothing is allocated.
     ///
     /// Fails if an allocation fails.
     pub fn success_over(&self, buffer: &mut Vec<u8, A>) -> Result<BufferWriter<A>, AllocError>
         ensures bytes { IfOk result (λ page. page.bytes
             ≡ empty_message MessageClass.Success self.now.method self.now.id) }
         ensures open { IfOk result (λ page. IsOpen page.bytes) }
+        ensures granted { A.grants → IsOk result }
     {
         self.begin_over(MessageClass::Success, buffer)
     }
 
-    /// Begins an error response like `error`, in the memory of a buffer, as `success_over` does. It
-    /// fails with the errors of `error`, in their order.
+    /// Begins an error response like `error`, but in the memory of a buffer, as `success_over`
+    /// does. Fails with the errors of `error`, in the same order.
     pub fn error_over(
         &self,
         code: u16,
@@ -305,6 +328,8 @@ impl<A: Allocator + Copy> Reply<A> {
             ≡ with_attribute (empty_message MessageClass.Error self.now.method self.now.id)
             (error_code_attribute code reason.now)) }
         ensures open { IfOk result (λ page. IsOpen page.bytes) }
+        ensures granted { A.grants
+            → error_refusal (record { code = code; reason = reason.now }) ≡ None → IsOk result }
     {
         let error_code = ErrorCode::builder(code).reason(reason).build()?;
         let mut page = self.begin_over(MessageClass::Error, buffer)?;
@@ -322,6 +347,7 @@ impl<A: Allocator + Copy> Reply<A> {
             ≡ empty_message class self.now.method self.now.id) }
         ensures open { IfOk result (λ page. IsOpen page.bytes) }
         ensures empty { IfOk result (λ page. walk page.bytes ≡ []) }
+        ensures granted { A.grants → IsOk result }
     {
         let kind = MessageType::from_class_method(class, self.method);
         match Message::builder(kind, self.id, BufferWriter::over(buffer)) {
@@ -330,8 +356,8 @@ impl<A: Allocator + Copy> Reply<A> {
         }
     }
 
-    /// Ends a response like `finish`, which `success_over` or `error_over` began. It fails with the
-    /// errors of `finish`, in their order.
+    /// Ends a response that `success_over` or `error_over` began, like `finish`. Fails with the
+    /// errors of `finish`, in the same order.
     pub fn finish_over(&self, page: BufferWriter<A>) -> Result<Vec<u8, A>, StunWriteError>
         requires { 20 ≤ length page.bytes }
         ensures bytes { IfOk result (λ response. response.items
@@ -339,26 +365,31 @@ impl<A: Allocator + Copy> Reply<A> {
         ensures verifies { IfOk result (λ response. IsOpen page.bytes
             → VerifiesBy self.now.ending.signature response.items) }
 
-        // The error is the first reason that holds, unless an allocation failed.
+        // The error is the first one that applies, unless an allocation failed.
         ensures ok { OnOk result (finish_refusal self.now.ending page.bytes ≡ None) }
         ensures refused { IfErr result (λ why. (why ≡ StunWriteError.OutOfMemory)
             ⊎ (finish_refusal self.now.ending page.bytes ≡ Some why)) }
+        ensures granted { A.grants → finish_refusal self.now.ending page.bytes ≡ None
+            → IsOk result }
     {
         finish_response(page, &self.software, &self.signature, self.has_fingerprint)
     }
 }
 
-/// How many bytes a response has with its header and XOR-MAPPED-ADDRESS for an IPv4 address.
+/// The number of bytes of the header of a response, and of XOR-MAPPED-ADDRESS with an IPv4 address.
 const MAPPED_LENGTH: usize = 32;
 
-/// Returns how many bytes `finish_response` adds to a response. They are reserved before the response
-/// is written, so that it takes one allocation. If they were fewer, it would take two, and its bytes
-/// would be the same.
+/// Returns how many bytes `finish_response` adds to a response. The memory for them is reserved
+/// before the response is written, so that it takes one allocation. With less memory it would take
+/// two allocations, and have the same bytes.
 pub(crate) fn end_length<A: Allocator>(
     software: &Option<String<A>>,
     signature: &Option<Signature<A>>,
     has_fingerprint: bool,
-) -> usize {
+) -> usize
+    requires { length (unwrap_or (option_map string_bytes software.now) []) ≤ TEXT_LIMIT }
+    ensures { result ≤ 812 }
+{
     let software = match software {
         Some(text) => attribute_length(text.len()),
         None => 0,
@@ -377,9 +408,10 @@ pub(crate) fn end_length<A: Allocator>(
         .saturating_add(fingerprint)
 }
 
-/// Ends a response.
+/// Ends a response: adds SOFTWARE, the integrity attribute and FINGERPRINT, each of them if the
+/// response gets it.
 #[tactic(auto, using(crate::proofs::VerifyingLemmas::verifies_by_same))]
-pub(crate) fn finish_response<A: Allocator + Copy>(
+pub(crate) fn finish_response<A: Memory>(
     page: BufferWriter<A>,
     software: &Option<String<A>>,
     signature: &Option<Signature<A>>,
@@ -405,6 +437,11 @@ pub(crate) fn finish_response<A: Allocator + Copy>(
           signature = signature.now;
           has_fingerprint = has_fingerprint;
         }) page.bytes ≡ Some why)) }
+    ensures granted { A.grants → finish_refusal (record {
+      software = option_map string_bytes software.now;
+      signature = signature.now;
+      has_fingerprint = has_fingerprint;
+    }) page.bytes ≡ None → IsOk result }
 {
     let mut page = page;
     add_software(&mut page, software)?;
@@ -417,8 +454,8 @@ pub(crate) fn finish_response<A: Allocator + Copy>(
     }
 }
 
-/// Adds SOFTWARE, if there is one.
-fn add_software<A: Allocator + Copy>(
+/// Adds SOFTWARE with the text `software`. Does nothing if there is no text.
+fn add_software<A: Memory>(
     page: &mut BufferWriter<A>,
     software: &Option<String<A>>,
 ) -> Result<(), StunWriteError>
@@ -429,6 +466,8 @@ fn add_software<A: Allocator + Copy>(
         page.old.bytes) result }
     ensures header { OnOk result (20 ≤ length page.new.bytes) }
     ensures open { OnOk result (IsOpen page.old.bytes → IsOpen page.new.bytes) }
+    ensures granted { A.grants → refused_software (option_map string_bytes software.now)
+        page.old.bytes ≡ None → IsOk result }
 {
     match software {
         Some(text) => page.add_attribute(&Software::new(text.as_str())?),
@@ -436,8 +475,8 @@ fn add_software<A: Allocator + Copy>(
     }
 }
 
-/// Adds the integrity attribute, if the response is signed.
-fn add_signature<A: Allocator + Copy>(
+/// Adds the integrity attribute. Does nothing if the response is not signed.
+fn add_signature<A: Memory>(
     page: &mut BufferWriter<A>,
     signature: &Option<Signature<A>>,
 ) -> Result<(), StunWriteError>
@@ -448,6 +487,8 @@ fn add_signature<A: Allocator + Copy>(
     ensures message { OnOk result (IsOpen page.old.bytes → IsMessage page.new.bytes) }
     ensures verifies { OnOk result (IsOpen page.old.bytes
         → VerifiesBy signature.now page.new.bytes) }
+    ensures granted { A.grants → refused_signature signature.now page.old.bytes ≡ None
+        → IsOk result }
 {
     match signature {
         Some(by) => page.add_message_integrity_with_prepared_key(&by.key, by.algorithm),

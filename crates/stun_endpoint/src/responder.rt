@@ -1,20 +1,26 @@
-//! What a server does with a datagram whatever its credentials are: how it reads it, what it
-//! understands, and the responses that it writes by itself (RFC 8489, sections 6.3 and 14.8).
+//! The part that all servers share, whatever their credentials are: it reads datagrams, knows which
+//! attributes are understood, and writes some of the responses (RFC 8489, sections 6.3 and 14.8).
 
 ghost use Rattle.std.specs.Option.{option_map};
-ghost use Rattle.std.specs.Prelude.{◌≡◌, ◌≤◌, ◌++◌, ◌&&◌, [], Err, IfErr, IfOk, IsOkUnless};
+ghost use Rattle.std.specs.Prelude.{◌≡◌, ◌≤◌, ◌++◌, ◌&&◌, [], Err, IfOk, IsOk, IsOkUnless};
 ghost use Rattle.std.specs.Prelude.{MatchOption, None, Some, false, length};
 ghost use Rattle.std.specs.Prelude.{unwrap_or};
 ghost use Rattle.std.specs.String.{string_bytes};
 ghost use Rattle.stun_endpoint.specs.Answers.{is_fingerprinted, with_end};
 ghost use Rattle.stun_endpoint.specs.Built.{software_refusal};
 ghost use Rattle.stun_endpoint.specs.Responding.{binding_by, drop_reason, is_binding};
-ghost use Rattle.stun_endpoint.specs.Responding.{is_empty, no_message, own_answer, refusal_by};
+ghost use Rattle.stun_endpoint.specs.Responding.{is_empty, own_answer, refusal_by};
 ghost use Rattle.stun_endpoint.specs.Responding.{reply_by, unknown_by};
+ghost use Rattle.stun_endpoint.specs.code.Arriving.{IsByClass, dropped_in};
+ghost use Rattle.stun_endpoint.specs.code.Room.{IsEndable};
 ghost use Rattle.stun_extra.specs.Unknown.{refusing_answer, unknown_types};
+ghost use Rattle.stun_types.specs.Limits.{TEXT_LIMIT};
+ghost use Rattle.stun_base.specs.MessageType.{class_in};
+ghost use Rattle.stun_base.specs.declared.wire.message_type.MessageClass.TheVariants.{Request};
 
+use crate::arrived::Arrived;
 use crate::pages::{error_page, mapped_page, writer_with_room};
-use crate::received::{Answer, DropReason, Refusal};
+use crate::received::{Answer, Refusal};
 use crate::reply::{Reply, Signature, end_length, finish_response};
 use crate::server::{BuildError, STUN_ATTRIBUTES};
 use crate::understood::are_understood;
@@ -22,35 +28,35 @@ use std::alloc::{AllocError, Allocator, Global};
 use std::marker::Model;
 use std::net::SocketAddr;
 use stun_base::attribute_type::AttributeType;
-use stun_base::header::MessageHeader;
+use stun_base::memory::Memory;
 use stun_buffer::writer::BufferWriter;
-use stun_extra::fingerprint::{Fingerprint, check_fingerprint};
 use stun_extra::unknown::answer_unknown;
 use stun_types::limits::TEXT_LIMIT;
 use stun_types::message::{BINDING, Message};
 use stun_types::prelude::*;
 
-/// How many bytes the attributes of a 420 have before its end: ERROR-CODE, and UNKNOWN-ATTRIBUTES with
-/// one or two types. More types may cost a second allocation.
+/// The number of bytes of the attributes with which a 420 begins: ERROR-CODE, and
+/// UNKNOWN-ATTRIBUTES with one or two types. More types may cost a second allocation.
 const UNKNOWN_LENGTH: usize = 36;
 
-/// What a server without a realm understands, and what it adds to its responses. `new` sets no
-/// further attributes and no SOFTWARE, and leaves Binding requests to you.
+/// The settings of a server without a realm: what it understands, and what it adds to its
+/// responses. With the settings that `new` returns, the server understands no further attributes,
+/// adds no SOFTWARE, and returns Binding requests to you.
 #[derive(Drop)]
 pub struct ResponseSettings<A: Allocator = Global> {
-    /// The types of attributes that you understand, beside those of STUN.
+    /// The types of attributes that you understand, in addition to `STUN_ATTRIBUTES`.
     pub understood: Vec<AttributeType, A>,
     /// The text of SOFTWARE in each response, of at most 763 bytes (RFC 8489, section 14.14).
     pub software: Option<String<A>>,
-    /// Whether the server responds to each accepted Binding request by itself.
+    /// Whether the server itself responds to each accepted Binding request.
     pub answers_binding: bool,
     /// Whether a message without FINGERPRINT is dropped (RFC 8489, section 7.3).
     pub requires_fingerprint: bool,
 }
 
 impl<A: Allocator> ResponseSettings<A> {
-    /// Returns settings without further attributes and without SOFTWARE, which leave Binding
-    /// requests to you and require no FINGERPRINT.
+    /// Returns settings without further attributes and without SOFTWARE, with which the server
+    /// returns Binding requests to you and requires no FINGERPRINT.
     pub fn new(alloc: A) -> ResponseSettings<A>
         ensures understood { result.understood.items ≡ [] }
         ensures software { result.software ≡ None }
@@ -66,35 +72,6 @@ impl<A: Allocator> ResponseSettings<A> {
     }
 }
 
-/// Reads a datagram, which must have a FINGERPRINT if that is required. Returns the message and
-/// whether it has a right FINGERPRINT, or why the datagram is dropped.
-fn read(bytes: &[u8], is_required: bool) -> Result<(Message<'_>, bool), DropReason>
-    ensures read { IfOk result (λ read. (read.0 ≡ bytes.now)
-        × (read.1 ≡ is_fingerprinted bytes.now) × (drop_reason is_required bytes.now ≡ None)) }
-    ensures dropped { IfErr result (λ reason. drop_reason is_required bytes.now ≡ Some reason) }
-{
-    let Ok(message) = Message::from_bytes(bytes) else {
-        return Err(no_message(bytes));
-    };
-    match check_fingerprint(&message) {
-        Fingerprint::Right => Ok((message, true)),
-        Fingerprint::Wrong => Err(DropReason::WrongFingerprint),
-        Fingerprint::Misplaced => Err(DropReason::WrongFingerprint),
-        Fingerprint::Absent if is_required => Err(DropReason::MissingFingerprint),
-        Fingerprint::Absent => Ok((message, false)),
-    }
-}
-
-/// Why bytes that are no message are dropped.
-fn no_message(bytes: &[u8]) -> DropReason
-    ensures { result ≡ no_message bytes.now }
-{
-    match MessageHeader::from_bytes(bytes) {
-        Ok(_) => DropReason::Malformed,
-        Err(_) => DropReason::NotStun,
-    }
-}
-
 /// What a server understands, and what it adds to its responses.
 #[derive(Drop)]
 pub(crate) struct Responder<A: Allocator> {
@@ -107,7 +84,9 @@ pub(crate) struct Responder<A: Allocator> {
 
 impl<A: Allocator> Model for Responder<A> {
     ghost use Rattle.std.specs.Option.{option_map};
+    ghost use Rattle.std.specs.Prelude.{◌≤◌, [], length, unwrap_or};
     ghost use Rattle.std.specs.String.{string_bytes};
+    ghost use Rattle.stun_types.specs.Limits.{TEXT_LIMIT};
     ghost use Rattle.stun_endpoint.specs.Responding.{Responding};
 
     ghost Value = { Responding };
@@ -118,10 +97,15 @@ impl<A: Allocator> Model for Responder<A> {
       answers_binding = responder.answers_binding;
       requires_fingerprint = responder.requires_fingerprint;
     } };
+
+    // SOFTWARE fits into a response.
+    ghost invariant = { λ responder.
+        length (unwrap_or (option_map string_bytes responder.software) []) ≤ TEXT_LIMIT };
 }
 
-impl<A: Allocator> Responder<A> {
-    /// A responder with these settings, unless the text of SOFTWARE is too long.
+impl<A: Memory> Responder<A> {
+    /// Creates a responder with these settings. Fails with `SoftwareTooLong` if the text of
+    /// SOFTWARE has more than 763 bytes, and otherwise with `OutOfMemory` if an allocation fails.
     pub(crate) fn new(alloc: A, settings: ResponseSettings<A>) -> Result<Responder<A>, BuildError>
         ensures refused { MatchOption (software_refusal (option_map string_bytes settings.software))
             (IsOkUnless result BuildError.OutOfMemory) (λ refusal. result ≡ Err refusal) }
@@ -131,6 +115,8 @@ impl<A: Allocator> Responder<A> {
           answers_binding = settings.answers_binding;
           requires_fingerprint = settings.requires_fingerprint;
         }) }
+        ensures granted { A.grants
+            → software_refusal (option_map string_bytes settings.software) ≡ None → IsOk result }
     {
         if text_length(&settings.software) > TEXT_LIMIT {
             return Err(BuildError::SoftwareTooLong);
@@ -146,8 +132,11 @@ impl<A: Allocator> Responder<A> {
             Err(_) => Err(BuildError::OutOfMemory),
         }
     }
+}
 
-    /// A responder that understands these types of attributes.
+impl<A: Allocator> Responder<A> {
+    /// Creates a responder from its parts. `known` has the types of all attributes that the server
+    /// understands.
     pub(crate) fn of(
         alloc: A,
         known: Vec<AttributeType, A>,
@@ -155,6 +144,7 @@ impl<A: Allocator> Responder<A> {
         answers_binding: bool,
         requires_fingerprint: bool,
     ) -> Responder<A>
+        requires { length (unwrap_or (option_map string_bytes software) []) ≤ TEXT_LIMIT }
         ensures { result ≡ record {
           known = known.items;
           software = option_map string_bytes software;
@@ -171,33 +161,31 @@ impl<A: Allocator> Responder<A> {
         }
     }
 
-    /// Reads a datagram. Returns the message and whether it has a right FINGERPRINT, or why the
-    /// datagram is dropped.
-    pub(crate) fn read<'a>(&self, bytes: &'a [u8]) -> Result<(Message<'a>, bool), DropReason>
-        ensures read { IfOk result (λ read. (read.0 ≡ bytes.now)
-            × (read.1 ≡ is_fingerprinted bytes.now)
-            × (drop_reason self.now.requires_fingerprint bytes.now ≡ None)) }
-        ensures dropped { IfErr result (λ reason.
-            drop_reason self.now.requires_fingerprint bytes.now ≡ Some reason) }
+    /// Reads a datagram, which must have a FINGERPRINT if the settings require one.
+    pub(crate) fn read<'a>(&self, bytes: &'a [u8]) -> Arrived<'a>
+        ensures dropped { drop_reason self.now.requires_fingerprint bytes.now
+            ≡ dropped_in result }
+        ensures class { IsByClass bytes.now result }
     {
-        read(bytes, self.requires_fingerprint)
+        Arrived::read(bytes, self.requires_fingerprint)
     }
 
-    /// Whether a message without FINGERPRINT is dropped.
+    /// Returns whether a message without FINGERPRINT is dropped.
     pub(crate) fn requires_fingerprint(&self) -> bool
         ensures { result ≡ self.now.requires_fingerprint }
     {
         self.requires_fingerprint
     }
 
-    /// Whether the attributes of a message are understood, as far as they must be.
+    /// Returns whether the server understands each visible attribute of a message that it must
+    /// understand.
     pub(crate) fn understands(&self, message: &Message<'_>) -> bool
         ensures { result ≡ is_empty (unknown_types self.now.known message.now) }
     {
         are_understood(self.known.as_slice(), message)
     }
 
-    /// Whether the server gives the answer to a request.
+    /// Returns whether the server itself answers a request.
     fn answers(&self, message: &Message<'_>) -> bool
         ensures { result ≡ (self.now.answers_binding && is_binding message.now) }
     {
@@ -205,16 +193,17 @@ impl<A: Allocator> Responder<A> {
     }
 }
 
-impl<A: Allocator + Copy> Responder<A> {
-    /// An empty buffer for a response.
+impl<A: Memory> Responder<A> {
+    /// Returns an empty buffer for a response.
     pub(crate) fn buffer(&self) -> Vec<u8, A>
         ensures { result.items ≡ [] }
     {
         Vec::new(self.alloc)
     }
 
-    /// Writes the response to an accepted request, if the server is to give it: the 420 to one whose
-    /// attributes are not understood, or the answer to Binding.
+    /// Writes the response to an accepted request: a 420 if the request has attributes that are not
+    /// understood, or a success if the server answers Binding requests and this is one. Returns
+    /// `None` if neither applies.
     pub(crate) fn own_answer(
         &self,
         request: &Message<'_>,
@@ -223,9 +212,11 @@ impl<A: Allocator + Copy> Responder<A> {
         has_fingerprint: bool,
         buffer: &mut Vec<u8, A>,
     ) -> Result<Option<Answer<A>>, AllocError>
-        requires { has_fingerprint ≡ is_fingerprinted request.now }
-        ensures { IfOk result (λ answer. answer
+        requires fingerprint { has_fingerprint ≡ is_fingerprinted request.now }
+        requires request { class_in request.now ≡ Request }
+        ensures answer { IfOk result (λ answer. answer
             ≡ own_answer self.now signature.now from request.now) }
+        ensures granted { A.grants → IsOk result }
     {
         if !self.understands(request) {
             let answer = self.unknown_answer(request, from, signature, has_fingerprint, buffer)?;
@@ -238,7 +229,7 @@ impl<A: Allocator + Copy> Responder<A> {
         Ok(None)
     }
 
-    /// The means to respond to an accepted request.
+    /// Returns the handle with which you respond to an accepted request.
     pub(crate) fn reply(
         &self,
         request: &Message<'_>,
@@ -247,7 +238,9 @@ impl<A: Allocator + Copy> Responder<A> {
         has_fingerprint: bool,
     ) -> Result<Reply<A>, AllocError>
         requires { has_fingerprint ≡ is_fingerprinted request.now }
-        ensures { IfOk result (λ reply. reply ≡ reply_by self.now signature from request.now) }
+        ensures reply { IfOk result (λ reply. reply
+            ≡ reply_by self.now signature from request.now) }
+        ensures granted { A.grants → IsOk result }
     {
         let software = self.cloned_software()?;
         Ok(Reply::new(
@@ -260,7 +253,7 @@ impl<A: Allocator + Copy> Responder<A> {
         ))
     }
 
-    /// Writes an error response that nobody's key signs.
+    /// Writes an error response that is not signed.
     #[tactic(auto, unfolding(crate::specs::Responding::refusal_by))]
     pub(crate) fn refusal(
         &self,
@@ -271,7 +264,9 @@ impl<A: Allocator + Copy> Responder<A> {
         buffer: &mut Vec<u8, A>,
     ) -> Result<Answer<A>, AllocError>
         requires { has_fingerprint ≡ is_fingerprinted request.now }
-        ensures { IfOk result (λ answer. answer ≡ refusal_by self.now refusal from request.now) }
+        ensures answer { IfOk result (λ answer. answer
+            ≡ refusal_by self.now refusal from request.now) }
+        ensures granted { A.grants → IsOk result }
     {
         let more = self.end_length(&None, has_fingerprint);
         let page = error_page(buffer, request, refusal.code(), refusal.phrase(), more)?;
@@ -279,7 +274,8 @@ impl<A: Allocator + Copy> Responder<A> {
         Ok(Answer::new(from, Some(refusal), bytes))
     }
 
-    /// Ends a response.
+    /// Ends a response: adds SOFTWARE, the integrity attribute and FINGERPRINT, each of them if the
+    /// response gets it.
     pub(crate) fn end(
         &self,
         page: BufferWriter<A>,
@@ -287,15 +283,17 @@ impl<A: Allocator + Copy> Responder<A> {
         has_fingerprint: bool,
     ) -> Result<Vec<u8, A>, AllocError>
         requires { 20 ≤ length page.bytes }
-        ensures { IfOk result (λ response. response.items ≡ with_end (record {
+        ensures bytes { IfOk result (λ response. response.items ≡ with_end (record {
           software = self.now.software;
           signature = signature.now;
           has_fingerprint = has_fingerprint;
         }) page.bytes) }
+        ensures granted { A.grants → IsEndable page.bytes → IsOk result }
     {
         match finish_response(page, &self.software, signature, has_fingerprint) {
             Ok(response) => Ok(response),
-            // The settings leave room in each response, so that an allocation failed.
+            // The settings ensure that these attributes fit into a response, so an allocation has
+            // failed.
             Err(_) => Err(AllocError),
         }
     }
@@ -305,21 +303,26 @@ impl<A: Allocator + Copy> Responder<A> {
         &self,
         signature: &Option<Signature<A>>,
         has_fingerprint: bool,
-    ) -> usize {
+    ) -> usize
+        ensures { result ≤ 812 }
+    {
         end_length(&self.software, signature, has_fingerprint)
     }
 
-    /// A copy of the text of SOFTWARE.
+    /// Returns a copy of the text of SOFTWARE, or `None` if there is none.
     fn cloned_software(&self) -> Result<Option<String<A>>, AllocError>
-        ensures { IfOk result (λ copy. option_map string_bytes copy ≡ self.now.software) }
+        ensures copy { IfOk result (λ copy. option_map string_bytes copy ≡ self.now.software) }
+        ensures short { IfOk result (λ copy.
+            length (unwrap_or (option_map string_bytes copy) []) ≤ TEXT_LIMIT) }
+        ensures granted { A.grants → IsOk result }
     {
         match &self.software {
-            Some(text) => Ok(Some(text.clone()?)),
+            Some(text) => Ok(Some(A::text(self.alloc, text.as_str())?)),
             None => Ok(None),
         }
     }
 
-    /// Writes the 420 to an accepted request.
+    /// Writes the 420 response to an accepted request.
     #[tactic(auto, unfolding(crate::specs::Responding::unknown_by))]
     fn unknown_answer(
         &self,
@@ -329,9 +332,12 @@ impl<A: Allocator + Copy> Responder<A> {
         has_fingerprint: bool,
         buffer: &mut Vec<u8, A>,
     ) -> Result<Answer<A>, AllocError>
-        requires { has_fingerprint ≡ is_fingerprinted request.now }
-        ensures { IfOk result (λ answer. answer
+        requires fingerprint { has_fingerprint ≡ is_fingerprinted request.now }
+        requires request { class_in request.now ≡ Request }
+        requires unknown { is_empty (unknown_types self.now.known request.now) ≡ false }
+        ensures answer { IfOk result (λ answer. answer
             ≡ unknown_by self.now signature.now from request.now) }
+        ensures granted { A.grants → IsOk result }
     {
         let more = self.end_length(signature, has_fingerprint);
         let page = self.unknown_page(request, more, buffer)?;
@@ -339,24 +345,26 @@ impl<A: Allocator + Copy> Responder<A> {
         Ok(Answer::new(from, Some(Refusal::UnknownAttribute), bytes))
     }
 
-    /// Begins the 420 to a request, and reserves this many bytes for its end.
+    /// Begins the 420 response to a request, and reserves `more` bytes for the attributes that
+    /// `end` adds.
     fn unknown_page(
         &self,
         request: &Message<'_>,
         more: usize,
         buffer: &mut Vec<u8, A>,
     ) -> Result<BufferWriter<A>, AllocError>
+        requires request { class_in request.now ≡ Request }
+        requires unknown { is_empty (unknown_types self.now.known request.now) ≡ false }
         ensures bytes { IfOk result (λ page. page.bytes
             ≡ refusing_answer self.now.known request.now) }
         ensures header { IfOk result (λ page. 20 ≤ length page.bytes) }
+        ensures room { IfOk result (λ page. IsEndable page.bytes) }
+        ensures granted { A.grants → more ≤ 5000 → IsOk result }
     {
         let Ok(writer) = writer_with_room(buffer, UNKNOWN_LENGTH.saturating_add(more)) else {
             return Err(AllocError);
         };
-        match answer_unknown(request, self.known.as_slice(), writer) {
-            Ok(Some(page)) => Ok(page),
-            _ => Err(AllocError),
-        }
+        refused_page(request, self.known.as_slice(), writer)
     }
 
     /// Writes the success response to an accepted Binding request.
@@ -370,8 +378,9 @@ impl<A: Allocator + Copy> Responder<A> {
         buffer: &mut Vec<u8, A>,
     ) -> Result<Answer<A>, AllocError>
         requires { has_fingerprint ≡ is_fingerprinted request.now }
-        ensures { IfOk result (λ answer. answer
+        ensures answer { IfOk result (λ answer. answer
             ≡ binding_by self.now signature.now from request.now) }
+        ensures granted { A.grants → IsOk result }
     {
         let more = self.end_length(signature, has_fingerprint);
         let page = mapped_page(buffer, request, from, more)?;
@@ -380,7 +389,32 @@ impl<A: Allocator + Copy> Responder<A> {
     }
 }
 
-/// The length of a text, and 0 if there is none.
+/// Writes the 420 response to a request into an empty writer, without the attributes that `end`
+/// adds.
+fn refused_page<A: Memory>(
+    request: &Message<'_>,
+    known: &[AttributeType],
+    writer: BufferWriter<A>,
+) -> Result<BufferWriter<A>, AllocError>
+    requires empty { writer.bytes ≡ [] }
+    requires request { class_in request.now ≡ Request }
+    requires unknown { is_empty (unknown_types known.now request.now) ≡ false }
+    ensures bytes { IfOk result (λ page. page.bytes ≡ refusing_answer known.now request.now) }
+    ensures header { IfOk result (λ page. 20 ≤ length page.bytes) }
+    ensures room { IfOk result (λ page. IsEndable page.bytes) }
+    ensures granted { A.grants → IsOk result }
+{
+    // For the proof alone: the length of the message bounds the number of its attributes.
+    let _bytes = request.as_bytes();
+    match answer_unknown(request, known, writer) {
+        Ok(Some(page)) => Ok(page),
+        // This is never reached, because there is an attribute that is not understood.
+        Ok(None) => Err(AllocError),
+        Err(_) => Err(AllocError),
+    }
+}
+
+/// Returns the number of bytes of a text, or 0 if there is none.
 pub(crate) fn text_length<A: Allocator>(text: &Option<String<A>>) -> usize
     ensures { result ≡ length (unwrap_or (option_map string_bytes text.now) []) }
 {
@@ -390,13 +424,15 @@ pub(crate) fn text_length<A: Allocator>(text: &Option<String<A>>) -> usize
     }
 }
 
-/// Types of attributes, and after them STUN's own.
-pub(crate) fn with_stun_attributes<A: Allocator>(
+/// Returns the types in `understood`, followed by `STUN_ATTRIBUTES`.
+pub(crate) fn with_stun_attributes<A: Memory>(
     understood: Vec<AttributeType, A>,
 ) -> Result<Vec<AttributeType, A>, AllocError>
-    ensures { IfOk result (λ known. known.items ≡ understood.items ++ STUN_ATTRIBUTES) }
+    ensures known { IfOk result (λ known. known.items ≡ understood.items ++ STUN_ATTRIBUTES) }
+    ensures granted { A.grants → IsOk result }
 {
     let mut known = understood;
+    A::reserve(&mut known, STUN_ATTRIBUTES.len())?;
     known.extend_from_slice(&STUN_ATTRIBUTES)?;
     Ok(known)
 }

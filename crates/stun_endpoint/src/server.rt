@@ -1,8 +1,8 @@
-//! A server with long-term credentials: its settings, and the calls that only need those (RFC 8489,
-//! section 9.2).
+//! A server with long-term credentials: its settings, and the calls that need only the settings
+//! (RFC 8489, section 9.2).
 
 ghost use Rattle.std.specs.Fmt.{WritesOnOk, WritesStyledOnOk};
-ghost use Rattle.std.specs.Prelude.{◌≡◌, Some, IfOk, codes};
+ghost use Rattle.std.specs.Prelude.{◌≡◌, ◌≤◌, Some, IfOk, IsOk, codes, length};
 ghost use Rattle.std.specs.String.{string_bytes};
 ghost use Rattle.stun_auth.specs.Algorithms.{contains};
 ghost use Rattle.stun_auth.specs.Handed.{just};
@@ -12,6 +12,7 @@ ghost use Rattle.stun_base.specs.declared.keys.algorithm.IntegrityAlgorithm.TheV
 ghost use Rattle.stun_endpoint.specs.Nonces.{current_nonce, nonce_in};
 ghost use Rattle.stun_endpoint.specs.Realm.{table_of};
 ghost use Rattle.stun_endpoint.specs.Settings.{registered_of};
+ghost use Rattle.stun_types.specs.Limits.{TEXT_LIMIT};
 
 use crate::nonces::nonce_of;
 use crate::responder::Responder;
@@ -24,6 +25,7 @@ use std::marker::Model;
 use std::net::SocketAddr;
 use stun_auth::auth::{LongTermServerAuth, LongTermServerUser, StoredKeys};
 use stun_base::credentials::LongTermCredentials;
+use stun_base::memory::Memory;
 use stun_base::prepared_key::PreparedKey;
 
 mod batches;
@@ -44,12 +46,13 @@ pub use settings::{
 /// A STUN server with long-term credentials (RFC 8489, section 9.2). It stores nothing about its
 /// clients, and no call changes it.
 ///
-/// What a datagram comes to depends on the datagram, its source address, the time, the settings and
-/// the users, and on no earlier datagram. So a flood of datagrams uses no memory, threads share a
-/// server without a lock, and machines with the same settings can answer each other's clients. To
-/// change settings, build another server with the same secret.
+/// The outcome of a datagram depends only on the datagram, its source address, the time, the
+/// settings and the users, and not on earlier datagrams. So a flood of datagrams uses no memory,
+/// threads share a server without a lock, and machines with the same settings can answer each
+/// other's clients. To change settings, build another server with the same secret.
 ///
-/// Contracts see the settings. `Debug` shows none of them, because the secret is one.
+/// Contracts: a server is a record of its settings. `Debug` shows none of them, because the secret
+/// is one of them.
 #[derive(Drop)]
 pub struct Server<A: Allocator = Global> {
     alloc: A,
@@ -64,7 +67,8 @@ pub struct Server<A: Allocator = Global> {
 }
 
 impl<A: Allocator> Model for Server<A> {
-    ghost use Rattle.std.specs.Prelude.{◌≡◌, ◌<◌};
+    ghost use Rattle.std.specs.Prelude.{◌≡◌, ◌<◌, ◌≤◌, length};
+    ghost use Rattle.stun_types.specs.Limits.{TEXT_LIMIT};
     ghost use Rattle.stun_endpoint.specs.Realm.{empty_realm, feature_for};
     ghost use Rattle.stun_endpoint.specs.Settings.{Settings};
 
@@ -86,7 +90,8 @@ impl<A: Allocator> Model for Server<A> {
     ghost invariant = { λ server. (0 < server.lifetime)
         × (server.auth.registered
         ≡ empty_realm server.auth.registered.realm server.hmac_sha1 server.hmac_sha256)
-        × (server.auth.feature ≡ feature_for server.user_hashes) };
+        × (server.auth.feature ≡ feature_for server.user_hashes)
+        × (length server.auth.registered.realm ≤ TEXT_LIMIT) };
 }
 
 impl<A: Allocator> fmt::Debug for Server<A> {
@@ -96,7 +101,7 @@ impl<A: Allocator> fmt::Debug for Server<A> {
         ensures writes { WritesOnOk W.write_str_gives f.old result
             (codes "Server { .. }") f.new }
 
-        // It writes the same with every width, precision and other option.
+        // The text does not depend on the width, the precision or any other option.
         ensures styled { WritesStyledOnOk W.write_str_gives f.old result
             (codes "Server { .. }") f.new }
     {
@@ -104,13 +109,14 @@ impl<A: Allocator> fmt::Debug for Server<A> {
     }
 }
 
-impl<A: Allocator + Copy> Server<A> {
+impl<A: Memory> Server<A> {
     /// Returns an empty table of users for this server's realm and its algorithms. Fails if an
     /// allocation fails.
     pub fn users(&self) -> Result<Users<A>, AllocError>
-        ensures { IfOk result (λ users. users ≡ table_of self.now) }
+        ensures users { IfOk result (λ users. users ≡ table_of self.now) }
+        ensures granted { A.grants → IsOk result }
     {
-        let realm = String::from_str(self.alloc, self.auth.realm())?;
+        let realm = A::text(self.alloc, self.auth.realm())?;
         let auth = empty_realm(
             self.alloc,
             realm,
@@ -121,47 +127,50 @@ impl<A: Allocator + Copy> Server<A> {
         Ok(Users { auth })
     }
 
-    /// Derives the keys of a user with a password, to be passed to `receive_for`. You may keep the
-    /// result and pass it again. Fails if an allocation fails.
+    /// Derives the keys of a user with a password, for `receive_for`. You may cache the result and
+    /// pass it again. Fails if an allocation fails.
     pub fn user(
         &self,
         credentials: LongTermCredentials<A>,
     ) -> Result<LongTermServerUser<A>, AllocError>
-        ensures { IfOk result (λ user. user
+        ensures user { IfOk result (λ user. user
             ≡ just (registered_of self.now) (Some (user_by_password credentials))) }
+        ensures granted { A.grants → IsOk result }
     {
         self.auth.prepare_user(credentials)
     }
 
-    /// Prepares a user with keys that were stored in place of a password, to be passed to
-    /// `receive_for`. They must have been made for this server's realm. You may keep the result and
-    /// pass it again. Fails if an allocation fails.
+    /// Prepares a user with keys that are stored in place of a password, for `receive_for`. The
+    /// keys must have been made for this server's realm. You may cache the result and pass it
+    /// again. Fails if an allocation fails.
     pub fn user_with_keys(
         &self,
         name: String<A>,
         keys: StoredKeys,
     ) -> Result<LongTermServerUser<A>, AllocError>
-        ensures { IfOk result (λ user. user
+        ensures user { IfOk result (λ user. user
             ≡ just (registered_of self.now) (Some (user_by_keys (string_bytes name) keys))) }
+        ensures granted { A.grants → IsOk result }
     {
         self.auth.prepare_user_with_keys(name, keys)
     }
 
-    /// Returns the nonce that is current for an address at a time: the one that a 401 or a 438
-    /// carries. It is a function of the secret, the address and the time, and is accepted for one
-    /// to two lifetimes. It begins with the nonce cookie and the security bits of the settings, which
-    /// are zero if only HMAC-SHA1 is supported and names are never hashed (RFC 8489, section 9.2).
-    /// Fails if an allocation fails.
+    /// Returns the nonce that the server sends to an address at a time, in a 401 or a 438. The
+    /// nonce depends only on the secret, the settings, the address and the time. It is accepted for
+    /// one to two lifetimes after it is sent. It begins with the nonce cookie and the security bits
+    /// of the settings, which are zero if only HMAC-SHA1 is supported and names are never hashed
+    /// (RFC 8489, section 9.2). Fails if an allocation fails.
     pub fn nonce_for(&self, from: SocketAddr, now: UnixTime) -> Result<String<A>, AllocError>
-        ensures { IfOk result (λ nonce. string_bytes nonce
+        ensures nonce { IfOk result (λ nonce. string_bytes nonce
             ≡ current_nonce self.now from now) }
+        ensures granted { A.grants → IsOk result }
     {
         self.nonce_in(&self.secret, from, now.epoch(self.lifetime))
     }
 
-    /// Returns the nonce of an address in an epoch, under a secret. It asks for a choice of algorithms
-    /// if and only if HMAC-SHA256 is supported.
-    #[tactic(auto, using(crate::proofs::OfferLemmas::nonce_asks))]
+    /// Returns the nonce of an address in an epoch, under a secret. The nonce has the security bit
+    /// *Password algorithms* if and only if HMAC-SHA256 is supported.
+    #[tactic(auto, using(crate::proofs::OfferLemmas::nonce_asks, crate::proofs::OfferedLemmas::nonce_short))]
     fn nonce_in(
         &self,
         secret: &PreparedKey<A>,
@@ -172,6 +181,8 @@ impl<A: Allocator + Copy> Server<A> {
             ≡ nonce_in self.now secret.now from epoch) }
         ensures offer { IfOk result (λ nonce. asks_for_algorithms (string_bytes nonce)
             ≡ contains Sha256 self.now.algorithms) }
+        ensures short { IfOk result (λ nonce. length (string_bytes nonce) ≤ TEXT_LIMIT) }
+        ensures granted { A.grants → IsOk result }
     {
         nonce_of(
             self.alloc,

@@ -1,24 +1,25 @@
 //! A server with short-term credentials (RFC 8489, section 9.1.3): each request and each indication
 //! has the name of a user and is signed with the user's password.
 //!
-//! It is a type of its own, and not a mode of `Server`, because nothing of a realm is in it: it has
-//! no nonces, and so no secret and no clock, and it protects indications too. Both write their
-//! responses by the same `Responder`.
+//! This server is a type of its own, and not a mode of `Server`, because it has no realm: it needs
+//! no nonces, and so no secret and no clock, and it protects indications too. Both types write
+//! their responses with the same `Responder`.
 
 ghost use Rattle.std.specs.Fmt.{WritesOnOk, WritesStyledOnOk};
 ghost use Rattle.std.specs.Option.{option_map};
 ghost use Rattle.std.specs.Prelude.{◌≡◌, ◌++◌, [], Err, IfOk, IsOk, IsOkUnless, MatchOption};
-ghost use Rattle.std.specs.Prelude.{OnErr, Some, codes, false};
+ghost use Rattle.std.specs.Prelude.{None, OnErr, Some, codes, false};
 ghost use Rattle.std.specs.String.{string_bytes};
-ghost use Rattle.stun_base.specs.MessageType.{class_in, is_request};
+ghost use Rattle.stun_base.specs.MessageType.{class_in};
 ghost use Rattle.stun_endpoint.specs.Answers.{is_fingerprinted};
 ghost use Rattle.stun_endpoint.specs.Buffered.{LeavesNothingSigned, short_term_outcome_in};
 ghost use Rattle.stun_endpoint.specs.Built.{software_refusal};
 ghost use Rattle.stun_endpoint.specs.Responding.{is_undropped_request, own_answer};
-ghost use Rattle.stun_endpoint.specs.ShortTerm.{by_class_signed, by_signer, indicated_by, or_handed};
+ghost use Rattle.stun_endpoint.specs.ShortTerm.{by_signer, indicated_by, or_handed};
 ghost use Rattle.stun_endpoint.specs.ShortTerm.{received_signed, signature_of, signer_of};
 ghost use Rattle.stun_endpoint.specs.ShortTermOutcomes.{short_term_outcome_of};
 
+use crate::arrived::Arrived;
 use crate::buffered::ShortTermReceivedInto;
 use crate::received::{Answer, DropReason, Refusal, Request};
 use crate::responder::{Responder, ResponseSettings};
@@ -27,6 +28,7 @@ use std::alloc::{AllocError, Allocator, Global};
 use std::fmt;
 use std::marker::Model;
 use std::net::SocketAddr;
+use stun_base::memory::Memory;
 use stun_types::message::{IntegrityAlgorithm, Message, MessageClass};
 
 mod signer;
@@ -36,10 +38,10 @@ use signer::{Signer, signer_of};
 pub use users::ShortTermUsers;
 
 /// A STUN server with short-term credentials (RFC 8489, section 9.1). It stores nothing about its
-/// clients, and no call changes it, so threads share it without a lock. The users are an argument of
-/// each call.
+/// clients, and no call changes it, so threads share it without a lock. The users are an argument
+/// of each call.
 ///
-/// Contracts see what it understands and what it adds to its responses.
+/// Contracts: a server is a record of what it understands, and of what it adds to its responses.
 #[derive(Drop)]
 pub struct ShortTermServer<A: Allocator = Global> {
     responder: Responder<A>,
@@ -60,7 +62,7 @@ impl<A: Allocator> fmt::Debug for ShortTermServer<A> {
         ensures writes { WritesOnOk W.write_str_gives f.old result
             (codes "ShortTermServer { .. }") f.new }
 
-        // It writes the same with every width, precision and other option.
+        // The text does not depend on the width, the precision or any other option.
         ensures styled { WritesStyledOnOk W.write_str_gives f.old result
             (codes "ShortTermServer { .. }") f.new }
     {
@@ -68,7 +70,7 @@ impl<A: Allocator> fmt::Debug for ShortTermServer<A> {
     }
 }
 
-/// What a datagram comes to at a server with short-term credentials.
+/// The outcome of a datagram at a server with short-term credentials.
 #[derive(Debug, Drop)]
 #[non_exhaustive]
 pub enum ShortTermReceived<'a, A: Allocator = Global> {
@@ -80,8 +82,8 @@ pub enum ShortTermReceived<'a, A: Allocator = Global> {
     Indication(ShortTermIndication<'a>),
     /// A response, for a client on the same socket.
     Response(Message<'a>),
-    /// The datagram is dropped: it is an indication that no user has signed. A request like it would
-    /// be refused in this way.
+    /// The datagram is dropped, because it is an indication that no user has signed. A request with
+    /// the same attributes would get this refusal.
     NotSigned(Refusal),
     /// The datagram is dropped, for this reason.
     Dropped(DropReason),
@@ -89,7 +91,7 @@ pub enum ShortTermReceived<'a, A: Allocator = Global> {
 
 /// An indication that a user has signed.
 ///
-/// Contracts see its message, its user and the algorithm.
+/// Contracts: an indication is a record of its message, and of its user with the algorithm.
 #[derive(Debug, Drop)]
 pub struct ShortTermIndication<'a> {
     message: Message<'a>,
@@ -131,8 +133,8 @@ impl<'a> ShortTermIndication<'a> {
     }
 }
 
-impl<A: Allocator> ShortTermServer<A> {
-    /// Builds a server. Of the reasons to fail, the first that holds is returned:
+impl<A: Memory> ShortTermServer<A> {
+    /// Builds a server. Fails with the first of these errors that applies:
     ///
     /// - `SoftwareTooLong`: the text of SOFTWARE has more than 763 bytes.
     /// - `OutOfMemory`: an allocation failed.
@@ -145,32 +147,40 @@ impl<A: Allocator> ShortTermServer<A> {
           answers_binding = settings.answers_binding;
           requires_fingerprint = settings.requires_fingerprint;
         }) }
+        ensures granted { A.grants
+            → software_refusal (option_map string_bytes settings.software) ≡ None → IsOk result }
     {
         let responder = Responder::new(alloc, settings)?;
         Ok(ShortTermServer { responder })
     }
 }
 
-impl<A: Allocator + Copy> ShortTermServer<A> {
-    /// Judges a datagram, and writes the response if it gets one at once.
+impl<A: Memory> ShortTermServer<A> {
+    /// Judges a datagram, and writes the response if the server itself responds.
     ///
-    /// `from` is the address that it came from. An IPv4 address is the same in both spellings,
-    /// `a.b.c.d` and `::ffff:a.b.c.d`. `users` are the users at this time.
+    /// `from` is the address that the datagram came from. The two forms of an IPv4 address,
+    /// `a.b.c.d` and `::ffff:a.b.c.d`, count as the same address. `users` are the users at this
+    /// time.
     ///
-    /// - Bytes are dropped that are no message, whose FINGERPRINT is wrong, is not the last attribute
-    ///   or does not have 4 bytes, or that have no FINGERPRINT if the settings require one.
-    /// - A request gets a 400 if it has no MESSAGE-INTEGRITY and no MESSAGE-INTEGRITY-SHA256, or no
-    ///   USERNAME before it; a 401 if USERNAME is not the name of one of these users, or the
-    ///   signature is not made with the user's password; a 420, which is signed, if it has an
-    ///   attribute that is not understood; and the answer to Binding if the server is to give it.
-    ///   All others are for you. A 400 and a 401 are not signed, because the server does not know
-    ///   the client's key then (section 9.1.3). Other responses have the integrity attribute that
-    ///   the request has.
-    /// - An indication is dropped if a request like it would get a 400 or a 401 (`NotSigned`), or if
-    ///   it has an attribute that is not understood. Others, and responses, are for you.
+    /// - Bytes that are not a message are dropped. So are messages whose FINGERPRINT is wrong, is
+    ///   not the last attribute or does not have 4 bytes, and messages without FINGERPRINT if the
+    ///   settings require one.
+    /// - A request gets the response of the first of these lines that applies. All other requests
+    ///   are returned to you.
+    ///   - 400: it has neither MESSAGE-INTEGRITY nor MESSAGE-INTEGRITY-SHA256, or no USERNAME
+    ///     before the integrity attribute.
+    ///   - 401: USERNAME is not the name of one of these users, or the signature is not made with
+    ///     the user's password.
+    ///   - 420, which is signed: it has an attribute that is not understood.
+    ///   - Success: it is a Binding request, and `answers_binding` is set.
+    /// - A 400 and a 401 are not signed, because the server does not know the client's key then
+    ///   (section 9.1.3). Other responses have the integrity attribute that the request has.
+    /// - An indication is dropped if a request with the same attributes would get a 400 or a 401
+    ///   (`NotSigned`), or if it has an attribute that is not understood. Other indications, and
+    ///   responses, are returned to you.
     ///
-    /// Fails if an allocation fails. Nothing is lost then, because the client sends again. Memory is
-    /// allocated for requests alone.
+    /// Fails if an allocation fails, which can happen only for a request. Over UDP nothing is lost
+    /// then, because the client sends its request again.
     pub fn receive<'a>(
         &self,
         bytes: &'a [u8],
@@ -181,17 +191,18 @@ impl<A: Allocator + Copy> ShortTermServer<A> {
             ≡ received_signed self.now users.now from bytes.now) }
         ensures no_memory { is_undropped_request self.now.requires_fingerprint bytes.now
             ≡ false → IsOk result }
+        ensures granted { A.grants → IsOk result }
     {
         let mut buffer = self.responder.buffer();
         self.received(bytes, from, users, &mut buffer)
     }
 
-    /// Judges a datagram like `receive`, and writes the response into a buffer, in place of what it
-    /// has. The buffer is empty afterwards if there is no response, or if the call fails. Its memory
-    /// is used again, so that a response that it has the capacity for needs no other.
+    /// Judges a datagram like `receive`, and writes the response into a buffer, replacing its
+    /// contents. If the buffer has the capacity for the response, no memory is allocated for it.
+    /// The buffer is empty afterwards if there is no response, or if the call fails.
     ///
-    /// Fails if an allocation fails. Nothing is lost then, because the client sends again. Memory is
-    /// allocated for requests alone.
+    /// Fails if an allocation fails, which can happen only for a request. Over UDP nothing is lost
+    /// then, because the client sends its request again.
     pub fn receive_into<'a>(
         &self,
         bytes: &'a [u8],
@@ -199,13 +210,14 @@ impl<A: Allocator + Copy> ShortTermServer<A> {
         users: &'a ShortTermUsers<A>,
         buffer: &mut Vec<u8, A>,
     ) -> Result<ShortTermReceivedInto<'a, A>, AllocError>
-        // With the bytes in the buffer, the result is that of `receive`.
+        // With the bytes in the buffer, the result is what `receive` returns.
         ensures received { IfOk result (λ received. short_term_outcome_in received buffer.new.items
             ≡ received_signed self.now users.now from bytes.now) }
         ensures rest { IfOk result (λ received.
             LeavesNothingSigned received buffer.new.items) }
         ensures no_memory { is_undropped_request self.now.requires_fingerprint bytes.now
             ≡ false → IsOk result }
+        ensures granted { A.grants → IsOk result }
         ensures err { OnErr result (buffer.new.items ≡ []) }
     {
         match self.received(bytes, from, users, buffer) {
@@ -217,7 +229,7 @@ impl<A: Allocator + Copy> ShortTermServer<A> {
         }
     }
 
-    /// What a datagram comes to. A response has the memory of the buffer.
+    /// Returns the outcome of a datagram. A response takes over the memory of the buffer.
     fn received<'a>(
         &self,
         bytes: &'a [u8],
@@ -229,38 +241,19 @@ impl<A: Allocator + Copy> ShortTermServer<A> {
             ≡ received_signed self.now users.now from bytes.now) }
         ensures no_memory { is_undropped_request self.now.requires_fingerprint bytes.now
             ≡ false → IsOk result }
+        ensures granted { A.grants → IsOk result }
     {
         match self.responder.read(bytes) {
-            Ok((message, has_fingerprint)) => {
-                self.by_class(message, from, users, has_fingerprint, buffer)
+            Arrived::Request(message, has_fingerprint) => {
+                self.request(message, from, users, has_fingerprint, buffer)
             }
-            Err(reason) => Ok(ShortTermReceived::Dropped(reason)),
+            Arrived::Indication(message) => Ok(self.indication(message, users)),
+            Arrived::Response(message) => Ok(ShortTermReceived::Response(message)),
+            Arrived::Dropped(reason) => Ok(ShortTermReceived::Dropped(reason)),
         }
     }
 
-    /// What a message comes to.
-    fn by_class<'a>(
-        &self,
-        message: Message<'a>,
-        from: SocketAddr,
-        users: &'a ShortTermUsers<A>,
-        has_fingerprint: bool,
-        buffer: &mut Vec<u8, A>,
-    ) -> Result<ShortTermReceived<'a, A>, AllocError>
-        requires { has_fingerprint ≡ is_fingerprinted message }
-        ensures received { IfOk result (λ received. short_term_outcome_of received
-            ≡ by_class_signed self.now users.now from message.entry (class_in message.entry)) }
-        ensures no_memory { is_request (class_in message.entry) ≡ false → IsOk result }
-    {
-        match message.class() {
-            MessageClass::Request => self.request(message, from, users, has_fingerprint, buffer),
-            MessageClass::Indication => Ok(self.indication(message, users)),
-            MessageClass::Success => Ok(ShortTermReceived::Response(message)),
-            MessageClass::Error => Ok(ShortTermReceived::Response(message)),
-        }
-    }
-
-    /// What a request comes to.
+    /// Returns the outcome of a request.
     fn request<'a>(
         &self,
         message: Message<'a>,
@@ -269,9 +262,11 @@ impl<A: Allocator + Copy> ShortTermServer<A> {
         has_fingerprint: bool,
         buffer: &mut Vec<u8, A>,
     ) -> Result<ShortTermReceived<'a, A>, AllocError>
-        requires { has_fingerprint ≡ is_fingerprinted message }
-        ensures { IfOk result (λ received. short_term_outcome_of received
+        requires fingerprint { has_fingerprint ≡ is_fingerprinted message }
+        requires request { class_in message ≡ MessageClass.Request }
+        ensures received { IfOk result (λ received. short_term_outcome_of received
             ≡ by_signer self.now from message.entry (signer_of users.now message.entry)) }
+        ensures granted { A.grants → IsOk result }
     {
         match signer_of(users, &message) {
             Ok(signer) => self.accepted(message, from, signer, has_fingerprint, buffer),
@@ -284,7 +279,7 @@ impl<A: Allocator + Copy> ShortTermServer<A> {
         }
     }
 
-    /// What an accepted request comes to.
+    /// Returns the outcome of a request that `signer` has signed.
     fn accepted<'a>(
         &self,
         message: Message<'a>,
@@ -293,10 +288,12 @@ impl<A: Allocator + Copy> ShortTermServer<A> {
         has_fingerprint: bool,
         buffer: &mut Vec<u8, A>,
     ) -> Result<ShortTermReceived<'a, A>, AllocError>
-        requires { has_fingerprint ≡ is_fingerprinted message }
-        ensures { IfOk result (λ received. short_term_outcome_of received
+        requires fingerprint { has_fingerprint ≡ is_fingerprinted message }
+        requires request { class_in message ≡ MessageClass.Request }
+        ensures received { IfOk result (λ received. short_term_outcome_of received
             ≡ or_handed self.now from message.entry signer.entry
             (own_answer self.now (Some (signature_of signer.entry)) from message.entry)) }
+        ensures granted { A.grants → IsOk result }
     {
         let signature = signer.signature()?;
         match self
@@ -314,7 +311,7 @@ impl<A: Allocator + Copy> ShortTermServer<A> {
         }
     }
 
-    /// What an indication comes to.
+    /// Returns the outcome of an indication.
     fn indication<'a>(
         &self,
         message: Message<'a>,

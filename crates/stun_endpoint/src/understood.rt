@@ -7,21 +7,23 @@ ghost use Rattle.stun_extra.specs.Unknown.{is_known, is_unknown, unknown_types};
 use stun_base::attribute_type::AttributeType;
 use stun_types::message::Message;
 
-/// Whether a type is in a list.
+/// Returns whether the list `known` has the type `kind`.
 fn is_known(known: &[AttributeType], kind: AttributeType) -> bool
     ensures { result ≡ is_known known.now kind.0 }
 {
     known.iter().any(|one| one.value() == kind.value())
 }
 
-/// Whether attributes of a type must be understood, and are not.
+/// Returns whether attributes of the type `kind` must be understood, but `known` does not have the
+/// type.
 fn is_unknown(known: &[AttributeType], kind: AttributeType) -> bool
     ensures { result ≡ is_unknown known.now kind.0 }
 {
     kind.value() < 0x8000 && !is_known(known, kind)
 }
 
-/// Whether the visible attributes of a message are understood, as far as they must be.
+/// Returns whether the visible attributes of a message are understood: each comprehension-required
+/// type (below 0x8000) is in `known`.
 pub(crate) fn are_understood(known: &[AttributeType], message: &Message<'_>) -> bool
     ensures { result ≡ is_empty (unknown_types known.now message.now) }
 {

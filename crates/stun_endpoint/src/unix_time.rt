@@ -7,8 +7,8 @@ use std::marker::Model;
 /// A time of the wall clock, in whole seconds since the beginning of 1970 (UTC).
 ///
 /// A server needs the wall clock. With a clock that starts at zero, the nonces of an earlier run of
-/// the program would be current again, and with them requests that an attacker has recorded. If the
-/// clock is set back, nonces last longer by as much.
+/// the program would be current again, and so would requests that an attacker has recorded. If the
+/// clock is set back, nonces last longer by the same time.
 #[derive(Clone, Copy, Debug, PartialEq, Eq, PartialOrd, Ord, Hash)]
 pub struct UnixTime {
     seconds: u64,
@@ -25,7 +25,7 @@ impl Model for UnixTime {
 }
 
 impl UnixTime {
-    /// Returns the time this many seconds after the beginning of 1970.
+    /// Returns the time that is `seconds` seconds after the beginning of 1970.
     pub fn from_secs(seconds: u64) -> UnixTime
         ensures { result ≡ seconds }
     {
@@ -39,7 +39,7 @@ impl UnixTime {
         self.seconds
     }
 
-    /// Returns the number of whole spans of so many seconds since the beginning of 1970.
+    /// Returns the number of whole spans of `span` seconds since the beginning of 1970.
     pub(crate) fn epoch(self, span: u64) -> u64
         requires { 0 < span }
         ensures { result ≡ self / span }

@@ -1,6 +1,6 @@
 //! The users of a realm.
 
-ghost use Rattle.std.specs.Prelude.{◌≡◌, Some, OnOk, OnErr, codes};
+ghost use Rattle.std.specs.Prelude.{◌≡◌, IsOk, Some, OnOk, OnErr, codes};
 ghost use Rattle.std.specs.Fmt.{WritesOnOk, WritesStyledOnOk};
 ghost use Rattle.std.specs.String.{string_bytes};
 ghost use Rattle.stun_auth.specs.Registered.{with_user, with_user_by_keys, without_user};
@@ -10,13 +10,15 @@ use std::fmt;
 use std::marker::Model;
 use stun_auth::auth::{LongTermServerAuth, StoredKeys};
 use stun_base::credentials::LongTermCredentials;
+use stun_base::memory::Memory;
 
 /// The users of a realm, found by name and by hash. `Server::users` makes an empty table.
 ///
-/// Judging takes `&self` and changing takes `&mut self`. Keep a table in an `Arc`, and to load users
-/// anew swap that for another.
+/// The calls of a server that judge a request only read the table, so you can share it in an `Arc`.
+/// To reload the users, replace the `Arc` by one with a new table.
 ///
-/// Contracts see the realm, the algorithms, and what each user is known by. `Debug` shows none of it.
+/// Contracts: a table has its realm, its algorithms, and the password or the keys of each user.
+/// `Debug` shows none of them.
 #[derive(Drop)]
 pub struct Users<A: Allocator = Global> {
     pub(crate) auth: LongTermServerAuth<A>,
@@ -40,7 +42,7 @@ impl<A: Allocator> fmt::Debug for Users<A> {
         ensures writes { WritesOnOk W.write_str_gives f.old result
             (codes "Users { .. }") f.new }
 
-        // It writes the same with every width, precision and other option.
+        // The text does not depend on the width, the precision or any other option.
         ensures styled { WritesStyledOnOk W.write_str_gives f.old result
             (codes "Users { .. }") f.new }
     {
@@ -48,9 +50,9 @@ impl<A: Allocator> fmt::Debug for Users<A> {
     }
 }
 
-impl<A: Allocator + Copy> Users<A> {
-    /// Adds a user with this password, and derives a key for each algorithm of the server. A user of
-    /// that name gets this password in place of the one before.
+impl<A: Memory> Users<A> {
+    /// Adds a user with a password, and derives a key for each algorithm of the server. If the
+    /// table already has a user of that name, this password replaces the user's password or keys.
     ///
     /// Fails if an allocation fails. The table is then unchanged.
     pub fn add(&mut self, credentials: LongTermCredentials<A>) -> Result<(), AllocError>
@@ -58,13 +60,14 @@ impl<A: Allocator + Copy> Users<A> {
           registered = with_user self.old.registered credentials;
         }) }
         ensures err { OnErr result (self.new ≡ self.old) }
+        ensures granted { A.grants → IsOk result }
     {
         self.auth.add_user(credentials)
     }
 
-    /// Adds a user with keys that were stored in place of a password (RFC 8489, section 9.2.2). They
-    /// must have been made for the realm of this table. A user of that name gets these keys in place
-    /// of what was there.
+    /// Adds a user with keys that are stored in place of a password (RFC 8489, section 9.2.2). The
+    /// keys must have been made for the realm of this table. If the table already has a user of
+    /// that name, these keys replace the user's password or keys.
     ///
     /// Fails if an allocation fails. The table is then unchanged.
     pub fn add_with_keys(&mut self, name: String<A>, keys: StoredKeys) -> Result<(), AllocError>
@@ -72,11 +75,12 @@ impl<A: Allocator + Copy> Users<A> {
           registered = with_user_by_keys self.old.registered (string_bytes name) keys;
         }) }
         ensures err { OnErr result (self.new ≡ self.old) }
+        ensures granted { A.grants → IsOk result }
     {
         self.auth.add_user_with_keys(name, keys)
     }
 
-    /// Removes a user, so that requests of that name are refused from now on.
+    /// Removes the user of this name, so that requests that name this user are refused from now on.
     pub fn remove(&mut self, name: &str)
         ensures { self.new ≡ record self.old {
           registered = without_user self.old.registered name.now;

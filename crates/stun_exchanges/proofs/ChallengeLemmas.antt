@@ -55,7 +55,7 @@ use Rattle.stun_client.specs.Challenges.{list_or_none}
 use Rattle.stun_client.specs.Challenging.{code_in, is_challenge, list_in, nonce_in, realm_in}
 use Rattle.stun_client.specs.Judging.{fault_of}
 use Rattle.stun_client.specs.Offers.{are_entries, if_entries}
-use Rattle.stun_client.specs.Requests.{is_answer_of}
+use Rattle.stun_client.specs.Answers.{is_answer_of}
 use Rattle.stun_endpoint.specs.Answers.{error_page}
 use Rattle.stun_endpoint.specs.Answers.{is_fingerprinted, offered, with_last, with_software}
 use Rattle.stun_endpoint.specs.Received.{challenge_answer}
@@ -269,7 +269,7 @@ id_again message_type id fits = big_number-reads_back 12 id [] fits
 pub header_long : (message_type id : ℕ) → length (spelled_message message_type id []) ≡ 20
 header_long message_type id = refl
 
-error_long : (error : CodeAndReason) → length (error_value error) ≡ 4 + length error.reason
+pub error_long : (error : CodeAndReason) → length (error_value error) ≡ 4 + length error.reason
 error_long error = omega arith
 
 module _ (laws : WritingLaws) (s : Settings) (fine : IsServer s) (kind : Refusal)

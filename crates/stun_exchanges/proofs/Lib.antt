@@ -4,7 +4,7 @@
 pub mod Ascii
 -- the client
 pub mod AgreementLemmas
-pub mod HeardLemmas
+pub mod AnsweredLemmas
 pub mod RefusalLemmas
 -- the server
 pub mod UnsignedLemmas

@@ -25,7 +25,7 @@ use Rattle.stun_types.proofs.AddingLemmas.{length-spelled_attribute, raised}
 use Rattle.stun_auth.specs.ClientStep.{STALE_NONCE, UNAUTHORIZED, is_code}
 use Rattle.stun_extra.specs.CanonicalAddress.{is_mapped, mapped_address, xored_canonical}
 use Rattle.stun_exchanges.specs.Agreement.{IsSignedAnswer}
-use Rattle.stun_client.specs.Requests.{is_answer_of}
+use Rattle.stun_client.specs.Answers.{is_answer_of}
 use Rattle.stun_endpoint.specs.Answers.{Signature, binding_page}
 use Rattle.stun_endpoint.specs.Received.{responding_of}
 use Rattle.stun_endpoint.specs.Responding.{binding_by}

@@ -33,7 +33,7 @@ use Rattle.stun_extra.specs.declared.fingerprint.Fingerprint.TheVariants.{Right,
 use Rattle.stun_exchanges.specs.Agreement.{IsSignedAnswer}
 use Rattle.stun_client.specs.Challenging.{code_in}
 use Rattle.stun_client.specs.Judging.{fault_of}
-use Rattle.stun_client.specs.Requests.{is_answer, is_answer_of}
+use Rattle.stun_client.specs.Answers.{is_answer, is_answer_of}
 use Rattle.stun_endpoint.specs.Answers.{Signature, is_fingerprinted, with_last, with_software}
 use Rattle.stun_endpoint.specs.Settings.{Settings}
 use Rattle.stun_exchanges.specs.Exchange.{IsPage, IsResponseTo, IsServer, SendsRequired}
@@ -59,7 +59,7 @@ pub record SealingLaws : Type 0 where
       → HasOneMore message (with_integrity message algorithm key)
       (integrity_attribute message algorithm key)
 
-both_false : (a b : Bool) → (a || b) ≡ false → (a ≡ false) × (b ≡ false)
+pub both_false : (a b : Bool) → (a || b) ≡ false → (a ≡ false) × (b ≡ false)
 both_false true b is = cc
 both_false false b is = (refl, is)
 
@@ -72,7 +72,7 @@ not_found kind (m ∷ members) none =
     ap (λ b. cond b (Some m) (first_of kind members)) parts.0 ∙ not_found kind members parts.1
 
 -- one more attribute of another type
-still_none : (kind : ℕ) (members : List Member) (last : Member) → has_kind kind members ≡ false
+pub still_none : (kind : ℕ) (members : List Member) (last : Member) → has_kind kind members ≡ false
     → (last.1.kind == kind) ≡ false → has_kind kind (members ++ last ∷ []) ≡ false
 still_none kind [] last none other = ap (λ b. b || false) other
 still_none kind (m ∷ members) last none other =
@@ -246,7 +246,7 @@ of_class method Indication a b same = refl
 of_class method Success a b same = ap (λ n. n == method) same
 of_class method Error a b same = ap (λ n. n == method) same
 
-same_answer : (method : ℕ) (a b : List ℕ) → class_in a ≡ class_in b
+pub same_answer : (method : ℕ) (a b : List ℕ) → class_in a ≡ class_in b
     → method_of (type_field a) ≡ method_of (type_field b) → is_answer method a ≡ is_answer method b
 same_answer method a b class same =
     ap (λ c. is_answer_of method c a) class ∙ of_class method (class_in b) a b same

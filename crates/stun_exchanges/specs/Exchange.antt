@@ -1,4 +1,4 @@
--- What a client and a server of this library read of each other's messages (RFC 8489, sections
+-- What a client and a server of this library read in each other's messages (RFC 8489, sections
 -- 9.2.3 to 9.2.5).
 use Rattle.std.specs.Prelude.{◌≡◌, ◌≤◌, ◌<◌, ◌^◌, ◌⊎◌, ℕ, suc, List, [], Bool, true, false, length}
 use Rattle.std.specs.Prelude.{IsUtf8, unwrap_or, Option, None, Some}
@@ -18,15 +18,13 @@ use Rattle.stun_auth.specs.Reading.{reading_of}
 use Rattle.stun_auth.specs.Registered.{UserSecret, name_cmp, name_with_hash, of_password}
 use Rattle.stun_auth.specs.Seen.{ClientSeen}
 use Rattle.stun_auth.specs.Signed.{ReadsAs}
-use Rattle.stun_extra.specs.CanonicalAddress.{is_same_address}
 use Rattle.stun_exchanges.specs.Agreement.{AgreeOn, IsSignedAnswer, meant_by, offered_by}
+use Rattle.stun_client.specs.Answers.{is_answer}
 use Rattle.stun_client.specs.Challenge.{Challenge, added_under}
 use Rattle.stun_client.specs.Challenges.{Answered, by_rule, challenge_of, is_one}
 use Rattle.stun_client.specs.Challenging.{code_in, is_challenge}
-use Rattle.stun_client.specs.Clients.{EndpointClient, heard, responded}
-use Rattle.stun_client.specs.Judging.{Verdict, anew, believed, fault_in, long_term, sent_for}
-use Rattle.stun_client.specs.Requests.{AskedSeen, at, is_answer}
-use Rattle.stun_client.specs.Standing.{is_ignored}
+use Rattle.stun_client.specs.Judging.{Verdict, anew, fault_in, judged, long_term, sent_for}
+use Rattle.stun_client.specs.Standing.{StandingSeen, is_ignored}
 use Rattle.stun_client.specs.declared.preferences.Preferences.{Preferences}
 use Rattle.stun_endpoint.specs.Answers.{Ending, Signature, is_fingerprinted, with_end}
 use Rattle.stun_endpoint.specs.Judged.{Realm, key_of_client, realm_of_user}
@@ -44,30 +42,30 @@ use Rattle.stun_endpoint.specs.declared.received.Refusal.TheVariants.{UnknownAtt
 
 -- ---- the two sides
 
--- what holds of the settings of each server that is built: realm and SOFTWARE fit their attributes,
--- and the realm is text
+-- what holds for the settings of each server that is built: realm and SOFTWARE fit into their
+-- attributes, and the realm is text
 pub record IsServer (s : Settings) : Type 0 where
   pub realm_fits : length s.realm ≤ TEXT_LIMIT
   pub realm_text : IsUtf8 s.realm
   pub software_fits : length (unwrap_or s.software []) ≤ TEXT_LIMIT
 
--- what the users of a server are known by, and these users at its realm
+-- the secrets of the users of a server, and these users at its realm
 abbrev pub UserSecrets : Type 0
 UserSecrets = fin.FinMap name_cmp UserSecret
 
 abbrev pub realm_knowing : Settings → UserSecrets → Realm
 realm_knowing s users = realm_of_user s (Some (users_with s users))
 
--- a user is registered with this password, and is found by the hash of the name: no user before, in
--- the order of names, has the same hash
+-- a user is registered with this password, and is found by the hash of the name: no earlier user,
+-- in the order of names, has the same hash
 pub record IsRegisteredUser (s : Settings) (users : UserSecrets)
     (who : NameAndPassword) : Type 0 where
   pub registered : fin.get users who.username ≡ Some (of_password who.password)
   pub hashed : name_with_hash (users_with s users) (userhash_of who.username s.realm)
       ≡ Some who.username
 
--- the challenge that a server means by a nonce, to a client that takes an algorithm, as the client
--- keeps it
+-- the challenge that a server means with a nonce, to a client that uses an algorithm, as the client
+-- stores it
 abbrev pub meant_for : Settings → Preferences → NameAndPassword → List ℕ → IntegrityAlgorithm
     → Answered
 meant_for s p who nonce a =
@@ -76,7 +74,7 @@ meant_for s p who nonce a =
 -- ---- a response, and the request that it answers
 
 -- a response answers a request, at a client that requires FINGERPRINT or does not: it is a message
--- with the request's method and ID that is not dropped for its FINGERPRINT
+-- with the request's method and ID that is not dropped because of its FINGERPRINT
 pub record IsResponseTo (required : Bool) (request response : List ℕ) : Type 0 where
   pub message : refusal response ≡ None
   pub whole : fault_in required response ≡ None
@@ -87,14 +85,6 @@ pub record IsResponseTo (required : Bool) (request response : List ℕ) : Type 0
 abbrev pub SendsRequired : Bool → List ℕ → Type 0
 SendsRequired required request = required ≡ true → is_fingerprinted request ≡ true
 
--- a request of a client is outstanding, and a datagram from an address is a response to it
-pub record IsAwaitedResponse (c : EndpointClient) (from : SocketAddr) (request response : List ℕ)
-    (asked : AskedSeen) : Type 0 where
-  pub server : is_same_address from c.server ≡ true
-  pub outstanding : at (transaction_id_field request) c.requests.asked ≡ Some asked
-  pub method : asked.method ≡ method_of (type_field request)
-  pub answers : IsResponseTo c.requires_fingerprint request response
-
 -- ---- challenges
 
 -- the refusals that ask for credentials: 401 and 438
@@ -104,7 +94,7 @@ is_asking Unauthenticated = true
 is_asking UnknownAttribute = false
 is_asking StaleNonce = true
 
--- a client reads of a response the challenge that a server means with this nonce, whatever
+-- a client reads in a response the challenge that a server means with this nonce, whatever
 -- challenge came before
 pub record IsReadAsMeant (s : Settings) (kind : Refusal) (nonce response : List ℕ) : Type 0 where
   pub asks : is_challenge response ≡ true
@@ -123,32 +113,29 @@ ChallengesAreRead =
     let response = (challenge_answer s kind nonce to request).bytes in
     IsResponseTo required request response × IsReadAsMeant s kind nonce response
 
--- what a challenge comes to that the request is sent again for: a 438 is no refusal
+-- the judgement of a challenge for which the request is sent again: a 438 is not a refusal
 abbrev pub answered_to : Refusal → Option Answered → List ℕ → Answered → Verdict
 answered_to BadRequest before response c = sent_for before response c
 answered_to Unauthenticated before response c = sent_for before response c
 answered_to UnknownAttribute before response c = sent_for before response c
 answered_to StaleNonce before response c = anew c
 
--- each of them has the outstanding request sent again, signed for it, if client and server agree on
--- an algorithm. It is not the challenge that the request was signed for, and not weaker than what a
+-- after each of them the request is sent again, signed for it, if client and server agree on an
+-- algorithm. It is not the challenge that the request was signed for, and not weaker than what a
 -- success has confirmed
 abbrev pub ChallengesAreAnswered : Type 0
 ChallengesAreAnswered =
-    (s : Settings) (kind : Refusal) (secret : List ℕ) (from to server : SocketAddr) (epoch : ℕ)
-    (request : List ℕ) (c : EndpointClient) (asked : AskedSeen) (who : NameAndPassword)
-    (p : Preferences) (accepts_unsigned : Bool) (a : IntegrityAlgorithm)
+    (s : Settings) (kind : Refusal) (secret : List ℕ) (from to : SocketAddr) (epoch : ℕ)
+    (request : List ℕ) (required : Bool) (standing : StandingSeen) (signed_for : Option Answered)
+    (who : NameAndPassword) (p : Preferences) (accepts_unsigned : Bool) (a : IntegrityAlgorithm)
     → IsServer s → is_asking kind ≡ true → transaction_id_field request < 2 ^ 96
-    → SendsRequired c.requires_fingerprint request → AgreeOn p s.algorithms s.feature a
+    → SendsRequired required request → AgreeOn p s.algorithms s.feature a
     → let nonce = nonce_in s secret from epoch in
     let response = (challenge_answer s kind nonce to request).bytes in
     let meant = meant_for s p who nonce a in
-    c.identity ≡ long_term who p accepts_unsigned → is_same_address server c.server ≡ true
-    → at (transaction_id_field request) c.requests.asked ≡ Some asked
-    → asked.method ≡ method_of (type_field request)
-    → is_one (Some meant) asked.signed_for ≡ false → is_ignored c.standing meant ≡ false
-    → heard c server response
-    ≡ responded response asked.number (answered_to kind asked.signed_for response meant)
+    is_one (Some meant) signed_for ≡ false → is_ignored standing meant ≡ false
+    → judged required true (long_term who p accepts_unsigned) standing signed_for response
+    ≡ answered_to kind signed_for response meant
 
 -- ---- a signed request at the server
 
@@ -158,8 +145,8 @@ IsWithinPeriod s made now =
     (epoch_of s now ≡ epoch_of s made) ⊎ (epoch_of s now ≡ suc (epoch_of s made))
 
 -- each request that reads as signed for a challenge of the server, by one of its users, is accepted
--- as that user's by the algorithm that both agree on, while the nonce lasts: the server hands it
--- out, or answers it by itself
+-- as that user's with the algorithm that both agree on, while the nonce lasts: the server returns
+-- it to its caller, or answers it itself
 abbrev pub SignedAreAccepted : Type 0
 SignedAreAccepted =
     (s : Settings) (users : UserSecrets) (who : NameAndPassword) (p : Preferences)
@@ -214,13 +201,3 @@ BindingAnswersAreSigned =
     → IsServer s → transaction_id_field request < 2 ^ 96 → SendsRequired required request
     → let response = (binding_by (responding_of s) (Some by) from request).bytes in
     IsResponseTo required request response × IsSignedAnswer required response by.key by.algorithm
-
--- each response that is signed by the key of the request, and asks for no credentials, ends it
-abbrev pub AnswersAreHeard : Type 0
-AnswersAreHeard =
-    (server : SocketAddr) (request response : List ℕ) (c : EndpointClient) (asked : AskedSeen)
-    (challenge : Answered) (who : NameAndPassword) (p : Preferences) (accepts_unsigned : Bool)
-    (a : IntegrityAlgorithm) → c.identity ≡ long_term who p accepts_unsigned
-    → IsAwaitedResponse c server request response asked → asked.signed_for ≡ Some challenge
-    → IsSignedAnswer c.requires_fingerprint response challenge.challenge.key a
-    → heard c server response ≡ responded response asked.number (believed (Some a))

@@ -1,5 +1,5 @@
 -- There are a server, a user and a client that meet the premises: a server with both algorithms
--- that takes hashed names, and its one user.
+-- that accepts hashed names, and its one user.
 use Rattle.std.specs.Prelude.{List, [], ℕ, true, false, None, codes}
 use Rattle.std.specs.FinMap as fin
 use Rattle.stun_base.specs.Credentials.{NameAndPassword}
@@ -35,7 +35,7 @@ example_users = fin.insert fin.empty example_user.username (of_password example_
 abbrev pub example_preferences : Preferences
 example_preferences = record { hmac_sha1 = true; hmac_sha256 = true; anonymous_username = Auto }
 
--- whatever the secret is, they can meet, by HMAC-SHA256
+-- whatever the secret is, they can meet, with HMAC-SHA256
 abbrev pub SidesCanMeet : Type 0
 SidesCanMeet =
     (secret : List ℕ) → let s = example_settings secret in

@@ -1,4 +1,4 @@
--- What the contracts of this crate say, in the order to read it.
+-- What the contracts of this crate say, in reading order.
 
 -- a client and a server that have an algorithm in common
 pub mod Agreement
@@ -6,7 +6,7 @@ pub mod Agreement
 pub mod OtherSecrets
 -- which challenges refuse a request
 pub mod Refusals
--- what each side reads of the messages of the other
+-- what each side reads in the messages of the other
 pub mod Exchange
 -- a server, a user and a client that meet the premises
 pub mod Instance

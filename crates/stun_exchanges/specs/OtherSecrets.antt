@@ -1,5 +1,5 @@
--- The same realm with another password of one user: what a datagram comes to there tells nothing of
--- the password (RFC 8489, section 9.2.4).
+-- The same realm with another password of one user: the outcome of a datagram there reveals nothing
+-- of the password (RFC 8489, section 9.2.4).
 use Rattle.std.specs.Prelude.{ℕ, List, Option}
 use Rattle.stun_auth.specs.OtherUsers.{with_secret_for}
 use Rattle.stun_auth.specs.Registered.{UserSecret}

@@ -1,4 +1,4 @@
--- Which challenges a client takes for a refusal of its request (RFC 8489, section 9.2.5).
+-- Which challenges a client regards as a refusal of its request (RFC 8489, section 9.2.5).
 use Rattle.std.specs.Prelude.{◌≡◌, ℕ, Bool, true, List, Option, Some}
 use Rattle.stun_base.specs.Credentials.{NameAndPassword}
 use Rattle.stun_auth.specs.ClientStep.{UNAUTHORIZED, is_code}
@@ -28,7 +28,7 @@ RefusalsAreOfTheSameCredentials =
     → judged required true (long_term who p accepts_unsigned) standing before bytes ≡ refused (Some c)
     → IsRefusal before bytes c
 
--- and of those challenges that a request is sent again for, each that is one counts
+-- and each such challenge for which a request is sent again counts
 abbrev pub SameCredentialsAreRefused : Type 0
 SameCredentialsAreRefused =
     (before : Option Answered) (bytes : List ℕ) (c : Answered) → IsRefusal before bytes c

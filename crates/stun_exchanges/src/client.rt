@@ -1,5 +1,5 @@
-//! Laws of a client alone: which challenges it answers, and which responses it believes (RFC 8489,
-//! section 9.2.5).
+//! Laws about a client alone: the challenges that it answers, and the responses that it believes
+//! (RFC 8489, section 9.2.5).
 ghost use Rattle.std.specs.Prelude.{◌≡◌, ℕ, Bool, List, Some, true};
 ghost use Rattle.stun_base.specs.Credentials.{NameAndPassword};
 ghost use Rattle.stun_base.specs.declared.keys.algorithm.IntegrityAlgorithm.{IntegrityAlgorithm};
@@ -20,10 +20,10 @@ ghost use Rattle.stun_exchanges.specs.Refusals.{RefusalsAreOfTheSameCredentials}
 ghost use Rattle.stun_exchanges.specs.Refusals.{SameCredentialsAreRefused};
 
 /// A client answers a server with which it has an algorithm in common. If both support an
-/// algorithm, and the server takes hashes of names where the client must send them, there is one
-/// that they agree on (`agreed`). By the rule, the client makes of the realm, the nonce and the
-/// list of the server exactly the challenge that the server means, with this algorithm
-/// (`answered`), which is the strongest that both support (`strongest`).
+/// algorithm, and the server accepts hashed user names or the client need not send them, there is
+/// an algorithm on which they agree (`agreed`). By the rule, the client reads the server's realm,
+/// nonce and list as exactly the challenge that the server intended, with this algorithm
+/// (`answered`). It is the strongest algorithm that both support (`strongest`).
 ///
 /// The nonce must be up to date, as each nonce of a server is
 /// (`stun_client::laws::nonces_of_a_server_are_up_to_date`).
@@ -43,8 +43,8 @@ pub fn common_algorithms_are_answered()
 {}
 
 /// A response ends a request that was signed for a challenge if it is signed with the key of that
-/// challenge, asks for no credentials, and is not dropped for its FINGERPRINT. The request is then
-/// answered, and signed by the algorithm of the digest.
+/// challenge, asks for no credentials, and is not dropped because of its FINGERPRINT. The request
+/// then ends as answered, with the algorithm of that signature.
 pub fn signed_answers_are_believed()
     ensures { (required : Bool) (who : NameAndPassword) (p : Preferences)
         (accepts_unsigned : Bool) (standing : StandingSeen) (c : Answered) (bytes : List ℕ)
@@ -53,10 +53,10 @@ pub fn signed_answers_are_believed()
         ≡ believed (Some a) }
 {}
 
-/// Which challenges count as a refusal of a request, beside the one that it was signed for: a 401
-/// to a request that was signed for the same realm and for a nonce that asks for the same
-/// credentials, and no other response (`only`). Each such 401 that the request is sent again for
-/// counts (`each`). A 438 counts as none, since a nonce that has expired says nothing of the
+/// The challenge that a request was signed for counts as a refusal of the request. Any other
+/// challenge counts only if it is a 401, and the request was signed for the same realm and for a
+/// nonce that asks for the same credentials (`only`). Each such 401 for which the request is sent
+/// again counts (`each`). A 438 does not count, because an expired nonce says nothing about the
 /// password.
 pub fn refusals_ask_for_the_same_credentials()
     ensures only { RefusalsAreOfTheSameCredentials }

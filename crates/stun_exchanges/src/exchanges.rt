@@ -1,18 +1,18 @@
-//! What a client and a server of this library read of each other's messages, message by message:
-//! the challenge, the signed request, and the signed answer (RFC 8489, sections 9.2.3 to 9.2.5).
-//! The laws do nothing when they run.
-ghost use Rattle.stun_exchanges.specs.Exchange.{AnswersAreHeard, AnswersAreSigned};
-ghost use Rattle.stun_exchanges.specs.Exchange.{BindingAnswersAreSigned, SuccessesArePages};
+//! Laws about the messages that a client and a server of this library exchange: the challenge, the
+//! signed request, and the signed answer (RFC 8489, sections 9.2.3 to 9.2.5). They do nothing when
+//! they run.
+ghost use Rattle.stun_exchanges.specs.Exchange.{AnswersAreSigned, BindingAnswersAreSigned};
 ghost use Rattle.stun_exchanges.specs.Exchange.{ChallengesAreAnswered, ChallengesAreRead};
-ghost use Rattle.stun_exchanges.specs.Exchange.{SignedAreAccepted};
+ghost use Rattle.stun_exchanges.specs.Exchange.{SignedAreAccepted, SuccessesArePages};
 ghost use Rattle.stun_exchanges.specs.Instance.{SidesCanMeet};
 
-/// Each 401 and each 438 that a server writes is read as the challenge that the server means,
-/// whatever the request was and whatever challenge came before. It answers the request, its
-/// FINGERPRINT is no reason to drop it, and what a client makes of it is what the rule makes of the
-/// server's realm, of the nonce and of the server's algorithms.
+/// A client reads each 401 and each 438 that a server writes as the challenge that the server
+/// intended, whatever the request was and whatever challenge came before. The response answers the
+/// request, and is not dropped because of its FINGERPRINT. The challenge that the client reads in
+/// it is the one that the rule makes from the server's realm, the nonce and the server's
+/// algorithms.
 ///
-/// Premises: the server was built (`IsServer`, which `Server::new` sees to), an ID has 96 bits, and
+/// Premises: the server was built (`IsServer`, which `Server::new` ensures), an ID has 96 bits, and
 /// a client that requires FINGERPRINT sends one.
 pub fn challenges_are_read_as_meant()
     ensures { ChallengesAreRead }
@@ -25,16 +25,16 @@ pub fn challenges_are_read_as_meant()
 }
 
 /// A client with long-term credentials answers each challenge of a server with which it has an
-/// algorithm in common: when a 401 or a 438 arrives from the server's address as the response to an
-/// outstanding request, the request is to be sent again, signed for the challenge that the server
-/// means. A 401 to a request that was signed for the same realm and security bits is a refusal too,
-/// and a 438 is none (`answered_to`).
+/// algorithm in common: after a 401 or a 438 to the current message of a request, the request must
+/// be sent again, signed for the challenge that the server intended. A 401 to a message that was
+/// signed for the same realm and security bits also counts as a refusal, but a 438 does not
+/// (`answered_to`).
 ///
-/// Premises, beside those of `challenges_are_read_as_meant`: client and server agree on an
-/// algorithm (`AgreeOn`, which `common_algorithms_are_answered` gives for any algorithm that both
-/// support), the request was not signed for this challenge already, and the challenge is not weaker
-/// than one that a success has confirmed, which no challenge is at a client that has had no
-/// success.
+/// Premises, in addition to those of `challenges_are_read_as_meant`: client and server agree on an
+/// algorithm (`AgreeOn`, which `common_algorithms_are_answered` provides for any algorithm that
+/// both support), the message was not signed for this challenge already, and the challenge is not
+/// weaker than a challenge that a success has confirmed. The last premise always holds at a client
+/// that has had no success.
 pub fn challenges_of_a_server_are_answered()
     ensures { ChallengesAreAnswered }
 {
@@ -44,14 +44,14 @@ pub fn challenges_of_a_server_are_answered()
     stun_client::laws::answerable_challenges_are_answered();
 }
 
-/// A server accepts each request that reads as signed for its challenge by one of its users, in the
-/// epoch of the nonce and in the next one, whatever method and body the request has. It is accepted
-/// as that user's by the algorithm on which both sides agree, the strongest that both support. The
-/// user may be named by a hash.
+/// A server accepts each request that one of its users has signed for the server's challenge, in
+/// the epoch of the nonce and in the next epoch, whatever method and body the request has. It
+/// accepts the request as that user's, with the algorithm on which both sides agree, the strongest
+/// that both support. The user may be named by a hash.
 ///
-/// Premises: the user is registered with this password and found by the hash of the name, so that
-/// no user before in the order of names has the same hash (`IsRegisteredUser`; no two texts with
-/// the same SHA-256 are known), and the request is not dropped.
+/// Premises: the user is registered with this password and found by the hash of the name, so no
+/// earlier user in the order of names has the same hash (`IsRegisteredUser`; no two texts with the
+/// same SHA-256 are known), and the request is not dropped.
 pub fn users_are_accepted_by_the_strongest()
     ensures { SignedAreAccepted }
 {
@@ -59,28 +59,25 @@ pub fn users_are_accepted_by_the_strongest()
     crate::server::clients_are_accepted_while_their_nonce_lasts();
 }
 
-/// A response that a server signs ends its request. Once SOFTWARE, the digest under the key and
-/// FINGERPRINT have ended it, it answers the request and is a signed answer (`written`). Each
+/// A response that a server completes with its signature answers the request and is a signed
+/// answer: it ends with SOFTWARE, the signature under the key, and FINGERPRINT (`written`). Each
 /// success is such a response (`successes`), and so is the server's own answer to a Binding request
-/// (`binding`). A signed answer from the server's address ends the outstanding request, with the
-/// algorithm of its digest (`heard`).
+/// (`binding`). A client believes such a response if the request was signed with that key
+/// (`signed_answers_are_believed`).
 ///
-/// Premises: the response before its end is a message of the request's method and ID with another
-/// code than 401 and 438, of at most 60,000 bytes (`IsPage`); the server was built; an ID has 96
-/// bits; a client that requires FINGERPRINT sends one; and the request was signed for the challenge
-/// whose key it is.
-pub fn signed_answers_end_requests()
+/// Premises: before these attributes are added, the response is a message with the request's method
+/// and ID, with a code other than 401 and 438, of at most 60,000 bytes (`IsPage`); the server was
+/// built; an ID has 96 bits; and a client that requires FINGERPRINT sends one.
+pub fn answers_of_a_server_are_signed()
     ensures written { AnswersAreSigned }
     ensures successes { SuccessesArePages }
     ensures binding { BindingAnswersAreSigned }
-    ensures heard { AnswersAreHeard }
 {
     stun_types::laws::signed_message_stands();
     stun_types::laws::writing_adds_one_attribute();
-    crate::client::signed_answers_are_believed();
 }
 
-/// There are a server, a user and a client that meet the premises of these laws.
+/// There are a server, a user and a client for which the premises of these laws hold.
 pub fn sides_can_meet()
     ensures { SidesCanMeet }
 {}

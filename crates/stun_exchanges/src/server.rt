@@ -1,5 +1,5 @@
-//! Laws of a server alone: whom it challenges, how long a nonce lasts, and that no outcome tells
-//! anything of a password (RFC 8489, section 9.2.4).
+//! Laws about a server alone: it challenges unsigned requests, its nonces last for two epochs, and
+//! no outcome reveals anything about a password (RFC 8489, section 9.2.4).
 ghost use Rattle.std.specs.Prelude.{◌≡◌, ℕ, List, None, Some};
 ghost use Rattle.std.specs.declared.net.socket_addr.SocketAddr.{SocketAddr};
 ghost use Rattle.stun_base.specs.MessageType.{class_in};
@@ -19,8 +19,8 @@ ghost use Rattle.stun_endpoint.specs.declared.received.Refusal.TheVariants as re
 ghost use Rattle.stun_exchanges.specs.Exchange.{IsWithinPeriod};
 ghost use Rattle.stun_exchanges.specs.OtherSecrets.{with_secret_at};
 
-/// A request that nobody has signed is challenged, whoever its users are: unless it is dropped, it
-/// comes to a 401 with the nonce that is current at its source.
+/// A server challenges each unsigned request, whatever its users are: unless the request is
+/// dropped, the server answers it with a 401 that has the nonce that is current at its source.
 pub fn unsigned_requests_are_challenged()
     ensures { (s : Settings) (realm : Realm) (from : SocketAddr) (now : ℕ) (bytes : List ℕ)
         → drop_reason s.requires_fingerprint bytes ≡ None → class_in bytes ≡ MessageClass.Request
@@ -30,11 +30,11 @@ pub fn unsigned_requests_are_challenged()
         bytes) }
 {}
 
-/// Whoever is accepted under a nonce is accepted while the nonce lasts: in the epoch in which the
-/// server wrote it, and in the next one. That is, a request that is not dropped comes to what an
-/// accepted one does if its client is accepted under the nonce that was current then: it has a
-/// REALM, that nonce, algorithms that agree with the server's, and the digest under the key of the
-/// registered user whom it names (`IsAccepted` of `stun_auth`).
+/// A client that is accepted under a nonce is accepted while the nonce lasts: in the epoch in which
+/// the server wrote the nonce, and in the next epoch. A request that is not dropped has the outcome
+/// of an accepted request if it has a REALM, the nonce that was current when the server wrote it,
+/// algorithms that agree with the server's, and a valid signature under the key of the registered
+/// user whom it names (`IsAccepted` of `stun_auth`).
 pub fn clients_are_accepted_while_their_nonce_lasts()
     ensures { (s : Settings) (realm : Realm) (from : SocketAddr) (made now : ℕ) (bytes : List ℕ)
         (client : ClientSeen) → drop_reason s.requires_fingerprint bytes ≡ None
@@ -47,12 +47,12 @@ pub fn clients_are_accepted_while_their_nonce_lasts()
     stun_endpoint::laws::requests_are_accepted_under_their_nonces();
 }
 
-/// What a datagram comes to tells nothing of a password. With another password or other keys of one
-/// user, a datagram that verifies under neither comes to the same, byte for byte (`received`). One
-/// that gives the user's name comes to what it comes to if the user is not registered
-/// (`unregistered`).
+/// The outcome of a datagram reveals nothing about a password. If a user gets another password or
+/// other keys, a datagram whose signature is valid under neither the former nor the new ones has
+/// the same outcome, byte for byte (`received`). If such a datagram has the user's name, its
+/// outcome is the same as if the user were not registered (`unregistered`).
 ///
-/// This is about what is answered, and not about how long it takes.
+/// The law does not limit the time that an answer takes.
 pub fn outcomes_tell_no_password()
     ensures received { (s : Settings) (realm : Realm) (name : List ℕ) (one other : UserSecret)
         (from : SocketAddr) (now : ℕ) (bytes : List ℕ)

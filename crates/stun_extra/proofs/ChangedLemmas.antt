@@ -15,7 +15,7 @@ use Rattle.stun_extra.specs.Fingerprint.{fingerprint_in, fingerprint_word, is_in
 use Rattle.stun_extra.specs.declared.fingerprint.Fingerprint.TheVariants.{Right, Wrong, Misplaced}
 use Rattle.stun_extra.proofs.Crc32Lemmas.{crc32-apart, equal}
 
--- a right FINGERPRINT has the number of what is before it
+-- a valid FINGERPRINT has the number of what is before it
 right_at : (bytes : List ℕ) (m : Member) → fingerprint_at bytes m ≡ Right
     → big_number 4 m.1.value ≡ fingerprint_word (take m.0 bytes)
 right_at bytes m right =

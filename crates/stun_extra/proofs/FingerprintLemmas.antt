@@ -23,9 +23,10 @@ use Rattle.stun_types.specs.Visible.{before, is_visible, has_kind, visible}
 use Rattle.stun_types.specs.Walk.{Member, walk}
 use Rattle.stun_types.specs.Writing.{HasOneMore, IsAddable, length_with}
 use Rattle.stun_types.specs.code.Walk.{IsInside}
-use Rattle.stun_types.proofs.AddingLemmas.{IsMessage-added, length-spelled_attribute}
-use Rattle.stun_types.proofs.AddingLemmas.{or_none, raised, walk-added}
+use Rattle.stun_types.proofs.AddingLemmas.{IsMessage-added, has_kind-before}
+use Rattle.stun_types.proofs.AddingLemmas.{length-spelled_attribute, or_none, raised, walk-added}
 use Rattle.stun_types.proofs.IntegrityLemmas.{deciding_within, walk_up_to-within}
+use Rattle.stun_types.proofs.SigningLemmas.{length-with_length}
 use Rattle.stun_types.proofs.TailLemmas.{verified_by-tail}
 use Rattle.stun_types.proofs.VisibleLemmas.{is_visible_after}
 use Rattle.stun_extra.specs.Crc32.{crc32}
@@ -47,19 +48,6 @@ pub record IsFree (message : List ℕ) : Type 0 where
 -- FINGERPRINT fits it
 fits : (message : List ℕ) → IsFree message → IsAddable message (fingerprint_attribute message)
 fits message free = record { kind = omega arith; value = free.short }
-
--- a type that is not among attributes is not among those before a place
-has_kind-before : (kind place : ℕ) (members : List Member) → has_kind kind members ≡ false
-    → has_kind kind (before place members) ≡ false
-has_kind-before kind place [] none = refl
-has_kind-before kind place (m ∷ members) none =
-    let parts = or_none (m.1.kind == kind) (has_kind kind members) none in
-    let rest = has_kind-before kind place members parts.1 in
-    elim (nat_lt m.0 place) as (λ earlier.
-    has_kind kind (cond earlier (m ∷ before place members) (before place members)) ≡ false) [
-      | true ↦ rw (parts.0, rest) refl
-      | false ↦ rest
-    ]
 
 -- one more attribute is not before what is at its place or before
 before-added : (members : List Member) (last : Member) (place : ℕ) → place ≤ last.0
@@ -173,14 +161,6 @@ found message free =
     ap (first_of FINGERPRINT) (HasOneMore-fingerprint message free).visible_is
     ∙ (find-append (λ m. m.1.kind == FINGERPRINT) (visible message) (last ∷ [])
     ∙ ap (λ f. option_or f (first_of FINGERPRINT (last ∷ []))) none)
-
-length-with_length : (bytes : List ℕ) (n : ℕ) → 20 ≤ length bytes
-    → length (with_length bytes n) ≡ length bytes
-length-with_length [] n long = absurd (omega (arith, long))
-length-with_length (x ∷ []) n long = absurd (omega (arith, long))
-length-with_length (x ∷ y ∷ []) n long = absurd (omega (arith, long))
-length-with_length (x ∷ y ∷ z ∷ []) n long = absurd (omega (arith, long))
-length-with_length (x ∷ y ∷ z ∷ w ∷ bytes) n long = refl
 
 -- what is before it is the message with its length raised
 front-fingerprint : (message : List ℕ) → 20 ≤ length message

@@ -9,6 +9,7 @@ pub mod FingerprintLemmas
 mod FramingLemmas
 mod OnceLemmas
 mod PacketLemmas
+pub mod RoomLemmas
 mod SpelledLemmas
 mod ToldLemmas
 mod TurnLemmas

@@ -34,8 +34,8 @@ IsUnmapped given canonical a =
     (λ ip. IsIpv4Mapped (ipv6_segments a) × (ipv4_octets ip ≡ low_octets a))
     (λ ip. ¬ (IsIpv4Mapped (ipv6_segments a)) × (canonical ≡ given))
 
--- An address in the spelling of its family. It has the same port. An IPv4 address that is spelled as
--- IPv6 becomes IPv4; each other address stays as it is, with its scope
+-- An address in the spelling of its family. It has the same port. An IPv4 address that is spelled
+-- as IPv6 becomes IPv4; any other address is unchanged, with its scope
 pub record IsCanonical (given canonical : SocketAddr) : Type 0 where
   pub port : socket_port canonical ≡ socket_port given
   pub ip : MatchIp (socket_ip given) (λ ip. canonical ≡ given) (IsUnmapped given canonical)
@@ -44,7 +44,7 @@ pub record IsCanonical (given canonical : SocketAddr) : Type 0 where
 abbrev pub is_mapped : List ℕ → Bool
 is_mapped segments = bytes_eq (take 6 segments) (0 ∷ 0 ∷ 0 ∷ 0 ∷ 0 ∷ 0xffff ∷ [])
 
--- an address as XOR-MAPPED-ADDRESS says it: an IPv4 address in either spelling is IPv4
+-- an address as it is in XOR-MAPPED-ADDRESS: an IPv4 address in either spelling is IPv4
 abbrev pub xored_canonical : IpAddr → ℕ → ℕ → XoredAddress
 xored_canonical (V4 ip) port id =
     record { family = 1; port = xor_port port; octets = xor_bytes (ipv4_octets ip) (xor_key id) }

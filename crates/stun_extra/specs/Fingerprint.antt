@@ -32,11 +32,11 @@ fingerprint_attribute message = record {
   value = big_bytes 4 (fingerprint_word (with_length message (length_with message 4)));
 }
 
--- the message with its length raised, then its FINGERPRINT
+-- the message with its new length, then its FINGERPRINT
 abbrev pub with_fingerprint : List ℕ → List ℕ
 with_fingerprint message = with_attribute message (fingerprint_attribute message)
 
--- why a FINGERPRINT is refused in a writer with this room: the first reason that holds
+-- why a FINGERPRINT is refused in a writer with this room: the first reason that applies
 abbrev pub fingerprint_refusal : List ℕ → ℕ → Option StunWriteError
 fingerprint_refusal message room =
     if has_kind FINGERPRINT (walk message) then Some (AttributeExists (record { 0 = FINGERPRINT }))
@@ -46,18 +46,18 @@ fingerprint_refusal message room =
 abbrev pub is_in_place : List ℕ → Member → Bool
 is_in_place message m = (length m.1.value == 4) && (m.0 + 8 == length message)
 
--- what a FINGERPRINT of a message is
+-- the state of an attribute as a FINGERPRINT of a message
 abbrev pub fingerprint_at : List ℕ → Member → Fingerprint
 fingerprint_at message m =
     if is_in_place message m
     then if big_number 4 m.1.value == fingerprint_word (take m.0 message) then Right else Wrong
     else Misplaced
 
--- the same, or `Absent` if there is none
+-- the state of an attribute, or `Absent` if there is none
 abbrev pub fingerprint_if : List ℕ → Option Member → Fingerprint
 fingerprint_if message None = Absent
 fingerprint_if message (Some m) = fingerprint_at message m
 
--- what the FINGERPRINT of a message is: only the first one counts
+-- the state of the FINGERPRINT of a message: only the first one counts
 abbrev pub fingerprint_in : List ℕ → Fingerprint
 fingerprint_in message = fingerprint_if message (first_of FINGERPRINT (visible message))

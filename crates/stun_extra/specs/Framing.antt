@@ -10,7 +10,8 @@ use Rattle.stun_extra.specs.Turn.{IsAnyChannel}
 use Rattle.stun_extra.specs.declared.framing.Frame.{Frame}
 use Rattle.stun_extra.specs.declared.framing.Frame.TheVariants.{Need, Message, NotStun}
 
--- what bytes are that begin with a message of this length, by how many of them are there
+-- the frame at the front of bytes that begin with a message of this length, by how many of its
+-- bytes have arrived
 abbrev pub frame_to : ℕ → ℕ → Frame
 frame_to there whole = if nat_lt there whole then Need (whole - there) else Message whole
 
@@ -26,8 +27,8 @@ BLANK_HEADER =
 abbrev pub may_begin : List ℕ → Bool
 may_begin bytes = is_stun (bytes ++ drop (length bytes) BLANK_HEADER)
 
--- what bytes begin with: the header comes first, and its length tells how many bytes the message
--- has (section 5)
+-- the frame at the front of bytes: the header comes first, and its length states how many bytes the
+-- message has (section 5)
 abbrev pub frame_of : List ℕ → Frame
 frame_of bytes =
     if nat_lt (length bytes) HEADER_LENGTH
@@ -42,7 +43,7 @@ pub record IsStunPacket (packet : List ℕ) : Type 0 where
 
 -- ---- a stream
 
--- the first `n` bytes of a whole, fewer than it has, give `Need`, with at most the number of bytes
+-- the first `n` bytes of a whole, fewer than it has, are `Need`, with at most the number of bytes
 -- that the whole lacks
 pub record IsPartBy (reader : List ℕ → Frame) (whole : List ℕ) (n : ℕ) : Type 0 where
   pub needed : ℕ
@@ -50,12 +51,12 @@ pub record IsPartBy (reader : List ℕ → Frame) (whole : List ℕ) (n : ℕ) :
   pub some : 1 ≤ needed
   pub within : n + needed ≤ length whole
 
--- whatever bytes follow, what they make together does not begin so
+-- whatever bytes follow, the bytes together do not begin in this way
 abbrev pub NeverBegins : (List ℕ → Type 0) → List ℕ → Type 0
 NeverBegins Begins bytes =
     (more : List ℕ) → ((i : ℕ) → slice_index more i < 2 ^ 8) → Begins (bytes ++ more) → ⊥
 
--- the messages at the front of bytes, one after the other, and the bytes behind them
+-- the messages at the front of bytes, one after the other, and the bytes after them
 pub record Cut : Type 0 where
   pub messages : List (List ℕ)
   pub rest : List ℕ
@@ -64,7 +65,7 @@ pub record Cut : Type 0 where
 abbrev pub with_first : List ℕ → Cut → Cut
 with_first message others = record { messages = message ∷ others.messages; rest = others.rest }
 
--- if a message is at the front, it is cut off, and then what follows it is cut
+-- if there is a message at the front, it is cut off, and then what follows it is cut
 abbrev pub cut_by : Frame → (List ℕ → Cut) → List ℕ → Cut
 cut_by (Message n) others bytes = with_first (take n bytes) (others (drop n bytes))
 cut_by (Need n) others bytes = record { messages = []; rest = bytes }
@@ -75,7 +76,7 @@ unfoldable pub cut_up_to : (List ℕ → Frame) → ℕ → List ℕ → Cut
 cut_up_to reader zero bytes = record { messages = []; rest = bytes }
 cut_up_to reader (suc most) bytes = cut_by (reader bytes) (cut_up_to reader most) bytes
 
--- all of them: there are no more of them than bytes
+-- all messages: there are at most as many as bytes
 abbrev pub cut_of : (List ℕ → Frame) → List ℕ → Cut
 cut_of reader bytes = cut_up_to reader (length bytes) bytes
 
@@ -87,7 +88,7 @@ cut_with_more reader before more =
       rest = (cut_of reader (before.rest ++ more)).rest;
     }
 
--- no whole message is at the front
+-- there is no whole message at the front
 abbrev pub IsLeftOver : (List ℕ → Frame) → List ℕ → Type 0
 IsLeftOver reader bytes = (n : ℕ) → reader bytes ≡ Message n → ⊥
 
@@ -103,7 +104,7 @@ pub record IsFramedPacket (bytes : List ℕ) : Type 0 where
   pub fits : length packet < 2 ^ 16
   pub framed : bytes ≡ framed_packet packet
 
--- what bytes begin with, if such packets are expected
+-- the frame at the front of bytes, if such packets are expected
 abbrev pub packet_frame_of : List ℕ → Frame
 packet_frame_of bytes =
     if nat_lt (length bytes) 2 then Need (2 - length bytes)
@@ -129,14 +130,14 @@ pub record IsChannelData (bytes : List ℕ) : Type 0 where
 abbrev pub is_channel : List ℕ → Bool
 is_channel bytes = slice_index bytes 0 / 64 == 1
 
--- what bytes begin with that begin with ChannelData
+-- the frame at the front of bytes that begin with ChannelData
 abbrev pub channel_frame_of : List ℕ → Frame
 channel_frame_of bytes =
     if nat_lt (length bytes) 4 then Need (4 - length bytes)
     else frame_to (length bytes) (4 + padded_length (big_number 2 (drop 2 bytes)))
 
--- what bytes begin with, if ChannelData and messages are expected: their first byte tells them
--- apart, and 4 bytes are the fewest that either has
+-- the frame at the front of bytes, if ChannelData and messages are expected: their first byte
+-- distinguishes them, and each has at least 4 bytes
 abbrev pub turn_frame_of : List ℕ → Frame
 turn_frame_of bytes =
     if length bytes == 0 then Need 4

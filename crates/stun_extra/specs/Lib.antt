@@ -1,4 +1,4 @@
--- What the contracts of this crate say, in the order to read it.
+-- What the contracts of this crate say, in reading order.
 
 -- CRC-32, as a division of polynomials
 pub mod Crc32
@@ -29,5 +29,5 @@ pub mod CanonicalAddress
 pub mod Turn
 -- the methods of TURN (RFC 8656, section 17)
 pub mod TurnMethods
--- what no clause of a public call cites: views of structs, and the entries of tables
+-- definitions that no clause of a public call cites: views of structs, and the entries of tables
 pub mod code

@@ -13,12 +13,12 @@ use Rattle.stun_types.specs.XorMappedAddress.{IsXored, XoredAddress, xored_of, x
 use Rattle.stun_types.specs.XorMappedAddressLaws.{xored_of-written}
 use Rattle.stun_extra.specs.AttributeTypes.{CHANNEL_NUMBER, REQUESTED_TRANSPORT}
 
--- whether a number is one of a channel (section 12)
+-- whether a channel has this number (section 12)
 abbrev pub is_channel_number : ℕ → Bool
 is_channel_number number = nat_le 0x4000 number && nat_lt number 0x5000
 
--- whether a number is one of a channel in RFC 5766 (section 11), whose range includes that of RFC
--- 8656: its clients still bind such channels
+-- whether a channel in RFC 5766 (section 11) has this number. Their range includes that of RFC
+-- 8656, whose clients still bind such channels
 abbrev pub is_any_channel_number : ℕ → Bool
 is_any_channel_number number = nat_le 0x4000 number && nat_lt number 0x8000
 
@@ -48,7 +48,7 @@ transport_of attribute =
     then Some (slice_index attribute.value 0) else None
 
 -- XOR-PEER-ADDRESS and XOR-RELAYED-ADDRESS (sections 18.3 and 18.5): an attribute of this type is
--- read as XOR-MAPPED-ADDRESS is
+-- read like XOR-MAPPED-ADDRESS
 abbrev pub xored_address_of : ℕ → TypedValue → Option XoredAddress
 xored_address_of kind attribute =
     if attribute.kind == kind

@@ -31,7 +31,7 @@ is_known known kind = list_any (λ k. k.0 == kind) known
 abbrev pub is_unknown : List AttributeType → ℕ → Bool
 is_unknown known kind = is_comprehension_required kind && not (is_known known kind)
 
--- each number of a list at its first place
+-- each number of a list, where it occurs first
 abbrev pub without_repeats : List ℕ → List ℕ
 without_repeats [] = []
 without_repeats (x ∷ xs) = x ∷ filter (λ y. not (y == x)) (without_repeats xs)
@@ -70,7 +70,7 @@ EndsFailed known response =
 abbrev pub spelled_types : List AttributeType → List ℕ
 spelled_types types = flat_map (λ kind. big_bytes 2 kind.0) types
 
--- a request is refused for what is not known in it
+-- a request is refused because of types that are not known
 abbrev pub IsRefused : List AttributeType → List ℕ → Type 0
 IsRefused known message = (class_in message ≡ Request) × HasUnknown known message
 
@@ -82,8 +82,8 @@ unknown_attribute_error =
       value = error_value (record { code = 420; reason = codes "Unknown Attribute" });
     }
 
--- the answer to it: an error response with ERROR-CODE, and with UNKNOWN-ATTRIBUTES of these types
--- (section 6.3.1)
+-- the answer to such a request: an error response with ERROR-CODE, and with UNKNOWN-ATTRIBUTES of
+-- these types (section 6.3.1)
 unfoldable pub refusing_answer : List AttributeType → List ℕ → List ℕ
 refusing_answer known request =
     spelled_message (type_number Error (method_of (type_field request)))

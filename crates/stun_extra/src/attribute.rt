@@ -1,10 +1,10 @@
 //! Further attributes that calls of this library read or write: SOFTWARE and PASSWORD-ALGORITHMS of
-//! STUN (RFC 8489, section 14), those of ICE (RFC 8445, section 16.1), and CHANNEL-NUMBER,
-//! XOR-PEER-ADDRESS and REQUESTED-TRANSPORT of TURN (RFC 8656, section 18). All others are in
-//! `stun_attributes`.
+//! STUN (RFC 8489, section 14), the attributes of ICE (RFC 8445, section 16.1), and CHANNEL-NUMBER,
+//! XOR-PEER-ADDRESS and REQUESTED-TRANSPORT of TURN (RFC 8656, section 18). All other attributes
+//! are in `stun_attributes`.
 //!
-//! Attributes whose values have the same form share a type, such as [`Number`], and are its aliases
-//! below. The others have a file each.
+//! Attributes whose values have the same form are aliases of one type, such as [`Number`]. Each of
+//! the others is in a file of its own.
 ghost use Rattle.std.specs.Prelude.{◌≡◌, ◌≤◌, [], ◌∷◌, length};
 ghost use Rattle.stun_types.specs.Limits.{TEXT_LIMIT};
 ghost use Rattle.stun_extra.specs.AttributeTypes.{ICE_CONTROLLED, ICE_CONTROLLING, PRIORITY};
@@ -30,8 +30,8 @@ pub use text::Text;
 pub use tie_breaker::TieBreaker;
 pub use xored::XorAddress;
 
-/// SOFTWARE (RFC 8489, section 14.14): a description of the software that the sender uses, UTF-8 of
-/// at most 763 bytes.
+/// SOFTWARE (RFC 8489, section 14.14): a description of the software that the sender uses, in UTF-8
+/// of at most 763 bytes.
 pub type Software<'a> = Text<'a, 0x8022, TEXT_LIMIT>;
 
 impl<'a> Software<'a> {
@@ -44,8 +44,8 @@ impl<'a> Software<'a> {
     }
 }
 
-/// PRIORITY (RFC 8445, section 16.1): the priority of a peer-reflexive candidate that this check
-/// may discover.
+/// PRIORITY (RFC 8445, section 16.1): the priority of the peer-reflexive candidate that a
+/// connectivity check with this attribute may discover.
 pub type Priority = Number<0x0024>;
 
 impl Priority {
@@ -57,8 +57,8 @@ impl Priority {
     }
 }
 
-/// USE-CANDIDATE (RFC 8445, section 16.1): the controlling agent nominates the candidate pair of
-/// this check. It has no value.
+/// USE-CANDIDATE (RFC 8445, section 16.1): with this attribute in a connectivity check, the
+/// controlling agent nominates the candidate pair of the check. It has no value.
 pub type UseCandidate = Flag<0x0025>;
 
 /// ICE-CONTROLLED (RFC 8445, section 16.1): the sender is in the controlled role. The tie-breaker,
@@ -73,7 +73,7 @@ pub type IceControlling = TieBreaker<0x802A>;
 /// XOR-MAPPED-ADDRESS.
 pub type XorPeerAddress = XorAddress<0x0012>;
 
-/// Returns the types of the aliases above, in their order.
+/// Returns the attribute types of the aliases above, in the order of the aliases.
 pub fn types() -> [u16; 6]
     ensures { result
         ≡ SOFTWARE ∷ PRIORITY ∷ USE_CANDIDATE ∷ ICE_CONTROLLED ∷ ICE_CONTROLLING ∷

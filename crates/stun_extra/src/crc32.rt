@@ -31,7 +31,7 @@ pub fn crc32(bytes: &[u8]) -> u32
 ///
 /// The division is linear: the remainder after several bytes is the XOR of the remainders after
 /// each of them alone, followed by as many zero bytes as come after it. The four bytes of the
-/// remainder so far are part of the first four.
+/// remainder so far are XORed with the first four of the eight bytes.
 fn after_eight(remainder: u32, bytes: &[u8; 8]) -> u32
     ensures { result ≡ fold after_byte remainder bytes.now }
 {
@@ -54,7 +54,7 @@ fn after_byte(remainder: u32, byte: u8) -> u32
     remainder / 256 ^ entry(0, (remainder % 256) as u8 ^ byte)
 }
 
-/// Returns the remainder after the bits of one byte alone and of this many zero bytes.
+/// Returns the remainder after the bits of a single byte, followed by `zeros` zero bytes.
 fn entry(zeros: usize, byte: u8) -> u32
     requires { zeros < 8 }
     ensures { result ≡ after_zeros zeros (after_byte 0 byte) }
@@ -62,8 +62,8 @@ fn entry(zeros: usize, byte: u8) -> u32
     TABLES[zeros][usize::from(byte)]
 }
 
-/// Makes a table of 256 entries from those of the bytes with a single bit, the lowest bit first:
-/// the entry of any byte is the XOR of the entries of its bits.
+/// Makes a table of 256 entries from the entries of the eight bytes that have a single bit set, the
+/// lowest bit first. The entry of any byte is the XOR of the entries of its bits.
 macro_rules! table {
     ([$($entry:expr),*]) => {
         [$($entry),*]
@@ -73,7 +73,7 @@ macro_rules! table {
     };
 }
 
-/// For each number of zero bytes and each byte, the remainder after the byte and the zeros.
+/// The remainder after each byte, followed by 0 to 7 zero bytes: `TABLES[zeros][byte]`.
 #[rattlefmt::skip]
 static TABLES: [[u32; 256]; 8] = [
     table!([0] 0x77073096 0xEE0E612C 0x076DC419 0x0EDB8832

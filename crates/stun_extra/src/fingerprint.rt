@@ -21,7 +21,7 @@ use stun_types::limits::MAX_LENGTH;
 use stun_types::message::Message;
 use stun_types::prelude::*;
 
-/// The number with which the CRC-32 of a message is XORed (RFC 8489, section 14.7).
+/// The number with which the CRC-32 in a FINGERPRINT is XORed (RFC 8489, section 14.7).
 pub const FINGERPRINT_XOR: u32 = 0x5354_554E;
 
 /// The number of bytes of a FINGERPRINT, with its type and its length.
@@ -43,20 +43,21 @@ pub const FINGERPRINT_LENGTH: usize = 8;
 /// ```
 #[derive(Clone, Copy, Debug, PartialEq, Eq)]
 pub enum Fingerprint {
-    /// The CRC in it is that of the bytes before it.
+    /// FINGERPRINT matches the bytes before it.
     Right,
-    /// The CRC in it is another one: the message is damaged, or belongs to another protocol.
+    /// FINGERPRINT does not match the bytes before it: the message is damaged, or belongs to
+    /// another protocol.
     Wrong,
-    /// It is not the last attribute, or its value does not have 4 bytes.
+    /// FINGERPRINT is not the last attribute, or its value does not have 4 bytes.
     Misplaced,
     /// The message has no FINGERPRINT.
     Absent,
 }
 
-/// Checks the FINGERPRINT of a message (RFC 8489, section 14.7). It does not allocate.
+/// Checks the FINGERPRINT of a message (RFC 8489, section 14.7). This does not allocate.
 ///
-/// A FINGERPRINT tells STUN from other protocols on the same port. It is no protection, because
-/// anybody can compute it.
+/// A FINGERPRINT distinguishes STUN from other protocols on the same port. It does not protect a
+/// message, because an attacker can compute it too.
 pub fn check_fingerprint(message: &Message<'_>) -> Fingerprint
     ensures { result ≡ fingerprint_in message.now }
 {
@@ -75,10 +76,10 @@ fn first_fingerprint<'a>(message: &Message<'a>) -> Option<(usize, RawAttribute<'
         .find(|found| found.1.get_type() == AttributeType::FINGERPRINT)
 }
 
-/// Checks an attribute as the FINGERPRINT of a message, at an offset of the message (RFC 8489,
-/// section 14.7). The type of the attribute is ignored.
+/// Checks `attribute`, at the offset `place` of a message, as the FINGERPRINT of the message
+/// (RFC 8489, section 14.7). The type of the attribute is ignored.
 ///
-/// Returns `Right`, `Wrong` or `Misplaced`. It does not allocate.
+/// Returns `Right`, `Wrong` or `Misplaced`. This does not allocate.
 pub fn fingerprint_at(message: &[u8], place: usize, attribute: &RawAttribute<'_>) -> Fingerprint
     ensures { result ≡ fingerprint_at message.now (place, attribute.now) }
 {
@@ -96,7 +97,8 @@ pub fn fingerprint_at(message: &[u8], place: usize, attribute: &RawAttribute<'_>
     }
 }
 
-/// Returns the number in a FINGERPRINT that follows these bytes of a message.
+/// Returns the value of a FINGERPRINT that follows these bytes of a message: their CRC-32, XORed
+/// with `FINGERPRINT_XOR`.
 fn fingerprint_number(bytes: &[u8]) -> u32
     ensures { result ≡ fingerprint_word bytes.now }
 {
@@ -105,8 +107,8 @@ fn fingerprint_number(bytes: &[u8]) -> u32
 
 /// Adds FINGERPRINT to a message, and finishes the writer, so that nothing can follow it.
 ///
-/// Sign the message first if you want to sign it. Its signature stays valid, because it covers only
-/// the bytes in front of its own attribute.
+/// If you want to sign the message, sign it first. The signature stays valid, because it covers
+/// only the bytes before the integrity attribute.
 ///
 /// # Errors
 ///
@@ -119,25 +121,29 @@ fn fingerprint_number(bytes: &[u8]) -> u32
 pub fn finish_with_fingerprint<W: MessageWrite>(mut writer: W) -> Result<W::Output, StunWriteError>
     requires { 20 ≤ length (W.bytes writer) }
 
-    // The first reason that holds is answered, and with no reason only an allocation can fail.
+    // Fails with the first error that applies. If none does, only an allocation can fail.
     ensures refused { MatchOption (fingerprint_refusal (W.bytes writer) (W.room writer))
         (IsOkUnless result StunWriteError.OutOfMemory)
         (λ reason. result ≡ Err reason) }
 
-    // Where it is reserved already nothing fails.
+    // If no error applies and the bytes are reserved already, the call succeeds.
     ensures succeeds { fingerprint_refusal (W.bytes writer) (W.room writer) ≡ None
         → 8 ≤ W.reserved writer → IsOk result }
+
+    // If no error applies and no allocation fails, the call succeeds.
+    ensures granted { W.grants → fingerprint_refusal (W.bytes writer) (W.room writer) ≡ None
+        → IsOk result }
     ensures bytes { IfOk result (λ output. W.Output.contents output
         ≡ with_fingerprint (W.bytes writer)) }
 
-    // Reading finds what it found before, and FINGERPRINT after it.
+    // A reader finds the attributes that it found before, followed by FINGERPRINT.
     ensures added { IfOk result (λ output. IsMessage (W.bytes writer)
         → HasOneMore (W.bytes writer) (W.Output.contents output)
         (fingerprint_attribute (W.bytes writer))) }
     ensures right { IfOk result (λ output. IsMessage (W.bytes writer)
         → fingerprint_in (W.Output.contents output) ≡ Fingerprint.Right) }
 
-    // A digest in it verifies, or does not, as before.
+    // The signature is valid under the same keys as before.
     ensures verdict { IfOk result (λ output. IsMessage (W.bytes writer)
         → (keys : IntegrityAlgorithm → List ℕ)
         → verified_by keys (W.Output.contents output) ≡ verified_by keys (W.bytes writer)) }

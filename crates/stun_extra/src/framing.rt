@@ -7,19 +7,19 @@ ghost use Rattle.stun_extra.specs.Framing.{is_channel, may_begin, packet_frame_o
 use byteorder::{BigEndian, ByteOrder};
 use stun_base::header::{HEADER_LENGTH, MessageHeader};
 
-/// The number of bytes in front of a packet that hold its length (RFC 4571, section 2).
+/// The number of bytes before a packet that hold its length (RFC 4571, section 2).
 pub const PACKET_HEADER_LENGTH: usize = 2;
 
-/// The number of bytes in front of the data of ChannelData: the channel and the length (RFC 8656,
+/// The number of bytes before the data of ChannelData: the channel and the length (RFC 8656,
 /// section 12.4).
 pub const CHANNEL_HEADER_LENGTH: usize = 4;
 
-/// A header whose fields are zero where RFC 8489, section 5, does not fix them.
+/// A header in which every bit that RFC 8489, section 5, does not fix is zero.
 const BLANK_HEADER: [u8; HEADER_LENGTH] = [
     0, 0, 0, 0, 0x21, 0x12, 0xA4, 0x42, 0, 0, 0, 0, 0, 0, 0, 0, 0, 0, 0, 0,
 ];
 
-/// What the bytes of a stream begin with.
+/// The frame at the front of the bytes of a stream.
 ///
 /// # Examples
 ///
@@ -33,22 +33,23 @@ const BLANK_HEADER: [u8; HEADER_LENGTH] = [
 /// ```
 #[derive(Clone, Copy, Debug, PartialEq, Eq)]
 pub enum Frame {
-    /// A part of a message, which lacks at least this number of bytes, one or more.
+    /// The bytes are the beginning of a message, and at least this many more bytes are missing (one
+    /// or more).
     Need(usize),
-    /// A message of this number of bytes, by its header. `Message::from_bytes` says if its
-    /// attributes are whole.
+    /// A message of this many bytes, according to its header. `Message::from_bytes` checks whether
+    /// its attributes are whole.
     Message(usize),
-    /// Bytes that no message begins with, whatever follows. Close the connection, because the
+    /// No message begins with these bytes, whatever follows. Close the connection, because the
     /// stream cannot be read any further.
     NotStun,
 }
 
-/// Finds the message at the front of the bytes of a stream (RFC 8489, section 6.2.2). The bytes
-/// must begin where a message begins.
+/// Finds the message at the front of the bytes of a stream (RFC 8489, section 6.2.2). The first
+/// byte must be the first byte of a message.
 ///
-/// `Need` counts the bytes that the header lacks, or after a whole header those that the message
-/// lacks. `NotStun` is returned as soon as a byte decides it: the first, the fourth, or one of the
-/// magic cookie, which are the fifth to the eighth (section 5).
+/// `Need` is the number of bytes that are missing from the header or, if the header is whole, from
+/// the message. The call returns `NotStun` as soon as one byte rules out a message: the first, the
+/// fourth, or one of the magic cookie, which is the fifth to the eighth byte (section 5).
 ///
 /// It does not allocate.
 ///
@@ -88,12 +89,12 @@ fn may_begin(bytes: &[u8]) -> bool
     MessageHeader::from_bytes(&header).is_ok()
 }
 
-/// Finds the packet at the front of the bytes of a stream in which each packet has its length in 2
-/// bytes in front, as ICE sends them over TCP (RFC 4571, section 2). The bytes must begin where a
-/// length begins.
+/// Finds the packet at the front of the bytes of a stream in which each packet follows its length
+/// in 2 bytes, as ICE sends packets over TCP (RFC 4571, section 2). The first byte must be the
+/// first byte of a length.
 ///
-/// `Message` counts these 2 bytes too, and the packet may be empty. It never returns `NotStun`,
-/// because any packet may have any bytes.
+/// `Message` counts these 2 bytes too, and the packet may be empty. The call never returns
+/// `NotStun`, because a packet may contain any bytes.
 ///
 /// It does not allocate.
 ///
@@ -117,11 +118,13 @@ pub fn next_packet_frame(bytes: &[u8]) -> Frame
 }
 
 /// Finds the message or the ChannelData at the front of the bytes of a stream, as TURN sends them
-/// over TCP (RFC 8656, sections 12.4 and 12.5). The bytes must begin where one of them begins.
+/// over TCP (RFC 8656, sections 12.4 and 12.5). The first byte must be the first byte of a message
+/// or of ChannelData.
 ///
-/// `Message` is ChannelData if the first byte is 0x40 to 0x7F, and then it counts the header of 4
-/// bytes and the padding. RFC 8656 uses channels with 0x40 to 0x4F alone, and RFC 5766 with all.
-/// `NotStun` is returned as soon as a byte decides it, as [`next_frame`] does.
+/// If the first byte is 0x40 to 0x7F, `Message` stands for ChannelData, and counts its header of 4
+/// bytes and its padding too. RFC 8656 uses only channels that begin with 0x40 to 0x4F, and
+/// RFC 5766 uses all of them. Like [`next_frame`], the call returns `NotStun` as soon as one byte
+/// rules out both.
 ///
 /// It does not allocate.
 ///
@@ -147,7 +150,7 @@ pub fn next_turn_frame(bytes: &[u8]) -> Frame
     }
 }
 
-/// Finds the end of the ChannelData that the bytes begin with.
+/// Finds the end of the ChannelData at the front of the bytes.
 fn next_channel_frame(bytes: &[u8]) -> Frame
     ensures { result ≡ channel_frame_of bytes.now }
 {
@@ -169,8 +172,8 @@ fn frame_to(there: usize, whole: usize) -> Frame
     }
 }
 
-/// Returns `true` if a packet is for STUN, on a port that other protocols share (RFC 8489, section
-/// 7; RFC 7983, section 7): its first byte is 0 to 3, and it begins with a header of STUN.
+/// Returns `true` if a packet on a port that other protocols share is for STUN (RFC 8489, section
+/// 7; RFC 7983, section 7): its first byte is 0 to 3, and it begins with a STUN header.
 ///
 /// # Examples
 ///

@@ -1,4 +1,4 @@
-//! Laws. A law is a function whose contract is the law; it does nothing.
+//! Laws of this crate. A law is a function that does nothing, and whose contract is the law.
 ghost use Rattle.std.specs.Prelude.{◌≡◌, ◌≤◌, ◌<◌, ◌^◌, ◌↔◌, ℕ, Some, List, slice_index};
 ghost use Rattle.std.specs.Prelude.{◌∷◌, ◌++◌, filter, length, cond, ◌==◌};
 ghost use Rattle.std.specs.List.{AllByRecursion, concat, list_any};
@@ -18,7 +18,7 @@ ghost use Rattle.stun_extra.specs.Unknown.{without_repeats};
 ghost use Rattle.stun_extra.specs.declared.fingerprint.Fingerprint.{Fingerprint};
 ghost use Rattle.stun_extra.specs.declared.framing.Frame.{Frame};
 
-/// Bytes that differ in one byte have different CRC-32.
+/// If two lists of bytes differ in exactly one byte, they have different CRC-32s.
 pub fn one_changed_byte_changes_the_crc()
     ensures { (front behind : List ℕ) (byte other : ℕ) → byte < 256 → other < 256
         → crc32 (front ++ byte ∷ behind) ≡ crc32 (front ++ other ∷ behind) → byte ≡ other }
@@ -36,14 +36,14 @@ pub fn one_changed_byte_makes_fingerprint_wrong()
         → byte ≡ other }
 {}
 
-/// Without its repetitions, a list has the same numbers, each of them once.
+/// If the repetitions in a list are removed, each number of the list is left exactly once.
 pub fn each_number_is_there_once()
     ensures { (x : ℕ) (xs : List ℕ) → length (filter (λ y. y == x) (without_repeats xs))
         ≡ cond (list_any (λ y. y == x) xs) 1 0 }
 {}
 
-/// A stream of messages is cut into exactly these messages, whatever pieces it comes in, and is
-/// refused at the first byte with which no message can begin.
+/// A stream of messages is cut into exactly these messages, whatever pieces it arrives in. It is
+/// refused as soon as no message can begin with the bytes that have arrived.
 pub fn stream_is_cut_into_its_messages()
     ensures whole { (message rest : List ℕ) → IsMessage message
         → frame_of (message ++ rest) ≡ Frame.Message (length message) }
@@ -60,8 +60,8 @@ pub fn stream_is_cut_into_its_messages()
         ≡ cut_with_more frame_of (cut_of frame_of bytes) more }
 {}
 
-/// A stream of packets behind their lengths is cut into exactly these packets, whatever pieces it
-/// comes in.
+/// A stream of packets, each after its length, is cut into exactly these packets, whatever pieces
+/// it arrives in.
 pub fn packet_is_framed()
     ensures whole { (packet rest : List ℕ) → length packet < 2 ^ 16
         → packet_frame_of (framed_packet packet ++ rest)
@@ -76,8 +76,9 @@ pub fn packet_is_framed()
         ≡ cut_with_more packet_frame_of (cut_of packet_frame_of bytes) more }
 {}
 
-/// A stream of messages and ChannelData is cut into exactly these, whatever pieces it comes in, and
-/// is refused at the first byte with which neither can begin.
+/// A stream of messages and ChannelData is cut into exactly these messages and ChannelData,
+/// whatever pieces it arrives in. It is refused as soon as neither a message nor ChannelData can
+/// begin with the bytes that have arrived.
 pub fn turn_is_framed()
     ensures message { (message rest : List ℕ) → IsMessage message
         → turn_frame_of (message ++ rest) ≡ Frame.Message (length message) }

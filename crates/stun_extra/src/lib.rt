@@ -1,5 +1,5 @@
-//! Parts of STUN beside its core: FINGERPRINT, unknown attributes and messages in streams (RFC
-//! 8489), and further attributes of STUN, of ICE (RFC 8445) and of TURN (RFC 8656).
+//! Parts of STUN in addition to its core: FINGERPRINT, unknown attributes and messages in streams
+//! (RFC 8489), and further attributes of STUN, of ICE (RFC 8445) and of TURN (RFC 8656).
 #![tactic(auto)]
 
 pub mod attribute;

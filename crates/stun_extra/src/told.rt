@@ -1,24 +1,24 @@
-//! The types that an iterator has already returned.
+//! The set of the types that an iterator has already returned.
 ghost use Rattle.std.specs.Prelude.{◌≡◌, ◌<◌, ◌^◌, ℕ, ◌==◌, ◌||◌, false};
 ghost use Rattle.stun_extra.specs.code.Told.{is_set, is_told};
 
-/// A bit for each type below 0x8000, which must be understood: whether it was returned. There are
-/// no bits before the first type, because most messages have none, and to clear the bits takes
-/// longer than to look for it.
+/// The set of the types that an iterator has returned, with a bit for each type below 0x8000. The
+/// bits are created when the first type is added, because most messages have no unknown type, and
+/// to clear the bits takes longer than to search a message for unknown types.
 #[derive(Debug, Drop)]
 pub(crate) struct Told {
     words: Option<[u64; 512]>,
 }
 
 impl Told {
-    /// Creates a record in which no type was returned.
+    /// Creates an empty set.
     pub(crate) fn none() -> Told
         ensures { (kind : ℕ) → is_told result.words kind ≡ false }
     {
         Told { words: None }
     }
 
-    /// Returns `true` if a type was returned.
+    /// Returns `true` if the type is in the set.
     pub(crate) fn has(&self, kind: u16) -> bool
         requires { kind < 2 ^ 15 }
         ensures { result ≡ is_told self.now.words kind }
@@ -29,7 +29,7 @@ impl Told {
         }
     }
 
-    /// Records that a type is returned.
+    /// Adds a type to the set.
     pub(crate) fn add(&mut self, kind: u16)
         requires { kind < 2 ^ 15 }
         ensures { (other : ℕ) → is_told self.new.words other

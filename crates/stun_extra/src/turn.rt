@@ -65,7 +65,7 @@ impl TurnMethod {
         }
     }
 
-    /// Returns the method, as a message has it.
+    /// Returns the method as a [`Method`].
     pub fn method(self) -> Method
         ensures { result ≡ method_number self }
     {
@@ -75,7 +75,8 @@ impl TurnMethod {
         }
     }
 
-    /// Returns the method of TURN that a message's method is, or `None` if it is not one of TURN.
+    /// Returns the method of TURN that has the number of `method`, or `None` if TURN has no method
+    /// with this number.
     pub fn of(method: Method) -> Option<TurnMethod>
         ensures { result ≡ turn_method_of method }
     {

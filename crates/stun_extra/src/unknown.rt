@@ -19,11 +19,12 @@ pub use attribute::UnknownAttributes;
 /// The type of UNKNOWN-ATTRIBUTES (RFC 8489, section 18.3).
 pub const UNKNOWN_ATTRIBUTES: AttributeType = AttributeType(0x000A);
 
-/// An iterator over the types of a message's visible attributes that a receiver must understand,
-/// which are those below 0x8000 (RFC 8489, section 14), and does not know. Each type occurs once,
-/// in the order of the message.
+/// An iterator over the types of a message's visible attributes that a receiver must understand
+/// (those below 0x8000; RFC 8489, section 14) but does not know. It returns each type once, in the
+/// order of the message.
 ///
-/// It does not allocate: it has 4 KiB of its own, a bit for each such type.
+/// It does not allocate. It has a size of about 4 KiB, because it has a bit for each of these
+/// types.
 ///
 /// Contracts: the value is the list of the types that are left.
 #[derive(Debug, Drop)]
@@ -46,9 +47,9 @@ impl<'a> Model for UnknownTypes<'a> {
 /// Returns the types of the visible attributes that a receiver must understand (those below
 /// 0x8000), but that are not in `known`. Each type occurs once, in the order of the message.
 ///
-/// A server refuses a request that has one with the error 420 and the attribute
-/// [`UnknownAttributes`]. An indication that has one is dropped, and a response that has one ends
-/// its request as failed (RFC 8489, sections 6.3.1 to 6.3.4).
+/// If a request has such an attribute, the server answers it with error 420 and
+/// [`UnknownAttributes`]. An indication with such an attribute is dropped. A response with such an
+/// attribute ends its request as failed (RFC 8489, sections 6.3.1 to 6.3.4).
 pub fn unknown_types<'a>(message: &Message<'a>, known: &'a [AttributeType]) -> UnknownTypes<'a>
     ensures types { result ≡ unknown_types known.now message.now }
     ensures few { length result < 2 ^ 14 }
@@ -68,15 +69,15 @@ fn is_known(known: &[AttributeType], kind: AttributeType) -> bool
 }
 
 /// Returns `true` if a message has a visible attribute that a receiver must understand, but whose
-/// type is not in `known`. Drop an indication that has one (RFC 8489, section 6.3.2).
+/// type is not in `known`. If the message is an indication, drop it (RFC 8489, section 6.3.2).
 pub fn has_unknown(message: &Message<'_>, known: &[AttributeType]) -> bool
     ensures { IsTrue result ↔ HasUnknown known.now message.now }
 {
     unknown_types(message, known).next().is_some()
 }
 
-/// Returns `true` if the iterator should return a type: one that the receiver must understand and
-/// does not know, and that is new.
+/// Returns `true` if the iterator should return this type: the receiver must understand it, it is
+/// not in `known`, and it has not been returned yet.
 fn is_new(known: &[AttributeType], told: &Told, kind: AttributeType) -> bool
     ensures { result ≡ is_new known.now told.now.words kind.0 }
 {

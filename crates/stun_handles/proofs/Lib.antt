@@ -1,3 +1,4 @@
+pub mod AddressLemmas
 pub mod AsBox
 pub mod Steps
 pub mod Words

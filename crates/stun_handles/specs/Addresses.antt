@@ -1,4 +1,4 @@
--- The addresses that callers give and get: 4 octets or 16 in network order, and a port.
+-- The addresses that callers pass and receive: 4 octets or 16 in network order, and a port.
 use Rattle.std.specs.Prelude.{ℕ, List, ◌++◌, take, replicate, ◌==◌}
 use Rattle.std.specs.Prelude.{if◌then◌else◌, Option, Some, None}
 use Rattle.std.specs.Option.{option_map}
@@ -21,24 +21,24 @@ ipv6 octets port =
       scope_id = 0;
     })
 
--- the address that a caller means, if its length is that of one
+-- the address of a caller, if its length is that of an address
 abbrev pub socket_address : Address → Option SocketAddr
 socket_address a =
     if a.length == 4 then Some (ipv4 (take 4 a.octets) a.port)
     else if a.length == 16 then Some (ipv6 a.octets a.port) else None
 
--- an address as a caller gets it: zeros after four octets
+-- an address as a caller receives it: zeros after four octets
 abbrev pub caller_address : SocketAddr → Address
 caller_address (V4 a) = record { octets = a.ip.octets ++ replicate 12 0; port = a.port; length = 4 }
 caller_address (V6 a) = record { octets = octets_of a.ip.segments; port = a.port; length = 16 }
 
--- where a walk over addresses begins, as a caller means it: at the first of all where the length is
--- 0; nothing where it is none
+-- where a walk over addresses begins, as a caller passes it: at the first of all if the length is
+-- 0; nothing if it is not an address
 abbrev pub start_told : Address → Option (Option SocketAddr)
 start_told a =
     if a.length == 0 then Some None else option_map (λ address. Some address) (socket_address a)
 
--- where it goes on, as a caller gets it: of length 0 at its end
+-- where the walk continues, as a caller receives it: with length 0 at its end
 abbrev pub start_for : Option SocketAddr → Address
 start_for None = record { octets = replicate 16 0; port = 0; length = 0 }
 start_for (Some address) = caller_address address

@@ -1,11 +1,11 @@
--- What calls share: an address that may be none, and texts.
+-- What calls share: an address that may be invalid, and texts.
 use Rattle.std.specs.Prelude.{ℕ, List, ◌&&◌, if◌then◌else◌, Option, Some, None, Result, Err}
 use Rattle.std.specs.Str.{is_utf8}
 use Rattle.std.specs.declared.net.socket_addr.SocketAddr.{SocketAddr}
 use Rattle.stun_numbers.specs.declared.refusal.Refusal.{Refusal}
 use Rattle.stun_numbers.specs.declared.refusal.Refusal.TheVariants.{BadArgument, NotText}
 
--- an answer about an address, unless what was given is none
+-- a result about an address, unless the address that was passed is invalid
 abbrev pub at_address : {V : Type 0} → Option SocketAddr → (SocketAddr → Result V Refusal)
     → Result V Refusal
 at_address None answer = Err BadArgument

@@ -25,7 +25,7 @@ USER = 1398035797
 abbrev pub is_full : ℕ → Bool
 is_full kind = kind == AGENT || (kind == SERVER || (kind == CLIENT || kind == USER))
 
--- the number that a call returns whose handle has not the kind that the call needs: of an empty
--- handle, or of one that has a value of another kind
+-- the number that a call returns if its handle does not have the kind that the call needs: for an
+-- empty handle, or for one that has a value of another kind
 abbrev pub missing : ℕ → ℤ
 missing kind = refusal_number (if kind == EMPTY then EmptyHandle else WrongHandle)

@@ -1,6 +1,6 @@
--- What the contracts of this crate say, in the order to read it.
+-- What the contracts of this crate say, in reading order.
 
--- the addresses that callers give and get
+-- the addresses that callers pass and receive
 pub mod Addresses
 -- the numbers that calls return
 pub mod Numbers
@@ -8,7 +8,7 @@ pub mod Numbers
 pub mod Kinds
 -- the stored keys of a user
 pub mod Keys
--- what calls share: an address that may be none, and texts
+-- what calls share: an address that may be invalid, and texts
 pub mod Answers
--- what no clause of a public call cites: what representations alone use
+-- definitions that no clause of a public call cites: what representations alone use
 pub mod code

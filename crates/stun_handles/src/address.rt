@@ -1,4 +1,4 @@
-//! The addresses that callers pass and receive.
+//! The addresses that callers pass to the calls and receive from them.
 
 ghost use Rattle.std.specs.Prelude.{◌≡◌, take, IfOk, IfErr, Some, None};
 ghost use Rattle.stun_handles.specs.Addresses.{caller_address, ipv4, ipv6};
@@ -7,11 +7,11 @@ ghost use Rattle.stun_handles.specs.Addresses.{socket_address, start_for, start_
 use std::net::{Ipv4Addr, Ipv6Addr, SocketAddr, SocketAddrV4, SocketAddrV6};
 use stun_numbers::refusal::Refusal;
 
-/// An address: 4 octets (IPv4) or 16 (IPv6) in network order at the front, and a port.
+/// An address, with 4 octets (IPv4) or 16 (IPv6), and a port.
 #[repr(C)]
 #[derive(Debug, Clone, Copy, PartialEq, Eq)]
 pub struct Address {
-    /// The octets in network order. Only the first four of an IPv4 address are read.
+    /// The octets, in network order. For an IPv4 address, only the first four are read.
     pub octets: [u8; 16],
     /// The port, in host byte order.
     pub port: u16,
@@ -36,9 +36,9 @@ fn ipv6(octets: &[u8; 16], port: u16) -> SocketAddr
 }
 
 impl Address {
-    /// Converts the address of a caller. Fails with `BadArgument` if its length is neither 4 nor
-    /// 16.
-    // Not inlined, because some thirty calls for C begin with it.
+    /// Converts an address that a caller passes. Fails with `BadArgument` if its length is neither
+    /// 4 nor 16.
+    // Not inlined, because about thirty calls for C begin with it.
     #[inline(never)]
     pub fn socket(&self) -> Result<SocketAddr, Refusal>
         ensures ok { IfOk result (λ address. socket_address self.now ≡ Some address) }
@@ -52,8 +52,9 @@ impl Address {
         }
     }
 
-    /// Returns the address at which to begin a walk over addresses, or `None`, for the first one,
-    /// if the length is 0.
+    /// Returns the address at which to begin a walk over addresses, or `None` if the length is 0.
+    /// The walk then begins at the first address. Fails with `BadArgument` if the length is not 0,
+    /// 4 or 16.
     pub fn start(&self) -> Result<Option<SocketAddr>, Refusal>
         ensures ok { IfOk result (λ start. start_told self.now ≡ Some start) }
         ensures err { IfErr result (λ refusal. (start_told self.now ≡ None)
@@ -65,7 +66,8 @@ impl Address {
         Ok(Some(self.socket()?))
     }
 
-    /// Converts the address at which a walk continues. The length is 0 at its end.
+    /// Converts the address at which a walk continues. If the walk has ended, the result has the
+    /// length 0.
     pub fn of_start(start: Option<SocketAddr>) -> Address
         ensures { result ≡ start_for start }
     {
@@ -79,8 +81,8 @@ impl Address {
         }
     }
 
-    /// Converts an address for a caller. The flow information and the scope of an IPv6 address are
-    /// left out.
+    /// Converts an address for a caller. The result lacks the flow information and the scope of an
+    /// IPv6 address.
     pub fn of(address: SocketAddr) -> Address
         ensures { result ≡ caller_address address }
     {

@@ -1,14 +1,14 @@
-//! The numbers that calls return.
+//! Converts results to the numbers that calls return.
 
 ghost use Rattle.std.specs.Prelude.{◌≡◌};
 ghost use Rattle.stun_handles.specs.Numbers.{done_answer, length_answer, number_answer};
 
 use stun_numbers::refusal::Refusal;
 
-/// The greatest number that a call returns.
+/// The greatest number that a call can return.
 const MOST: usize = 9_223_372_036_854_775_807;
 
-/// Returns 0, or the number of the error.
+/// Returns 0 for a call that has succeeded, or the negative code of its error.
 pub fn done(answer: Result<(), Refusal>) -> i64
     ensures { result ≡ done_answer answer }
 {
@@ -18,8 +18,8 @@ pub fn done(answer: Result<(), Refusal>) -> i64
     }
 }
 
-/// Returns a small number, or the number of the error.
-// Not inlined, because some twenty calls for C end with it.
+/// Returns the number that a call has returned, or the negative code of its error.
+// Not inlined, because about twenty calls for C end with it.
 #[inline(never)]
 pub fn number(answer: Result<u32, Refusal>) -> i64
     ensures { result ≡ number_answer answer }
@@ -30,7 +30,8 @@ pub fn number(answer: Result<u32, Refusal>) -> i64
     }
 }
 
-/// Returns how many bytes were written, or the number of the error.
+/// Returns the length that a call has returned, at most 2^63 - 1, or the negative code of its
+/// error.
 pub fn length(answer: Result<usize, Refusal>) -> i64
     ensures { result ≡ length_answer answer }
 {

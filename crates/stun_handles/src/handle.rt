@@ -1,7 +1,7 @@
-//! The handle with which a program in C holds a value on the heap.
+//! The handle through which a program in C uses a value on the heap.
 //!
-//! A handle is a flag and a pointer, and has no `Drop`, so that an assignment cannot free its
-//! value.
+//! A handle is a flag and a pointer. It has no `Drop`, so an assignment to a handle does not free
+//! its value.
 ghost use Rattle.std.specs.Prelude.{◌≡◌, Some, None, Option, IfSome, IfNone};
 ghost use Rattle.std.specs.Coded.{coded_option};
 ghost use Rattle.stun_handles.specs.code.Handle.{handle_owns};
@@ -52,7 +52,7 @@ impl<T> Loose<T> {
         None
     }
 
-    /// Takes a box apart.
+    /// Converts a box to a handle.
     pub fn of(state: Box<T, Global>) -> Loose<T>
     where
         T: Drop,
@@ -61,7 +61,7 @@ impl<T> Loose<T> {
         Loose::of_parts(Parts::of(state))
     }
 
-    /// Returns the box, if the handle has one.
+    /// Returns the box in the handle, or `None` if the handle is empty.
     pub fn into_box(self, alloc: Global) -> Option<Box<T, Global>>
         ensures some { IfSome result (λ state. self.state ≡ Some state.value) }
         ensures none { IfNone result (self.state ≡ None) }
@@ -72,7 +72,7 @@ impl<T> Loose<T> {
         }
     }
 
-    /// Forgets an empty handle.
+    /// Discards an empty handle.
     pub fn discard(self, alloc: Global)
     where
         T: Drop,

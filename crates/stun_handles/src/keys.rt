@@ -6,8 +6,8 @@ ghost use Rattle.stun_handles.specs.Keys.{key_given, keys_given};
 use stun_auth::auth::StoredKeys;
 use stun_numbers::refusal::Refusal;
 
-/// Converts a key of a caller, which is missing if it has no bytes. Fails with `BadArgument` if it
-/// has another length than a key.
+/// Converts a key that a caller passes. Returns `None` if the key has no bytes. Fails with
+/// `BadArgument` if it has bytes, but not `N` of them.
 fn key_of<const N: usize>(bytes: &[u8]) -> Result<Option<[u8; N]>, Refusal>
     ensures { result ≡ key_given N bytes.now }
 {
@@ -22,8 +22,8 @@ fn key_of<const N: usize>(bytes: &[u8]) -> Result<Option<[u8; N]>, Refusal>
     Ok(Some(key))
 }
 
-/// Converts the stored keys of a caller: 16 bytes for HMAC-SHA1 and 32 for HMAC-SHA256. A key
-/// without bytes is missing. Fails with `BadArgument` for another length.
+/// Converts the stored keys that a caller passes: 16 bytes for HMAC-SHA1, and 32 for HMAC-SHA256. A
+/// key without bytes is missing. Fails with `BadArgument` if a key has any other length.
 pub fn keys_of(sha1: &[u8], sha256: &[u8]) -> Result<StoredKeys, Refusal>
     ensures { result ≡ keys_given (key_given 16 sha1.now) (key_given 32 sha256.now) }
 {

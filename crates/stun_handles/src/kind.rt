@@ -1,6 +1,7 @@
-//! The kind with which a handle begins.
+//! The kind at the beginning of a handle, a number that says which type of value the handle has.
 //!
-//! A kind is large, so that memory that was never a handle rarely begins with one.
+//! The kind of a handle that has a value is a large number, so memory that was never a handle
+//! rarely begins with one.
 
 ghost use Rattle.std.specs.Prelude.{◌≡◌};
 ghost use Rattle.stun_handles.specs.Kinds.{missing};
@@ -22,9 +23,9 @@ pub const CLIENT: u32 = 1_398_035_779;
 /// The kind of a handle that has a prepared user.
 pub const USER: u32 = 1_398_035_797;
 
-/// Returns what a call returns if its handle has another kind than the call needs: the number of
-/// `EmptyHandle` if the handle is empty, and otherwise that of `WrongHandle`.
-// Not inlined, because some forty calls for C have it.
+/// Returns the result of a call whose handle does not have the kind that the call needs: the code
+/// of `EmptyHandle` if the handle is empty, and otherwise that of `WrongHandle`.
+// Not inlined, because about forty calls for C use it.
 #[inline(never)]
 pub fn missing(kind: u32) -> i64
     ensures { result ≡ missing kind }

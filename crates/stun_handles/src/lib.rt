@@ -1,5 +1,5 @@
-//! The parts of an archive for programs in C other than its calls: handles of values on the heap,
-//! addresses, texts, stored keys, and the numbers that calls return.
+//! What the archives for programs in C need in addition to their calls: handles to values on the
+//! heap, addresses, texts, stored keys, and the numbers that calls return.
 #![tactic(auto)]
 
 pub mod address;

@@ -238,7 +238,7 @@ module _ (a : Agent) (c : Option SentCheck) (from : SocketAddr) (bytes : List �
 
   -- ---- and back
 
-  -- a message with a right FINGERPRINT and the method Binding is judged by its class
+  -- a message with a valid FINGERPRINT and the method Binding is judged by its class
   pub reaches-class : (class : MessageClass) → refusal bytes ≡ None → fingerprint_in bytes ≡ Right
       → class_in bytes ≡ class → method_of (type_field bytes) ≡ 1
       → judgement_of a c from bytes ≡ by_class a c from bytes class

@@ -6,7 +6,6 @@ use Rattle.std.specs.List.{list_any}
 use Rattle.std.specs.Prelude.{◌&&◌, ◌||◌, ◌==◌, not, if◌then◌else◌, codes, drop, slice_index}
 use Rattle.stun_base.specs.Keys.{with_colon}
 use Rattle.stun_ice.specs.Agent.{has_colon}
-use Rattle.stun_ice.specs.declared.checker.BuildError.{BuildError}
 use Rattle.stun_ice.specs.declared.checker.BuildError.TheVariants.{ColonInName, NameLength}
 use Rattle.stun_ice.specs.declared.checker.BuildError.TheVariants.{PasswordLength}
 

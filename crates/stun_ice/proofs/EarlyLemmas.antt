@@ -1,5 +1,5 @@
 -- What an agent makes of a check does not depend on what it knows of its peer.
-use Rattle.std.proofs.Common.{◌≡◌, ℕ, List, true, refl, ◌∙◌, sym, ap, Option}
+use Rattle.std.proofs.Common.{◌≡◌, ℕ, List, refl, ◌∙◌, sym, ap, Option}
 use Rattle.std.specs.declared.net.socket_addr.SocketAddr.{SocketAddr}
 use Rattle.stun_base.specs.MessageType.{method_of}
 use Rattle.stun_base.specs.Header.{type_field}
@@ -7,7 +7,7 @@ use Rattle.std.proofs.lemmas.Bool.{eqb-true}
 use Rattle.stun_base.specs.declared.wire.message_type.MessageClass.TheVariants.{Request}
 use Rattle.stun_ice.specs.Agent.{Agent, Peer, SentCheck}
 use Rattle.stun_ice.specs.Checks.{verdict_of}
-use Rattle.stun_ice.specs.Received.{Given, checked, given, judgement_of, role_left}
+use Rattle.stun_ice.specs.Received.{checked, given, judgement_of, role_left}
 use Rattle.stun_ice.specs.declared.checker.receiving.Judgement.{Judgement}
 use Rattle.stun_ice.specs.declared.checker.receiving.Judgement.TheVariants.{Check, Response}
 use Rattle.stun_ice.specs.declared.checker.receiving.Judgement.TheVariants.{Indication as Keepalive}

@@ -6,3 +6,5 @@ pub mod EarlyLemmas
 pub mod RoleLemmas
 pub mod BufferLemmas
 pub mod CredentialLemmas
+pub mod RoomLemmas
+pub mod AnswerableLemmas

@@ -34,7 +34,7 @@ pub record Peer : Type 0 where
 
 -- an agent in a session with one peer
 pub record Agent : Type 0 where
-  -- its own name, with which USERNAME of the checks begins that it receives
+  -- its own name, which begins USERNAME of the checks that it receives
   pub name : List ℕ
   -- its own password, which signs the checks that it receives and its answers to them
   pub password : List ℕ
@@ -48,7 +48,7 @@ abbrev pub remote_peer : List ℕ → List ℕ → List ℕ → Peer
 remote_peer name peer_name peer_password =
     record { outgoing = with_colon peer_name name; password = peer_password }
 
--- ---- settings that make no agent
+-- ---- settings of which no agent can be built
 
 -- whether a length is between two others
 abbrev pub is_within : ℕ → ℕ → List ℕ → Bool
@@ -65,7 +65,7 @@ are_passwords one other = is_within 22 256 one && is_within 22 256 other
 abbrev pub has_colon : List ℕ → Bool
 has_colon name = list_any (λ byte. byte == 58) name
 
--- why names and passwords make no agent, the first reason that holds
+-- why no agent is built from these names and passwords: the first reason that applies
 abbrev pub build_refusal : List ℕ → List ℕ → List ℕ → List ℕ → Option BuildError
 build_refusal name peer_name password peer_password =
     if not (are_names name peer_name) then Some NameLength
@@ -73,7 +73,7 @@ build_refusal name peer_name password peer_password =
     else if not (are_passwords password peer_password) then Some PasswordLength
     else None
 
--- why one name and one password are none, the first reason that holds
+-- why the name and the password of one side are not accepted: the first reason that applies
 abbrev pub side_refusal : List ℕ → List ℕ → Option BuildError
 side_refusal name password =
     if not (is_within 4 256 name) then Some NameLength
@@ -96,7 +96,7 @@ peer_name_in name username =
 
 -- ---- a check
 
--- what an agent stores of a check: the id, where it went, the role that its sender had, whether it
+-- what an agent stores of a check: the ID, its destination, the role of its sender, whether it
 -- nominates, and its bytes
 pub record SentCheck : Type 0 where
   pub id : ℕ
@@ -135,18 +135,18 @@ check_page a peer id priority nominates =
     (username_attribute peer.outgoing)) (priority_attribute priority))
     (role_attribute a.role a.tie_breaker))
 
--- a check: it is signed under the password of the peer, and ends with FINGERPRINT (sections 7.2.2
+-- a check: it is signed with the password of the peer, and ends with FINGERPRINT (sections 7.2.2
 -- and 7.2.4)
 unfoldable pub check_bytes : Agent → Peer → ℕ → ℕ → Bool → List ℕ
 check_bytes a peer id priority nominates =
     with_fingerprint (with_integrity (check_page a peer id priority nominates) Sha1 peer.password)
 
--- a check with its end: it is signed under a password, and ends with FINGERPRINT
+-- a check with its end: it is signed with a password, and ends with FINGERPRINT
 abbrev pub ended_page : List ℕ → List ℕ → List ℕ
 ended_page password page = with_fingerprint (with_integrity page Sha1 password)
 
--- why a check cannot be ended: the first of the integrity attribute and FINGERPRINT that it does not
--- take
+-- why a check cannot be ended: the first of the integrity attribute and FINGERPRINT that cannot be
+-- added
 -- its own law: it is the first of two refusals that have their laws, in the order of section 7.1
 abbrev pub ending_refusal : List ℕ → List ℕ → Option StunWriteError
 ending_refusal password page =
@@ -154,7 +154,7 @@ ending_refusal password page =
     option_or (signing_refusal page (LENGTH_LIMIT - length page) Sha1)
     (fingerprint_refusal signed (LENGTH_LIMIT - length signed))
 
--- the check to a peer whose attributes are these, before its end
+-- the check to a peer that has these attributes before its end
 abbrev pub sent_page : Agent → Peer → ℕ → SocketAddr → Bool → List ℕ → SentCheck
 sent_page a peer id to nominate page = record {
   id = id;

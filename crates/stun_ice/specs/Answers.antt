@@ -1,5 +1,5 @@
 -- The answers to checks, byte by byte (RFC 8489, sections 6.3.1 and 9.1.3; RFC 8445, section 7.3).
--- Each is an answer of this agent: signed under its own password, and with FINGERPRINT.
+-- Each is an answer of this agent: signed with its own password, and with FINGERPRINT.
 use Rattle.std.specs.Prelude.{ℕ, List, Option, Some, None, codes}
 use Rattle.std.specs.declared.net.socket_addr.SocketAddr.{SocketAddr}
 use Rattle.stun_base.specs.declared.keys.algorithm.IntegrityAlgorithm.{IntegrityAlgorithm}
@@ -36,17 +36,17 @@ abbrev pub mapped_page : SocketAddr → List ℕ → List ℕ
 mapped_page from request =
     with_attribute (empty_answer Success request) (mapped_address from request)
 
--- the success response, signed as the check is
+-- the success response, signed with the algorithm of the check
 abbrev pub success_answer : Agent → SocketAddr → List ℕ → IntegrityAlgorithm → List ℕ
 success_answer a from request algorithm = with_end a (Some algorithm) (mapped_page from request)
 
--- the 487, signed as the check is
+-- the 487, signed with the algorithm of the check
 abbrev pub conflict_answer : Agent → List ℕ → IntegrityAlgorithm → List ℕ
 conflict_answer a request algorithm =
     with_end a (Some algorithm) (error_page request 487 (codes "Role Conflict"))
 
--- the answer to a check that is refused: 400 and 401 to one that is not signed by the peer are not
--- signed (RFC 8489, section 9.1.3)
+-- the answer to a check that is refused. A 400 or 401 answers a check that the peer has not signed,
+-- and is not signed itself (RFC 8489, section 9.1.3)
 abbrev pub refused_answer : Agent → List ℕ → Refusal → Option IntegrityAlgorithm → List ℕ
 refused_answer a request BadRequest signature =
     with_end a signature (error_page request 400 (codes "Bad Request"))

@@ -1,4 +1,5 @@
--- What the result of `receive_into` says, with the bytes that the call leaves in the buffer.
+-- The outcome that the result of `receive_into` describes, with the bytes that the call leaves in
+-- the buffer.
 use Rattle.std.specs.Prelude.{◌≡◌, ℕ, List, []}
 use Rattle.stun_ice.specs.Received.{Given, checked, dropped, indicated, responded}
 use Rattle.stun_ice.specs.declared.received.ReceivedInto.{ReceivedInto}

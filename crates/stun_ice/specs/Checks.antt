@@ -1,4 +1,4 @@
--- What a check of the peer comes to (RFC 8489, sections 6.3.1 and 9.1.3; RFC 8445, section 7.3).
+-- The outcome of a check of the peer (RFC 8489, sections 6.3.1 and 9.1.3; RFC 8445, section 7.3).
 use Rattle.std.specs.Prelude.{◌≡◌, ℕ, List, [], Bool, false, not}
 use Rattle.std.specs.Prelude.{if◌then◌else◌, Option, Some, None}
 use Rattle.std.specs.Option.{is_none, is_some, option_and_then}
@@ -26,17 +26,17 @@ use Rattle.stun_ice.specs.declared.received.Refusal.TheVariants.{UnknownAttribut
 use Rattle.stun_ice.specs.declared.role.Role.{Role}
 use Rattle.stun_ice.specs.declared.role.Role.TheVariants.{Controlling, Controlled}
 
--- ---- whom an agent accepts
+-- ---- which checks an agent accepts
 
 -- whether a check nominates its pair to a receiver that has this role (section 7.3.1.5)
 abbrev pub is_nominated : Role → List ℕ → Bool
 is_nominated Controlling bytes = false
 is_nominated Controlled bytes = has_use_candidate bytes
 
--- an agent accepts a datagram as a check: it is a Binding request with a right FINGERPRINT, the name
--- of this agent before a colon and any name after it, a digest under the password of this agent, no
--- attribute that must be understood and is not, and a priority. If it says that its sender has the
--- role of this agent, this agent is the one to switch
+-- an agent accepts a datagram as a check: it is a Binding request with a valid FINGERPRINT, the
+-- name of this agent before a colon and any name after it, a digest under the password of this
+-- agent, no attribute that must be understood and is not, and a priority. If it states that its
+-- sender has the role of this agent, this agent is the one to switch
 pub record Accepts (a : Agent) (bytes : List ℕ) (check : Acceptance) : Type 0 where
   pub message : refusal bytes ≡ None
   pub fingerprint : fingerprint_in bytes ≡ Right
@@ -65,14 +65,14 @@ by_role bytes algorithm priority (Some role) = Accepted (record {
   nominated = is_nominated role bytes;
 })
 
--- before it, PRIORITY must be there
+-- before it, there must be a PRIORITY
 abbrev pub by_priority : Agent → List ℕ → IntegrityAlgorithm → Option ℕ → Verdict
 by_priority a bytes algorithm None = Refused BadRequest (Some algorithm)
 by_priority a bytes algorithm (Some priority) =
     by_role bytes algorithm priority
     (role_after_check a.role a.tie_breaker (rival a.role bytes))
 
--- before it, attributes must be understood, and before them the digest must be right
+-- before it, attributes must be understood, and before them the digest must be valid
 abbrev pub by_signature : Agent → List ℕ → Option IntegrityAlgorithm → Verdict
 by_signature a bytes None = Refused Unauthenticated None
 by_signature a bytes (Some algorithm) =
@@ -93,16 +93,16 @@ abbrev pub verdict_of : Agent → List ℕ → Verdict
 verdict_of a bytes =
     if is_none (deciding bytes) then Refused BadRequest None else by_name a bytes (username_in bytes)
 
--- ---- what the caller is told
+-- ---- what the caller learns
 
--- what the caller is told, whose role was this one
+-- the outcome that the caller learns, if the role before was this one
 abbrev pub judged_of : Role → Verdict → Judged
 judged_of before (Accepted check) =
     told.Accepted check.priority check.nominated (not (is_same_role before check.role))
 judged_of before (Conflict algorithm) = told.RoleConflict
 judged_of before (Refused reason by) = told.Refused reason
 
--- the role that a check leaves, to an agent whose role was this one
+-- the role of an agent after a check, if its role before was this one
 abbrev pub role_of : Role → Verdict → Role
 role_of before (Accepted check) = check.role
 role_of before (Conflict algorithm) = before

@@ -1,5 +1,5 @@
--- Two agents that check each other, over a network that loses, repeats, delays and reorders (RFC
--- 8445, sections 7.2.5.1 and 7.3.1.1). Of messages only the roles are looked at.
+-- Two agents that check each other, over a network that loses, repeats, delays and reorders
+-- datagrams (RFC 8445, sections 7.2.5.1 and 7.3.1.1). Only the roles in the messages matter here.
 use Rattle.std.specs.Prelude.{◌≡◌, ℕ, zero, suc, List, [], ◌∷◌, Bool, true, false, nat_lt}
 use Rattle.std.specs.Prelude.{if◌then◌else◌, Option, Some, None}
 use Rattle.stun_ice.specs.Received.{role_after_outcome}
@@ -8,12 +8,12 @@ use Rattle.stun_ice.specs.declared.received.Outcome.TheVariants.{RoleConflict}
 use Rattle.stun_ice.specs.declared.role.Role.{Role}
 use Rattle.stun_ice.specs.declared.role.Role.TheVariants.{Controlling, Controlled}
 
--- what a check says of its sender: the role and the tie-breaker
+-- what a check states of its sender: the role and the tie-breaker
 pub record Said : Type 0 where
   pub role : Role
   pub tie_breaker : ℕ
 
--- what an answer says: the role that its check was sent in, and whether it is a 487
+-- what an answer states: the role in which its check was sent, and whether it is a 487
 pub record Told : Type 0 where
   pub role : Role
   pub conflict : Bool
@@ -39,7 +39,7 @@ abbrev pub beginning : Role → ℕ → Side
 beginning role tie =
     record { role = role; tie_breaker = tie; checks = []; answers = []; heard = false }
 
--- ---- what happens: each event is of a check of the left agent, or of one of the right agent
+-- ---- events, each with a check of the left agent, or with one of the right agent
 
 pub data Event : Type 0 where
   -- the agent sends a check
@@ -59,11 +59,12 @@ at n [] = None
 at zero (x ∷ xs) = Some x
 at (suc n) (x ∷ xs) = at n xs
 
--- the tie-breaker of a check, if it says that its sender has this role
+-- the tie-breaker of a check, if it states that its sender has this role
 abbrev pub rival_of : Role → Said → Option ℕ
 rival_of role said = if is_same_role role said.role then Some said.tie_breaker else None
 
--- a check of the left agent is answered, by the role that the right agent has then, if it has one
+-- a check of the left agent is answered according to the role that the right agent then has, if it
+-- has one
 abbrev pub answered : Sides → Said → Option Role → Sides
 answered s said None = record s {
   left = record s.left {
@@ -109,19 +110,19 @@ abbrev pub after_one : Sides → Happening → Sides
 after_one s (of_left event) = after_event s event
 after_one s (of_right event) = swapped (after_event (swapped s) event)
 
--- both agents after events, the first of which comes first
+-- both agents after events, in their order
 abbrev pub after_all : Sides → List Happening → Sides
 after_all s [] = s
 after_all s (event ∷ events) = after_all (after_one s event) events
 
--- ---- what they come to
+-- ---- the roles in which they end
 
--- the role that an agent with a tie-breaker ends in, where both begin in one role: the larger one
--- controls
+-- the role in which an agent with a tie-breaker ends, if both begin in the same role: the agent
+-- with the larger one controls
 abbrev pub settled_role : ℕ → ℕ → Role
 settled_role ours theirs = if nat_lt theirs ours then Controlling else Controlled
 
--- both agents have the roles that their tie-breakers give them
+-- both agents have the roles that follow from their tie-breakers
 pub record AreSettled (left_tie right_tie : ℕ) (s : Sides) : Type 0 where
   pub left : s.left.role ≡ settled_role left_tie right_tie
   pub right : s.right.role ≡ opposite (settled_role left_tie right_tie)

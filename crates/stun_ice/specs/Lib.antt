@@ -1,4 +1,4 @@
--- What the contracts of this crate say, in the order to read it.
+-- What the contracts of this crate say, in reading order.
 
 -- the two roles, and how a conflict ends (RFC 8445, sections 7.2.5.1 and 7.3.1.1)
 pub mod Roles
@@ -6,19 +6,21 @@ pub mod Roles
 pub mod Agent
 -- the codes of error responses
 pub mod Refusals
--- what a check says (section 7.1)
+-- the parts of a check (section 7.1)
 pub mod Parts
 -- which checks of the peer an agent accepts, and how it refuses others (section 7.3)
 pub mod Checks
 -- its answers, byte by byte
 pub mod Answers
--- what the answer to a check comes to (section 7.2.5)
+-- the outcome of the answer to a check (section 7.2.5)
 pub mod Responses
--- what a datagram comes to
+-- the outcome of a datagram
 pub mod Received
--- what the result of `receive_into` says, with the bytes in the buffer
+-- the outcome that the result of `receive_into` describes, with the bytes in the buffer
 pub mod Buffered
--- when the caller is told that a check is accepted, or that a pair is valid
+-- when the caller learns that a check is accepted, or that a pair is valid
 pub mod Told
 -- two agents, over a network that loses, repeats and reorders
 pub mod Conflicts
+-- definitions that no clause of a public call cites
+pub mod code

@@ -1,5 +1,5 @@
--- What a check says (RFC 8445, section 7.1), and its answer. Of attributes of one type the first
--- visible one counts, and a malformed one counts as absent.
+-- The parts of a check (RFC 8445, section 7.1), and of its answer. Of several attributes of one
+-- type the first visible one counts, and a malformed one counts as absent.
 use Rattle.std.specs.Prelude.{ℕ, List, [], ◌∷◌, Bool, Option}
 use Rattle.std.specs.Option.{is_some, option_and_then, option_map}
 use Rattle.stun_base.specs.Attributes.{ERROR_CODE, USERNAME, XOR_MAPPED_ADDRESS}
@@ -30,11 +30,11 @@ username_in bytes = option_map (λ m. m.1.value) (first_of USERNAME (visible byt
 abbrev pub priority_in : List ℕ → Option ℕ
 priority_in bytes = option_and_then (λ m. number_of PRIORITY 4 m.1) (first_of PRIORITY (visible bytes))
 
--- whether USE-CANDIDATE is there (section 7.1.2)
+-- whether there is a USE-CANDIDATE (section 7.1.2)
 abbrev pub has_use_candidate : List ℕ → Bool
 has_use_candidate bytes = is_some (first_of USE_CANDIDATE (visible bytes))
 
--- the tie-breaker of the sender, if the check says that it has this role (section 7.1.3)
+-- the tie-breaker of the sender, if the check states that it has this role (section 7.1.3)
 abbrev pub rival : Role → List ℕ → Option ℕ
 rival Controlling bytes =
     option_and_then (λ m. number_of ICE_CONTROLLING 8 m.1)

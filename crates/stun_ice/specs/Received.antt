@@ -1,5 +1,5 @@
--- What a datagram comes to (RFC 8445, sections 7.2.5, 7.3 and 11). It is a function of the agent, the
--- check that may be answered, the source and the datagram.
+-- The outcome of a datagram (RFC 8445, sections 7.2.5, 7.3 and 11). It is a function of the agent,
+-- the check that may be answered, the source and the datagram.
 use Rattle.std.specs.Prelude.{ℕ, List, Bool, true, false, if◌then◌else◌, Option, Some, None}
 use Rattle.std.specs.Option.{is_some}
 use Rattle.std.specs.declared.net.socket_addr.SocketAddr.{SocketAddr}
@@ -40,7 +40,7 @@ use Rattle.stun_ice.specs.declared.role.Role.{Role}
 
 -- ---- how a datagram is judged
 
--- why bytes that are no message are dropped
+-- why bytes that are not a message are dropped
 abbrev pub no_message : List ℕ → DropReason
 no_message bytes = if is_some (header_refusal bytes) then NotStun else Malformed
 
@@ -59,14 +59,14 @@ by_response a (Some check) from bytes =
     else Dropped WrongSignature
     else Dropped NotAsked
 
--- what a message comes to, by its class
+-- the outcome of a message, by its class
 abbrev pub by_class : Agent → Option SentCheck → SocketAddr → List ℕ → MessageClass → Judgement
 by_class a check from bytes Request = Check bytes (verdict_of a bytes)
 by_class a check from bytes Indication = of_indication bytes
 by_class a check from bytes Success = by_response a check from bytes
 by_class a check from bytes Error = by_response a check from bytes
 
--- a message must have a right FINGERPRINT and the method Binding
+-- a message must have a valid FINGERPRINT and the method Binding
 abbrev pub by_fingerprint : Agent → Option SentCheck → SocketAddr → List ℕ → Fingerprint
     → Judgement
 by_fingerprint a check from bytes Right =
@@ -75,7 +75,7 @@ by_fingerprint a check from bytes Wrong = Dropped WrongFingerprint
 by_fingerprint a check from bytes Misplaced = Dropped WrongFingerprint
 by_fingerprint a check from bytes Absent = Dropped WrongFingerprint
 
--- what a datagram comes to, before an answer is written
+-- the outcome of a datagram, before an answer is written
 abbrev pub judgement_of : Agent → Option SentCheck → SocketAddr → List ℕ → Judgement
 judgement_of a check from bytes =
     if is_some (refusal bytes) then Dropped (no_message bytes)
@@ -88,10 +88,10 @@ is_check (Response outcome) = false
 is_check (Keepalive bytes) = false
 is_check (Dropped reason) = false
 
--- ---- what the caller is given
+-- ---- what is returned to the caller
 
--- what the caller is given of a datagram: a check with its answer and what it comes to, the end of
--- its own check, an indication, or why the datagram is dropped
+-- what is returned to the caller for a datagram: a check with its answer and its outcome, the end
+-- of the agent's own check, an indication, or why the datagram is dropped
 pub data Given : Type 0 where
   checked : List ℕ → List ℕ → Judged → Given
   responded : Outcome → Given
@@ -105,7 +105,7 @@ given a from (Response outcome) = responded outcome
 given a from (Keepalive bytes) = indicated bytes
 given a from (Dropped reason) = dropped reason
 
--- what the result of `receive` says
+-- the result of `receive`, as this type
 -- its own law: each variant has the parts of the same name
 abbrev pub given_of : {A : Type 0} → Received A → Given
 given_of (code.Check message answer judged) = checked message answer.items judged
@@ -113,14 +113,14 @@ given_of (code.Response outcome) = responded outcome
 given_of (code.Indication message) = indicated message
 given_of (code.Dropped reason) = dropped reason
 
--- ---- the role that an agent is left with
+-- ---- the role of the agent afterwards
 
 abbrev pub role_after_outcome : Role → Outcome → Role
 role_after_outcome role (Valid mapped) = role
 role_after_outcome role (RoleConflict switched) = if switched then opposite role else role
 role_after_outcome role (Failed failure) = role
 
--- the role of an agent after a datagram, whose role was this one
+-- the role of an agent after a datagram, if its role before was this one
 abbrev pub role_left : Role → Judgement → Role
 role_left role (Check bytes verdict) = role_of role verdict
 role_left role (Response outcome) = role_after_outcome role outcome

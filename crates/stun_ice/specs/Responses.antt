@@ -1,4 +1,4 @@
--- What the answer to a check comes to (RFC 8445, section 7.2.5).
+-- The outcome of the answer to a check (RFC 8445, section 7.2.5).
 use Rattle.std.specs.Prelude.{◌≡◌, ℕ, List, [], ◌∷◌, Bool, true, false, ◌==◌}
 use Rattle.std.specs.Prelude.{if◌then◌else◌, Option, Some, None}
 use Rattle.std.specs.declared.net.socket_addr.SocketAddr.{SocketAddr}
@@ -30,7 +30,7 @@ use Rattle.stun_ice.specs.declared.received.Outcome.{Outcome}
 use Rattle.stun_ice.specs.declared.received.Outcome.TheVariants.{Failed, RoleConflict, Valid}
 use Rattle.stun_ice.specs.declared.role.Role.{Role}
 
--- whether a response has the id of a check
+-- whether a response has the ID of a check
 abbrev pub is_answered : SentCheck → List ℕ → Bool
 is_answered check bytes = check.id == transaction_id_field bytes
 
@@ -51,10 +51,10 @@ is_signed a bytes = is_by_sha1 (peer_algorithm a.peer bytes)
 
 -- ---- when a pair is valid
 
--- a datagram from an address makes the pair of a check valid: it is a success response to the check,
--- with a right FINGERPRINT and a digest under the password of the peer, from the address that the
--- check went to, with no attribute that must be understood and is not, and with the address that the
--- check came from
+-- a datagram from an address makes the pair of a check valid: it is a success response to the
+-- check, with a valid FINGERPRINT and a digest under the password of the peer, from the address
+-- that the check was sent to, with no attribute that must be understood and is not, and with the
+-- address that the check came from
 pub record IsValid (a : Agent) (check : SentCheck) (from : SocketAddr) (bytes : List ℕ)
     (mapped : Mapped) : Type 0 where
   pub message : refusal bytes ≡ None
@@ -98,7 +98,8 @@ abbrev pub of_unknown : Role → SentCheck → List ℕ → List AttributeType �
 of_unknown role check bytes [] = of_response role check bytes (class_in bytes)
 of_unknown role check bytes (kind ∷ kinds) = Failed (NotUnderstood kind)
 
--- and before that, the response must come from where the check went (section 7.2.5.2.1)
+-- and before that, the response must come from the address that the check was sent to (section
+-- 7.2.5.2.1)
 abbrev pub of_path : Role → SentCheck → SocketAddr → List ℕ → Outcome
 of_path role check from bytes =
     if is_same_address from check.to

@@ -1,4 +1,4 @@
--- When the caller is told that a check is accepted, or that a pair is valid.
+-- When the caller learns that a check is accepted, or that a pair is valid.
 use Rattle.std.specs.Prelude.{◌≡◌, List, ℕ, Option, Some}
 use Rattle.std.specs.declared.net.socket_addr.SocketAddr.{SocketAddr}
 use Rattle.stun_ice.specs.Agent.{Agent, SentCheck}
@@ -11,7 +11,7 @@ use Rattle.stun_ice.specs.declared.received.Judged.TheVariants.{RoleConflict as 
 use Rattle.stun_ice.specs.declared.received.Mapped.{Mapped}
 use Rattle.stun_ice.specs.declared.received.Outcome.TheVariants.{Failed, RoleConflict, Valid}
 
--- the caller is told that a check is accepted
+-- the caller learns that a check is accepted
 abbrev pub TellsAccepted : Given → Type 0
 TellsAccepted (checked bytes answer (Accepted priority nominated switched)) = Unit {0}
 TellsAccepted (checked bytes answer PeerSwitches) = ⊥
@@ -20,7 +20,7 @@ TellsAccepted (responded outcome) = ⊥
 TellsAccepted (indicated bytes) = ⊥
 TellsAccepted (dropped reason) = ⊥
 
--- the caller is told that a pair is valid
+-- the caller learns that a pair is valid
 abbrev pub TellsValid : Given → Type 0
 TellsValid (checked bytes answer judged) = ⊥
 TellsValid (responded (Valid mapped)) = Unit {0}

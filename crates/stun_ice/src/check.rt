@@ -1,4 +1,4 @@
-//! A check that was written, as it is stored with its pair.
+//! A connectivity check that has been written. The caller stores it with its candidate pair.
 
 ghost use Rattle.std.specs.Prelude.{◌≡◌, []};
 
@@ -6,12 +6,13 @@ use crate::role::Role;
 use std::alloc::{AllocError, Allocator, Global};
 use std::marker::Model;
 use std::net::SocketAddr;
+use stun_base::memory::Memory;
 use stun_base::transaction_id::TransactionId;
 
-/// A connectivity check: the bytes to send, and what is needed to judge the answer. Store it until
-/// its answer arrives or it times out.
+/// A connectivity check: the bytes to send, and the values that are needed to judge the answer.
+/// Store it until its answer arrives or it times out.
 ///
-/// Contracts: they see all of it.
+/// Contracts: a check is a record of all fields.
 #[derive(Debug, Drop)]
 pub struct Check<A: Allocator = Global> {
     id: TransactionId,
@@ -60,8 +61,8 @@ impl<A: Allocator> Check<A> {
         }
     }
 
-    /// Creates a check without its bytes, from what a caller has stored of one. It is enough to
-    /// judge the answer with.
+    /// Creates a check without its bytes, for a program that stores only the other values. Such a
+    /// check is enough to judge the answer.
     pub fn without_bytes(
         alloc: A,
         id: TransactionId,
@@ -80,7 +81,7 @@ impl<A: Allocator> Check<A> {
         Check::new(id, to, role, nominates, Vec::new(alloc))
     }
 
-    /// Returns the transaction ID, which the answer has too.
+    /// Returns the transaction ID. The answer has the same ID.
     pub fn id(&self) -> TransactionId
         ensures { result ≡ self.now.id }
     {
@@ -94,7 +95,7 @@ impl<A: Allocator> Check<A> {
         self.to
     }
 
-    /// Returns the role that the check says its sender has.
+    /// Returns the role that the check states for its sender.
     pub fn role(&self) -> Role
         ensures { result ≡ self.now.role }
     {
@@ -116,12 +117,14 @@ impl<A: Allocator> Check<A> {
     }
 }
 
-/// Copies the bytes into memory of the same allocator.
-impl<A: Allocator + Copy> Clone for Check<A> {
+/// Copies the check, and its bytes with the allocator of the original.
+impl<A: Memory> Clone for Check<A> {
     ghost is_clone = { λ check copy. copy ≡ check };
 
+    ghost is_infallible = { λ _. A.grants };
+
     fn clone(&self) -> Result<Self, AllocError> {
-        let bytes = Vec::from_slice(*self.bytes.allocator(), self.bytes.as_slice())?;
+        let bytes = A::copied(*self.bytes.allocator(), self.bytes.as_slice())?;
         Ok(Check {
             id: self.id,
             to: self.to,

@@ -1,14 +1,18 @@
-//! One agent of ICE, as far as its checks are concerned (RFC 8445, sections 7.2 and 7.3).
+//! The connectivity checks of one ICE agent: writing, judging and answering them (RFC 8445,
+//! sections 7.2 and 7.3).
 
 ghost use Rattle.std.specs.Fmt.{WritesOnOk, WritesStyledOnOk};
 ghost use Rattle.std.specs.List.{list_any};
-ghost use Rattle.std.specs.Prelude.{◌≡◌, ◌≤◌, ◌==◌, ◌&&◌, ◌⊎◌, Err, IfErr, IfOk, IfSome};
-ghost use Rattle.std.specs.Prelude.{IsOkUnless, MatchOption, None, OnErr, OnOk, Some, codes, length};
+ghost use Rattle.std.specs.Prelude.{◌≡◌, ◌≤◌, ◌+◌, ◌-◌, ◌==◌, ◌&&◌, ◌⊎◌, Err, IfErr, IfOk, IfSome};
+ghost use Rattle.std.specs.Prelude.{IsOk, IsOkUnless, MatchOption, None, OnErr, OnOk, Some, codes, length};
 ghost use Rattle.std.specs.Prelude.{option_copied};
 ghost use Rattle.std.specs.String.{string_bytes};
 ghost use Rattle.stun_base.specs.Keys.{with_colon};
-ghost use Rattle.stun_types.specs.Writing.{IsOpen, empty_message, with_attribute};
+ghost use Rattle.stun_types.specs.Limits.{LENGTH_LIMIT};
+ghost use Rattle.stun_types.specs.WriterCalls.{AddsAttribute};
+ghost use Rattle.stun_types.specs.Writing.{IsOpen, attribute_refusal, empty_message, with_attribute};
 ghost use Rattle.std.specs.Option.{is_some};
+ghost use Rattle.stun_extra.specs.AttributeTypes.{USE_CANDIDATE};
 ghost use Rattle.stun_ice.specs.Agent.{are_names, are_passwords, build_refusal, can_nominate};
 ghost use Rattle.stun_ice.specs.Agent.{check_bytes, check_page, has_colon, is_within, remote_peer};
 ghost use Rattle.stun_ice.specs.Agent.{priority_attribute, role_attribute, sent_check};
@@ -29,6 +33,7 @@ use std::fmt;
 use std::marker::Model;
 use std::net::SocketAddr;
 use stun_base::key::IntegrityKey;
+use stun_base::memory::Memory;
 use stun_base::prepared_key::PreparedKey;
 use stun_extra::attribute::{IceControlled, IceControlling, Priority, UseCandidate};
 use stun_extra::fingerprint::finish_with_fingerprint;
@@ -39,21 +44,21 @@ use stun_types::message::{
 use stun_types::prelude::*;
 use thiserror::Error;
 
-/// How many bytes a check has beside USERNAME: its header, PRIORITY, the role, USE-CANDIDATE,
+/// The number of bytes of a check without USERNAME: its header, PRIORITY, the role, USE-CANDIDATE,
 /// MESSAGE-INTEGRITY and FINGERPRINT.
 const CHECK_LENGTH: usize = 76;
 
-/// The name and the password of one side, as it sent them to the other over signalling (RFC 8445,
-/// section 5.3). `Debug` shows none of it.
+/// The username fragment and the password of one side, which it sends to the other over signalling
+/// (RFC 8445, section 5.3). `Debug` shows neither.
 #[derive(Clone, Copy, Drop)]
 pub struct Credentials<'a> {
-    /// The username fragment, of 4 to 256 bytes without a colon.
+    /// The username fragment: 4 to 256 bytes, without a colon.
     pub name: &'a str,
-    /// The password, of 22 to 256 bytes.
+    /// The password: 22 to 256 bytes.
     pub password: &'a str,
 }
 
-/// Why a checker is not built.
+/// Why a checker could not be built.
 #[derive(Clone, Copy, Debug, PartialEq, Eq, Error)]
 #[non_exhaustive]
 pub enum BuildError {
@@ -71,7 +76,7 @@ pub enum BuildError {
     OutOfMemory,
 }
 
-/// Why a check is not written.
+/// Why a check could not be written.
 #[derive(Clone, Copy, Debug, PartialEq, Eq, Error)]
 #[non_exhaustive]
 pub enum CheckError {
@@ -83,7 +88,7 @@ pub enum CheckError {
     OutOfMemory,
 }
 
-/// What the checks to the peer are written with.
+/// The parts of the checks to the peer: USERNAME, and the password that signs them.
 #[derive(Drop)]
 struct Remote<A: Allocator> {
     username: String<A>,
@@ -91,6 +96,7 @@ struct Remote<A: Allocator> {
 }
 
 impl<A: Allocator> Model for Remote<A> {
+    ghost use Rattle.std.specs.Prelude.{◌≤◌, length};
     ghost use Rattle.std.specs.String.{string_bytes};
     ghost use Rattle.stun_ice.specs.Agent.{Peer};
 
@@ -100,16 +106,20 @@ impl<A: Allocator> Model for Remote<A> {
       outgoing = string_bytes remote.username;
       password = remote.password;
     } };
+
+    // USERNAME fits into its attribute.
+    ghost invariant = { λ remote. length (string_bytes remote.username) ≤ 513 };
 }
 
 /// One agent in a session with one peer: its own credentials, those of the peer once they are
-/// known, the tie-breaker, and the role that the agent has now. It writes checks, judges those of
-/// the peer and writes their answers, and judges the answers to its own.
+/// known, the tie-breaker, and the role that the agent has now. It writes checks, judges and
+/// answers the checks of the peer, and judges the answers to its own checks.
 ///
-/// Candidates, pairs, their order and pacing, and retransmissions are yours. A response is judged
-/// with the check that it answers, so store the check with its pair.
+/// Candidates, pairs, their order and pacing, and retransmissions are up to you. A response is
+/// judged with the check that it answers, so store the check with its pair.
 ///
-/// Contracts: they see all of it. `Debug` shows none of it, because there are passwords in it.
+/// Contracts: an agent is a record of its whole state. The state contains passwords, so `Debug`
+/// shows none of it.
 #[derive(Drop)]
 pub struct Checker<A: Allocator = Global> {
     alloc: A,
@@ -121,6 +131,7 @@ pub struct Checker<A: Allocator = Global> {
 }
 
 impl<A: Allocator> Model for Checker<A> {
+    ghost use Rattle.std.specs.Prelude.{◌≤◌, length};
     ghost use Rattle.std.specs.String.{string_bytes};
     ghost use Rattle.stun_ice.specs.Agent.{Agent};
 
@@ -133,6 +144,8 @@ impl<A: Allocator> Model for Checker<A> {
       tie_breaker = checker.tie_breaker;
       role = checker.role;
     } };
+
+    ghost invariant = { λ checker. length (string_bytes checker.name) ≤ 256 };
 }
 
 impl<A: Allocator> fmt::Debug for Checker<A> {
@@ -142,7 +155,7 @@ impl<A: Allocator> fmt::Debug for Checker<A> {
         ensures writes { WritesOnOk W.write_str_gives f.old result
             (codes "Checker { .. }") f.new }
 
-        // It writes the same with every width, precision and other option.
+        // The text does not depend on the width, the precision or any other option.
         ensures styled { WritesStyledOnOk W.write_str_gives f.old result
             (codes "Checker { .. }") f.new }
     {
@@ -164,7 +177,7 @@ fn has_colon(name: &str) -> bool
     name.as_bytes().contains(&b':')
 }
 
-/// Returns why these credentials are not accepted, if they are not.
+/// Returns the reason to refuse the credentials of both sides, or `None` if they are accepted.
 fn refusal(local: &Credentials<'_>, remote: &Credentials<'_>) -> Option<BuildError>
     ensures { result ≡ build_refusal local.now.name.now remote.now.name.now local.now.password.now
         remote.now.password.now }
@@ -181,7 +194,7 @@ fn refusal(local: &Credentials<'_>, remote: &Credentials<'_>) -> Option<BuildErr
     None
 }
 
-/// Returns why the credentials of one side are not accepted, if they are not.
+/// Returns the reason to refuse the credentials of one side, or `None` if they are accepted.
 fn side_refusal(side: &Credentials<'_>) -> Option<BuildError>
     ensures { result ≡ side_refusal side.now.name.now side.now.password.now }
 {
@@ -198,30 +211,36 @@ fn side_refusal(side: &Credentials<'_>) -> Option<BuildError>
 }
 
 /// Joins two names with a colon.
-fn joined<A: Allocator + Copy>(alloc: A, front: &str, back: &str) -> Result<String<A>, AllocError>
-    ensures { IfOk result (λ text. string_bytes text ≡ with_colon front.now back.now) }
+fn joined<A: Memory>(alloc: A, front: &str, back: &str) -> Result<String<A>, AllocError>
+    requires { length front.now + length back.now ≤ 512 }
+    ensures bytes { IfOk result (λ text. string_bytes text ≡ with_colon front.now back.now) }
+    ensures granted { A.grants → IsOk result }
 {
-    let mut text = String::from_str(alloc, front)?;
+    let mut bytes = Vec::new(alloc);
+    A::reserve(&mut bytes, front.len() + 1 + back.len())?;
+    let mut text = String::from_utf8(bytes).unwrap();
+    text.push_str(front)?;
     text.push_str(":")?;
     text.push_str(back)?;
     Ok(text)
 }
 
 /// Prepares a password for HMAC-SHA1.
-fn prepared<A: Allocator>(alloc: A, password: &str) -> Result<PreparedKey<A>, AllocError>
-    ensures { IfOk result (λ key. key ≡ password.now) }
+fn prepared<A: Memory>(alloc: A, password: &str) -> Result<PreparedKey<A>, AllocError>
+    ensures key { IfOk result (λ key. key ≡ password.now) }
+    ensures granted { A.grants → IsOk result }
 {
     let key = IntegrityKey::from_bytes(alloc, password.as_bytes())?;
     Ok(PreparedKey::new(key, IntegrityAlgorithm::Sha1))
 }
 
-impl<A: Allocator> Remote<A> {
-    /// Prepares the credentials of a peer, for an agent with this name.
+impl<A: Memory> Remote<A> {
+    /// Prepares the credentials of a peer for the agent `name`.
     fn new(alloc: A, name: &str, remote: &Credentials<'_>) -> Result<Remote<A>, AllocError>
-    where
-        A: Copy,
-        ensures { IfOk result (λ made. made ≡ remote_peer name.now remote.now.name.now
+        requires { length name.now + length remote.now.name.now ≤ 512 }
+        ensures made { IfOk result (λ made. made ≡ remote_peer name.now remote.now.name.now
             remote.now.password.now) }
+        ensures granted { A.grants → IsOk result }
     {
         Ok(Remote {
             username: joined(alloc, remote.name, name)?,
@@ -230,14 +249,14 @@ impl<A: Allocator> Remote<A> {
     }
 }
 
-impl<A: Allocator + Copy> Checker<A> {
+impl<A: Memory> Checker<A> {
     /// Creates an agent from the credentials of both sides, its tie-breaker and the role that it
-    /// begins with. The tie-breaker is a random number of 64 bits (RFC 8445, section 7.1.3). An
-    /// agent that does not know the credentials of its peer yet is created by `offer`.
+    /// begins with. The tie-breaker is a random number of 64 bits (RFC 8445, section 7.1.3). If the
+    /// credentials of the peer are not known yet, call `offer`.
     ///
     /// # Errors
     ///
-    /// The first of these that applies:
+    /// Fails with the first of these that applies:
     ///
     /// - `NameLength`: a name has fewer than 4 or more than 256 bytes.
     /// - `ColonInName`: a name has a colon.
@@ -253,6 +272,8 @@ impl<A: Allocator + Copy> Checker<A> {
         ensures refused { MatchOption (build_refusal local.entry.name.now remote.entry.name.now
             local.entry.password.now remote.entry.password.now)
             (IsOkUnless result BuildError.OutOfMemory) (λ refusal. result ≡ Err refusal) }
+        ensures granted { A.grants → build_refusal local.entry.name.now remote.entry.name.now
+            local.entry.password.now remote.entry.password.now ≡ None → IsOk result }
         ensures built { IfOk result (λ checker. checker ≡ record {
           name = local.entry.name.now;
           password = local.entry.password.now;
@@ -274,14 +295,15 @@ impl<A: Allocator + Copy> Checker<A> {
         }
     }
 
-    /// Creates an agent from its own credentials alone, its tie-breaker and the role that it begins
-    /// with. For the side that makes the offer: checks of the peer may arrive before its answer to
-    /// the offer does, and have to be answered at once (RFC 8445, section 7.3). This agent answers
-    /// them. It writes checks once `set_remote` has given it the credentials of the peer.
+    /// Creates an agent that does not know the credentials of its peer yet, because it makes the
+    /// offer and the answer has not arrived. The arguments are its own credentials, its tie-breaker
+    /// and the role that it begins with. Checks of the peer may arrive before the answer, and must
+    /// be answered at once (RFC 8445, section 7.3), so this agent answers them. It can write its
+    /// own checks after a call of `set_remote`.
     ///
     /// # Errors
     ///
-    /// The first of these that applies:
+    /// Fails with the first of these that applies:
     ///
     /// - `NameLength`: the name has fewer than 4 or more than 256 bytes.
     /// - `ColonInName`: the name has a colon.
@@ -295,6 +317,8 @@ impl<A: Allocator + Copy> Checker<A> {
     ) -> Result<Checker<A>, BuildError>
         ensures refused { MatchOption (side_refusal local.entry.name.now local.entry.password.now)
             (IsOkUnless result BuildError.OutOfMemory) (λ refusal. result ≡ Err refusal) }
+        ensures granted { A.grants
+            → side_refusal local.entry.name.now local.entry.password.now ≡ None → IsOk result }
         ensures built { IfOk result (λ checker. checker ≡ record {
           name = local.entry.name.now;
           password = local.entry.password.now;
@@ -312,7 +336,7 @@ impl<A: Allocator + Copy> Checker<A> {
         }
     }
 
-    /// Creates an agent from credentials that were checked.
+    /// Creates an agent from credentials that have been checked.
     fn built_of(
         alloc: A,
         local: &Credentials<'_>,
@@ -320,17 +344,19 @@ impl<A: Allocator + Copy> Checker<A> {
         tie_breaker: u64,
         role: Role,
     ) -> Result<Checker<A>, AllocError>
-        ensures { IfOk result (λ checker. checker ≡ record {
+        requires { length local.now.name.now ≤ 256 }
+        ensures built { IfOk result (λ checker. checker ≡ record {
           name = local.now.name.now;
           password = local.now.password.now;
           peer = remote;
           tie_breaker = tie_breaker;
           role = role;
         }) }
+        ensures granted { A.grants → IsOk result }
     {
         Ok(Checker {
             alloc,
-            name: String::from_str(alloc, local.name)?,
+            name: A::text(alloc, local.name)?,
             password: prepared(alloc, local.password)?,
             remote,
             tie_breaker,
@@ -338,12 +364,12 @@ impl<A: Allocator + Copy> Checker<A> {
         })
     }
 
-    /// Sets the credentials of the peer, when they arrive over signalling. Those that were set
-    /// before are forgotten. Answers to checks that were signed with those are then not accepted.
+    /// Sets the credentials of the peer, and replaces those that were set before. From then on,
+    /// answers to checks that were signed with the former credentials are dropped.
     ///
     /// # Errors
     ///
-    /// The first of these that applies. The agent is then unchanged.
+    /// Fails with the first of these that applies. The agent is then unchanged.
     ///
     /// - `NameLength`: the name has fewer than 4 or more than 256 bytes.
     /// - `ColonInName`: the name has a colon.
@@ -352,6 +378,8 @@ impl<A: Allocator + Copy> Checker<A> {
     pub fn set_remote(&mut self, remote: Credentials<'_>) -> Result<(), BuildError>
         ensures refused { MatchOption (side_refusal remote.entry.name.now remote.entry.password.now)
             (IsOkUnless result BuildError.OutOfMemory) (λ refusal. result ≡ Err refusal) }
+        ensures granted { A.grants
+            → side_refusal remote.entry.name.now remote.entry.password.now ≡ None → IsOk result }
         ensures set { OnOk result (self.new ≡ record self.old {
           peer = Some (remote_peer self.old.name remote.entry.name.now remote.entry.password.now);
         }) }
@@ -369,16 +397,17 @@ impl<A: Allocator + Copy> Checker<A> {
         }
     }
 
-    /// Writes a check to an address, which you send and send again until its answer arrives (RFC
-    /// 8445, section 7.2.4). Its ID must be random and new.
+    /// Writes a check. Send it to the address `to`, and send it again until its answer arrives (RFC
+    /// 8445, section 7.2.4). Its transaction ID must be random and new.
     ///
-    /// `priority` is the one that a peer-reflexive candidate would have that the peer learns from
-    /// the check (section 7.1.1). The check nominates its pair if `nominate` is true and this agent
-    /// controls.
+    /// If the peer learns a new peer-reflexive candidate from this check, the candidate has the
+    /// priority `priority` (section 7.1.1). The check nominates its pair if `nominate` is true and
+    /// this agent has the controlling role.
     ///
     /// # Errors
     ///
-    /// - `NoRemote`: the credentials of the peer are not known yet, with which a check is signed.
+    /// - `NoRemote`: the credentials of the peer, which a check needs for its signature, are not
+    ///   known yet.
     /// - `OutOfMemory`: an allocation failed.
     pub fn check(
         &self,
@@ -389,6 +418,7 @@ impl<A: Allocator + Copy> Checker<A> {
     ) -> Result<Check<A>, CheckError>
         ensures refused { MatchOption self.now.peer (result ≡ Err CheckError.NoRemote)
             (λ peer. IsOkUnless result CheckError.OutOfMemory) }
+        ensures granted { IfSome self.now.peer (λ peer. A.grants → IsOk result) }
         ensures check { IfSome self.now.peer (λ peer. IfOk result
             (λ check. check ≡ sent_check self.now peer id to priority nominate)) }
     {
@@ -398,17 +428,18 @@ impl<A: Allocator + Copy> Checker<A> {
         let nominates = self.can_nominate(nominate);
         match self.write_check(remote, id, priority, nominates) {
             Ok(bytes) => Ok(Check::new(id, to, self.role, nominates, bytes)),
-            // There is room for each attribute, so that an allocation failed.
+            // There is room for every attribute, so an allocation has failed.
             Err(_) => Err(CheckError::OutOfMemory),
         }
     }
 
-    /// Begins a check like `check`, to which you add further attributes, such as NETWORK-COST.
-    /// `finish_check` ends it.
+    /// Begins a check like `check`, so that you can add further attributes, such as NETWORK-COST.
+    /// `finish_check` completes it.
     ///
     /// # Errors
     ///
-    /// - `NoRemote`: the credentials of the peer are not known yet, with which a check is signed.
+    /// - `NoRemote`: the credentials of the peer, which a check needs for its signature, are not
+    ///   known yet.
     /// - `OutOfMemory`: an allocation failed.
     pub fn begin_check(
         &self,
@@ -418,6 +449,7 @@ impl<A: Allocator + Copy> Checker<A> {
     ) -> Result<MessageWriteVec<A>, CheckError>
         ensures refused { MatchOption self.now.peer (result ≡ Err CheckError.NoRemote)
             (λ peer. IsOkUnless result CheckError.OutOfMemory) }
+        ensures granted { IfSome self.now.peer (λ peer. A.grants → IsOk result) }
         ensures bytes { IfSome self.now.peer (λ peer. IfOk result (λ page. page.bytes
             ≡ check_page self.now peer id priority (can_nominate self.now.role nominate))) }
         ensures header { IfOk result (λ page. 20 ≤ length page.bytes) }
@@ -428,18 +460,18 @@ impl<A: Allocator + Copy> Checker<A> {
         let nominates = self.can_nominate(nominate);
         match self.check_page(remote, id, priority, nominates) {
             Ok(page) => Ok(page),
-            // There is room for each attribute, so that an allocation failed.
+            // There is room for every attribute, so an allocation has failed.
             Err(_) => Err(CheckError::OutOfMemory),
         }
     }
 
-    /// Ends a check that `begin_check` began with this ID and this `nominate`: signs it, and adds
-    /// FINGERPRINT. The peer must know the attributes that you added, if their types are below
-    /// 0x8000.
+    /// Completes a check that `begin_check` began with the same ID and the same `nominate`: signs
+    /// it, and adds FINGERPRINT. The peer refuses the check with a 420 if you added an attribute of
+    /// a type below 0x8000 that it does not know.
     ///
     /// # Errors
     ///
-    /// The first of these that applies:
+    /// Fails with the first of these that applies:
     ///
     /// - `NotAllowed`: the credentials of the peer are not known.
     /// - `MessageIntegrityExists`: you have signed the check.
@@ -457,6 +489,8 @@ impl<A: Allocator + Copy> Checker<A> {
         ensures unknown { MatchOption self.now.peer (result ≡ Err StunWriteError.NotAllowed)
             (λ peer. IfErr result (λ why. (why ≡ StunWriteError.OutOfMemory)
             ⊎ (ending_refusal peer.password page.bytes ≡ Some why))) }
+        ensures granted { IfSome self.now.peer (λ peer. A.grants
+            → ending_refusal peer.password page.bytes ≡ None → IsOk result) }
         ensures check { IfSome self.now.peer (λ peer. IfOk result (λ check. check
             ≡ sent_page self.now peer id to nominate page.bytes)) }
     {
@@ -470,7 +504,8 @@ impl<A: Allocator + Copy> Checker<A> {
         }
     }
 
-    /// Returns whether a check may nominate, if it is asked to.
+    /// Returns whether a check nominates its pair: `nominate` is true, and this agent has the
+    /// controlling role.
     fn can_nominate(&self, nominate: bool) -> bool
         ensures { result ≡ can_nominate self.now.role nominate }
     {
@@ -481,7 +516,7 @@ impl<A: Allocator + Copy> Checker<A> {
     }
 
     /// Writes the bytes of a check.
-    #[tactic(auto, unfolding(crate::specs::Agent::check_bytes))]
+    #[tactic(auto, using(crate::proofs::RoomLemmas::check_ends), unfolding(crate::specs::Agent::check_bytes))]
     fn write_check(
         &self,
         remote: &Remote<A>,
@@ -489,15 +524,16 @@ impl<A: Allocator + Copy> Checker<A> {
         priority: u32,
         nominates: bool,
     ) -> Result<Vec<u8, A>, StunWriteError>
-        ensures { IfOk result (λ bytes. bytes.items
+        ensures bytes { IfOk result (λ bytes. bytes.items
             ≡ check_bytes self.now remote.now id priority nominates) }
+        ensures granted { A.grants → IsOk result }
     {
         let page = self.check_page(remote, id, priority, nominates)?;
         let bytes = ended_page(&remote.password, page)?;
         Ok(bytes)
     }
 
-    /// Writes a check as far as its signature.
+    /// Writes a check without its signature and FINGERPRINT.
     fn check_page(
         &self,
         remote: &Remote<A>,
@@ -508,9 +544,12 @@ impl<A: Allocator + Copy> Checker<A> {
         ensures bytes { IfOk result (λ page. page.bytes
             ≡ check_page self.now remote.now id priority nominates) }
         ensures header { IfOk result (λ page. 20 ≤ length page.bytes) }
+        ensures open { IfOk result (λ page. IsOpen page.bytes) }
+        ensures short { IfOk result (λ page. length page.bytes ≤ 564) }
+        ensures granted { A.grants → IsOk result }
     {
         let mut writer = MessageWriteVec::new(self.alloc);
-        // A check is written in this one block.
+        // One block of memory of this size is enough for a check.
         writer.reserve(CHECK_LENGTH.saturating_add(attribute_length(remote.username.len())))?;
         let mut page = Message::builder_request(BINDING, id, writer)?;
         page.add_attribute(&Username::new(&remote.username)?)?;
@@ -521,8 +560,8 @@ impl<A: Allocator + Copy> Checker<A> {
     }
 }
 
-/// Signs a check under a password, and adds FINGERPRINT.
-fn ended_page<A: Allocator>(
+/// Signs a check with a password, and adds FINGERPRINT.
+fn ended_page<A: Memory>(
     password: &PreparedKey<A>,
     page: MessageWriteVec<A>,
 ) -> Result<Vec<u8, A>, StunWriteError>
@@ -530,6 +569,7 @@ fn ended_page<A: Allocator>(
     ensures bytes { IfOk result (λ bytes. bytes.items ≡ ended_page password.now page.bytes) }
     ensures refused { IfErr result (λ why. (why ≡ StunWriteError.OutOfMemory)
         ⊎ (ending_refusal password.now page.bytes ≡ Some why)) }
+    ensures granted { A.grants → ending_refusal password.now page.bytes ≡ None → IsOk result }
 {
     let mut page = page;
     page.add_message_integrity_with_prepared_key(password, IntegrityAlgorithm::Sha1)?;
@@ -538,7 +578,7 @@ fn ended_page<A: Allocator>(
 }
 
 /// Adds the role and the tie-breaker.
-fn add_role<A: Allocator>(
+fn add_role<A: Memory>(
     page: &mut MessageWriteVec<A>,
     role: Role,
     tie_breaker: u64,
@@ -547,6 +587,12 @@ fn add_role<A: Allocator>(
     ensures bytes { OnOk result (page.new.bytes
         ≡ with_attribute page.old.bytes (role_attribute role tie_breaker)) }
     ensures header { OnOk result (20 ≤ length page.new.bytes) }
+    ensures adds { AddsAttribute A.grants (λ w. w.bytes) (λ w. LENGTH_LIMIT - length w.bytes)
+        (λ w. w.reserved) page.old page.new
+        (attribute_refusal page.old.bytes (LENGTH_LIMIT - length page.old.bytes)
+        (role_attribute role tie_breaker).kind 8) (role_attribute role tie_breaker) result }
+    ensures room { OnOk result (LENGTH_LIMIT - length page.old.bytes
+        ≤ 12 + (LENGTH_LIMIT - length page.new.bytes)) }
 {
     match role {
         Role::Controlling => page.add_attribute(&IceControlling::new(tie_breaker)),
@@ -554,14 +600,19 @@ fn add_role<A: Allocator>(
     }
 }
 
-/// Adds USE-CANDIDATE to a check that nominates.
-fn add_nomination<A: Allocator>(
+/// Adds USE-CANDIDATE, if the check nominates its pair.
+fn add_nomination<A: Memory>(
     page: &mut MessageWriteVec<A>,
     nominates: bool,
 ) -> Result<(), StunWriteError>
     requires { 20 ≤ length page.old.bytes }
     ensures bytes { OnOk result (page.new.bytes ≡ with_nomination nominates page.old.bytes) }
     ensures header { OnOk result (20 ≤ length page.new.bytes) }
+    ensures open { OnOk result (IsOpen page.old.bytes → IsOpen page.new.bytes) }
+    ensures room { OnOk result (LENGTH_LIMIT - length page.old.bytes
+        ≤ 4 + (LENGTH_LIMIT - length page.new.bytes)) }
+    ensures granted { A.grants → attribute_refusal page.old.bytes
+        (LENGTH_LIMIT - length page.old.bytes) USE_CANDIDATE 0 ≡ None → IsOk result }
 {
     if nominates {
         page.add_attribute(&UseCandidate::new())
@@ -570,7 +621,7 @@ fn add_nomination<A: Allocator>(
     }
 }
 
-impl<A: Allocator> Checker<A> {
+impl<A: Allocator + Copy> Checker<A> {
     /// Returns the role that the agent has now.
     pub fn role(&self) -> Role
         ensures { result ≡ self.now.role }
@@ -585,12 +636,13 @@ impl<A: Allocator> Checker<A> {
         self.remote.is_some()
     }
 
-    /// Returns the username fragment of the peer in a check: what follows the name of this agent
-    /// and a colon in USERNAME. `None` if USERNAME is missing or begins with another name, in which
-    /// case the check is not accepted.
+    /// Returns the username fragment of the peer in a check: the part of USERNAME after the name of
+    /// this agent and a colon. Returns `None` if USERNAME is missing or begins with another name; a
+    /// check of this kind is not accepted.
     ///
-    /// Of checks that arrive before the answer, it tells those of two peers apart that answer one
-    /// offer. In a check that `receive` does not accept, it is what anybody may have written.
+    /// If an offer has several answers, a check may arrive before them, and this fragment shows
+    /// which answer the check belongs to. Do not rely on the fragment in a check that `receive`
+    /// does not accept, because anybody can have written it.
     pub fn sender<'a>(&self, check: &Message<'a>) -> Option<&'a [u8]>
         ensures { option_copied result ≡ sender_in self.now check.now }
     {
@@ -607,16 +659,16 @@ impl<A: Allocator> Checker<A> {
         self.tie_breaker
     }
 
-    /// Sets another role. For a caller who cannot send the answer to a check, and so takes back the
-    /// switch that came with it.
+    /// Sets the role. Call it to undo a switch of roles, if you cannot send the answer that goes
+    /// with the switch.
     pub fn set_role(&mut self, role: Role)
         ensures { self.new ≡ record self.old { role = role } }
     {
         self.role = role;
     }
 
-    /// Sets another tie-breaker. After a 487 an agent must have a new random one before its next
-    /// check (RFC 8445, section 16.1).
+    /// Replaces the tie-breaker. After a 487 an agent must have a new random tie-breaker before its
+    /// next check (RFC 8445, section 16.1).
     pub fn set_tie_breaker(&mut self, tie_breaker: u64)
         ensures { self.new ≡ record self.old { tie_breaker = tie_breaker } }
     {

@@ -1,4 +1,4 @@
-//! Laws over the definitions that the contracts of this crate cite. They do nothing when they run.
+//! Laws about the definitions that the contracts of this crate cite. They do nothing when they run.
 
 ghost use Rattle.std.specs.Prelude.{◌≡◌, ◌⊎◌, ◌↔◌, ◌∷◌, [], ℕ, List, Option, Some, None};
 ghost use Rattle.std.specs.Prelude.{Bool, true, false};
@@ -26,14 +26,14 @@ ghost use Rattle.stun_ice.specs.declared.role.Role.{Role};
 ghost use Rattle.stun_ice.specs.declared.role.Role.TheVariants.{Controlling, Controlled};
 
 /// Two agents that begin in the same role, with distinct tie-breakers, end in opposite roles: the
-/// one with the larger tie-breaker controls. They have these roles from the time when one of them
-/// has received the answer to one check, and keep them. Before that, both have the role that they
-/// began in, or they have the final roles already (`settle`). Two agents that begin in opposite
-/// roles keep them (`stay`).
+/// agent with the larger tie-breaker controls. They have these roles as soon as one of them has
+/// received the answer to one check, and keep them. Before that, both have the role that they began
+/// in, or they already have the final roles (`settle`). Two agents that begin in opposite roles
+/// keep their roles (`stay`).
 ///
-/// This holds for every network that loses, repeats, delays and reorders: any check may arrive at
-/// any time after it was sent, any number of times, and so may any answer. It holds whatever
-/// tie-breaker an agent chooses after a 487.
+/// This holds for every network that loses, repeats, delays and reorders datagrams: any check may
+/// arrive at any time after it was sent, any number of times, and so may any answer. It holds
+/// whatever tie-breaker an agent chooses after a 487.
 pub fn roles_end_opposite()
     ensures settle { (role : Role) (left right : ℕ) → (left ≡ right → ⊥) → (events : List Happening)
         → let both = after_all
@@ -46,7 +46,7 @@ pub fn roles_end_opposite()
         events in
         (both.left.role ≡ role) × (both.right.role ≡ opposite role) }
 
-    // One check from the left and its answer.
+    // One check from the left side, and its answer.
     ensures instance { let both = after_all
         (record { left = beginning Controlling 1; right = beginning Controlling 2 })
         (of_left sends ∷ of_left (arrives 0) ∷ of_left (hears 0 7) ∷ []) in
@@ -54,8 +54,8 @@ pub fn roles_end_opposite()
         × (both.left.heard ≡ true) × (both.left.tie_breaker ≡ 7) }
 {}
 
-/// An agent accepts a check if and only if `Accepts` holds of the datagram: then, and only then, is
-/// it judged as accepted with what `Accepts` names.
+/// An agent judges a datagram as an accepted check, with these values, if and only if `Accepts`
+/// holds for the datagram and the values.
 pub fn checks_are_accepted_exactly()
     ensures { (a : Agent) (c : Option SentCheck) (from : SocketAddr) (bytes : List ℕ)
         (check : Acceptance)
@@ -63,10 +63,11 @@ pub fn checks_are_accepted_exactly()
         ↔ Accepts a bytes check }
 {}
 
-/// What an agent makes of a check does not depend on what it knows of its peer: that it is accepted
-/// or refused, each byte of the answer, and the role that the agent has then. So an agent answers
-/// checks that arrive before the credentials of the peer as it does afterwards. Nor does it depend
-/// on the check of its own that the caller passes.
+/// The judgement of a check does not depend on whether the agent knows the credentials of its peer:
+/// the verdict, each byte of the answer, and the role that the agent has afterwards are the same.
+/// So an agent answers checks that arrive before the credentials of the peer in the same way as
+/// later checks. The judgement also does not depend on the agent's own check that the caller
+/// passes.
 pub fn answers_do_not_depend_on_the_peer()
     ensures { (a : Agent) (peer : Option Peer) (c d : Option SentCheck) (from : SocketAddr)
         (bytes message answer : List ℕ) (judged : Judged)
@@ -77,16 +78,16 @@ pub fn answers_do_not_depend_on_the_peer()
         ≡ role_left a.role (judgement_of a c from bytes)) }
 {}
 
-/// What `Checker::sender` returns is the peer's half of USERNAME: what follows the agent's own name
-/// and a colon. There is one if and only if USERNAME has this form, as it has in each check that
-/// `Accepts` holds of.
+/// `Checker::sender` returns the peer's half of USERNAME, which follows the agent's own name and a
+/// colon. It returns `Some` if and only if USERNAME has this form, which is so in each check for
+/// which `Accepts` holds.
 pub fn checks_name_their_sender()
     ensures { (a : Agent) (bytes peer : List ℕ)
         → (sender_in a bytes ≡ Some peer)
         ↔ (username_in bytes ≡ Some (with_colon a.name peer)) }
 {}
 
-/// The answer to a check makes its pair valid if and only if `IsValid` holds of the datagram.
+/// The answer to a check makes its pair valid if and only if `IsValid` holds for the datagram.
 pub fn pairs_are_valid_exactly()
     ensures { (a : Agent) (check : SentCheck) (from : SocketAddr) (bytes : List ℕ)
         (mapped : Mapped)
@@ -94,9 +95,9 @@ pub fn pairs_are_valid_exactly()
         ↔ IsValid a check from bytes mapped }
 {}
 
-/// What the caller is told of a datagram is true: a check is reported as accepted if and only if the
-/// agent accepts it, and a pair as valid if and only if the datagram answers the check that was
-/// passed and makes its pair valid.
+/// The results that the caller gets for a datagram are true. A check is reported as accepted if and
+/// only if the agent accepts it. A pair is reported as valid if and only if the datagram answers
+/// the check that was passed and makes its pair valid.
 pub fn callers_are_told_what_is_so()
     ensures accepted { (a : Agent) (c : Option SentCheck) (from : SocketAddr) (bytes : List ℕ)
         → TellsAccepted (given a from (judgement_of a c from bytes)) ↔ IsAcceptedCheck a bytes }
@@ -104,8 +105,8 @@ pub fn callers_are_told_what_is_so()
         → TellsValid (given a from (judgement_of a c from bytes)) ↔ IsValidAnswer a c from bytes }
 {}
 
-/// An answer is given to a check alone. So for any other datagram the buffer of `receive_into` is
-/// empty afterwards, and a program that sends what is in it sends nothing.
+/// Only checks are answered. So after any other datagram the buffer of `receive_into` is empty, and
+/// a program that sends the contents of the buffer sends nothing.
 pub fn only_checks_are_answered()
     ensures answered { (a : Agent) (c : Option SentCheck) (from : SocketAddr)
         (bytes message answer : List ℕ) (judged : Judged)
@@ -118,9 +119,9 @@ pub fn only_checks_are_answered()
         → is_check (judgement_of a c from bytes) ≡ false → buffer ≡ [] }
 {}
 
-/// The credentials of two agents are accepted together if and only if those of each are accepted
-/// alone. Names that are accepted have no colon, so no two pairs of them have the same USERNAME: a
-/// check names its receiver and its sender, and nobody else.
+/// The credentials of two agents are accepted together if and only if the credentials of each are
+/// accepted alone. Names that are accepted have no colon, so no two pairs of names have the same
+/// USERNAME: a check names its receiver and its sender, and nobody else.
 pub fn usernames_name_both()
     ensures sides { (name peer password peer_password : List ℕ)
         → (build_refusal name peer password peer_password ≡ None)
@@ -130,8 +131,8 @@ pub fn usernames_name_both()
         → with_colon name peer ≡ with_colon other another → (name ≡ other) × (peer ≡ another) }
 {}
 
-/// A check that a program begins, adds no attributes to and finishes is the one that `check` writes,
-/// to the byte.
+/// If a program begins a check and finishes it without adding attributes, the check has the same
+/// bytes as the check that `check` writes.
 pub fn checks_in_two_steps_are_checks()
     ensures { (a : Agent) (peer : Peer) (id : ℕ) (to : SocketAddr) (priority : ℕ)
         (nominate : Bool)

@@ -1,5 +1,5 @@
-//! What a check says: its USERNAME, its PRIORITY, whether it nominates, and the role of its sender
-//! (RFC 8445, section 7.1).
+//! Reads the parts of a check: USERNAME, PRIORITY, USE-CANDIDATE, and the role of its sender (RFC
+//! 8445, section 7.1).
 
 ghost use Rattle.std.specs.Option.{is_some, option_copied};
 ghost use Rattle.std.specs.Prelude.{◌≡◌};
@@ -20,7 +20,7 @@ use stun_extra::unknown::unknown_types;
 use stun_types::attribute::{AttributeType, RawAttribute, XorMappedAddress};
 use stun_types::message::{BINDING, Message};
 
-/// The types of attributes that must be understood and that an agent understands: STUN's own (RFC
+/// The comprehension-required attribute types that an agent understands: those of STUN itself (RFC
 /// 8489, section 18.3), PRIORITY and USE-CANDIDATE (RFC 8445, section 16.1).
 pub(crate) const UNDERSTOOD: [AttributeType; 13] = [
     AttributeType::USERNAME,
@@ -41,7 +41,7 @@ pub(crate) const UNDERSTOOD: [AttributeType; 13] = [
 /// USE-CANDIDATE (RFC 8445, section 16.1).
 const USE_CANDIDATE: AttributeType = AttributeType(0x0025);
 
-/// Returns the first visible USERNAME, with its offset.
+/// Returns the first visible USERNAME with its offset, or `None` if there is none.
 fn first_username<'a>(message: &Message<'a>) -> Option<(usize, RawAttribute<'a>)>
     ensures { result ≡ first_of USERNAME (visible message.now) }
 {
@@ -50,7 +50,7 @@ fn first_username<'a>(message: &Message<'a>) -> Option<(usize, RawAttribute<'a>)
         .find(|found| found.1.get_type() == AttributeType::USERNAME)
 }
 
-/// Returns the first visible USE-CANDIDATE, with its offset.
+/// Returns the first visible USE-CANDIDATE with its offset, or `None` if there is none.
 fn first_use_candidate<'a>(message: &Message<'a>) -> Option<(usize, RawAttribute<'a>)>
     ensures { result ≡ first_of USE_CANDIDATE_TYPE (visible message.now) }
 {
@@ -66,7 +66,7 @@ pub(crate) fn is_binding(message: &Message<'_>) -> bool
     message.method() == BINDING
 }
 
-/// Returns the bytes of USERNAME.
+/// Returns the value of the first visible USERNAME, or `None` if there is none.
 pub(crate) fn username<'a>(message: &Message<'a>) -> Option<&'a [u8]>
     ensures { option_copied result ≡ username_in message.now }
 {
@@ -76,14 +76,16 @@ pub(crate) fn username<'a>(message: &Message<'a>) -> Option<&'a [u8]>
     }
 }
 
-/// Returns what follows `front` in the bytes, if they begin with it.
+/// Returns the bytes that follow `front` in `bytes`, or `None` if `bytes` do not begin with
+/// `front`.
 fn after_front<'a>(front: &[u8], bytes: &'a [u8]) -> Option<&'a [u8]>
     ensures { option_copied result ≡ after_front front.now bytes.now }
 {
     bytes.strip_prefix(front)
 }
 
-/// Returns the name of the peer in a USERNAME that an agent with this name receives.
+/// Returns the name of the peer in a USERNAME that the agent `name` receives: the part after `name`
+/// and a colon. Returns `None` if USERNAME does not begin with them.
 pub(crate) fn peer_name<'a>(name: &str, username: &'a [u8]) -> Option<&'a [u8]>
     ensures { option_copied result ≡ peer_name_in name.now username.now }
 {
@@ -93,7 +95,7 @@ pub(crate) fn peer_name<'a>(name: &str, username: &'a [u8]) -> Option<&'a [u8]>
     }
 }
 
-/// Returns the number in PRIORITY, if it is well formed.
+/// Returns the number in PRIORITY, or `None` if PRIORITY is missing or malformed.
 pub(crate) fn priority(message: &Message<'_>) -> Option<u32>
     ensures { result ≡ priority_in message.now }
 {
@@ -110,7 +112,8 @@ pub(crate) fn has_use_candidate(message: &Message<'_>) -> bool
     first_use_candidate(message).is_some()
 }
 
-/// Returns the tie-breaker of the sender of a check, if the check says that it has this role.
+/// Returns the tie-breaker in a check, or `None` if the check does not state that its sender has
+/// the role `role`.
 pub(crate) fn rival(role: Role, message: &Message<'_>) -> Option<u64>
     ensures { result ≡ rival role message.now }
 {
@@ -120,7 +123,7 @@ pub(crate) fn rival(role: Role, message: &Message<'_>) -> Option<u64>
     }
 }
 
-/// Returns the tie-breaker in ICE-CONTROLLING, if it is well formed.
+/// Returns the tie-breaker in ICE-CONTROLLING, or `None` if it is missing or malformed.
 fn controlling(message: &Message<'_>) -> Option<u64>
     ensures { result ≡ rival Role.Controlling message.now }
 {
@@ -130,7 +133,7 @@ fn controlling(message: &Message<'_>) -> Option<u64>
     }
 }
 
-/// Returns the tie-breaker in ICE-CONTROLLED, if it is well formed.
+/// Returns the tie-breaker in ICE-CONTROLLED, or `None` if it is missing or malformed.
 fn controlled(message: &Message<'_>) -> Option<u64>
     ensures { result ≡ rival Role.Controlled message.now }
 {
@@ -140,7 +143,7 @@ fn controlled(message: &Message<'_>) -> Option<u64>
     }
 }
 
-/// Returns XOR-MAPPED-ADDRESS, if it is well formed.
+/// Returns XOR-MAPPED-ADDRESS, or `None` if it is missing or malformed.
 pub(crate) fn mapped_address_in(message: &Message<'_>) -> Option<XorMappedAddress>
     ensures { result ≡ mapped_address_in message.now }
 {
@@ -150,7 +153,7 @@ pub(crate) fn mapped_address_in(message: &Message<'_>) -> Option<XorMappedAddres
     }
 }
 
-/// Returns whether the attributes of a message are understood, as far as they must be.
+/// Returns whether an agent understands all comprehension-required attributes of a message.
 pub(crate) fn is_understood(message: &Message<'_>) -> bool
     ensures { result ≡ is_empty (unknown_types UNDERSTOOD_TYPES message.now) }
 {

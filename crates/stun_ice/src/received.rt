@@ -1,4 +1,4 @@
-//! What a datagram comes to.
+//! The outcome of a datagram.
 
 ghost use Rattle.std.specs.Net.Socket.{IsPlainSocket, socket_ip};
 ghost use Rattle.std.specs.Prelude.{◌≡◌};
@@ -14,7 +14,7 @@ use stun_base::transaction_id::TransactionId;
 use stun_types::attribute::XorMappedAddress;
 use stun_types::message::Message;
 
-/// What a datagram comes to.
+/// The outcome of a datagram.
 #[derive(Debug, Drop)]
 #[non_exhaustive]
 pub enum Received<'a, A: Allocator = Global> {
@@ -24,19 +24,20 @@ pub enum Received<'a, A: Allocator = Global> {
         message: Message<'a>,
         /// The bytes to send.
         answer: Vec<u8, A>,
-        /// What the check comes to.
+        /// The outcome of the check.
         judged: Judged,
     },
-    /// The answer to a check of yours, which ends it.
+    /// The answer to a check of yours. It ends the check.
     Response(Outcome),
     /// A Binding indication, as peers send to keep a path open (RFC 8445, section 11). It is not
     /// signed, and needs no answer.
     Indication(Message<'a>),
-    /// The datagram is dropped, for this reason. A check of yours that it may belong to goes on.
+    /// The datagram is dropped, for this reason. If it belongs to a check of yours, that check
+    /// continues.
     Dropped(DropReason),
 }
 
-/// What a datagram comes to, if the answer to a check is written into a buffer of the caller.
+/// The outcome of a datagram, if the answer to a check is written into a buffer of the caller.
 #[derive(Debug, Drop)]
 #[non_exhaustive]
 pub enum ReceivedInto<'a> {
@@ -44,20 +45,22 @@ pub enum ReceivedInto<'a> {
     Check {
         /// The check. `Checker::sender` returns the username fragment of the peer in it.
         message: Message<'a>,
-        /// What the check comes to.
+        /// The outcome of the check.
         judged: Judged,
     },
-    /// The answer to a check of yours, which ends it.
+    /// The answer to a check of yours. It ends the check.
     Response(Outcome),
     /// A Binding indication, as peers send to keep a path open (RFC 8445, section 11). It is not
     /// signed, and needs no answer.
     Indication(Message<'a>),
-    /// The datagram is dropped, for this reason. A check of yours that it may belong to goes on.
+    /// The datagram is dropped, for this reason. If it belongs to a check of yours, that check
+    /// continues.
     Dropped(DropReason),
 }
 
 impl<'a, A: Allocator> Received<'a, A> {
-    /// Puts the bytes of an answer into a buffer, which is empty if there is no answer.
+    /// Moves the bytes of an answer into a buffer. If there is no answer, the buffer is empty
+    /// afterwards.
     pub(crate) fn into_buffer(self, buffer: &mut Vec<u8, A>) -> ReceivedInto<'a>
         ensures given { given_in result buffer.new.items ≡ given_of self.entry }
         ensures rest { LeavesNoAnswer result buffer.new.items }
@@ -87,29 +90,29 @@ impl<'a, A: Allocator> Received<'a, A> {
     }
 }
 
-/// What a check of the peer comes to.
+/// The outcome of a check of the peer.
 #[derive(Clone, Copy, Debug, PartialEq, Eq)]
 #[non_exhaustive]
 pub enum Judged {
-    /// The check is accepted, and the answer is a success. Send a check on the same pair, if none of
-    /// yours has succeeded there (RFC 8445, section 7.3.1.4).
+    /// The check is accepted, and the answer is a success. Send a check on the same pair, if no
+    /// check of yours has succeeded on it (RFC 8445, section 7.3.1.4).
     Accepted {
-        /// The priority in the check. A peer-reflexive candidate gets it, if the address that the
-        /// check came from is new (section 7.3.1.3).
+        /// The priority in the check. If the address that the check came from is a new
+        /// peer-reflexive candidate, the candidate has this priority (section 7.3.1.3).
         priority: u32,
-        /// Whether the peer, which controls, nominates the pair (section 7.3.1.5).
+        /// Whether the peer has the controlling role and nominates the pair (section 7.3.1.5).
         nominated: bool,
         /// Whether this agent has switched its role because of the check. The priorities of pairs
-        /// depend on it.
+        /// depend on the role.
         switched: bool,
     },
-    /// The peer has to switch its role, and the answer is a 487 that tells it so (section 7.3.1.1).
+    /// The peer must switch its role. The answer is a 487, which says so (section 7.3.1.1).
     RoleConflict,
-    /// The check is refused, and the answer is an error with this code.
+    /// The check is refused. The answer is an error with the code of this refusal.
     Refused(Refusal),
 }
 
-/// How the answer refuses a check.
+/// The error with which the answer refuses a check.
 #[derive(Clone, Copy, Debug, PartialEq, Eq)]
 #[non_exhaustive]
 pub enum Refusal {
@@ -118,7 +121,7 @@ pub enum Refusal {
     /// 401: USERNAME does not begin with the name of this agent and a colon, or the signature is
     /// invalid.
     Unauthenticated,
-    /// 420: the check has an attribute that must be understood and is not.
+    /// 420: the check has an unknown comprehension-required attribute.
     UnknownAttribute,
 }
 
@@ -135,17 +138,19 @@ impl Refusal {
     }
 }
 
-/// How the answer of the peer ends a check.
+/// How a check ended, according to the peer's answer.
 #[derive(Clone, Copy, Debug, PartialEq, Eq)]
 #[non_exhaustive]
 pub enum Outcome {
-    /// The check succeeded, and the pair is valid. The peer saw the check come from this address: if
-    /// it is none of your candidates, it is a new peer-reflexive one (RFC 8445, section 7.2.5.3.1).
+    /// The check succeeded, and the pair is valid. The peer saw the check arrive from this address.
+    /// If this address is not one of your candidates, it is a new peer-reflexive candidate (RFC
+    /// 8445, section 7.2.5.3.1).
     Valid(Mapped),
-    /// The peer has the role that the check was sent in, and does not switch. This agent has the
-    /// other role now. Send the check again (section 7.2.5.1).
+    /// The peer has the role in which this agent sent the check, and does not switch. This agent
+    /// now has the opposite role. Set a new tie-breaker, and send a new check (section 7.2.5.1).
     RoleConflict {
-        /// Whether this agent has switched its role because of the answer, and not before.
+        /// Whether this agent has switched its role because of this answer. If not, it already had
+        /// the opposite role.
         switched: bool,
     },
     /// The check failed.
@@ -161,7 +166,8 @@ pub enum Failure {
     /// The answer did not come from the address that the check was sent to (RFC 8445, section
     /// 7.2.5.2.1).
     OtherPath,
-    /// The answer has an attribute of this type, which must be understood and is not.
+    /// The answer has a comprehension-required attribute of this type, which the agent does not
+    /// understand.
     NotUnderstood(AttributeType),
     /// The answer has no well-formed XOR-MAPPED-ADDRESS, or no well-formed ERROR-CODE if it is an
     /// error.
@@ -172,21 +178,24 @@ pub enum Failure {
 #[derive(Clone, Copy, Debug, PartialEq, Eq)]
 #[non_exhaustive]
 pub enum DropReason {
-    /// It does not begin with the header of a STUN message.
+    /// The datagram does not begin with the header of a STUN message.
     NotStun,
-    /// Its length or its attributes are not what its header says.
+    /// The datagram begins with the header of a STUN message, but its length is not the length in
+    /// the header, or an attribute extends past its end.
     Malformed,
-    /// It has no FINGERPRINT, or a wrong one: it is damaged, or belongs to another protocol.
+    /// The datagram has no FINGERPRINT, or a wrong one, so it is damaged or belongs to another
+    /// protocol.
     WrongFingerprint,
-    /// It has another method than Binding.
+    /// The method of the message is not Binding.
     OtherMethod,
-    /// It is an indication with an attribute that must be understood and is not.
+    /// The datagram is an indication with an unknown comprehension-required attribute.
     UnknownAttribute,
-    /// It is a response to another check than the one that was passed, or to none.
+    /// The datagram is a response, but it does not answer the check that you passed, or you passed
+    /// no check.
     NotAsked,
-    /// It is a response whose signature is missing or invalid, or arrives before the credentials of
-    /// the peer are known. A refusal by 400 or 401 is not signed, so such a check ends by its
-    /// timeout.
+    /// The datagram is a response whose signature is missing or invalid, or a response that arrives
+    /// before the credentials of the peer are known. A 400 or 401 is not signed, so a check that
+    /// the peer refuses with one of these times out.
     WrongSignature,
 }
 

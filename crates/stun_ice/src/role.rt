@@ -1,5 +1,5 @@
-//! The roles of two agents, and how a conflict between them ends (RFC 8445, sections 6.1.1 and
-//! 7.3.1.1).
+//! The roles of two agents, and the rule that resolves a conflict between them (RFC 8445, sections
+//! 6.1.1 and 7.3.1.1).
 
 ghost use Rattle.std.specs.Prelude.{◌≡◌};
 ghost use Rattle.stun_ice.specs.Roles.{is_same_role, opposite, role_after_check};
@@ -9,7 +9,7 @@ ghost use Rattle.stun_ice.specs.Roles.{is_same_role, opposite, role_after_check}
 pub enum Role {
     /// The agent nominates the pairs to use.
     Controlling,
-    /// The agent waits for the nominations of the other.
+    /// The agent waits for the nominations of the other agent.
     Controlled,
 }
 
@@ -24,7 +24,7 @@ impl Role {
         }
     }
 
-    /// Returns whether the roles are the same.
+    /// Returns whether the two roles are equal.
     pub(crate) fn is(self, other: Role) -> bool
         ensures { result ≡ is_same_role self other }
     {
@@ -36,9 +36,9 @@ impl Role {
         }
     }
 
-    /// Returns the role of an agent that receives a check whose sender has the tie-breaker `theirs`
-    /// and the same role, or `None` for the sender if it has another role. Returns `None` if the
-    /// sender has to switch.
+    /// Returns the role of an agent after a check. `theirs` is the tie-breaker of a sender that has
+    /// the same role as the agent, or `None` for a sender that has the other role. Returns `None`
+    /// if the sender must switch.
     pub(crate) fn after_check(self, ours: u64, theirs: Option<u64>) -> Option<Role>
         ensures { result ≡ role_after_check self ours theirs }
     {

@@ -11,7 +11,7 @@ use Rattle.stun_inspect.specs.declared.tally.Counts.{Counts}
 abbrev pub one_more : ℕ → ℕ
 one_more count = min (count + 1) (2 ^ 64 - 1)
 
--- the counts with one message more, in which this was found
+-- the counts with one more message, in which this was found
 abbrev pub counted : Found → Counts → Counts
 counted Good counts = record counts { good = one_more counts.good }
 counted Invalid counts = record counts { invalid = one_more counts.invalid }

@@ -1,4 +1,4 @@
--- The definitions that the contracts of the program use, in the order to read them.
+-- The definitions that the contracts of the program use, in reading order.
 
 -- what each command returns and prints
 pub mod Run
@@ -10,6 +10,8 @@ pub mod Fingerprint
 pub mod Decode
 -- the names of attributes in what it prints
 pub mod Names
+-- the attributes that must be understood
+pub mod Registry
 -- what `list` prints
 pub mod Listed
 -- what `verify` prints

@@ -5,12 +5,17 @@ use Rattle.std.specs.Prelude.{Option, Some, None, Result, IfSome, IfOk}
 use Rattle.std.specs.Io.KnownBytes.{Appends}
 use Rattle.hex.specs.Hex.{encode_lower}
 use Rattle.stun_base.specs.Keys.{short_term_key, long_term_key, userhash_of}
+use Rattle.stun_base.specs.Keys.OfCredentials.{keys_of}
 use Rattle.stun_base.specs.declared.keys.algorithm.IntegrityAlgorithm.{IntegrityAlgorithm}
 use Rattle.stun_inspect.specs.declared.command.Command.{Command}
 use Rattle.stun_inspect.specs.declared.command.Command.TheVariants.{Help, Version, Decode}
 use Rattle.stun_inspect.specs.declared.command.Command.TheVariants.{List as Listing}
 use Rattle.stun_inspect.specs.declared.command.Command.TheVariants.{Verify, Key, Userhash, Nonce}
 use Rattle.stun_inspect.specs.declared.command.User.{User}
+use Rattle.stun_inspect.specs.declared.teller.Teller.{Teller}
+use Rattle.stun_inspect.specs.declared.teller.Teller.TheVariants.{Decode as Decoding}
+use Rattle.stun_inspect.specs.declared.teller.Teller.TheVariants.{List as ListingEach}
+use Rattle.stun_inspect.specs.declared.teller.Teller.TheVariants.{Verify as Verifying}
 use Rattle.stun_inspect.specs.declared.failure.Failure.{Failure}
 use Rattle.stun_cli.specs.declared.status.Status.{Status}
 use Rattle.stun_cli.specs.declared.status.Status.TheVariants.{Good}
@@ -27,6 +32,14 @@ abbrev pub keys_for : Option User → List ℕ → IntegrityAlgorithm → List �
 keys_for None password = short_term_key password
 keys_for (Some user) password =
     λ algorithm. long_term_key algorithm user.name.now user.realm.now password
+
+-- what is printed for a message by what a command does with each, and the status that goes with it
+abbrev pub PrintsResult : {B : Type 0} → Teller B → List ℕ → Status → Option (List ℕ)
+    → Option (List ℕ) → Type 0
+PrintsResult Decoding message status before after = PrintsDecoded message status before after
+PrintsResult ListingEach message status before after = PrintsListed message status before after
+PrintsResult (Verifying user credentials) message status before after =
+    PrintsVerdictAndNotes (verdict_of message (keys_of credentials.now)) status before after
 
 -- a text is printed, and the status is good
 abbrev pub PrintsText : List ℕ → Status → Option (List ℕ) → Option (List ℕ) → Type 0
@@ -47,7 +60,7 @@ abbrev pub Answers : Command → Option (List ℕ) → Result Status Failure →
     → Option (List ℕ) → Type 0
 Answers Help given result before after = IfOk result (λ status. status ≡ Good)
 Answers Version given result before after =
-    IfOk result (λ status. PrintsText (codes "stun_inspect 0.2.0" ++ 10 ∷ []) status before after)
+    IfOk result (λ status. PrintsText (codes "stun_inspect 0.3.0" ++ 10 ∷ []) status before after)
 Answers Decode given result before after =
     IfSome given
     (λ input. IfOk result (λ status. is_raw input ≡ true → PrintsDecoded input status before after))

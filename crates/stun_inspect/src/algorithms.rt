@@ -6,7 +6,7 @@ use captures::numbers::{Order, number_16};
 use std::alloc::{AllocError, Allocator};
 use stun_cli::line::Line;
 
-/// An algorithm with its parameters.
+/// A password algorithm with its parameters, at the front of a value.
 #[derive(Clone, Copy)]
 struct Entry<'a> {
     number: u16,
@@ -15,8 +15,8 @@ struct Entry<'a> {
     rest: &'a [u8],
 }
 
-/// Returns the algorithm at the front of a value, if it is whole. MD5 and SHA-256 have no
-/// parameters (section 18.5.1).
+/// Returns the algorithm at the front of a value. Returns `None` if it is not whole, or if it is
+/// MD5 or SHA-256 with parameters, which these must not have (section 18.5.1).
 fn entry_of(value: &[u8]) -> Option<Entry<'_>> {
     let number = number_16(Order::Big, value, 0)?;
     let length = usize::from(number_16(Order::Big, value, 2)?);
@@ -33,7 +33,7 @@ fn entry_of(value: &[u8]) -> Option<Entry<'_>> {
     })
 }
 
-/// Returns `true` if a value is a list of whole algorithms.
+/// Returns whether a value is a list of whole algorithms.
 fn is_list(value: &[u8]) -> bool {
     let mut rest = value;
     for _entry in 0..value.len() {
@@ -48,8 +48,7 @@ fn is_list(value: &[u8]) -> bool {
     rest.is_empty()
 }
 
-/// Appends the name of an algorithm and its parameters. An unknown algorithm has its number in
-/// place of a name.
+/// Appends the name of an algorithm, or its number if the algorithm is unknown, and its parameters.
 fn push_entry<A: Allocator + Copy>(line: &mut Line<A>, entry: Entry<'_>) -> Result<(), AllocError> {
     let number = entry.number;
     match number {

@@ -3,8 +3,10 @@ ghost use Rattle.std.specs.Prelude.{◌≡◌, ◌≢◌, codes, true, IfOk, IfS
 ghost use Rattle.stun_base.specs.Keys.{long_term_key};
 ghost use Rattle.stun_base.specs.Keys.OfCredentials.{keys_of};
 ghost use Rattle.stun_inspect.specs.Decode.{PrintsDecoded};
+ghost use Rattle.stun_inspect.specs.Found.{status_of_found};
 ghost use Rattle.stun_inspect.specs.Input.{is_raw};
-ghost use Rattle.stun_inspect.specs.Run.{Answers, PrintsDigits, PrintsLine, PrintsText, keys_for};
+ghost use Rattle.stun_inspect.specs.Run.{Answers, PrintsDigits, PrintsLine, PrintsResult};
+ghost use Rattle.stun_inspect.specs.Run.{PrintsText, keys_for};
 ghost use Rattle.stun_cli.specs.Line.{IsLine};
 ghost use Rattle.stun_cli.specs.Verdict.{verdict_of};
 ghost use Rattle.stun_inspect.specs.Listed.{PrintsListed};
@@ -13,12 +15,14 @@ ghost use Rattle.stun_inspect.specs.Verify.{PrintsVerdictAndNotes, PrintsWithNot
 use crate::command::{Command, User, Who};
 use crate::decode::{describe, describe_refused};
 use crate::digits::bad_input;
-use crate::each::{Decoding, Listing, Verifying, tell_capture, tell_input};
+use crate::each::{tell_capture, tell_input};
 use crate::failure::{Failure, INPUT_LIMIT, Wanted};
+use crate::found::Found;
 use crate::input::{Input, begin};
 use crate::layout::{is_raw, within_limit};
-use crate::list::{line_of, refusal_of, status_of};
+use crate::list::{found_of, line_of, refusal_of};
 use crate::notes::notes_on;
+use crate::teller::Teller;
 use crate::usage::{HELP, VERSION};
 use crate::value::push_security_bits;
 use crate::verdict::{line, verdict_on};
@@ -49,8 +53,8 @@ pub fn run_command<R: CountedRead, W: Write, A: Allocator + Copy>(
     match command {
         Command::Help => print(writer, HELP.as_bytes()),
         Command::Version => print(writer, VERSION.as_bytes()),
-        Command::Decode => decode_input(alloc, reader, writer),
-        Command::List => list_input(alloc, reader, writer),
+        Command::Decode => tell_reader(alloc, &Teller::Decode, reader, writer),
+        Command::List => tell_reader(alloc, &Teller::List, reader, writer),
         Command::Verify(who) => verify_input(alloc, who, reader, writer),
         Command::Key(algorithm, user, password) => {
             print_key(alloc, algorithm, user, password, reader, writer)
@@ -84,76 +88,45 @@ fn print_digits<W: Write, A: Allocator + Copy>(
     print(writer, line.as_bytes())
 }
 
-/// Prints each attribute of each message that the reader has.
-fn decode_input<R: CountedRead, W: Write, A: Allocator + Copy>(
+/// Reads an input, and prints the result for each message in it.
+fn tell_reader<R: CountedRead, W: Write, A: Allocator + Copy>(
     alloc: A,
+    teller: &Teller<'_, A>,
     reader: &mut R,
     writer: &mut W,
 ) -> Result<Status, Failure>
     ensures { IfSome (R.remaining reader.old) (λ input. IfOk result (λ status.
         is_raw input ≡ true
-        → PrintsDecoded input status (W.contents writer.old) (W.contents writer.new))) }
+        → PrintsResult teller.now input status (W.contents writer.old) (W.contents writer.new))) }
 {
     match begin(alloc, reader)? {
         Input::Capture(capture, begun) => {
-            tell_capture(alloc, &Decoding, capture, begun, reader, writer)
+            tell_capture(alloc, teller, capture, begun, reader, writer)
         }
-        Input::Bytes(input) => decode_all(alloc, input.as_slice(), writer),
+        Input::Bytes(input) => tell_bytes(alloc, teller, input.as_slice(), writer),
     }
 }
 
-/// Prints each attribute of each message that an input has.
-fn decode_all<W: Write, A: Allocator + Copy>(
+/// Prints the result for each message in an input.
+fn tell_bytes<W: Write, A: Allocator + Copy>(
     alloc: A,
+    teller: &Teller<'_, A>,
     input: &[u8],
     writer: &mut W,
 ) -> Result<Status, Failure>
     ensures { is_raw input.now ≡ true → IfOk result (λ status.
-        PrintsDecoded input.now status (W.contents writer.old) (W.contents writer.new)) }
+        PrintsResult teller.now input.now status (W.contents writer.old) (W.contents writer.new)) }
 {
     if is_raw(input) {
         within_limit(input)?;
-        return decode(alloc, input, writer);
+        let found = teller.tell(alloc, input, writer)?;
+        return Ok(found.status());
     }
-    tell_input(alloc, &Decoding, input, writer)
+    tell_input(alloc, teller, input, writer)
 }
 
-/// Prints a line for each message that the reader has.
-fn list_input<R: CountedRead, W: Write, A: Allocator + Copy>(
-    alloc: A,
-    reader: &mut R,
-    writer: &mut W,
-) -> Result<Status, Failure>
-    ensures { IfSome (R.remaining reader.old) (λ input. IfOk result (λ status.
-        is_raw input ≡ true
-        → PrintsListed input status (W.contents writer.old) (W.contents writer.new))) }
-{
-    match begin(alloc, reader)? {
-        Input::Capture(capture, begun) => {
-            tell_capture(alloc, &Listing, capture, begun, reader, writer)
-        }
-        Input::Bytes(input) => list_all(alloc, input.as_slice(), writer),
-    }
-}
-
-/// Prints a line for each message that an input has.
-fn list_all<W: Write, A: Allocator + Copy>(
-    alloc: A,
-    input: &[u8],
-    writer: &mut W,
-) -> Result<Status, Failure>
-    ensures { is_raw input.now ≡ true → IfOk result (λ status.
-        PrintsListed input.now status (W.contents writer.old) (W.contents writer.new)) }
-{
-    if is_raw(input) {
-        within_limit(input)?;
-        return list(alloc, input, writer);
-    }
-    tell_input(alloc, &Listing, input, writer)
-}
-
-/// Verifies the signature of each message that the reader has, and prints the results. If the
-/// password is `-`, it is read from the first line of the reader.
+/// Verifies the signature of each message in an input, and prints the results. If the password is
+/// `-`, it is the first line of the input.
 fn verify_input<R: CountedRead, W: Write, A: Allocator + Copy>(
     alloc: A,
     who: Who<'_>,
@@ -172,8 +145,8 @@ fn verify_input<R: CountedRead, W: Write, A: Allocator + Copy>(
     verify_reader(alloc, who.user, password, reader, writer)
 }
 
-/// Verifies the signature of each message that the reader has, for a user or under a password
-/// alone, and prints the results.
+/// Verifies the signature of each message in an input, for a user or under a password alone, and
+/// prints the results.
 fn verify_reader<R: CountedRead, W: Write, A: Allocator + Copy>(
     alloc: A,
     user: Option<User<'_>>,
@@ -187,35 +160,7 @@ fn verify_reader<R: CountedRead, W: Write, A: Allocator + Copy>(
         (W.contents writer.old) (W.contents writer.new))) }
 {
     let credentials = credentials_of(alloc, user, password)?;
-    match begin(alloc, reader)? {
-        Input::Capture(capture, begun) => {
-            let credentials = &credentials;
-            let teller = Verifying { user, credentials };
-            tell_capture(alloc, &teller, capture, begun, reader, writer)
-        }
-        Input::Bytes(input) => verify_each(alloc, user, &credentials, input.as_slice(), writer),
-    }
-}
-
-/// Verifies the signature of each message of an input under these credentials, and prints the
-/// results.
-fn verify_each<W: Write, A: Allocator + Copy>(
-    alloc: A,
-    user: Option<User<'_>>,
-    credentials: &MessageIntegrityCredentials<A>,
-    input: &[u8],
-    writer: &mut W,
-) -> Result<Status, Failure>
-    ensures { is_raw input.now ≡ true → IfOk result (λ status.
-        PrintsVerdictAndNotes (verdict_of input.now (keys_of credentials.now)) status
-        (W.contents writer.old) (W.contents writer.new)) }
-{
-    if is_raw(input) {
-        within_limit(input)?;
-        let verdict = verify(alloc, input, user, credentials, writer)?;
-        return Ok(verdict.status());
-    }
-    tell_input(alloc, &Verifying { user, credentials }, input, writer)
+    tell_reader(alloc, &Teller::Verify(user, &credentials), reader, writer)
 }
 
 /// Verifies the signature of each message of a file, and prints the results. If the password is
@@ -253,47 +198,49 @@ fn print_key<R: CountedRead, W: Write, A: Allocator + Copy>(
     print_digits(alloc, key.as_bytes(), writer)
 }
 
-/// Prints each attribute of the message, or why the bytes are not a message. Of a truncated message
-/// it first prints the attributes before the cut.
+/// Prints each attribute of the message, or the reason why the bytes are not a message. For a
+/// truncated message it first prints the attributes before the cut. Returns a `Found` for the
+/// bytes.
 pub fn decode<W: Write, A: Allocator + Copy>(
     alloc: A,
     bytes: &[u8],
     writer: &mut W,
-) -> Result<Status, Failure>
-    ensures { IfOk result (λ status. PrintsDecoded bytes.now status (W.contents writer.old)
-        (W.contents writer.new)) }
+) -> Result<Found, Failure>
+    ensures { IfOk result (λ found. PrintsDecoded bytes.now (status_of_found found)
+        (W.contents writer.old) (W.contents writer.new)) }
 {
     match Message::from_bytes(bytes) {
         Ok(message) => {
             let text = describe(alloc, bytes, message.get_type(), message.transaction_id())?;
             write_text(writer, text.as_bytes())?;
-            Ok(Status::Good)
+            Ok(Found::Good)
         }
         Err(error) => {
             let text = describe_refused(alloc, bytes, error)?;
             write_text(writer, text.as_bytes())?;
-            Ok(Status::Bad)
+            Ok(Found::NotAMessage)
         }
     }
 }
 
-/// Prints a line for the message, or for why the bytes are not one.
+/// Prints a line for the message, or a line with the reason why the bytes are not a message.
+/// Returns a `Found` for the bytes.
 pub fn list<W: Write, A: Allocator + Copy>(
     alloc: A,
     bytes: &[u8],
     writer: &mut W,
-) -> Result<Status, Failure>
-    ensures { IfOk result (λ status. PrintsListed bytes.now status (W.contents writer.old)
-        (W.contents writer.new)) }
+) -> Result<Found, Failure>
+    ensures { IfOk result (λ found. PrintsListed bytes.now (status_of_found found)
+        (W.contents writer.old) (W.contents writer.new)) }
 {
     let refusal = refusal_of(bytes);
     let line = line_of(alloc, bytes, refusal)?;
     write_text(writer, line.as_bytes())?;
-    Ok(status_of(refusal))
+    Ok(found_of(refusal))
 }
 
-/// Verifies the signature of the message, and prints the verdict and how the message differs from
-/// the user. Returns the verdict.
+/// Verifies the signature of the message, prints the verdict, and prints notes on differences
+/// between the message and the user. Returns the verdict.
 pub fn verify<W: Write, A: Allocator + Copy, B: Allocator>(
     alloc: A,
     bytes: &[u8],
@@ -313,7 +260,7 @@ pub fn verify<W: Write, A: Allocator + Copy, B: Allocator>(
     Ok(verdict)
 }
 
-/// Returns the credentials of a user, or those of a password alone.
+/// Returns the long-term credentials of a user, or the short-term credentials of a password alone.
 fn credentials_of<A: Allocator + Copy>(
     alloc: A,
     user: Option<User<'_>>,

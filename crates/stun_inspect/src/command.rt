@@ -2,7 +2,7 @@
 
 use stun_types::message::IntegrityAlgorithm;
 
-/// A command with its arguments. It has no `Debug`, because one of them may be a password.
+/// A command with its arguments. It has no `Debug`, because an argument may be a password.
 #[derive(Clone, Copy, PartialEq, Eq)]
 pub enum Command<'a> {
     Help,
@@ -24,12 +24,12 @@ pub struct Asked<'a> {
     pub file: Option<&'a str>,
 }
 
-/// The credentials to verify a message with. If the password is `-`, it is read from the first line
-/// of standard input.
+/// The credentials to verify a message with. If the password is `-`, the first line of standard
+/// input is the password.
 #[derive(Clone, Copy, PartialEq, Eq)]
 pub struct Who<'a> {
-    /// The name and the realm of a user, if the credentials are long-term ones (RFC 8489, section
-    /// 9.2).
+    /// The name and the realm of a user, if the credentials are long-term credentials (RFC 8489,
+    /// section 9.2).
     pub user: Option<User<'a>>,
     pub password: &'a str,
 }
@@ -41,7 +41,7 @@ pub struct User<'a> {
     pub realm: &'a str,
 }
 
-/// Parses the arguments. Returns `None` if they are not those of a command.
+/// Parses the arguments. Returns `None` if no command accepts them.
 pub fn asked_of(words: &[String]) -> Option<Asked<'_>> {
     let (command, others) = words.split_first()?;
     match command.as_str() {
@@ -55,7 +55,7 @@ pub fn asked_of(words: &[String]) -> Option<Asked<'_>> {
     }
 }
 
-/// Returns the command with this name that reads no message.
+/// Returns the command with this name and these arguments, among the commands that read no message.
 fn command_of<'a>(name: &str, words: &'a [String]) -> Option<Command<'a>> {
     match name {
         "-h" | "--help" => words.is_empty().then_some(Command::Help),
@@ -70,7 +70,8 @@ fn command_of<'a>(name: &str, words: &'a [String]) -> Option<Command<'a>> {
     }
 }
 
-/// Returns a command whose only argument is the file that it reads.
+/// Returns this command with the file to read, which is its only argument, or without a file if
+/// there is no argument. Returns `None` if there are more arguments.
 fn reading<'a>(command: Command<'a>, words: &'a [String]) -> Option<Asked<'a>> {
     let file = match words {
         [] => None,

@@ -1,4 +1,4 @@
-//! The command `decode`: what it prints about a message.
+//! The command `decode`: the text that it prints for a message.
 ghost use Rattle.std.specs.Prelude.{◌≡◌, false, IfOk, length, string_bytes};
 ghost use Rattle.stun_cli.specs.Line.{has_line_feed, IsLine};
 ghost use Rattle.stun_base.specs.Header.{header_refusal};
@@ -18,9 +18,9 @@ use stun_types::message::{
     MessageClass, MessageHeader, MessageType, StunParseError, TransactionId,
 };
 
-/// Returns the text that is printed for a message of this type and with this transaction ID: a line
-/// each for its class, its method and its transaction ID, and then a line for each attribute. Of a
-/// truncated message these are the attributes before the cut. Fails if an allocation fails.
+/// Returns the text that is printed for a message of this type and with this transaction ID: one
+/// line each for its class, its method and its transaction ID, and then a line for each attribute.
+/// For a truncated message, these are the attributes before the cut. Fails if an allocation fails.
 pub fn describe<A: Allocator + Copy>(
     alloc: A,
     bytes: &[u8],
@@ -36,8 +36,8 @@ pub fn describe<A: Allocator + Copy>(
     Ok(text)
 }
 
-/// Returns the text that is printed for bytes that are not a message for this reason: a line that
-/// says so, and before it what comes before the cut of a truncated message. Fails if an allocation
+/// Returns the text that is printed for bytes that are not a message: a line with the reason, and
+/// before it, for a truncated message, the text for the part before the cut. Fails if an allocation
 /// fails.
 pub fn describe_refused<A: Allocator + Copy>(
     alloc: A,
@@ -68,7 +68,7 @@ fn describe_before_refusal<A: Allocator + Copy>(
     }
 }
 
-/// Returns the text that is printed for the part of a truncated message before its cut, which is
+/// Returns the text that is printed for the part of a truncated message before its cut. The text is
 /// empty if the header is cut.
 fn describe_before_cut<A: Allocator + Copy>(alloc: A, bytes: &[u8]) -> Result<String<A>, AllocError>
     ensures { IfOk result (λ text.
@@ -146,7 +146,7 @@ fn method_text<A: Allocator + Copy>(alloc: A, method: u16) -> Result<Line<A>, Al
     Ok(line)
 }
 
-/// Appends the number of a method as three digits in hexadecimal.
+/// Appends the number of a method as three hexadecimal digits.
 pub fn push_method_number<A: Allocator + Copy>(
     line: &mut Line<A>,
     method: u16,
@@ -201,7 +201,7 @@ fn line_on<A: Allocator + Copy>(
 /// The width of the column of names: the length of the longest name.
 const NAME_LENGTH: usize = 28;
 
-/// Pads a name with blanks to the width of its column.
+/// Returns a name, padded with blanks to the width of its column.
 fn column_of<A: Allocator + Copy>(alloc: A, name: &str) -> Result<Line<A>, AllocError>
     requires { IsName name.now }
     ensures { IfOk result (λ column. length (string_bytes column.text) ≡ NAME_LENGTH) }
@@ -214,7 +214,7 @@ fn column_of<A: Allocator + Copy>(alloc: A, name: &str) -> Result<Line<A>, Alloc
     Ok(column)
 }
 
-/// Returns the blanks that fill the column of a number, which has five digits.
+/// Returns the blanks that pad a number to the width of its column, which is five digits.
 fn blanks_beside(number: usize) -> &'static str
     ensures { has_line_feed result.now ≡ false }
 {
@@ -228,7 +228,7 @@ fn blanks_beside(number: usize) -> &'static str
 }
 
 /// Returns the rest of an attribute's line, after its name, its type and its offset: the length of
-/// the value, the attribute that hides it, and the value.
+/// the value, the earlier attribute that makes this one invisible, if there is one, and the value.
 fn rest_of_line<A: Allocator + Copy>(
     alloc: A,
     told: &Told<'_>,

@@ -1,4 +1,4 @@
-//! Hexadecimal digits without offsets.
+//! Parses hexadecimal digits without offsets.
 
 use crate::failure::{BadInput, Failure, Wanted};
 use std::alloc::Allocator;
@@ -13,23 +13,23 @@ pub fn digit(byte: u8) -> Option<u8> {
     }
 }
 
-/// Returns the byte that two digits spell.
+/// Returns the byte with these two hexadecimal digits.
 pub fn byte_of(high: u8, low: u8) -> u8 {
     (high << 4) | low
 }
 
-/// The state after reading some of a run of digits.
+/// The state of a parser within a sequence of digits.
 #[derive(Clone, Copy, Debug)]
 struct Run {
     /// The first digit of a byte whose second digit has not been read yet.
     high: Option<u8>,
-    /// Whether that digit is a zero, so that an `x` may follow it.
+    /// Whether the digit in `high` is a zero, so that an `x` may follow it.
     may_be_prefix: bool,
-    /// Whether the next digit would be the first of a word.
+    /// Whether the next digit is at the beginning of a word.
     is_at_word: bool,
 }
 
-/// The result of reading one byte of a run.
+/// The result of reading one byte of the input.
 enum Step {
     Byte(u8),
     Nothing,
@@ -86,7 +86,7 @@ impl Run {
 }
 
 /// Parses hexadecimal digits, two digits of either case for each byte. White space may be anywhere,
-/// a colon after each byte, and `0x` before each byte at the start of a word.
+/// a colon may follow each byte, and `0x` may precede each byte at the start of a word.
 pub fn read_plain<A: Allocator>(alloc: A, text: &str) -> Result<Vec<u8, A>, Failure> {
     let mut bytes = Vec::new(alloc);
     let mut run = Run::BEGUN;

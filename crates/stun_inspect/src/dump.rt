@@ -1,5 +1,5 @@
-//! Dumps with a column of offsets: those of `xxd`, `hexdump -C`, `od -A x -t x1`, `tcpdump -x` and
-//! Wireshark.
+//! Parses dumps with a column of offsets, as `xxd`, `hexdump -C`, `od -A x -t x1`, `tcpdump -x` and
+//! Wireshark print them.
 ghost use Rattle.std.specs.Prelude.{◌≡◌, ◌≢◌, ◌<◌, ℕ, length, get_or, option_copied};
 ghost use Rattle.std.specs.Prelude.{IfSome, IfNone};
 ghost use Rattle.stun_inspect.specs.Dump.{IsFirstBlank, is_before_byte};
@@ -19,11 +19,11 @@ pub fn first_blank(row: &[u8]) -> Option<usize>
     row.iter().position(|byte| *byte == b' ')
 }
 
-/// Returns the digits of an offset, if the first word of a row is one of these:
+/// Returns the digits of the offset in a row, if its first word is one of these:
 ///
-/// - a word that ends in a colon; the colon, and a `0x` before the digits, are left out;
-/// - a whole word that two blanks follow;
-/// - a whole word of six letters that a word of two letters follows, as `od` writes them.
+/// - a word that ends with a colon; the colon, and a `0x` before the digits, are left out;
+/// - a word before two blanks;
+/// - a word of six characters before a word of two characters, as `od` writes them.
 ///
 /// A colon further on, such as one in the column of characters, does not end an offset.
 pub fn offset_digits<'a>(word: &'a [u8], rest: &[u8]) -> Option<&'a [u8]>
@@ -40,7 +40,7 @@ pub fn offset_digits<'a>(word: &'a [u8], rest: &[u8]) -> Option<&'a [u8]>
     }
 }
 
-/// Returns `true` if a word has six letters, and the word after it has two.
+/// Returns whether a word has six characters, and the word after it has two.
 fn is_before_byte(word: &[u8], rest: &[u8]) -> bool
     ensures { result ≡ is_before_byte word.now rest.now }
 {
@@ -58,7 +58,8 @@ fn without_prefix(digits: &[u8]) -> &[u8]
     }
 }
 
-/// Parses the offset at the front of a row, and returns it with what follows the blank after it.
+/// Parses the offset at the front of a row, and returns the offset and the rest of the row after
+/// the blank.
 fn offset_of(row: &str) -> Option<(usize, &str)> {
     let row = row.trim_start();
     let blank = first_blank(row.as_bytes())?;
@@ -79,7 +80,7 @@ fn number_of(digits: &[u8]) -> Option<usize> {
     Some(number)
 }
 
-/// Returns `true` if one of the lines is the first row of a dump, which has the offset 0.
+/// Returns whether one of the lines is the first row of a dump, which has the offset 0.
 pub fn has_dump(text: &str) -> bool {
     for line in text.split('\n') {
         if let Some((0, _)) = offset_of(line) {
@@ -90,8 +91,8 @@ pub fn has_dump(text: &str) -> bool {
 }
 
 /// Reads the bytes of each dump of a text. A dump begins with a row of offset 0. Lines before it
-/// and blank lines are skipped. The offset of each row must be the number of bytes before it, and a
-/// line after the last row may be that number alone.
+/// and blank lines are skipped. The offset of each row must be the number of bytes in the rows
+/// before it, and a line after the last row may have only the number of all bytes.
 pub fn read_dumps<A: Allocator + Copy>(
     alloc: A,
     text: &str,
@@ -119,7 +120,7 @@ struct Dumps<A: Allocator> {
     bytes: Vec<u8, A>,
     /// The line of the last dump's first row.
     first: usize,
-    /// The first line after the rows of the last dump that belongs to no dump.
+    /// The first line that follows the rows of the last dump and belongs to no dump.
     stray: Option<usize>,
 }
 
@@ -142,7 +143,7 @@ impl<A: Allocator + Copy> Dumps<A> {
     }
 
     /// Reads a row with this offset, or skips it before the first dump. Fails if the offset is not
-    /// the number of bytes before it, or if a line before it belongs to no dump.
+    /// the number of bytes in the rows before, or if a line before the row belongs to no dump.
     fn take_row(
         &mut self,
         line: &str,
@@ -173,7 +174,7 @@ impl<A: Allocator + Copy> Dumps<A> {
         Ok(())
     }
 
-    /// Returns the dumps, after the last line of the text.
+    /// Returns all dumps, after the last line of the text was read.
     fn end(self, number: usize) -> Result<Vec<Spelled<A>, A>, Failure> {
         let Dumps {
             mut dumps,
@@ -192,8 +193,8 @@ impl<A: Allocator + Copy> Dumps<A> {
     }
 }
 
-/// Returns `true` if a line is only the number of bytes of a dump, as `hexdump` and `od` print it
-/// at the end.
+/// Returns whether a line has only the number of bytes of a dump, as `hexdump` and `od` print it at
+/// the end.
 fn is_end(line: &str, length: usize) -> bool {
     let line = line.trim_end();
     line.len() >= 6 && number_of(line.as_bytes()) == Some(length)
@@ -202,8 +203,8 @@ fn is_end(line: &str, length: usize) -> bool {
 /// The offset of the column of characters in a row of `hexdump -C`.
 const CHARACTERS: usize = 60;
 
-/// Appends the bytes of a row. In a row of `hexdump -C` they are between two blanks and a bar in a
-/// fixed column. In other rows two blanks end them.
+/// Appends the bytes of a row. In a row of `hexdump -C` the bytes are between two blanks and a bar
+/// in a fixed column. In other rows they end before two blanks.
 fn read_row_of<A: Allocator>(
     bytes: &mut Vec<u8, A>,
     line: &str,
@@ -217,8 +218,9 @@ fn read_row_of<A: Allocator>(
     }
 }
 
-/// Returns the digits of a row of `hexdump -C`: eight digits and two blanks come before them, and a
-/// bar in a fixed column after them.
+/// Returns the part of a row of `hexdump -C` that has the digits. It follows the eight digits of
+/// the offset and two blanks, and ends before a bar in a fixed column. Returns `None` if the row
+/// does not have this form.
 fn canonical_row(line: &str) -> Option<&str> {
     let _offset = number_of(line.get(..8)?.as_bytes())?;
     match (line.get(8..10)?, line.as_bytes().get(CHARACTERS)?) {
@@ -227,14 +229,14 @@ fn canonical_row(line: &str) -> Option<&str> {
     }
 }
 
-/// Where two blanks may be in a row: among its bytes, or after them.
+/// Whether two blanks are allowed among the bytes of a row, or end them.
 #[derive(Clone, Copy)]
 enum Gap {
     InRow,
     AtEnd,
 }
 
-/// The state after reading some of the digits of a row.
+/// The state of a parser within the digits of a row.
 #[derive(Clone, Copy)]
 enum Column {
     /// Before the first digit.
@@ -275,7 +277,7 @@ fn next_of(at: Column, byte: u8, gap: Gap) -> Step {
     }
 }
 
-/// Appends the bytes of a row. If two blanks end them, the characters of the row may follow.
+/// Appends the bytes of a row. If two blanks end the bytes, a column of characters may follow.
 fn read_row<A: Allocator>(
     bytes: &mut Vec<u8, A>,
     row: &str,

@@ -26,21 +26,21 @@ pub enum Failure {
     Capture(Damage),
 }
 
-/// Where an input cannot be read, and what was expected there.
+/// The position at which an input cannot be read, and what was expected there.
 #[derive(Clone, Copy, Debug, PartialEq, Eq)]
 pub struct BadInput {
     /// The line, counted from 1.
     pub line: usize,
-    /// The byte of the line, counted from 1.
+    /// The position in the line in bytes, counted from 1.
     pub column: usize,
     /// What was expected.
     pub wanted: Wanted,
 }
 
-/// What an input was expected to have.
+/// What was expected at a position of an input.
 #[derive(Clone, Copy, Debug, PartialEq, Eq)]
 pub enum Wanted {
-    /// Bytes.
+    /// The bytes of a message.
     Bytes,
     /// Text, because the bytes are not a message.
     Text,
@@ -50,7 +50,7 @@ pub enum Wanted {
     SecondDigit,
     /// The offset of the next row of a dump.
     Offset(usize),
-    /// The end of a message of 65552 bytes.
+    /// The end of the message, which has 65552 bytes already.
     EndOfMessage,
     /// A password in UTF-8.
     Password,

@@ -6,7 +6,7 @@ use crate::telling::Told;
 use stun_extra::fingerprint::{Fingerprint, fingerprint_at};
 use stun_types::attribute::AttributeType;
 
-/// Returns what is printed after the value of a FINGERPRINT.
+/// Returns the text that is printed after the value of a FINGERPRINT.
 fn text_of(fingerprint: Fingerprint) -> &'static str
     ensures { result.now ≡ fingerprint_text fingerprint }
 {
@@ -18,8 +18,8 @@ fn text_of(fingerprint: Fingerprint) -> &'static str
     }
 }
 
-/// Returns the end of the line for an attribute of the message. For a FINGERPRINT it says whether
-/// the attribute is right.
+/// Returns the end of the line for an attribute of the message. For a FINGERPRINT, the end states
+/// whether the attribute is correct.
 pub fn ending_of(message: &[u8], told: &Told<'_>) -> &'static str
     ensures { result.now ≡ ending_of message.now told.now }
 {

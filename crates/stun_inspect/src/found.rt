@@ -1,27 +1,30 @@
-//! What a command finds in a message.
+//! The finding of a command for the bytes of a message.
 ghost use Rattle.std.specs.Prelude.{◌≡◌};
+ghost use Rattle.stun_cli.specs.Verdict.{status_of};
 ghost use Rattle.stun_inspect.specs.Found.{found_of, status_of_found};
 
 use stun_cli::status::Status;
 use stun_cli::verdict::Verdict;
 
-/// What a command finds in a message.
+/// The finding of a command for the bytes of a message.
 #[derive(Clone, Copy, Debug, PartialEq, Eq)]
 pub enum Found {
-    /// What the command looks for: for `verify` a valid signature, for others a message.
+    /// The bytes are a message and, for `verify`, its signature is valid.
     Good,
-    /// A message whose signature is not valid, or whose integrity attribute is malformed.
+    /// The bytes are a message whose signature is invalid, or whose integrity attribute is
+    /// malformed.
     Invalid,
-    /// A message that is not signed.
+    /// The bytes are a message that is not signed.
     Unsigned,
-    /// Bytes that are not a message.
+    /// The bytes are not a message.
     NotAMessage,
 }
 
 impl Found {
-    /// Returns what a verdict finds.
+    /// Returns the finding for a verdict.
     pub fn of_verdict(verdict: Verdict) -> Found
-        ensures { result ≡ found_of verdict }
+        ensures found { result ≡ found_of verdict }
+        ensures status { status_of_found result ≡ status_of verdict }
     {
         match verdict {
             Verdict::Valid(_) => Found::Good,
@@ -31,16 +34,7 @@ impl Found {
         }
     }
 
-    /// Returns what a command finds that ends with `Good` for each message, and with another status
-    /// for bytes that are not one.
-    pub fn of_status(status: Status) -> Found {
-        match status {
-            Status::Good => Found::Good,
-            _ => Found::NotAMessage,
-        }
-    }
-
-    /// Returns how a command ends that finds this in its only message.
+    /// Returns the status of a command whose only message has this finding.
     pub fn status(self) -> Status
         ensures { result ≡ status_of_found self }
     {

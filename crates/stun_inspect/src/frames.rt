@@ -26,8 +26,8 @@ pub struct Cut<'a> {
     pub rest: &'a [u8],
 }
 
-/// Returns the ChannelData at the front of the bytes, if it is whole. The first two bits of its
-/// channel number are 01 (RFC 5766, section 11).
+/// Returns the ChannelData at the front of the bytes, or `None` if it is not whole. The first two
+/// bits of its channel number are 01 (RFC 5766, section 11).
 fn channel_data(bytes: &[u8]) -> Option<ChannelData<'_>> {
     let channel = number_16(Order::Big, bytes, 0)?;
     let length = usize::from(number_16(Order::Big, bytes, 2)?);
@@ -38,8 +38,8 @@ fn channel_data(bytes: &[u8]) -> Option<ChannelData<'_>> {
     Some(ChannelData { channel, bytes })
 }
 
-/// Returns the content of a UDP datagram. ChannelData must fill the datagram, with padding or
-/// without it (RFC 8656, section 12.5).
+/// Returns the message or the ChannelData in a UDP datagram, or `None` if it has neither.
+/// ChannelData must fill the datagram, with padding or without it (RFC 8656, section 12.5).
 pub fn part_of(datagram: &[u8]) -> Option<Part<'_>> {
     if is_raw(datagram) {
         return Some(Part::Message(datagram));
@@ -54,8 +54,8 @@ pub fn part_of(datagram: &[u8]) -> Option<Part<'_>> {
     }
 }
 
-/// Returns the part at the front of a stream, if it is whole: a message, ChannelData (RFC 8656,
-/// section 12.5), or a message after its length in 2 bytes (RFC 4571).
+/// Returns the part at the front of a stream: a message, ChannelData (RFC 8656, section 12.5), or a
+/// message after its length in 2 bytes (RFC 4571). Returns `None` if no whole part is there.
 pub fn cut_of(stream: &[u8]) -> Option<Cut<'_>> {
     if let Frame::Message(length) = next_turn_frame(stream) {
         let rest = stream.get(length..)?;
@@ -78,12 +78,13 @@ pub fn cut_of(stream: &[u8]) -> Option<Cut<'_>> {
     }
 }
 
-/// How much of a segment can be read.
+/// How much of a TCP segment can be read.
 #[derive(Clone, Copy, PartialEq, Eq)]
 pub enum Read {
     /// All of it.
     Whole,
-    /// Whole parts, or none, and then the beginning of a message that continues in another segment.
+    /// Any number of whole parts, and then the beginning of a message that continues in another
+    /// segment.
     Begun,
     /// Nothing: the segment belongs to another protocol, or continues a message of another segment.
     Nothing,
@@ -109,7 +110,7 @@ pub fn read_of(segment: &[u8]) -> Read {
     }
 }
 
-/// Returns `true` if the stream begins with a part of a message, perhaps after its length.
+/// Returns whether a message begins at the front of the stream, or after a length of 2 bytes.
 fn is_begun(stream: &[u8]) -> bool {
     is_raw(stream) || is_raw(stream.get(2..).unwrap_or(&[]))
 }

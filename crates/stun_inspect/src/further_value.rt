@@ -5,7 +5,7 @@ ghost use Rattle.std.specs.Prelude.{◌≡◌, false};
 ghost use Rattle.stun_cli.specs.Line.{has_line_feed};
 
 use crate::registry::attribute_name;
-use crate::value::{push_address, push_code, push_digits, push_quoted};
+use crate::value::{push_address, push_code, push_digits, push_quoted, read};
 use std::alloc::{AllocError, Allocator};
 use stun_attributes::{
     AddressErrorCode, AddressFamily, AlternateDomain, ChangeRequest, ChannelNumber, EvenPort,
@@ -15,18 +15,16 @@ use stun_attributes::{
 };
 use stun_cli::line::Line;
 use stun_extra::unknown::UnknownAttributes;
-use stun_types::attribute::RawAttribute;
 use stun_types::message::TransactionId;
-use stun_types::prelude::*;
 
-/// Appends an address that is not XORed, such as that of MAPPED-ADDRESS.
+/// Appends an address that is not XORed, such as the address in MAPPED-ADDRESS.
 pub fn push_plain_address<A: Allocator + Copy>(
     line: &mut Line<A>,
     value: &[u8],
 ) -> Result<bool, AllocError> {
-    match MappedAddress::from_raw(RawAttribute::new(MappedAddress::TYPE, value)) {
-        Ok(address) => push_address(line, address.addr()),
-        Err(_) => Ok(false),
+    match read::<MappedAddress>(value) {
+        Some(address) => push_address(line, address.addr()),
+        None => Ok(false),
     }
 }
 
@@ -36,9 +34,9 @@ pub fn push_xored_address<A: Allocator + Copy>(
     value: &[u8],
     id: TransactionId,
 ) -> Result<bool, AllocError> {
-    match XorPeerAddress::from_raw(RawAttribute::new(XorPeerAddress::TYPE, value)) {
-        Ok(address) => push_address(line, address.addr(id)),
-        Err(_) => Ok(false),
+    match read::<XorPeerAddress>(value) {
+        Some(address) => push_address(line, address.addr(id)),
+        None => Ok(false),
     }
 }
 
@@ -46,7 +44,7 @@ pub fn push_software<A: Allocator + Copy>(
     line: &mut Line<A>,
     value: &[u8],
 ) -> Result<bool, AllocError> {
-    let Ok(software) = Software::from_raw(RawAttribute::new(Software::TYPE, value)) else {
+    let Some(software) = read::<Software>(value) else {
         return Ok(false);
     };
     push_quoted(line, software.software())?;
@@ -57,8 +55,7 @@ pub fn push_domain<A: Allocator + Copy>(
     line: &mut Line<A>,
     value: &[u8],
 ) -> Result<bool, AllocError> {
-    let raw = RawAttribute::new(AlternateDomain::TYPE, value);
-    let Ok(alternate) = AlternateDomain::from_raw(raw) else {
+    let Some(alternate) = read::<AlternateDomain>(value) else {
         return Ok(false);
     };
     push_quoted(line, alternate.text())?;
@@ -70,8 +67,7 @@ pub fn push_types<A: Allocator + Copy>(
     line: &mut Line<A>,
     value: &[u8],
 ) -> Result<bool, AllocError> {
-    let raw = RawAttribute::new(UnknownAttributes::TYPE, value);
-    let Ok(types) = UnknownAttributes::from_raw(raw) else {
+    let Some(types) = read::<UnknownAttributes>(value) else {
         return Ok(false);
     };
     if types.is_empty() {
@@ -90,22 +86,21 @@ pub fn push_types<A: Allocator + Copy>(
     Ok(true)
 }
 
-/// Appends a number of 32 bits, such as that of PRIORITY.
+/// Appends a number of 32 bits, such as the number in PRIORITY.
 pub fn push_number<A: Allocator + Copy>(
     line: &mut Line<A>,
     value: &[u8],
 ) -> Result<bool, AllocError> {
-    let Ok(priority) = Priority::from_raw(RawAttribute::new(Priority::TYPE, value)) else {
+    let Some(priority) = read::<Priority>(value) else {
         return Ok(false);
     };
     line.push_number(u64::from(priority.number()))?;
     Ok(true)
 }
 
-/// Reads a number of 16 bits, such as that of RESPONSE-PORT.
+/// Parses a number of 16 bits, such as the number in RESPONSE-PORT.
 fn short_in(value: &[u8]) -> Option<u16> {
-    let raw = RawAttribute::new(ResponsePort::TYPE, value);
-    Some(ResponsePort::from_raw(raw).ok()?.number())
+    Some(read::<ResponsePort>(value)?.number())
 }
 
 /// Appends a number of 16 bits.
@@ -125,8 +120,7 @@ pub fn push_tie_breaker<A: Allocator + Copy>(
     line: &mut Line<A>,
     value: &[u8],
 ) -> Result<bool, AllocError> {
-    let raw = RawAttribute::new(IceControlled::TYPE, value);
-    let Ok(role) = IceControlled::from_raw(raw) else {
+    let Some(role) = read::<IceControlled>(value) else {
         return Ok(false);
     };
     push_digits(line, &role.tie_breaker().to_be_bytes())
@@ -136,7 +130,7 @@ pub fn push_flag<A: Allocator + Copy>(
     line: &mut Line<A>,
     value: &[u8],
 ) -> Result<bool, AllocError> {
-    if UseCandidate::from_raw(RawAttribute::new(UseCandidate::TYPE, value)).is_err() {
+    if read::<UseCandidate>(value).is_none() {
         return Ok(false);
     }
     line.push_str("set")?;
@@ -148,8 +142,7 @@ pub fn push_channel<A: Allocator + Copy>(
     line: &mut Line<A>,
     value: &[u8],
 ) -> Result<bool, AllocError> {
-    let raw = RawAttribute::new(ChannelNumber::TYPE, value);
-    let Ok(number) = ChannelNumber::from_raw(raw) else {
+    let Some(number) = read::<ChannelNumber>(value) else {
         return Ok(false);
     };
     line.push_str("channel 0x")?;
@@ -160,7 +153,7 @@ pub fn push_lifetime<A: Allocator + Copy>(
     line: &mut Line<A>,
     value: &[u8],
 ) -> Result<bool, AllocError> {
-    let Ok(lifetime) = Lifetime::from_raw(RawAttribute::new(Lifetime::TYPE, value)) else {
+    let Some(lifetime) = read::<Lifetime>(value) else {
         return Ok(false);
     };
     line.push_number(u64::from(lifetime.number()))?;
@@ -172,8 +165,7 @@ pub fn push_family<A: Allocator + Copy>(
     line: &mut Line<A>,
     value: &[u8],
 ) -> Result<bool, AllocError> {
-    let raw = RawAttribute::new(RequestedAddressFamily::TYPE, value);
-    let Ok(requested) = RequestedAddressFamily::from_raw(raw) else {
+    let Some(requested) = read::<RequestedAddressFamily>(value) else {
         return Ok(false);
     };
     line.push_str(family_name(requested.family()))?;
@@ -190,14 +182,13 @@ fn family_name(family: AddressFamily) -> &'static str
     }
 }
 
-/// Appends the family of an address that was not allocated, and the code and the phrase that say
-/// why.
+/// Appends the family of an address that was not allocated, and the error code and the reason
+/// phrase.
 pub fn push_address_error<A: Allocator + Copy>(
     line: &mut Line<A>,
     value: &[u8],
 ) -> Result<bool, AllocError> {
-    let raw = RawAttribute::new(AddressErrorCode::TYPE, value);
-    let Ok(error) = AddressErrorCode::from_raw(raw) else {
+    let Some(error) = read::<AddressErrorCode>(value) else {
         return Ok(false);
     };
     line.push_str(family_name(error.family()))?;
@@ -211,7 +202,7 @@ pub fn push_icmp<A: Allocator + Copy>(
     line: &mut Line<A>,
     value: &[u8],
 ) -> Result<bool, AllocError> {
-    let Ok(icmp) = Icmp::from_raw(RawAttribute::new(Icmp::TYPE, value)) else {
+    let Some(icmp) = read::<Icmp>(value) else {
         return Ok(false);
     };
     line.push_str("type ")?;
@@ -228,8 +219,7 @@ pub fn push_transmissions<A: Allocator + Copy>(
     line: &mut Line<A>,
     value: &[u8],
 ) -> Result<bool, AllocError> {
-    let raw = RawAttribute::new(TransactionTransmitCounter::TYPE, value);
-    let Ok(counter) = TransactionTransmitCounter::from_raw(raw) else {
+    let Some(counter) = read::<TransactionTransmitCounter>(value) else {
         return Ok(false);
     };
     line.push_str("requests ")?;
@@ -243,7 +233,7 @@ pub fn push_even_port<A: Allocator + Copy>(
     line: &mut Line<A>,
     value: &[u8],
 ) -> Result<bool, AllocError> {
-    let Ok(even) = EvenPort::from_raw(RawAttribute::new(EvenPort::TYPE, value)) else {
+    let Some(even) = read::<EvenPort>(value) else {
         return Ok(false);
     };
     if even.requested() {
@@ -259,8 +249,7 @@ pub fn push_transport<A: Allocator + Copy>(
     line: &mut Line<A>,
     value: &[u8],
 ) -> Result<bool, AllocError> {
-    let raw = RawAttribute::new(RequestedTransport::TYPE, value);
-    let Ok(requested) = RequestedTransport::from_raw(raw) else {
+    let Some(requested) = read::<RequestedTransport>(value) else {
         return Ok(false);
     };
     let protocol = requested.protocol();
@@ -277,8 +266,7 @@ pub fn push_token<A: Allocator + Copy>(
     line: &mut Line<A>,
     value: &[u8],
 ) -> Result<bool, AllocError> {
-    let raw = RawAttribute::new(ReservationToken::TYPE, value);
-    let Ok(reservation) = ReservationToken::from_raw(raw) else {
+    let Some(reservation) = read::<ReservationToken>(value) else {
         return Ok(false);
     };
     push_digits(line, reservation.token())
@@ -288,8 +276,7 @@ pub fn push_change_request<A: Allocator + Copy>(
     line: &mut Line<A>,
     value: &[u8],
 ) -> Result<bool, AllocError> {
-    let raw = RawAttribute::new(ChangeRequest::TYPE, value);
-    let Ok(request) = ChangeRequest::from_raw(raw) else {
+    let Some(request) = read::<ChangeRequest>(value) else {
         return Ok(false);
     };
     match (request.change_ip(), request.change_port()) {

@@ -10,7 +10,7 @@ use captures::capture::{Capture, FRONT_LENGTH, header_length_of};
 use std::alloc::Allocator;
 use stun_cli::input::{CountedRead, read_rest, read_up_to};
 
-/// An input whose beginning has been read.
+/// An input that was opened.
 #[derive(Drop)]
 pub enum Input<A: Allocator> {
     /// A capture, and the bytes of its first record that were read already.

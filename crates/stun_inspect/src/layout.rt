@@ -1,4 +1,5 @@
-//! The layouts in which a text may spell messages.
+//! Decodes the messages in a text, which has one of three layouts: hex dumps with offsets, one
+//! message in each line, or one message in the whole text.
 ghost use Rattle.std.specs.Prelude.{◌≡◌, ◌≤◌, IfOk, true, length};
 ghost use Rattle.stun_types.specs.Limits.{LENGTH_LIMIT};
 ghost use Rattle.stun_inspect.specs.Input.{is_raw};
@@ -16,7 +17,7 @@ use std::alloc::{AllocError, Allocator};
 use stun_base::header::MAGIC_COOKIE;
 use stun_types::limits::LENGTH_LIMIT;
 
-/// The bytes that a part of a text spells.
+/// A part of a text, and the bytes that it encodes.
 #[derive(Drop)]
 pub struct Spelled<A: Allocator> {
     /// The line at which the part begins, counted from 1.
@@ -24,8 +25,8 @@ pub struct Spelled<A: Allocator> {
     pub bytes: Vec<u8, A>,
 }
 
-/// Returns `true` if the bytes are read as a raw message: the first two bits are zero, and the
-/// magic cookie begins at byte 4.
+/// Returns whether the bytes are read as a raw message: the first two bits are zero, and the magic
+/// cookie begins at byte 4.
 pub fn is_raw(bytes: &[u8]) -> bool
     ensures { result ≡ is_raw bytes.now }
 {
@@ -34,9 +35,9 @@ pub fn is_raw(bytes: &[u8]) -> bool
         && BigEndian::read_u32(&bytes[4..]) == MAGIC_COOKIE
 }
 
-/// Returns the bytes that may be a message. If `bytes` do not begin as a message, but are a packet
-/// that carries UDP, these are the payload of the datagram. Otherwise they are `bytes`. Fails if
-/// they are more than 65552.
+/// Returns the bytes that may be a message. If `bytes` do not begin like a message, but are a
+/// packet that carries UDP, returns the payload of the datagram. Otherwise returns `bytes`. Fails
+/// if the result would have more than 65552 bytes.
 pub fn message_of(bytes: &[u8]) -> Result<&[u8], Failure>
     ensures limit { IfOk result (λ message. length message.now ≤ LENGTH_LIMIT) }
     ensures raw { is_raw bytes.now ≡ true → IfOk result (λ message. message.now ≡ bytes.now) }
@@ -47,7 +48,7 @@ pub fn message_of(bytes: &[u8]) -> Result<&[u8], Failure>
     within_limit(payload(bytes))
 }
 
-/// Returns the bytes. Fails if they are more than a message may have (65552).
+/// Returns the bytes. Fails if there are more than 65552, the limit of a message.
 pub fn within_limit(bytes: &[u8]) -> Result<&[u8], Failure>
     ensures limit { IfOk result (λ same. length same.now ≤ LENGTH_LIMIT) }
     ensures same { IfOk result (λ same. same.now ≡ bytes.now) }
@@ -58,8 +59,8 @@ pub fn within_limit(bytes: &[u8]) -> Result<&[u8], Failure>
     Ok(bytes)
 }
 
-/// Returns the payload of UDP if the bytes are a packet of IPv4 or IPv6, or a frame of Ethernet,
-/// that carries it. Otherwise returns the bytes themselves.
+/// Returns the UDP payload, if the bytes are an IPv4 or IPv6 packet or an Ethernet frame that
+/// carries UDP. Otherwise returns the bytes themselves.
 fn payload(bytes: &[u8]) -> &[u8] {
     if let Some(Carried::Udp(datagram)) = carried(RAW, bytes) {
         return datagram.payload;
@@ -70,9 +71,9 @@ fn payload(bytes: &[u8]) -> &[u8] {
     }
 }
 
-/// Reads the messages that a text spells: its dumps with offsets, one message in each line, or one
+/// Decodes the messages in a text: its dumps with offsets, one message in each line, or one message
 /// in the whole text. Lines and whole texts are hexadecimal digits or base64. Fails if an
-/// allocation fails, or if the text spells no bytes.
+/// allocation fails, or if the text does not encode bytes.
 pub fn read_text<A: Allocator + Copy>(
     alloc: A,
     input: &[u8],
@@ -92,7 +93,7 @@ pub fn read_text<A: Allocator + Copy>(
     Ok(spelled)
 }
 
-/// Appends the bytes that a part of a text spells.
+/// Appends the bytes that the part of a text at `line` encodes.
 pub fn push_spelled<A: Allocator + Copy>(
     spelled: &mut Vec<Spelled<A>, A>,
     line: usize,
@@ -104,7 +105,7 @@ pub fn push_spelled<A: Allocator + Copy>(
     }
 }
 
-/// Parses hexadecimal digits, or else base64.
+/// Parses a text as hexadecimal digits or, if it has any other form, as base64.
 pub fn read_digits<A: Allocator + Copy>(alloc: A, text: &str) -> Result<Vec<u8, A>, Failure> {
     match read_plain(alloc, text) {
         Err(Failure::Input(bad)) => match read_base64(alloc, text.as_bytes())? {
@@ -115,7 +116,8 @@ pub fn read_digits<A: Allocator + Copy>(alloc: A, text: &str) -> Result<Vec<u8, 
     }
 }
 
-/// Returns the failure for the position at which an input stops being text.
+/// Returns the failure for an input that is not UTF-8, at the position of its first byte that is
+/// not ASCII.
 fn bad_text(input: &[u8]) -> Failure {
     let mut line: usize = 1;
     let mut column: usize = 1;
@@ -132,7 +134,8 @@ fn bad_text(input: &[u8]) -> Failure {
     bad_input(line, column, Wanted::Text)
 }
 
-/// Parses base64 with white space anywhere, if its bytes begin as a message does.
+/// Parses base64 with white space anywhere. Returns `None` if the text is not base64, or its bytes
+/// do not begin like a message.
 fn read_base64<A: Allocator + Copy>(
     alloc: A,
     input: &[u8],

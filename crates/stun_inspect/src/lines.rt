@@ -1,4 +1,4 @@
-//! Texts with one message in each line, as `tshark -T fields -e udp.payload` prints them.
+//! Decodes texts with one message in each line, as `tshark -T fields -e udp.payload` prints them.
 
 use crate::digits::bad_input;
 use crate::failure::Failure;
@@ -7,7 +7,8 @@ use byteorder::{BigEndian, ByteOrder};
 use std::alloc::Allocator;
 use stun_base::header::HEADER_LENGTH;
 
-/// Returns `true` if the bytes, or their UDP payload, have the length that their header states.
+/// Returns whether the bytes, or their UDP payload, have the length that the header of the message
+/// states.
 fn is_whole(bytes: &[u8]) -> bool {
     let Ok(message) = message_of(bytes) else {
         return false;
@@ -17,7 +18,7 @@ fn is_whole(bytes: &[u8]) -> bool {
         && usize::from(BigEndian::read_u16(&message[2..])) == message.len() - HEADER_LENGTH
 }
 
-/// Returns `true` if a text spells a whole message. Fails if an allocation fails.
+/// Returns whether a text encodes a whole message. Fails if an allocation fails.
 fn spells_whole<A: Allocator + Copy>(alloc: A, text: &str) -> Result<bool, Failure> {
     match read_digits(alloc, text) {
         Ok(bytes) => Ok(is_whole(bytes.as_slice())),
@@ -26,8 +27,8 @@ fn spells_whole<A: Allocator + Copy>(alloc: A, text: &str) -> Result<bool, Failu
     }
 }
 
-/// Returns `true` if each line of a text is read separately: a line spells a whole message, and the
-/// whole text does not. Fails if an allocation fails.
+/// Returns whether each line of a text must be read separately: a line encodes a whole message, and
+/// the whole text does not. Fails if an allocation fails.
 pub fn has_lines<A: Allocator + Copy>(alloc: A, text: &str) -> Result<bool, Failure> {
     if spells_whole(alloc, text)? {
         return Ok(false);
@@ -40,7 +41,7 @@ pub fn has_lines<A: Allocator + Copy>(alloc: A, text: &str) -> Result<bool, Fail
     Ok(false)
 }
 
-/// Reads what each line spells that is not blank.
+/// Decodes the message in each line that is not blank.
 pub fn read_lines<A: Allocator + Copy>(
     alloc: A,
     text: &str,
@@ -57,7 +58,7 @@ pub fn read_lines<A: Allocator + Copy>(
     Ok(spelled)
 }
 
-/// Parses what a line spells.
+/// Decodes the message in a line.
 fn read_line<A: Allocator + Copy>(
     alloc: A,
     line: &str,

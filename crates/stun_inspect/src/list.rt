@@ -1,21 +1,22 @@
 //! The command `list`: the line that it prints for a message.
 ghost use Rattle.std.specs.Prelude.{◌≡◌, false, IfOk, string_bytes};
 ghost use Rattle.stun_cli.specs.Line.{has_line_feed, IsLine};
+ghost use Rattle.stun_inspect.specs.Found.{status_of_found};
 ghost use Rattle.stun_inspect.specs.Listed.{status_of_refusal};
 ghost use Rattle.stun_types.specs.Message.{refusal};
 
 use crate::decode::{class_name, push_id, push_method_number};
+use crate::found::Found;
 use crate::registry::{attribute, method_name};
 use crate::telling::{Told, tell};
+use crate::value::read;
 use std::alloc::{AllocError, Allocator};
 use stun_base::header::HEADER_LENGTH;
 use stun_cli::line::Line;
-use stun_cli::status::Status;
 use stun_types::attribute::{AttributeType, ErrorCode, RawAttribute};
 use stun_types::message::{Message, MessageHeader, StunParseError};
-use stun_types::prelude::AttributeFromRaw;
 
-/// Returns why the bytes are not a message, or `None` if they are one.
+/// Returns the reason why the bytes are not a message, or `None` if they are a message.
 pub fn refusal_of(bytes: &[u8]) -> Option<StunParseError>
     ensures { result ≡ refusal bytes.now }
 {
@@ -25,21 +26,23 @@ pub fn refusal_of(bytes: &[u8]) -> Option<StunParseError>
     }
 }
 
-/// Returns how the command ends for a message, or for bytes that are not one.
-pub fn status_of(refusal: Option<StunParseError>) -> Status
-    ensures { result ≡ status_of_refusal refusal }
+/// Returns the finding for an input. `refusal` is the reason why the input is not a message, or
+/// `None` if it is a message.
+pub fn found_of(refusal: Option<StunParseError>) -> Found
+    ensures { status_of_found result ≡ status_of_refusal refusal }
 {
     match refusal {
-        None => Status::Good,
-        Some(_) => Status::Bad,
+        None => Found::Good,
+        Some(_) => Found::NotAMessage,
     }
 }
 
-/// Returns the line for a message, or for bytes that are not one for this reason.
+/// Returns the line for `bytes`. `refusal` is the reason why they are not a message, or `None` if
+/// they are a message.
 ///
 /// The line has class, method and transaction ID, and the name of each attribute, or its type if
-/// that has no name. After ERROR-CODE it has the code. The line for a truncated message has the
-/// attributes before the cut. Fails if an allocation fails.
+/// the type has no name. The code of an ERROR-CODE follows the name. The line for a truncated
+/// message has the attributes before the cut. Fails if an allocation fails.
 pub fn line_of<A: Allocator + Copy>(
     alloc: A,
     bytes: &[u8],
@@ -55,7 +58,8 @@ pub fn line_of<A: Allocator + Copy>(
     line.end()
 }
 
-/// Appends why the bytes are not a message, after what comes before the cut of a truncated one.
+/// Appends the reason why the bytes are not a message. For a truncated message, first appends the
+/// part before the cut.
 fn push_refused<A: Allocator + Copy>(
     line: &mut Line<A>,
     alloc: A,
@@ -69,7 +73,7 @@ fn push_refused<A: Allocator + Copy>(
     line.push_str(refusal_text(error))
 }
 
-/// Returns why bytes are not a message.
+/// Returns the text for the reason why bytes are not a message.
 fn refusal_text(error: StunParseError) -> &'static str
     ensures { has_line_feed result.now ≡ false }
 {
@@ -109,7 +113,7 @@ fn push_method<A: Allocator + Copy>(line: &mut Line<A>, method: u16) -> Result<(
     }
 }
 
-/// Appends the type of an attribute as four digits in hexadecimal.
+/// Appends the type of an attribute as four hexadecimal digits.
 fn push_type<A: Allocator + Copy>(line: &mut Line<A>, number: u16) -> Result<(), AllocError> {
     let [high, low] = number.to_be_bytes();
     line.push_str("0x")?;
@@ -129,7 +133,7 @@ fn push_attributes<A: Allocator + Copy>(
     Ok(())
 }
 
-/// Returns what is printed before the attribute with this index.
+/// Returns the text that is printed before the attribute with this index.
 fn separator_before(index: usize) -> &'static str
     ensures { has_line_feed result.now ≡ false }
 {
@@ -139,7 +143,7 @@ fn separator_before(index: usize) -> &'static str
     }
 }
 
-/// Appends the name of an attribute, or its type if that has no name, and the code of an
+/// Appends the name of an attribute, or its type if the type has no name, and the code of an
 /// ERROR-CODE.
 fn push_attribute<A: Allocator + Copy>(
     line: &mut Line<A>,
@@ -159,13 +163,10 @@ fn push_attribute<A: Allocator + Copy>(
     }
 }
 
-/// Returns the code of an attribute, if it is a well-formed ERROR-CODE.
+/// Returns the code of an attribute, or `None` if the attribute is not a well-formed ERROR-CODE.
 fn code_of(raw: &RawAttribute<'_>) -> Option<u16> {
     if raw.get_type() != AttributeType::ERROR_CODE {
         return None;
     }
-    match ErrorCode::from_raw(RawAttribute::new(AttributeType::ERROR_CODE, raw.value())) {
-        Ok(error) => Some(error.code()),
-        Err(_) => None,
-    }
+    Some(read::<ErrorCode>(raw.value())?.code())
 }

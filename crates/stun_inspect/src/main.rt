@@ -22,6 +22,7 @@ mod list;
 mod notes;
 mod registry;
 mod tally;
+mod teller;
 mod telling;
 mod usage;
 mod value;
@@ -41,7 +42,7 @@ use stun_cli::status::Status;
 use stun_cli::words::words_of;
 use usage::usage_of;
 
-/// Runs the command that the arguments name. If it has no result, the reason is written to
+/// Runs the command that the arguments name. If the command has no result, writes the reason to
 /// `errors`.
 fn run<F: Files, R: CountedRead, W: Write, E: Write, A: Allocator + Copy>(
     files: &F,

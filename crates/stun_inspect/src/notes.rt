@@ -1,12 +1,14 @@
-//! How a message differs from the user whose key it is verified with.
+//! Notes on the differences between a message and the user whose key it is verified with.
 
 use crate::command::User;
+use crate::registry::attribute_name;
 use std::alloc::{AllocError, Allocator};
 use stun_types::attribute::{AttributeType, Realm, Userhash, Username};
 use stun_types::message::{Message, StunParseError};
 
-/// Returns a line each for a visible USERNAME and REALM that differ from those of the user or are
-/// malformed. If a USERHASH is visible, a line says whether it is that of the user.
+/// Returns a line for a visible USERNAME that is malformed or is not the user's name, and a line
+/// for a visible REALM that is malformed or is not the user's realm. If a USERHASH is visible,
+/// another line states whether it is the hash of the user's name.
 ///
 /// Returns no lines for a password alone, or if the bytes are not a message. Fails if an allocation
 /// fails.
@@ -28,7 +30,7 @@ pub fn notes_on<A: Allocator>(
     Ok(notes)
 }
 
-/// Appends the line for USERNAME.
+/// Appends the line for USERNAME, or nothing if it is missing or is the user's name.
 fn push_username<A: Allocator>(
     notes: &mut String<A>,
     message: &Message<'_>,
@@ -37,11 +39,7 @@ fn push_username<A: Allocator>(
     match message.attribute::<Username>() {
         Ok(username) if username.username() == name => Ok(()),
         Ok(_) => notes.push_str("USERNAME is another name\n"),
-        Err(StunParseError::InvalidAttributeData) => {
-            notes.push_str("USERNAME ")?;
-            notes.push_str(fault_of(message, AttributeType::USERNAME, MORE_THAN_A_NAME))
-        }
-        Err(_) => Ok(()),
+        Err(error) => push_fault(notes, message, AttributeType::USERNAME, error),
     }
 }
 
@@ -73,28 +71,34 @@ fn push_realm<A: Allocator>(
     match message.attribute::<Realm>() {
         Ok(attribute) if attribute.realm() == realm => Ok(()),
         Ok(_) => notes.push_str("REALM is another realm\n"),
-        Err(StunParseError::InvalidAttributeData) => {
-            notes.push_str("REALM ")?;
-            notes.push_str(fault_of(message, AttributeType::REALM, MORE_THAN_A_TEXT))
-        }
-        Err(_) => Ok(()),
+        Err(error) => push_fault(notes, message, AttributeType::REALM, error),
     }
 }
 
-/// What is printed for a USERNAME that is too long (RFC 8489, section 14.3).
-const MORE_THAN_A_NAME: &str = "has more than 513 bytes\n";
+/// Appends the line for a malformed text attribute of this type, or nothing if the attribute is
+/// missing.
+fn push_fault<A: Allocator>(
+    notes: &mut String<A>,
+    message: &Message<'_>,
+    kind: AttributeType,
+    error: StunParseError,
+) -> Result<(), AllocError> {
+    if error != StunParseError::InvalidAttributeData {
+        return Ok(());
+    }
+    notes.push_str(attribute_name(kind.value()))?;
+    notes.push_str(fault_of(message, kind))
+}
 
-/// What is printed for a REALM that is too long (RFC 8489, section 14.9).
-const MORE_THAN_A_TEXT: &str = "has more than 763 bytes\n";
-
-/// Returns why the first visible attribute of a type, whose value is a text, is malformed: it is
-/// not UTF-8, or it is too long.
-fn fault_of(message: &Message<'_>, kind: AttributeType, long: &'static str) -> &'static str {
+/// Returns the reason why the first visible attribute of a text type is malformed: it is not UTF-8,
+/// or it is longer than a USERNAME (RFC 8489, section 14.3) or a REALM (section 14.9).
+fn fault_of(message: &Message<'_>, kind: AttributeType) -> &'static str {
     let found = message
         .iter_attributes()
         .find(|found| found.1.get_type() == kind);
     match found {
-        Some((_, attribute)) if str::from_utf8(attribute.value()).is_err() => "is not UTF-8\n",
-        _ => long,
+        Some((_, attribute)) if str::from_utf8(attribute.value()).is_err() => " is not UTF-8\n",
+        _ if kind == AttributeType::USERNAME => " has more than 513 bytes\n",
+        _ => " has more than 763 bytes\n",
     }
 }

@@ -1,9 +1,12 @@
-//! The names in IANA's registry of STUN parameters, and how the value of each attribute is printed.
-ghost use Rattle.std.specs.Prelude.{◌≡◌, false, IfSome};
+//! The names in IANA's registry of STUN parameters, and the form in which the value of each
+//! attribute is printed.
+ghost use Rattle.std.specs.Prelude.{◌≡◌, ◌<◌, false, IfSome, Some};
+ghost use Rattle.std.specs.Option.{option_map};
 ghost use Rattle.stun_cli.specs.Line.{has_line_feed};
 ghost use Rattle.stun_inspect.specs.Names.{IsName};
+ghost use Rattle.stun_inspect.specs.Registry.{entry_of, required_entry};
 
-/// How the value of an attribute is printed.
+/// The form in which the value of an attribute is printed.
 #[derive(Clone, Copy, Debug, PartialEq, Eq)]
 pub enum Form {
     /// An address and a port (RFC 8489, section 14.1).
@@ -51,7 +54,7 @@ pub enum Form {
     AddressError,
     /// The type, the code and the data of an ICMP message (RFC 8656, section 18.13).
     Icmp,
-    /// How many times a request and its response were sent (RFC 7982, section 3.2).
+    /// The number of times that a request and its response were sent (RFC 7982, section 3.2).
     Transmissions,
     /// Whether a response should come from another address or port (RFC 5780, section 7.2).
     ChangeRequest,
@@ -76,14 +79,17 @@ pub struct Registered {
 
 fn entry(name: &'static str, form: Form) -> Option<Registered>
     requires { IsName name.now }
-    ensures { IfSome result (λ entry. IsName entry.name.now) }
+    ensures name { IfSome result (λ entry. IsName entry.name.now) }
+    ensures entry { option_map entry_of result ≡ Some (name.now, form) }
 {
     Some(Registered { name, form })
 }
 
 /// Returns the registered attribute with this type.
 pub fn attribute(number: u16) -> Option<Registered>
-    ensures { IfSome result (λ entry. IsName entry.name.now) }
+    ensures name { IfSome result (λ entry. IsName entry.name.now) }
+    ensures required { number < 0x8000 → IfSome (required_entry number) (λ entry.
+        option_map entry_of result ≡ Some entry) }
 {
     if number < 0x8000 {
         required(number)
@@ -92,9 +98,11 @@ pub fn attribute(number: u16) -> Option<Registered>
     }
 }
 
-/// Returns the attribute of a type that must be understood.
+/// Returns the registered attribute with this comprehension-required type.
 fn required(number: u16) -> Option<Registered>
-    ensures { IfSome result (λ entry. IsName entry.name.now) }
+    ensures name { IfSome result (λ entry. IsName entry.name.now) }
+    ensures entry { IfSome (required_entry number) (λ entry.
+        option_map entry_of result ≡ Some entry) }
 {
     match number {
         0x0001 => entry("MAPPED-ADDRESS", Form::Address),
@@ -129,7 +137,7 @@ fn required(number: u16) -> Option<Registered>
     }
 }
 
-/// Returns the attribute of a type that an older RFC had and that the registry keeps reserved (RFC
+/// Returns the attribute with this type from an older RFC, which the registry keeps reserved (RFC
 /// 8489, section 18.3; RFC 5766, section 14.9; RFC 3489, section 11.2).
 fn reserved(number: u16) -> Option<Registered>
     ensures { IfSome result (λ entry. IsName entry.name.now) }
@@ -148,7 +156,7 @@ fn reserved(number: u16) -> Option<Registered>
     }
 }
 
-/// Returns the attribute of a type that may be ignored.
+/// Returns the registered attribute with this comprehension-optional type.
 fn optional(number: u16) -> Option<Registered>
     ensures { IfSome result (λ entry. IsName entry.name.now) }
 {

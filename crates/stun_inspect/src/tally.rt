@@ -1,4 +1,4 @@
-//! Counts the messages of an input, and what the input has beside them.
+//! Counts the messages of an input, and its other parts.
 ghost use Rattle.std.specs.Prelude.{◌≡◌};
 ghost use Rattle.stun_inspect.specs.Counts.{counted, status_of_counts};
 
@@ -19,7 +19,7 @@ pub enum Unread {
     Begun,
 }
 
-/// The packets that are not read for one reason.
+/// The packets that are not read, for one of the reasons.
 #[derive(Clone, Copy)]
 struct Missed {
     count: usize,
@@ -58,8 +58,7 @@ impl Missed {
     }
 }
 
-/// How many messages each result was found in. A count that reaches the greatest number stays
-/// there.
+/// The number of messages with each finding. A count does not increase beyond the greatest number.
 #[derive(Clone, Copy)]
 pub struct Counts {
     good: usize,
@@ -76,7 +75,7 @@ impl Counts {
         not_messages: 0,
     };
 
-    /// Counts what was found in a message.
+    /// Counts a message with this finding.
     fn count(&mut self, found: Found)
         ensures { self.new ≡ counted found self.old }
     {
@@ -88,8 +87,8 @@ impl Counts {
         }
     }
 
-    /// Returns how the command ends: `Good` if there is a good message, and each other message is
-    /// good or unsigned.
+    /// Returns the status of the command: `Good` if there is a good message, and every other
+    /// message is good or unsigned.
     fn status(&self) -> Status
         ensures { result ≡ status_of_counts self.now }
     {
@@ -105,7 +104,7 @@ impl Counts {
 #[derive(Clone, Copy)]
 pub struct Tally {
     messages: usize,
-    /// What was found in the messages.
+    /// The findings for the messages.
     found: Counts,
     /// The datagrams, or parts of a text, that are not messages.
     others: usize,
@@ -139,7 +138,7 @@ impl Tally {
         self.messages.saturating_add(1)
     }
 
-    /// Counts a message in which this was found.
+    /// Counts a message with this finding.
     pub fn count_message(&mut self, found: Found)
         ensures { self.new.found ≡ counted found self.old.found }
     {
@@ -175,14 +174,14 @@ impl Tally {
         }
     }
 
-    /// Returns how the command ends.
+    /// Returns the status of the command.
     pub fn status(&self) -> Status
         ensures { result ≡ status_of_counts self.now.found }
     {
         self.found.status()
     }
 
-    /// Returns the last line of `verify`, which sums up what it found in the messages.
+    /// Returns the last line of `verify`, which has the number of messages with each finding.
     pub fn summary<A: Allocator + Copy>(&self, alloc: A) -> Result<String<A>, AllocError> {
         let Counts {
             good,

@@ -1,4 +1,4 @@
-//! The attributes of a message one by one, including those that are not visible.
+//! Lists the attributes of a message, including those that are not visible.
 ghost use Rattle.std.specs.Prelude.{◌≡◌, IfOk};
 ghost use Rattle.stun_types.specs.Visible.{visible};
 ghost use Rattle.stun_inspect.specs.Telling.{told_attributes, unhidden_members};
@@ -15,14 +15,15 @@ pub struct Told<'a> {
     pub place: usize,
     /// Its type and its value.
     pub attribute: RawAttribute<'a>,
-    /// If the attribute is not visible: the type of the earlier attribute that hides it (RFC 8489,
-    /// sections 14.5 to 14.7).
+    /// The type of the earlier attribute that makes this attribute invisible (RFC 8489, sections
+    /// 14.5 to 14.7), or `None` if the attribute is visible.
     pub hidden_by: Option<AttributeType>,
 }
 
-/// Lists each attribute of a message, in order, with its offset and the attribute that hides it.
-/// Those that nothing hides are the visible ones, which the iterator of the message returns. Of a
-/// truncated message these are the attributes before the cut. Fails if an allocation fails.
+/// Lists the attributes of a message, in order, each with its offset and the earlier attribute that
+/// makes it invisible, if there is one. The visible attributes are those that the iterator of the
+/// message returns. For a truncated message, the list has the attributes before the cut. Fails if
+/// an allocation fails.
 pub fn tell<'a, A: Allocator>(alloc: A, bytes: &'a [u8]) -> Result<Vec<Told<'a>, A>, AllocError>
     ensures told { IfOk result (λ told. told.items ≡ told_attributes bytes.now) }
     ensures visible { IfOk result (λ told. unhidden_members told.items ≡ visible bytes.now) }

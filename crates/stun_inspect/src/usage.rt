@@ -1,6 +1,6 @@
 //! The texts for `--help`, for `--version` and for wrong arguments.
 
-/// What `--help` prints.
+/// The text that `--help` prints.
 pub const HELP: &str = "\
 stun_inspect decode [FILE]                      messages, attribute by attribute
 stun_inspect list [FILE]                        messages, one in each line
@@ -17,11 +17,11 @@ Status: 0 good, 1 not a message, invalid or none signed, 2 not judged or not rea
 to the end.
 ";
 
-/// What `--version` prints.
-pub const VERSION: &str = "stun_inspect 0.2.0\n";
+/// The text that `--version` prints.
+pub const VERSION: &str = "stun_inspect 0.3.0\n";
 
-/// Returns the usage that is printed for wrong arguments: that of the command that they begin with,
-/// or that of all commands.
+/// Returns the usage that is printed for wrong arguments: the usage of the command that they begin
+/// with, or the usage of all commands.
 pub fn usage_of(words: &[String]) -> &'static str {
     let Some(command) = words.first() else {
         return ALL;

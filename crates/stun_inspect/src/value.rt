@@ -1,4 +1,5 @@
 //! Writes the values of attributes as text.
+ghost use Rattle.std.specs.Prelude.{◌≡◌};
 
 use crate::algorithms::{push_algorithm, push_algorithms};
 use crate::further_value::{
@@ -12,12 +13,22 @@ use std::alloc::{AllocError, Allocator};
 use std::net::SocketAddr;
 use stun_auth::auth::NonceSecurityBits;
 use stun_cli::line::Line;
-use stun_types::attribute::{AttributeType, ErrorCode, RawAttribute};
+use stun_types::attribute::{ErrorCode, RawAttribute};
 use stun_types::message::TransactionId;
-use stun_types::prelude::AttributeFromRaw;
+use stun_types::prelude::{AttributeFromRaw, AttributeStaticType};
 
-/// Appends a value in the form of its type. If the value is malformed, it is appended as
-/// hexadecimal digits. Fails if an allocation fails.
+/// Parses an attribute from its value. Returns `None` if the value is malformed.
+pub fn read<'a, T: AttributeFromRaw<'a> + AttributeStaticType>(value: &'a [u8]) -> Option<T>
+    ensures { result ≡ T.reading (record { kind = T.static_kind; value = value.now }) }
+{
+    match T::from_raw(RawAttribute::new(T::static_type(), value)) {
+        Ok(attribute) => Some(attribute),
+        Err(_) => None,
+    }
+}
+
+/// Appends a value in this form, or as hexadecimal digits if the value is malformed. Fails if an
+/// allocation fails.
 pub fn push_value<A: Allocator + Copy>(
     line: &mut Line<A>,
     form: Form,
@@ -31,8 +42,7 @@ pub fn push_value<A: Allocator + Copy>(
     Ok(())
 }
 
-/// Appends a value in the form of its type. Returns `false`, and appends nothing, if the value is
-/// malformed.
+/// Appends a value in this form. Returns `false`, and appends nothing, if the value is malformed.
 fn push_form<A: Allocator + Copy>(
     line: &mut Line<A>,
     form: Form,
@@ -110,7 +120,7 @@ pub fn push_quoted<A: Allocator + Copy>(
     line.push('"')
 }
 
-/// Returns `true` if a signature or a hash of this form may have this length.
+/// Returns whether the value of a signature or a hash of this form may have this length.
 fn has_length_of(form: Form, length: usize) -> bool {
     match form {
         Form::Sha1 => length == 20,
@@ -165,7 +175,7 @@ pub fn push_address<A: Allocator + Copy>(
 }
 
 fn push_error<A: Allocator + Copy>(line: &mut Line<A>, value: &[u8]) -> Result<bool, AllocError> {
-    let Ok(error) = ErrorCode::from_raw(RawAttribute::new(AttributeType::ERROR_CODE, value)) else {
+    let Some(error) = read::<ErrorCode>(value) else {
         return Ok(false);
     };
     push_code(line, error.code(), error.reason())?;

@@ -1,4 +1,4 @@
--- The refusals: their numbers, as `include/stunp.h` has them, and those for the library's errors.
+-- The errors: their numbers, as `include/stunp.h` has them, and those for the library's errors.
 use Rattle.std.specs.Prelude.{Bool, ℤ, pos, neg_ℤ, if◌then◌else◌, Option, Some, None, Result, Err}
 use Rattle.stun_base.specs.declared.wire.error.StunParseError.{StunParseError}
 use Rattle.stun_base.specs.declared.wire.error.StunParseError.TheVariants as Parse
@@ -21,7 +21,7 @@ use Rattle.stun_numbers.specs.declared.refusal.Refusal.TheVariants.{BadRequest, 
 use Rattle.stun_numbers.specs.declared.refusal.Refusal.TheVariants.{UnsupportedFeature, NoWait}
 use Rattle.stun_numbers.specs.declared.refusal.Refusal.TheVariants.{TooManyAddresses, CannotSign, WrongHandle}
 
--- the number of a refusal
+-- the number of an error
 abbrev pub refusal_number : Refusal → ℤ
 refusal_number Truncated = neg_ℤ (pos 1)
 refusal_number NotStun = neg_ℤ (pos 2)
@@ -53,7 +53,7 @@ refusal_number TooManyAddresses = neg_ℤ (pos 27)
 refusal_number CannotSign = neg_ℤ (pos 28)
 refusal_number WrongHandle = neg_ℤ (pos 29)
 
--- the refusal for an error of reading
+-- the error for a failed parse
 abbrev pub refusal_of_parse : StunParseError → Refusal
 refusal_of_parse Parse.Truncated = Truncated
 refusal_of_parse Parse.NotStun = NotStun
@@ -61,7 +61,7 @@ refusal_of_parse Parse.TooLarge = TooLarge
 refusal_of_parse (Parse.MissingAttribute _) = MissingAttribute
 refusal_of_parse Parse.InvalidAttributeData = MalformedAttribute
 
--- the refusal for an error of writing: where `long`, what is too large is the message, and else a
+-- the error for a failed write: if `long`, a `TooLarge` is about the message, and otherwise about a
 -- text
 abbrev pub refusal_of_write : Bool → StunWriteError → Refusal
 refusal_of_write long Write.NotAllowed = NotAllowed
@@ -72,12 +72,12 @@ refusal_of_write long Write.TooSmall = BufferTooSmall
 refusal_of_write long Write.IntegrityFailed = CannotSign
 refusal_of_write long Write.OutOfMemory = OutOfMemory
 
--- the refusal for an error of reading, where there is one
+-- the error for a failed parse, if there is one
 abbrev pub message_refusal : Option StunParseError → Option Refusal
 message_refusal None = None
 message_refusal (Some error) = Some (refusal_of_parse error)
 
--- an answer, or the refusal where something refuses
+-- a result, or the error if there is one
 abbrev pub refusal_or : {V : Type 0} → Option Refusal → Result V Refusal → Result V Refusal
 refusal_or None answer = answer
 refusal_or (Some refusal) answer = Err refusal

@@ -1,4 +1,4 @@
-//! The numbers of algorithms, as `include/stunp.h` has them.
+//! The numbers of algorithms, which `include/stunp.h` lists.
 
 ghost use Rattle.std.specs.Prelude.{◌≡◌, IfOk, IfErr, Some, None};
 ghost use Rattle.stun_numbers.specs.Algorithms.{algorithm_number, algorithm_numbered};

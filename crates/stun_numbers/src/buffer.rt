@@ -1,4 +1,4 @@
-//! The buffer that a caller passes.
+//! Writes to the buffer that a caller passes.
 
 ghost use Rattle.std.specs.Prelude.{◌≡◌, ◌≤◌, ◌++◌, length, drop, Ok};
 ghost use Rattle.stun_numbers.specs.Buffers.{buffer_after, length_of, within_room};
@@ -14,12 +14,12 @@ pub fn put(buffer: &mut [u8], bytes: &[u8])
     buffer[..bytes.len()].copy_from_slice(bytes);
 }
 
-/// Copies bytes to the front of a buffer, and returns how many they are. The rest of the buffer is
+/// Copies bytes to the front of a buffer, and returns their number. The rest of the buffer is
 /// unchanged.
 ///
 /// # Errors
 ///
-/// `BufferTooSmall`: the buffer is shorter than the bytes. It is then unchanged.
+/// `BufferTooSmall`: the bytes do not fit into the buffer, which is then unchanged.
 pub fn fill(buffer: &mut [u8], bytes: &[u8]) -> Result<usize, Refusal>
     ensures answer { result ≡ length_of (within_room (Ok bytes.now) (length buffer.old)) }
     ensures written { buffer.new ≡ buffer_after

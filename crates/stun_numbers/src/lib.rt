@@ -1,5 +1,5 @@
-//! What the archives for C share: the errors and their numbers, the numbers of algorithms, and the
-//! texts, transaction IDs, buffers and messages that a caller passes.
+//! The common parts of the archives for C: the errors and their codes, the numbers of algorithms,
+//! and the texts, transaction IDs, buffers and messages that a caller passes.
 #![tactic(auto)]
 
 pub mod algorithm;

@@ -1,4 +1,4 @@
-//! The message at the front of the buffer that a caller passes.
+//! Reads the message at the front of the buffer that a caller passes.
 
 ghost use Rattle.std.specs.Prelude.{◌≡◌, ◌≤◌, length, take, IfOk, IfErr, OnOk, Some, None};
 ghost use Rattle.stun_types.specs.Writing.{is_set_apart};
@@ -8,8 +8,8 @@ use crate::refusal::Refusal;
 use stun_base::attribute_type::AttributeType;
 use stun_types::message::Message;
 
-/// Returns `true` for the types that only calls of their own write: MESSAGE-INTEGRITY,
-/// MESSAGE-INTEGRITY-SHA256 and FINGERPRINT.
+/// Returns `true` if attributes of this type have calls of their own that write them:
+/// MESSAGE-INTEGRITY, MESSAGE-INTEGRITY-SHA256 and FINGERPRINT.
 pub fn is_set_apart(kind: AttributeType) -> bool
     ensures { result ≡ is_set_apart kind.0 }
 {
@@ -29,8 +29,8 @@ pub fn is_closed(message: &Message<'_>) -> bool
         .is_some()
 }
 
-/// Parses the message in the first `count` bytes of the buffer, to which an attribute is to be
-/// added.
+/// Parses the message in the first `count` bytes of a buffer, to which the caller will add an
+/// attribute.
 ///
 /// # Errors
 ///
@@ -38,7 +38,8 @@ pub fn is_closed(message: &Message<'_>) -> bool
 ///
 /// - `BadArgument`: the buffer has fewer than `count` bytes.
 /// - The errors of `Message::from_bytes`.
-/// - `Closed`: the message has an integrity attribute or FINGERPRINT, and nothing may follow it.
+/// - `Closed`: the message has an integrity attribute, which only FINGERPRINT may follow, or
+///   FINGERPRINT, which must be the last attribute.
 pub fn base_message(buffer: &[u8], count: usize) -> Result<Message<'_>, Refusal>
     ensures ok { IfOk result (λ message. message ≡ take count buffer.now) }
     ensures within { OnOk result (count ≤ length buffer.now) }

@@ -1,4 +1,4 @@
-//! The errors of the calls for C, and their numbers, as `include/stunp.h` has them.
+//! The errors of the calls for C, and their codes, which `include/stunp.h` lists.
 
 ghost use Rattle.std.specs.Prelude.{◌≡◌};
 ghost use Rattle.stun_numbers.specs.Refusals.{refusal_number, refusal_of_write};
@@ -6,7 +6,7 @@ ghost use Rattle.stun_numbers.specs.Refusals.{refusal_number, refusal_of_write};
 use std::alloc::AllocError;
 use stun_base::error::{StunParseError, StunWriteError};
 
-/// An error of a call. Each error has a number, which is less than zero.
+/// An error of a call. Each error has a negative code.
 #[derive(Debug, Clone, Copy, PartialEq, Eq)]
 pub enum Refusal {
     /// -1: bytes are missing at the end of the header, the message or an attribute.
@@ -17,62 +17,67 @@ pub enum Refusal {
     TooLarge,
     /// -4: no integrity attribute is visible.
     NoIntegrity,
-    /// -5: the integrity attribute that decides has a length that its type does not allow.
+    /// -5: the integrity attribute with which the message is verified has a length that its type
+    /// does not allow.
     MalformedIntegrity,
-    /// -6: the signature is invalid.
+    /// -6: the signature is not valid for this message and key.
     IntegrityFailed,
     /// -7: an argument is out of range.
     BadArgument,
     /// -8: a text is not UTF-8.
     NotText,
-    /// -9: a text has more bytes than its attribute may hold.
+    /// -9: a text has more bytes than its attribute may have.
     TextTooLong,
-    /// -10: the buffer does not have room for what would be written.
+    /// -10: the bytes to write do not fit into the buffer.
     BufferTooSmall,
-    /// -11: this call does not write attributes of this type. Another call does, or none.
+    /// -11: this call cannot write attributes of this type. They have a call of their own, or the
+    /// library writes them by itself.
     NotAllowed,
-    /// -12: the message has an integrity attribute or FINGERPRINT, and nothing may follow it.
+    /// -12: the message has an integrity attribute, which only FINGERPRINT may follow, or
+    /// FINGERPRINT, which must be the last attribute.
     Closed,
     /// -13: the message has an attribute of this type already.
     AttributeExists,
     /// -14: the message would have more than 65532 bytes after its header.
     MessageTooLong,
-    /// -15: no attribute of the type to parse is visible.
+    /// -15: no attribute of the type to read is visible.
     MissingAttribute,
-    /// -16: the attribute to parse is malformed.
+    /// -16: the attribute to read is malformed.
     MalformedAttribute,
     /// -17: an allocation failed.
     OutOfMemory,
     /// -18: the handle is empty.
     EmptyHandle,
-    /// -19: the handle is full already.
+    /// -19: the handle is not empty.
     FullHandle,
     /// -20: a request with this transaction ID is outstanding.
     AlreadyInProgress,
     /// -21: the call does not accept this message or this address.
     ProtocolViolation,
-    /// -22: the message is not sufficiently authenticated, and a server answers 401; or a client
-    /// cannot answer this 401.
+    /// -22: at a server, the message is not sufficiently authenticated, and the server answers 401.
+    /// At a client, the client cannot answer this 401.
     Unauthorized,
     /// -23: the request is not well-formed. A server answers 400, or 438 in one case
     /// (`stunp_state.h`).
     BadRequest,
     /// -24: the nonce is not the current one. A server answers 438.
     StaleNonce,
-    /// -25: the server lacks an algorithm or a feature that the client requires.
+    /// -25: the server does not support an algorithm or a feature that the client requires.
     UnsupportedFeature,
     /// -26: the timeouts would make several transmissions of a request due at the same time.
     NoWait,
     /// -27: the limit on the number of addresses is reached, and this address has no record.
     TooManyAddresses,
-    /// -28: there is no key to sign with: the user was removed, or has none for the algorithm.
+    /// -28: there is no key to sign with. At a server, the user was removed, or has no key for the
+    /// client's algorithm. At an ICE agent, the credentials of the peer are not known yet.
     CannotSign,
-    /// -29: the handle has a value of another kind.
+    /// -29: the handle has a value of another kind, or a user who was prepared for another realm or
+    /// for other algorithms.
     WrongHandle,
 }
 
 impl Refusal {
-    /// Returns the number of the error.
+    /// Returns the code of the error.
     pub fn code(self) -> i64
         ensures { result ≡ refusal_number self }
     {
@@ -109,8 +114,8 @@ impl Refusal {
         }
     }
 
-    /// Converts an error of writing. A `TooLarge` is about the message if `is_long` is true, and
-    /// otherwise about a text.
+    /// Converts an error of a call that writes an attribute. `TooLarge` becomes `MessageTooLong` if
+    /// `is_long` is true, and otherwise `TextTooLong`.
     pub fn of_write(error: StunWriteError, is_long: bool) -> Refusal
         ensures { result ≡ refusal_of_write is_long error }
     {

@@ -6,7 +6,7 @@ ghost use Rattle.std.specs.Str.{is_utf8};
 use crate::refusal::Refusal;
 use std::str;
 
-/// Returns the bytes as a text.
+/// Converts bytes to a text.
 ///
 /// # Errors
 ///

@@ -1,5 +1,5 @@
--- Two agents of one session that send each other datagrams (RFC 8445, sections 7.2 and 7.3). What
--- an agent makes of a datagram is what `stun_ice` makes of its bytes.
+-- Two agents of one session that send each other datagrams (RFC 8445, sections 7.2 and 7.3). An
+-- agent judges a datagram as `stun_ice` judges its bytes.
 use Rattle.std.specs.Prelude.{◌≡◌, ◌≢◌, ◌⊎◌, ◌<◌, ◌^◌, ℕ, List, [], ◌∷◌, Bool, true, false, Option}
 use Rattle.std.specs.Prelude.{Some, None}
 use Rattle.std.specs.List.{AllByRecursion}
@@ -16,7 +16,7 @@ use Rattle.stun_peers.specs.Peers.{IsAgent, IsNumbered, Knows, written_check}
 
 -- ---- what is on the network
 
--- a check that was sent: the role and the tie-breaker that its agent had, its ID, where it went,
+-- a check that was sent: the role and the tie-breaker that its agent had, its ID, its destination,
 -- its priority, and whether it nominates
 pub record Posted : Type 0 where
   pub said : Said
@@ -25,8 +25,8 @@ pub record Posted : Type 0 where
   pub priority : ℕ
   pub nominates : Bool
 
--- an answer that was sent: to which check, which role and tie-breaker its agent had then, and
--- where the check came from
+-- an answer that was sent: its check, the role and the tie-breaker that its agent then had, and the
+-- address that the check came from
 pub record Replied : Type 0 where
   pub check : Posted
   pub by : Said
@@ -76,7 +76,7 @@ party_of a = record {
 abbrev pub bytes_posted : Correspondent → Posted → List ℕ
 bytes_posted a p = check_bytes (agent_as a.agent p.said) a.peer p.id p.priority p.nominates
 
--- the answer that an agent is given to send, if it is given one
+-- the answer that an agent sends, if there is one
 abbrev pub answer_sent : Given → List ℕ
 answer_sent (checked bytes answer judged) = answer
 answer_sent (responded outcome) = []
@@ -89,7 +89,7 @@ bytes_replied a b r =
     let answerer = agent_as b.agent r.by in
     answer_sent (given answerer r.from (judgement_of answerer None r.from (bytes_posted a r.check)))
 
--- ---- what happens: each datagram is of a check of the left agent, or of one of the right agent
+-- ---- events: each datagram is of a check of the left agent, or of one of the right agent
 
 pub data Delivery : Type 0 where
   -- the agent sends a check, with an ID, to an address, with a priority, and nominates or not
@@ -97,8 +97,8 @@ pub data Delivery : Type 0 where
   -- the check with this number arrives at the other agent, from this address: once, again, or
   -- never
   arrives : ℕ → SocketAddr → Delivery
-  -- the answer with this number arrives from where its check went. After a 487 the agent has this
-  -- tie-breaker
+  -- the answer with this number arrives from the address that its check was sent to. After a 487
+  -- the agent has this tie-breaker
   hears : ℕ → ℕ → Delivery
 
 pub data Posting : Type 0 where
@@ -117,8 +117,8 @@ after_posting party id to priority nominates = record party {
   } ∷ party.posted;
 }
 
--- the check arrives at the agent `b`, which answers it, and is left with the role that its bytes
--- give
+-- the check arrives at the agent `b`, which answers it, and then has the role that follows from its
+-- bytes
 abbrev pub after_arrival : Correspondent → Correspondent → Parties → SocketAddr → Option Posted → Parties
 after_arrival a b s from None = s
 after_arrival a b s from (Some p) = record {
@@ -133,7 +133,7 @@ after_arrival a b s from (Some p) = record {
   };
 }
 
--- what the agent is given of an answer
+-- the agent after the result for an answer
 abbrev pub after_given : Party → ℕ → Given → Party
 after_given party fresh (responded (RoleConflict switched)) = record party {
   now = record {
@@ -170,12 +170,12 @@ after_turn a b s (of_left datagram) = after_datagram a b s datagram
 after_turn a b s (of_right datagram) =
     turned_parties (after_datagram b a (turned_parties s) datagram)
 
--- both agents after datagrams, the first of which comes first
+-- both agents after datagrams, in their order
 abbrev pub after_postings : Correspondent → Correspondent → Parties → List Posting → Parties
 after_postings a b s [] = s
 after_postings a b s (posting ∷ postings) = after_postings a b (after_turn a b s posting) postings
 
--- ---- what they come to
+-- ---- the roles in which they end
 
 -- an ID has 96 bits, a priority 32 and a tie-breaker 64, and an address is one of a socket
 abbrev pub IsUsualDelivery : Delivery → Type 0
@@ -199,7 +199,7 @@ pub record AreUnsettled (role : Role) (s : Parties) : Type 0 where
   pub left_deaf : s.left.heard ≡ false
   pub right_deaf : s.right.heard ≡ false
 
--- both have the roles that the tie-breakers give them which they began with
+-- both have the roles that follow from the tie-breakers with which they began
 pub record AreSettledParties (left_tie right_tie : ℕ) (s : Parties) : Type 0 where
   pub left : s.left.now.role ≡ settled_role left_tie right_tie
   pub right : s.right.now.role ≡ opposite (settled_role left_tie right_tie)

@@ -1,4 +1,4 @@
 -- What the contracts of this crate say.
 
--- two agents, and what a check of one and its answer say to the other
+-- two agents, and what a check of one and its answer mean to the other
 pub mod Peers

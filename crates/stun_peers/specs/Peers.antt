@@ -1,4 +1,4 @@
--- Two agents of one session: what a check of one says to the other, and what its answer says (RFC
+-- Two agents of one session: what a check of one means to the other, and what its answer means (RFC
 -- 8445, sections 7.2 and 7.3).
 use Rattle.std.specs.Prelude.{◌≡◌, ◌≤◌, ◌<◌, ◌^◌, ℕ, List, [], Bool, length, not}
 use Rattle.std.specs.Prelude.{Option, Some, None}
@@ -28,14 +28,14 @@ use Rattle.stun_ice.specs.declared.role.Role.{Role}
 
 -- ---- the two agents
 
--- the tie-breaker has 64 bits, and USERNAME of the checks to this peer fits an attribute. This holds
--- of each agent that `Checker::new` creates, and after `Checker::set_remote`: each name has at most
--- 256 bytes
+-- the tie-breaker has 64 bits, and USERNAME of the checks to this peer fits into an attribute. This
+-- holds for each agent that `Checker::new` creates, and after `Checker::set_remote`: each name has
+-- at most 256 bytes
 pub record IsAgent (a : Agent) (peer : Peer) : Type 0 where
   pub name : length peer.outgoing ≤ USERNAME_LIMIT
   pub tie_breaker : a.tie_breaker < 2 ^ 64
 
--- one agent has the credentials of another, as `Checker::new` and `Checker::set_remote` give them if
+-- one agent has the credentials of another, as `Checker::new` and `Checker::set_remote` set them if
 -- the `remote` of the one is the `local` of the other. The other may know nothing of the one
 pub record Knows (a b : Agent) (peer : Peer) : Type 0 where
   pub known : a.peer ≡ Some peer
@@ -44,14 +44,14 @@ pub record Knows (a b : Agent) (peer : Peer) : Type 0 where
 
 -- ---- a check
 
--- the numbers of a check: an id of 96 bits, and a priority of 32
+-- the numbers of a check: an ID of 96 bits, and a priority of 32
 pub record IsNumbered (id priority : ℕ) : Type 0 where
   pub id_fits : id < 2 ^ 96
   pub priority_fits : priority < 2 ^ 32
 
--- what bytes say as a check of an agent: a Binding request with an id, with the names of the peer
--- and of the agent in this order, a priority, and the role and the tie-breaker of the agent. It has
--- a digest under the password of the peer, a right FINGERPRINT, and no attribute that must be
+-- the bytes are a check of an agent: a Binding request with an ID, with the names of the peer and
+-- of the agent in this order, a priority, and the role and the tie-breaker of the agent. It has a
+-- digest under the password of the peer, a valid FINGERPRINT, and no attribute that must be
 -- understood and is not
 pub record SaysCheck (a : Agent) (peer : Peer) (id priority : ℕ) (nominates : Bool)
     (bytes : List ℕ) : Type 0 where
@@ -68,13 +68,13 @@ pub record SaysCheck (a : Agent) (peer : Peer) (id priority : ℕ) (nominates : 
   pub no_other_role : rival (opposite a.role) bytes ≡ None
   pub nominated : has_use_candidate bytes ≡ nominates
 
--- what the checks of an agent say of it
+-- what the checks of an agent state of it
 abbrev pub said_by : Agent → Said
 said_by a = record { role = a.role; tie_breaker = a.tie_breaker }
 
--- what the caller of an agent is given of a check of its peer, by the role that the check leaves the
--- agent: a 487 if the peer has to switch, and otherwise a success. The check nominates its pair only
--- to an agent that is controlled
+-- what is returned to the caller of an agent for a check of its peer, given the role of the agent
+-- after the check: a 487 if the peer has to switch, and otherwise a success. The check nominates
+-- its pair only to an agent that is controlled
 abbrev pub given_by : Agent → SocketAddr → List ℕ → ℕ → Bool → Option Role → Given
 given_by b from bytes priority nominates None =
     checked bytes (conflict_answer b bytes Sha1) RoleConflict
@@ -82,7 +82,7 @@ given_by b from bytes priority nominates (Some role) =
     checked bytes (success_answer b from bytes Sha1)
     (Accepted priority (can_nominate (opposite role) nominates) (not (is_same_role b.role role)))
 
--- the role of an agent after it, whose role was this one
+-- the role of an agent after the check, if its role before was this one
 abbrev pub role_by : Role → Option Role → Role
 role_by before None = before
 role_by before (Some role) = role
@@ -99,7 +99,7 @@ written_check a peer id to priority nominates = record {
 
 -- ---- its answer
 
--- an address as the answer to a check with an id says it
+-- an address as it is in the answer to a check with an ID
 abbrev pub mapped_of : SocketAddr → ℕ → Mapped
 mapped_of from id =
     record { attribute = xored_canonical (socket_ip from) (socket_port from) id; id = id }

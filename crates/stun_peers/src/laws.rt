@@ -1,6 +1,6 @@
-//! Two agents of one session, by the bytes that they send (RFC 8445, sections 7.2 and 7.3): laws
-//! over the definitions of `stun_ice`. The functions that are called `..()` do nothing when they
-//! run.
+//! Laws about two agents of one session and the bytes that they send each other (RFC 8445, sections
+//! 7.2 and 7.3). They are about the definitions of `stun_ice`. The functions without arguments do
+//! nothing when they run.
 
 ghost use Rattle.std.specs.Net.Socket.{IsPlainSocket, IsSocketAddr, socket_ip};
 ghost use Rattle.std.specs.Prelude.{◌≡◌, ℕ, Bool, IfOk, Option, Some, true};
@@ -23,19 +23,19 @@ use std::alloc::Allocator;
 use stun_ice::checker::{BuildError, Checker, Credentials};
 use stun_ice::role::Role;
 
-/// A check reads back as what it was made of: a Binding request with the ID, the USERNAME, the
-/// priority, the role and the tie-breaker of the agent that wrote it, and with USE-CANDIDATE if it
-/// nominates. Its signature is valid under the password of the peer, its FINGERPRINT is right, and
-/// it has no attribute that an agent does not understand.
+/// A reader finds in a check the parts that it was made of: it is a Binding request with the ID,
+/// the USERNAME, the priority, the role and the tie-breaker of the agent that wrote it, and with
+/// USE-CANDIDATE if it nominates its pair. Its signature is valid under the password of the peer,
+/// its FINGERPRINT is valid, and it has no attribute that an agent does not understand.
 pub fn checks_are_read_back()
     ensures { (a : Agent) (peer : Peer) (id priority : ℕ) (nominates : Bool) → IsAgent a peer
         → IsNumbered id priority
         → SaysCheck a peer id priority nominates (check_bytes a peer id priority nominates) }
 {}
 
-/// The agents of one session know each other. The one that answers an offer knows the other from
-/// the start; the one that makes it, as soon as the answer has arrived (`set_remote`). Each of them
-/// writes checks that are read back.
+/// The agents of one session know each other's credentials. The agent that answers an offer knows
+/// them from the start, and the agent that makes the offer knows them as soon as the answer has
+/// arrived (`set_remote`). Law `checks_are_read_back` holds for the checks of both.
 pub fn agents_of_one_session_know_each_other<A: Allocator + Copy>(
     alloc: A,
     one: Credentials<'_>,
@@ -55,14 +55,14 @@ pub fn agents_of_one_session_know_each_other<A: Allocator + Copy>(
     Ok((left, right))
 }
 
-/// The peer of an agent judges its check by the roles alone. The check is accepted, with the
-/// priority that it carries, or the peer answers 487, exactly as `role_after_check` says of the
-/// roles and the tie-breakers of both. What `roles_end_opposite` calls the arrival of a check is
-/// this.
+/// The peer of an agent judges the agent's check by the roles alone. Either it accepts the check
+/// with the priority in it, or it answers 487. Which of the two, `role_after_check` determines by
+/// the roles and the tie-breakers of both. Law `roles_end_opposite` calls this the arrival of a
+/// check.
 ///
-/// The agent has the credentials of its peer (`Knows`), but the peer need not have those of the
-/// agent: it may have made an offer whose answer has not arrived yet. Law
-/// `agents_of_one_session_know_each_other` says which calls create such agents.
+/// The agent has the credentials of its peer (`Knows`), but the peer need not have the credentials
+/// of the agent: it may have made an offer whose answer has not arrived yet. Law
+/// `agents_of_one_session_know_each_other` shows which calls create such agents.
 pub fn a_check_is_accepted_by_its_peer()
     ensures judged { (a b : Agent) (peer : Peer) (c : Option SentCheck) (from : SocketAddr)
         (id priority : ℕ) (nominates : Bool) → IsAgent a peer → IsNumbered id priority
@@ -72,7 +72,7 @@ pub fn a_check_is_accepted_by_its_peer()
         ≡ given_by b from bytes priority nominates
         (role_after_check b.role b.tie_breaker (rival_of b.role (said_by a))) }
 
-    // The role that it leaves the peer.
+    // The role of the peer after the check.
     ensures role { (a b : Agent) (peer : Peer) (c : Option SentCheck) (from : SocketAddr)
         (id priority : ℕ) (nominates : Bool) → IsAgent a peer → IsNumbered id priority
         → Knows a b peer
@@ -81,13 +81,14 @@ pub fn a_check_is_accepted_by_its_peer()
         (role_after_check b.role b.tie_breaker (rival_of b.role (said_by a))) }
 {}
 
-/// The answer of an agent to a check of its peer is received as it is meant, if it comes from where
-/// the check went. A success makes the pair valid, with the address that the check came from. A 487
-/// switches the role of the peer, if it still has the role that it sent the check in.
+/// If the answer of an agent to a check of its peer comes from the address that the check was sent
+/// to, it has the intended effect. A success makes the pair valid, with the address that the check
+/// came from. A 487 switches the role of the peer, if the peer still has the role in which it sent
+/// the check.
 ///
-/// `a` is the agent that sent the check to the peer `sent`, and `now` is the agent when the answer
-/// arrives, whose role and tie-breaker may be others by then. The check came to `b` from the
-/// address `from`, and the answer comes from the address `source`.
+/// `a` is the agent when it sent the check, with the credentials `sent` of its peer. `now` is the
+/// same agent when the answer arrives: its role and tie-breaker may have changed. The check came to
+/// `b` from the address `from`, and the answer comes from the address `source`.
 pub fn its_answer_makes_the_pair_valid()
     ensures valid { (a b now : Agent) (sent peer : Peer) (id priority : ℕ) (nominates : Bool)
         (to from source : SocketAddr) → IsAgent a sent → IsNumbered id priority → Knows now b peer
@@ -96,7 +97,7 @@ pub fn its_answer_makes_the_pair_valid()
         (success_answer b from (check_bytes a sent id priority nominates) Sha1)
         (mapped_of from id) }
 
-    // What `Mapped::address` then returns is that address, in one of its spellings.
+    // `Mapped::address` then returns that address, in one of the two forms of an IPv4 address.
     ensures address { (from address : SocketAddr) (id : ℕ) → IsSocketAddr from
         → IsHidden id (mapped_of from id).attribute (socket_ip address)
         → IsPlainSocket address (xor_port (mapped_of from id).attribute.port)

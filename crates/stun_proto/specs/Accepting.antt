@@ -21,7 +21,7 @@ use Rattle.stun_proto.specs.Serving.{Reply, Validated}
 -- - algorithms that agree;
 -- - the digest under the key of the present user whom it names.
 --
--- All of this holds at the place that the address's own earlier calls leave.
+-- All of this is judged by the record of the address that its own earlier calls leave.
 abbrev pub ValidatesEachAccepted : ServerSeen → List ServerCall → List Reply → Type 0
 ValidatesEachAccepted start calls given =
     (i : ℕ) (a : SocketAddr) (now : ℕ) (message : Vec ℕ Global) (words : List ℕ)

@@ -14,20 +14,21 @@ use Rattle.stun_proto.specs.RunLaws.{requester}
 use Rattle.stun_proto.specs.Steps.{Step}
 
 -- ---- the loop
--- what comes in a loop at a moment: an event, or nothing but the time
+-- what comes at one time of a loop: an event, or nothing but the time
 abbrev pub Comings : Type 0
 Comings = List (ℕ × Option AgentEvent)
 
--- the moment until which `poll` says to wait
+-- the time until which `poll` says to wait
 abbrev pub wait_of : ℕ → Agent → ℕ
 wait_of now agent = wake_up agent.transport now agent.transactions
 
--- A loop over an agent. At each of its moments an event is handed over and a turn is taken, or a
--- turn alone is taken. A turn is `poll_transmit` until it returns `None`, then `poll` until it
--- returns `WaitUntil`. What comes at one moment is handed over before a turn alone. Moments do not
--- go back, and none is the last there is, 584 years on. Each is at most `late` nanoseconds after
--- the one that the last `poll` said to wait until. A loop begins with a moment that nothing comes
--- before, a moment to wait until, and an agent. It ends with a moment to wait until and an agent
+-- A loop over an agent. At each of its times the agent either receives an event and a turn follows,
+-- or a turn alone is taken. A turn is `poll_transmit` until it returns `None`, then `poll` until it
+-- returns `WaitUntil`. What comes at one time is passed to the agent before a turn alone. Times do
+-- not go back, and none is the last representable one, 584 years on. Each is at most `late`
+-- nanoseconds after the one that the last `poll` said to wait until. A loop begins with a time that
+-- nothing comes before, a time to wait until, and an agent. It ends with a time to wait until and
+-- an agent
 pub data Loop (late : ℕ) : ℕ → ℕ → Agent → Comings → List Step → ℕ → Agent → Type 0 where
   rest : {a : Agent} {from wait : ℕ} → Loop late from wait a [] [] wait a
   handed : {a b c : Agent} {from wait last : ℕ} {comings : Comings} {turned more : List Step}
@@ -42,11 +43,11 @@ pub data Loop (late : ℕ) : ℕ → ℕ → Agent → Comings → List Step →
       → Loop late (now + 1) (wait_of now b) b comings more last c
       → Loop late from wait a ((now, None) ∷ comings) (turned ++ more) last c
 
--- the events that are handed over
+-- the events that the agent receives
 abbrev pub events_in : Comings → List (ℕ × AgentEvent)
 events_in comings = filter_map (λ c. option_map (λ e. (c.0, e)) c.1) comings
 
--- moments that do not go back, from one on, as a loop has them
+-- the earliest time that may follow a time of a loop, with its event or without one
 abbrev pub next_from : ℕ → Option AgentEvent → ℕ
 next_from now None = now + 1
 next_from now (Some e) = now
@@ -56,7 +57,7 @@ AreInTurn from [] = Unit {0}
 AreInTurn from (c ∷ comings) =
     (from ≤ c.0) × (c.0 < last_moment) × AreInTurn (next_from c.0 c.1) comings
 
--- for whatever comes at such moments there is a loop, on time or late
+-- for whatever comes at such times there is a loop, on time or late
 abbrev pub LoopsExist : Type 0
 LoopsExist =
     (from wait : ℕ) (a : Agent) (comings : Comings) → AreInTurn from comings
@@ -64,7 +65,7 @@ LoopsExist =
     × Loop late from wait a comings steps last b
 
 -- ---- on time
--- no moment of the loop is past `until`, and the next one that `poll` has told is
+-- no time of the loop is past `until`, and the next one that `poll` has returned is
 pub record RunsUntil (until : ℕ) (comings : Comings) (last : ℕ) : Type 0 where
   pub is_moment : until ≤ last_moment
   pub within : AllByRecursion (λ c. c.0 ≤ until) comings
@@ -79,7 +80,7 @@ LoopsAreDriven =
     → Loop 0 from wait a comings steps last b
     → IsDriven until a (events_in comings) steps b
 
--- so the third sentence holds of it
+-- so the third sentence applies to it
 abbrev pub LoopsSendByPlan : Type 0
 LoopsSendByPlan =
     (until from wait last : ℕ) (a b : Agent) (comings : Comings) (steps : List Step)

@@ -1,4 +1,4 @@
--- An agent in whatever loop its user has: any calls, each at a moment of its own (RFC 8489, section
+-- An agent in whatever loop its user has: any calls, each at a time of its own (RFC 8489, section
 -- 6.2.1).
 use Rattle.std.specs.Prelude.{ℕ, ◌≡◌, ◌+◌, ◌*◌, ◌<◌, ◌≤◌, suc, if◌then◌else◌, nat_lt, List, [], ◌∷◌}
 use Rattle.std.specs.Prelude.{◌++◌, Some, None}
@@ -20,23 +20,23 @@ use Rattle.stun_proto.specs.Schedule.{IsAimedAt, transmission}
 use Rattle.stun_proto.specs.Steps.{Step, Transmitted, TimedOut, steps_to_end}
 
 -- ---- the loop
--- A call at a moment, where the call before it was at `from`. Moments do not go back, and none is
--- the last there is, 584 years on. No moment that a request awaits is more than `late` nanoseconds
--- ago
+-- A call at a time, where the call before it was at `from`. Times do not go back, and none is the
+-- last representable one, 584 years on. No time that a request awaits is more than `late`
+-- nanoseconds ago
 pub record IsCall (late from now : ℕ) (a : Agent) : Type 0 where
   pub no_earlier : from ≤ now
   pub less : now < last_moment
   pub punctual : (moment : ℕ) → IsAwaited a moment → now ≤ moment + late
 
 -- the calls that change neither requests nor transport, such as `forget_validated_peer`,
--- `send_data`, `stats_mut`, and all that read
+-- `send_data`, `stats_mut`, and all that only read
 pub record IsBeside (a b : Agent) : Type 0 where
   pub same_transport : b.transport ≡ a.transport
   pub same_requests : b.transactions ≡ a.transactions
 
--- Any calls, in any order: an event; `poll_transmit`, which returns bytes to send or `None`; `poll`,
--- which returns an end or until when to wait; and the calls beside these. They begin after a call at
--- `from` and end with one at `last`
+-- Any calls, in any order: an event; `poll_transmit`, which returns bytes to send or `None`;
+-- `poll`, which returns an end or the time to wait until; and the calls of `IsBeside`. They begin
+-- after a call at `from` and end with one at `last`
 pub data Calls (late : ℕ) :
     ℕ → Agent → List (ℕ × AgentEvent) → List Step → ℕ → Agent → Type 0 where
   rest : {a : Agent} {from : ℕ} → Calls late from a [] [] from a
@@ -66,7 +66,7 @@ pub data Calls (late : ℕ) :
       → Calls late from a events more last c
 
 -- ---- a request in it
--- the moment at which it is due, after k timeouts, the last of which passed at `before`: to be sent
+-- the time at which it is due, after k timeouts, the last of which passed at `before`: to be sent
 -- again, or to time out
 abbrev pub next_due : TransportType → Settings → ℕ → ℕ → ℕ
 next_due transport settings k before =
@@ -74,16 +74,17 @@ next_due transport settings k before =
     (if nat_lt k (slots transport settings) then timeout settings k
     else final_wait transport settings)
 
--- a moment from one on, and at most so late
+-- `now` is `due` or later, by at most `late`
 pub record IsLate (late due now : ℕ) : Type 0 where
   pub no_earlier : due ≤ now
   pub no_later : now ≤ due + late
 
 -- The steps of a request that is first sent at `start`, after k timeouts, the last of which passed
 -- at `before`, up to its end. The last call is at `last`. Each step comes once the request is due,
--- and at most so late. In the plan of the request, transmission k, counted from 0, is at most k
--- times as late, and the time-out at most once more than the last one. As long as a step is
--- missing, the last call is at most so late
+-- at most `late` nanoseconds after that. Compared with the plan of the request, transmission k,
+-- counted from 0, is late by at most k times as much, and the timeout by at most once more than the
+-- last transmission. As long as a step is missing, the last call is at most `late` nanoseconds past
+-- the time at which the request is due
 pub data InTime (late id : ℕ) (transport : TransportType) (settings : Settings) (bytes : List ℕ)
     (to : SocketAddr) (start last : ℕ) : ℕ → ℕ → List Step → Type 0 where
   awaits : {k before : ℕ} → last ≤ next_due transport settings k before + late
@@ -129,7 +130,7 @@ abbrev pub AreNoEarlier : ℕ → List (ℕ × Called) → Type 0
 AreNoEarlier from [] = Unit {0}
 AreNoEarlier from (c ∷ calls) = (from ≤ c.0) × (c.0 < last_moment) × AreNoEarlier c.0 calls
 
--- whatever is called at moments that do not go back makes such calls, however late
+-- whatever is called at times that do not go back, there are such calls, however late
 abbrev pub CallsExist : Type 0
 CallsExist =
     (from : ℕ) (a : Agent) (calls : List (ℕ × Called)) → AreNoEarlier from calls

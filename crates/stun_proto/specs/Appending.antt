@@ -1,6 +1,6 @@
--- A message in the place of another that agrees with it up to its deciding integrity attribute (RFC
+-- A message in place of another that agrees with it up to its deciding integrity attribute (RFC
 -- 8489, sections 14.5 to 14.7): whoever appends to a signed request changes no reply and nothing
--- that is kept, but by a MESSAGE-INTEGRITY-SHA256 after a MESSAGE-INTEGRITY.
+-- that is kept, unless a MESSAGE-INTEGRITY-SHA256 is appended after a MESSAGE-INTEGRITY.
 use Rattle.std.specs.Prelude.{◌≡◌, ℕ, List, ◌∷◌, ◌++◌, None}
 use Rattle.std.specs.declared.alloc.Global.{Global}
 use Rattle.std.specs.declared.net.socket_addr.SocketAddr.{SocketAddr}
@@ -15,15 +15,15 @@ use Rattle.stun_proto.specs.Serving.{after_call, after_calls, replies, reply}
 
 -- a server answers two messages alike, and is the same after either
 pub record AreAnsweredAlike (message other : Vec ℕ Global) : Type 0 where
-  -- one call, whatever server, address, moment and words: the same reply, and the same server after
-  -- it with the place of the address
+  -- one call, whatever the server, address, time and words: the same reply, and the same server
+  -- after it with the record of the address
   pub replied : (s : ServerSeen) (from : SocketAddr) (now : ℕ) (words : List ℕ)
       → reply s (Validate from now message words) ≡ reply s (Validate from now other words)
   pub kept : (s : ServerSeen) (from : SocketAddr) (now : ℕ) (words : List ℕ)
       → after_call s (Validate from now message words)
       ≡ after_call s (Validate from now other words)
-  -- any run in which one is in the place of the other: the same replies to all calls, and the same
-  -- server after them
+  -- any run with one in place of the other: the same replies to all calls, and the same server
+  -- after them
   pub run_replied : (s : ServerSeen) (earlier later : List ServerCall) (from : SocketAddr) (now : ℕ)
       (words : List ℕ)
       → replies s (earlier ++ Validate from now message words ∷ later)
@@ -33,14 +33,14 @@ pub record AreAnsweredAlike (message other : Vec ℕ Global) : Type 0 where
       → after_calls s (earlier ++ Validate from now message words ∷ later)
       ≡ after_calls s (earlier ++ Validate from now other words ∷ later)
 
--- so it is where both are messages that agree up to their deciding attribute
+-- this applies to messages that agree up to their deciding attribute
 abbrev pub AgreeingAreAnsweredAlike : Type 0
 AgreeingAreAnsweredAlike =
     (message other : Vec ℕ Global) → refusal message.items ≡ None → refusal other.items ≡ None
     → AgreeUpToIntegrity message.items other.items → AreAnsweredAlike message other
 
--- and where one goes on from the end of the other's deciding attribute in whatever way, if that
--- shows no stronger one after it
+-- and to a message that continues in any way after the other's deciding attribute, unless it then
+-- shows a stronger one
 abbrev pub ContinuedAreAnsweredAlike : Type 0
 ContinuedAreAnsweredAlike =
     (message other : Vec ℕ Global) (m : Member) → refusal message.items ≡ None

@@ -14,8 +14,8 @@ use Rattle.stun_auth.specs.Feature.{is_possible}
 abbrev pub stronger : IntegrityAlgorithm → IntegrityAlgorithm → IntegrityAlgorithm
 stronger a b = if nat_lt (strength a) (strength b) then b else a
 
--- the strongest of the client's algorithms that the server has; none where they share none, or
--- where the client must send a hash of its name and the server takes none
+-- the strongest of the client's algorithms that the server has; none if they share none, or if the
+-- client must send a hash of its name and the server accepts none
 abbrev pub best : List IntegrityAlgorithm → List IntegrityAlgorithm → Feature → Feature
     → Option IntegrityAlgorithm
 best client server wanted given =
@@ -24,7 +24,7 @@ best client server wanted given =
 
 -- ---- the law
 
--- the client must send a hash of its name, and the server takes none
+-- the client must send a hash of its name, and the server accepts none
 abbrev pub HashIsRefused : Feature → Feature → Type 0
 HashIsRefused wanted given = (wanted ≡ Required) × (given ≡ Disabled)
 
@@ -39,8 +39,8 @@ pub record IsStrongestShared (client server : List IntegrityAlgorithm)
   pub shared : IsShared client server a
   pub strongest : (b : IntegrityAlgorithm) → IsShared client server b → strength b ≤ strength a
 
--- an algorithm is the answer exactly where it may be agreed on and is the strongest that both have;
--- there is none exactly where nothing may be agreed on, or both share nothing
+-- an algorithm is the answer exactly if one may be agreed on and it is the strongest that both
+-- have; there is none exactly if none may be agreed on, or both share none
 pub record IsBest (client server : List IntegrityAlgorithm) (wanted given : Feature)
     (answer : Option IntegrityAlgorithm) : Type 0 where
   pub some : (a : IntegrityAlgorithm)
@@ -48,7 +48,7 @@ pub record IsBest (client server : List IntegrityAlgorithm) (wanted given : Feat
   pub none : (answer ≡ None)
       ↔ (HashIsRefused wanted given ⊎ ((a : IntegrityAlgorithm) → IsShared client server a → ⊥))
 
--- the strongest algorithm that both support is what `best` answers
+-- `best` returns the strongest algorithm that both support
 abbrev pub BestIsStrongest : Type 0
 BestIsStrongest = (client server : List IntegrityAlgorithm) (wanted given : Feature)
     → IsBest client server wanted given (best client server wanted given)

@@ -34,7 +34,7 @@ call_value (Call.SetExpiry expiry) = SetExpiry expiry
 call_value (Call.ForgetExpired now) = ForgetExpired now
 call_value (Call.Forget address) = Forget address
 
--- what is shown of a call: which it is, and none of its values, a password being one
+-- what is shown of a call: which one it is, and none of its values, since a password is one
 abbrev pub call_shown : ServerCall → List ℕ
 call_shown (Call.Validate from now message words) = codes "Validate { .. }"
 call_shown (Call.Sign to message) = codes "Sign { .. }"

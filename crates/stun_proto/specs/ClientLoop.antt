@@ -10,20 +10,20 @@ use Rattle.stun_proto.specs.declared.replay.rounds.Round.{Round}
 use Rattle.stun_proto.specs.declared.replay.event.AgentEvent.{AgentEvent}
 use Rattle.stun_proto.specs.Schedule.{AreInOrder, IsAimedAt}
 
--- what the agent gets in these rounds
+-- what the agent receives in these rounds
 abbrev pub events_in : List Round → List (ℕ × AgentEvent)
 events_in [] = []
 events_in (round ∷ rounds) = round.events.items ++ events_in rounds
 
--- the moments do not go back, from one on, and none is the last there is: first those of the events
--- of a round, then that of the round
+-- the times do not go back, from this one on, and none is the last representable one: first those
+-- of the events of a round, then that of the round
 abbrev pub AreRounds : ℕ → List Round → Type 0
 AreRounds from [] = Unit {0}
 AreRounds from (round ∷ rounds) =
     AreInOrder round.time from round.events.items × (from ≤ round.time) × (round.time < last_moment)
     × AreRounds round.time rounds
 
--- a request that the agent accepts at a moment, and at which no later event is aimed
+-- a request that the agent accepts at a time, and at which no later event is aimed
 pub record IsLeftAlone (a : Agent) (request : List ℕ) (to : SocketAddr) (start : ℕ)
     (later : List (ℕ × AgentEvent)) : Type 0 where
   pub is_moment : start < last_moment

@@ -1,6 +1,6 @@
 -- A client that is new to a server: its first request, the challenge, the request with credentials
--- and its success, of any method and with any attributes of their own (RFC 8489, sections 9.2.3
--- to 9.2.5). Binding messages without attributes, which `negotiate` exchanges, are one instance.
+-- and its success, of any method and with any attributes of their own (RFC 8489, sections 9.2.3 to
+-- 9.2.5). The Binding messages without attributes that `negotiate` exchanges are one instance.
 use Rattle.std.specs.Prelude.{◌≡◌, ◌≤◌, ℕ, List, true, Option, Some, None}
 use Rattle.std.specs.FinMap as map
 use Rattle.std.specs.declared.net.socket_addr.SocketAddr.{SocketAddr}
@@ -38,7 +38,7 @@ use Rattle.stun_proto.specs.Session.{IsStillKnown}
 use Rattle.stun_proto.specs.Serving.{after_calls}
 use Rattle.stun_proto.specs.declared.replay.call.ServerCall.{ServerCall}
 
--- what the client is set to, and its address; when its two requests arrive, and the server's calls
+-- the client's settings and its address; when its two requests arrive, and the server's calls
 -- before the challenge is signed, before the second request arrives, and before its success is
 -- signed
 pub record Contact : Type 0 where
@@ -50,7 +50,7 @@ pub record Contact : Type 0 where
   pub second : Arrival
   pub before_success : List ServerCall
 
--- ---- the sides, call by call
+-- ---- the two sides, call by call
 
 abbrev pub after_first : Contact → ServerSeen → Page → ServerSeen
 after_first m server asking =
@@ -72,11 +72,11 @@ abbrev pub at_success : Contact → ServerSeen → Page → Page → ServerSeen
 at_success m server asking again =
     after_calls (after_second m server asking again) m.before_success
 
--- what the client makes of the challenge
+-- what the client does with the challenge
 abbrev pub challenged : Contact → Page → ClientStep
 challenged m challenging = client_step m.settings initial (reading_of challenging.bytes)
 
--- ---- messages of any method, with any attributes but those that signing adds
+-- ---- messages of any method, with any attributes except those that signing adds
 
 -- an error of code 401 that the server signs
 pub record IsChallenged (s : Sight) (challenging : Page) : Type 0 where
@@ -99,8 +99,9 @@ abbrev pub nonce_end : Contact → ServerSeen → ℕ
 nonce_end m server = moment_after m.first.now server.expiry
 
 -- the client has a registered user's credentials and is new to the server: its address has no
--- record. Up to its challenge the calls between are those of other addresses; after it they leave
--- users, settings and the nonce. The second request arrives while the nonce is current
+-- record. Up to its challenge the calls in between are those of other addresses; after it they
+-- leave users, settings and the nonce unchanged. The second request arrives while the nonce is
+-- current
 pub record IsNewClient (m : Contact) (who : NameAndPassword) (server : ServerSeen) : Type 0 where
   pub credentials : m.settings.credentials ≡ Some who
   pub registered : IsRegistered server.registered who
@@ -117,15 +118,15 @@ strongest_of m server =
     best m.settings.supported (algorithms_of server.registered.algorithms) m.settings.feature
     server.feature
 
--- ---- what they come to
+-- ---- how the exchange ends
 
 -- the client gives up and stores nothing
 abbrev pub GivesUpAt : Contact → Page → Type 0
 GivesUpAt m challenging =
     challenged m challenging ≡ record { answer = Err UnsupportedFeature; state = initial }
 
--- the request with credentials is accepted by this algorithm, and so is its success; then both know
--- each other
+-- the request with credentials is accepted with this algorithm, and so is its success; then both
+-- know each other
 pub record IsMet (m : Contact) (who : NameAndPassword) (server : ServerSeen)
     (asking challenging : Page) (a : IntegrityAlgorithm) : Type 0 where
   pub challenge : Challenge
@@ -150,7 +151,7 @@ pub record IsMet (m : Contact) (who : NameAndPassword) (server : ServerSeen)
       × AreJoined (sight (after_signing (at_success m server asking again) m.from true) m.from) p
       challenge who
 
--- by what can be agreed on
+-- how it ends, depending on what can be agreed on
 abbrev pub ComesToMeet : Contact → NameAndPassword → ServerSeen → Page → Page
     → Option IntegrityAlgorithm → Type 0
 ComesToMeet m who server asking challenging None = GivesUpAt m challenging
@@ -159,7 +160,7 @@ ComesToMeet m who server asking challenging (Some a) = IsMet m who server asking
 -- ---- the law
 
 -- The first request is answered with a challenge. After it the client either gives up, or sends the
--- request again, which is accepted by the strongest algorithm of both
+-- request again, which is accepted with the strongest algorithm of both
 pub record IsIntroduced (m : Contact) (who : NameAndPassword) (server : ServerSeen) : Type 0 where
   pub first : (asking : Page) → IsAsked initial asking
       → answer (sight server m.from) m.first.now m.first.words (reading_of asking.bytes)

@@ -23,7 +23,7 @@ is_time_out (Refused moment error) = false
 is_time_out (TimedOut moment id) = true
 is_time_out (Cancelled moment id) = false
 
--- a request ends that its user has canceled
+-- a request ends because its user canceled it
 abbrev pub is_cancellation : Step → Bool
 is_cancellation (Transmitted moment id to bytes) = false
 is_cancellation (Sent moment to bytes) = false
@@ -32,7 +32,7 @@ is_cancellation (Refused moment error) = false
 is_cancellation (TimedOut moment id) = false
 is_cancellation (Cancelled moment id) = true
 
--- a message of such a class is sent that wants no answer
+-- a message of such a class is sent, which awaits no answer
 abbrev pub is_sent : (MessageClass → Bool) → Step → Bool
 is_sent is_such (Transmitted moment id to bytes) = false
 is_sent is_such (Sent moment to bytes) = is_such (class_in bytes)
@@ -41,7 +41,7 @@ is_sent is_such (Refused moment error) = false
 is_sent is_such (TimedOut moment id) = false
 is_sent is_such (Cancelled moment id) = false
 
--- how many bytes a step sends: of a request each time that it is sent
+-- how many bytes a step sends: those of a request, each time that it is sent
 abbrev pub sent_bytes : Step → ℕ
 sent_bytes (Transmitted moment id to bytes) = length bytes
 sent_bytes (Sent moment to bytes) = length bytes
@@ -51,7 +51,7 @@ sent_bytes (TimedOut moment id) = 0
 sent_bytes (Cancelled moment id) = 0
 
 -- ---- what they add
--- a counter of 64 bits has so many more. It stays at its greatest number once it is there
+-- a counter of 64 bits grows by this much, and stays at its greatest number once it is there
 abbrev pub Adds : ℕ → ℕ → ℕ → Type 0
 Adds old more new = old ≤ last_count → new ≡ saturating_sum old more
 
@@ -67,8 +67,7 @@ pub record AreCounted (steps : List Step) (old new : Statistics) : Type 0 where
       new.responses_sent
   pub bytes_sent : Adds old.bytes_sent (sum_by sent_bytes steps) new.bytes_sent
 
--- the same where the agent counts; an agent that does not count begins with nothing and keeps
--- nothing
+-- the same if the agent counts; an agent that does not count has no counters, before and after
 abbrev pub CountsSteps : List Step → Option Statistics → Option Statistics → Type 0
 CountsSteps steps None new = new ≡ None
 CountsSteps steps (Some old) None = ⊥

@@ -1,7 +1,7 @@
--- A server whose users are in a data base. For each message the caller looks up the user whom the
+-- A server whose users are in a database. For each message the caller looks up the user whom the
 -- message means, and passes that user (`validate_incoming_message_of`, `sign_outgoing_message_of`).
--- What the clauses of these calls say, and that they are a run of the server that has the whole data
--- base (RFC 8489, section 9.2.4).
+-- What the clauses of these calls say, and that the calls are a run of the server that has the
+-- whole database (RFC 8489, section 9.2.4).
 use Rattle.std.specs.FinMap as map
 use Rattle.std.specs.Prelude.{◌≡◌, ◌&&◌, ℕ, List, [], ◌∷◌, ◌++◌, not, Option, Some, None, ⊤}
 use Rattle.std.specs.Prelude.{map as list_map}
@@ -33,18 +33,18 @@ use Rattle.stun_proto.specs.Signing.{written_anew}
 use Rattle.stun_proto.specs.declared.replay.call.ServerCall.{ServerCall}
 use Rattle.stun_proto.specs.declared.replay.call.ServerCall.TheVariants as Call
 
--- ---- the server and its data base
+-- ---- the server and its database
 
--- the users of a data base, by name
+-- the users of a database, by name
 abbrev pub Secrets : Type 0
 Secrets = map.FinMap name_cmp UserSecret
 
--- a server, whatever users it has itself, and the users of the data base
+-- a server, whatever users it has itself, and the users of the database
 pub record Stored : Type 0 where
   pub server : ServerSeen
   pub secrets : Secrets
 
--- the users of the data base at the realm of the server, with its algorithms
+-- the users of the database at the realm of the server, with its algorithms
 abbrev pub all_users : Stored → Registered
 all_users s = record s.server.registered { secrets = s.secrets }
 
@@ -52,7 +52,7 @@ all_users s = record s.server.registered { secrets = s.secrets }
 abbrev pub whole : Stored → ServerSeen
 whole s = with_users s.server (all_users s)
 
--- the server with the one user who is passed, or with none where the data base has no such user
+-- the server with the one user who is passed, or with none if the database has no such user
 abbrev pub with_passed : Stored → Option RegisteredUser → ServerSeen
 with_passed s user = with_users s.server (just s.server.registered user)
 
@@ -64,8 +64,8 @@ client_user s address =
 
 -- ---- calls
 
--- A message is judged or signed with the user whom it means; expired addresses are forgotten, of a
--- number of addresses at most; the data base changes; and every other call, of settings and of
+-- A message is judged or signed with the user whom it means; expired addresses are forgotten,
+-- within a number of addresses; the database changes; or any other call is made, of settings or of
 -- addresses
 pub data StoredCall : Type 0 where
   ValidateOf : SocketAddr → ℕ → Vec ℕ → List ℕ → StoredCall
@@ -80,13 +80,14 @@ forgotten s now from most =
     filter (λ a. is_looked_at from (next_address s from most) a
     && not (is_some (place_kept now (map.get s.places a)))) (map.keys s.places)
 
--- what a call comes to: the calls of the run that it is, their replies, and what it leaves
+-- how a call of the loop is made: the calls of the run that it is, their replies, and what it
+-- leaves
 pub record Made : Type 0 where
   pub calls : List ServerCall
   pub given : List Reply
   pub after : Stored
 
--- bytes that are no message reach no call of the server
+-- bytes that are not a message reach no call of the server
 abbrev pub IfAMessage : Stored → ServerCall → Option StunParseError → Made → Type 0 → Type 0
 IfAMessage s call (Some error) made called =
     made ≡ record { calls = call ∷ []; given = NotAMessage error ∷ []; after = s }
@@ -142,7 +143,7 @@ IsMadeOf s (ForgetWithin now from most) made = made ≡ record {
   given = list_map (λ a. Done) (forgotten s.server now from most);
   after = record s { server = after_step s.server now from most };
 }
--- the data base changes by calls that add and remove users; the server is not called
+-- the database changes by calls that add and remove users; the server is not called
 IsMadeOf s (Changed secrets calls) made =
     (after_calls (whole s) calls ≡ whole (record s { secrets = secrets }))
     × (made ≡ record {
@@ -167,8 +168,8 @@ AreMadeOf s (call ∷ more) calls given last =
     × (calls ≡ made.calls ++ later) × (given ≡ made.given ++ rest)
     × IsMadeOf s call made × AreMadeOf made.after more later rest last
 
--- They are a run of `serve` of the server that has the whole data base: the same replies, and the
--- same server after them. So the first sentence holds of them
+-- The calls are a run of `serve` of the server that has the whole database: the same replies, and
+-- the same server after them. So the first sentence applies to them
 abbrev pub StoredCallsAreServed : Type 0
 StoredCallsAreServed =
     (start last : Stored) (made : List StoredCall) (calls : List ServerCall) (given : List Reply)

@@ -1,6 +1,6 @@
 -- The three sentences of this library. Each definition that says one is in an `ensures` of the
--- public call that its comment names, so the check of that call proves it. The sentences are of
--- whole runs by these calls. Words.antt says where each word is defined.
+-- public call that its comment names, so the check of that call proves it. The sentences are about
+-- whole runs of these calls. Words.antt says where each word is defined.
 use Rattle.std.specs.FinMap as map
 use Rattle.std.specs.Prelude.{◌≡◌, ◌≤◌, ◌+◌, ◌-◌, ◌↔◌, ◌⊎◌, ◌∷◌, ◌++◌}
 use Rattle.stun_auth.specs.declared.server.reason.LongTermServerValidation.TheVariants as Served
@@ -49,12 +49,12 @@ HoldsDigest bytes key =
     (with_length (take place bytes) (place + 4 + length attribute.value - HEADER_LENGTH)))
 
 -- Every list of calls: `serve`, clause `headline`, with `read` = `message_read` and `run` =
--- `replies`. Whom the server validates is said by `validated` and `digest` without `replies`
+-- `replies`. `validated` and `digest` say whom the server validates, without `replies`
 pub record ValidatesEachCall (read : Reads) (run : ServerSeen → List ServerCall → List Reply)
     (start : ServerSeen) (calls : List ServerCall) (given : List Reply) : Type 0 where
   -- the replies are those of the run
   pub replied : given ≡ run start calls
-  -- at each index the same as of one call. The nonce, the offer, the users and the settings are
+  -- at each index the same as for one call. The nonce, the offer, the users and the settings are
   -- those that earlier calls left, by their replies. These are the calls of the same address and
   -- those that concern all
   pub validated : (i : ℕ) (from : SocketAddr) (now : ℕ) (message : Vec ℕ) (words : List ℕ)
@@ -63,7 +63,7 @@ pub record ValidatesEachCall (read : Reads) (run : ServerSeen → List ServerCal
       → is_response m.class ≡ false → (slice_get given i ≡ Some (Serving.Validated a))
       ↔ AcceptedWith (sight_by_replies read from (sight start from) (take i calls) given)
       now words m a
-  -- the digest of a message verifies where the message holds it
+  -- the digest of a message verifies if the message holds it
   pub digest : (bytes key : List ℕ) (m : Reading) → read bytes ≡ Some m
       → IsSome (verified_under m key) ↔ HoldsDigest bytes key
   -- whatever other addresses do: the replies to an address are those of the run of its own calls
@@ -101,7 +101,7 @@ pub record KnowEachOther (from : SocketAddr) (who : NameAndPassword) (a : Integr
   pub nonce : challenge.nonce ≡ place.nonce
   pub key : challenge.key ≡ long_term_key a who.username server.registered.realm who.password
 
--- a meeting ends with this outcome and leaves both sides so, or an allocation failed
+-- a meeting ends with this outcome and leaves both sides like this, or an allocation failed
 abbrev pub EndsWith : Result Outcome NegotiateError → Outcome → Type 0 → Type 0
 EndsWith result outcome left = ((result ≡ Ok outcome) × left) ⊎ (result ≡ Err Memory)
 
@@ -116,8 +116,8 @@ pub record EndsAtStrongest (m : Meeting) (who : NameAndPassword) (server : Serve
       → IsStrongestShared m.settings.supported (algorithms_of server.registered.algorithms) a
       → (HashIsRefused m.settings.feature server.feature → ⊥)
       → EndsWith result (Validated a) (KnowEachOther m.from who a client after)
-  -- where they share none, or the client must hash its name and the server takes no hash: the
-  -- client gives up and keeps nothing, and the server knows no client at its address
+  -- if they share none, or the client must hash its name and the server accepts no hash: the client
+  -- gives up and keeps nothing, and the server knows no client at its address
   pub refused : (HashIsRefused m.settings.feature server.feature
       ⊎ ((a : IntegrityAlgorithm)
       → IsShared m.settings.supported (algorithms_of server.registered.algorithms) a → ⊥))
@@ -129,26 +129,26 @@ pub record EndsAtStrongest (m : Meeting) (who : NameAndPassword) (server : Serve
 
 -- A request that one event asks for and that is undisturbed:
 --
--- - its bytes begin with the header of a request (section 5) and this id;
+-- - its bytes begin with the header of a request (section 5) and this ID;
 -- - the agent may send to its destination;
--- - no request of the id is outstanding when the run begins, and no other event asks for the id;
--- - up to the end of its plan no response of the id comes from its address, and no call cancels or
+-- - no request of the ID is outstanding when the run begins, and no other event asks for the ID;
+-- - up to the end of its plan no response of the ID comes from its address, and no call cancels or
 --   changes it
 pub record IsAskedOnce (a : Requester) (id start : ℕ) (bytes : List ℕ) (to : SocketAddr)
     (earlier later : List (ℕ × AgentEvent)) : Type 0 where
   pub header : header_refusal bytes ≡ None
   pub class : class_in bytes ≡ Request
   pub names : transaction_id_field bytes ≡ id
-  -- where the agent was told one address to speak to, it is this one
+  -- if the agent may speak to one address only, it is this one
   pub goes_there : (peer : SocketAddr) → a.remote_addr ≡ Some peer → to ≡ peer
   pub new : at id a.outstanding ≡ None
   pub not_before : AllByRecursion (λ e. Asks id e.1 → ⊥) earlier
   pub not_again : AllByRecursion (λ e. Asks id e.1 → ⊥) later
   pub undisturbed : IsUndisturbed id to (planned_end a.transport a.settings start) later
 
--- All steps of this id in a list are those of its plan, up to and including `until`. For each k up
+-- All steps of this ID in a list are those of its plan, up to and including `until`. For each k up
 -- to its number of slots, it is sent at its start plus the sum of its first k timeouts. It is sent
--- at no other moment. It times out once, where `until` reaches its end
+-- at no other time. It times out once, if `until` reaches its end
 abbrev pub SendsByPlan : ℕ → Requester → List (ℕ × AgentEvent) → List Step → Type 0
 SendsByPlan until a events steps =
     (id start : ℕ) (bytes : Vec ℕ) (to : SocketAddr) (earlier later : List (ℕ × AgentEvent))
@@ -161,8 +161,8 @@ SendsByPlan until a events steps =
 pub record IsDrivenByPlan (run : Agent → List (ℕ × AgentEvent) → List Step → Agent → Type 0)
     (until : ℕ) (a : Agent) (events : List (ℕ × AgentEvent)) (steps : List Step)
     (after : Agent) : Type 0 where
-  -- the steps that are returned are all that this agent did. It took the events and was polled at
-  -- exactly the moments that it names. `after` is the agent that this leaves
+  -- the steps that are returned are all that this agent did. It received the events and was polled
+  -- at exactly the times that `run` names. `after` is the agent that this leaves
   pub driven : run a events steps after
   -- those of each request that is asked once are its plan
   pub by_plan : SendsByPlan until (requester a) events steps

@@ -1,4 +1,5 @@
--- What a ready client and its server come to, where no signing is refused (RFC 8489, section 9.2).
+-- How the meeting of a ready client with its server ends, if no signing is refused (RFC 8489,
+-- section 9.2).
 use Rattle.std.specs.Prelude.{◌≡◌, ℕ, ◌≤◌, List, length, true, Option, Some, None, IsOk}
 use Rattle.std.specs.Option.{is_some}
 use Rattle.std.specs.declared.result.Result.TheVariants.{Ok}
@@ -30,14 +31,14 @@ HaveOwnHashes users = (a b : List ℕ) → is_some (map.get users.secrets a) ≡
     → userhash_of a users.realm ≡ userhash_of b users.realm → a ≡ b
 
 -- a new client is ready: it has a registered user's credentials, comes from an address without a
--- place, and is in time
+-- record, and is in time
 pub record IsReady (m : Meeting) (who : NameAndPassword) (server : ServerSeen) : Type 0 where
   pub credentials : m.settings.credentials ≡ Some who
   pub registered : IsRegistered server.registered who
   pub hashes : HaveOwnHashes server.registered
   pub new_address : map.get server.places m.from ≡ None
-  -- the calls between are those of other addresses: none is on users or settings, none forgets
-  -- expired nonces, and the address's place stays
+  -- the calls in between are those of other addresses: none is on users or settings, none forgets
+  -- expired nonces, and the record of the address stays
   pub others_first : AreOfOthers m.from m.first.before
   pub others_second : AreOfOthers m.from m.second.before
   -- the second request is read while the nonce is current
@@ -48,7 +49,7 @@ pub record IsHonest (m : Meeting) (who : NameAndPassword) (server : ServerSeen) 
   pub ready : IsReady m who server
   pub signed : IsOk (whole_negotiation m initial server).ending
 
--- both sides have come to an algorithm
+-- both sides have agreed on an algorithm
 pub record AgreesOn (from : SocketAddr) (who : NameAndPassword) (a : IntegrityAlgorithm)
     (met : Met) : Type 0 where
   pub ending : met.ending ≡ Ok (Validated a)
@@ -57,7 +58,7 @@ pub record AgreesOn (from : SocketAddr) (who : NameAndPassword) (a : IntegrityAl
   pub joined : (c : Challenge) × (p : PlaceSeen) × (met.client ≡ authenticated c)
       × AreJoined (sight met.server from) p c who
 
--- the client gives up and keeps nothing, and the server has a place for its address, with no client
+-- the client gives up and keeps nothing, and the server has a record of its address, with no client
 pub record GivesUp (from : SocketAddr) (met : Met) : Type 0 where
   pub ending : met.ending ≡ Ok (ClientRefused UnsupportedFeature)
   pub client : met.client ≡ initial
@@ -73,8 +74,8 @@ strongest m server =
     best m.settings.supported (algorithms_of server.registered.algorithms) m.settings.feature
     server.feature
 
--- a client that is honest in this sense and its server come to the strongest algorithm of both,
--- where there is one; else the client gives up
+-- a client that is honest in this sense and its server agree on the strongest algorithm of both, if
+-- there is one; otherwise the client gives up
 abbrev pub StrongestIsAgreed : Type 0
 StrongestIsAgreed = (m : Meeting) (who : NameAndPassword) (server : ServerSeen)
     → AreTexts server.registered.realm who.username → IsHonest m who server

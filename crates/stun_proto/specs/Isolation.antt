@@ -1,4 +1,4 @@
--- What one address can tell of a run: its own calls, and what they leave at its place.
+-- What one address can tell of a run: its own calls, and the record that they leave of it.
 use Rattle.std.specs.Prelude.{◌≡◌, List, [], ◌∷◌, Bool, true, if◌then◌else◌, Option, Some, None}
 use Rattle.std.specs.Option.{option_map}
 use Rattle.std.specs.declared.net.socket_addr.SocketAddr.{SocketAddr}
@@ -18,7 +18,7 @@ use Rattle.stun_proto.specs.Signing.{if_signed, place_offered, signing}
 use Rattle.stun_proto.specs.Serving.{Reply, registered_after, feature_after, expiry_after, replies}
 
 -- whether a call is one of the address, or one that concerns every address: on users and settings,
--- and forgetting what has expired
+-- and those that forget what has expired
 abbrev pub concerns : SocketAddr → ServerCall → Bool
 concerns a (Call.Validate from now message words) = same_address from a
 concerns a (Call.Sign to message) = same_address to a
@@ -44,13 +44,13 @@ own_replies a (call ∷ calls) [] = []
 own_replies a (call ∷ calls) (r ∷ given) =
     if concerns a call then r ∷ own_replies a calls given else own_replies a calls given
 
--- the place, where the bytes are a message
+-- the record, if the bytes are a message
 abbrev pub place_unless : Option StunParseError → Option PlaceSeen → Option PlaceSeen
     → Option PlaceSeen
 place_unless (Some error) before after = before
 place_unless None before after = after
 
--- what a call of its own makes of an address's place
+-- the record of an address after a call of its own
 abbrev pub own_place_after : Sight → ServerCall → Option PlaceSeen
 own_place_after s (Call.Validate from now message words) =
     place_unless (refusal message.items) s.place
@@ -69,7 +69,7 @@ own_place_after s (Call.SetExpiry expiry) = s.place
 own_place_after s (Call.ForgetExpired now) = place_kept now s.place
 own_place_after s (Call.Forget address) = None
 
--- what a call of its own, or one that concerns every address, makes of what an address can tell
+-- what an address can tell after a call of its own, or one that concerns every address
 abbrev pub sight_after : Sight → ServerCall → Sight
 sight_after s call = record {
   registered = registered_after s.registered call;
@@ -83,7 +83,7 @@ abbrev pub sight_over : Sight → List ServerCall → Sight
 sight_over s [] = s
 sight_over s (call ∷ calls) = sight_over (sight_after s call) calls
 
--- the replies to each address are those of the run over its own calls alone, from the same start:
+-- the replies to each address are those of the run over its own calls alone, from the same start,
 -- whatever the run is
 abbrev pub IsolatedBy : (ServerSeen → List ServerCall → List Reply) → ServerSeen → List ServerCall
     → List Reply → Type 0

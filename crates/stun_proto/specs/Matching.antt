@@ -1,4 +1,4 @@
--- When a client and a server have come to the same challenge (RFC 8489, section 9.2).
+-- When a client and a server have the same challenge (RFC 8489, section 9.2).
 use Rattle.std.specs.Prelude.{◌≡◌, ℕ, List, Bool, true, false, Some, IsUtf8}
 use Rattle.std.specs.List.{All}
 use Rattle.std.specs.FinMap as map
@@ -36,7 +36,7 @@ pub record IsRegistered (users : Registered) (who : NameAndPassword) : Type 0 wh
       → key_from a who.username users.realm secret
       ≡ Some (long_term_key a who.username users.realm who.password)
 
--- the challenge that a client keeps is the one that the server has kept at the place, and the
+-- the challenge that a client keeps is the one that the server has kept in the record, and the
 -- client has a registered user's key
 pub record Matches (users : Registered) (feature : Feature) (p : PlaceSeen) (c : Challenge)
     (who : NameAndPassword) : Type 0 where

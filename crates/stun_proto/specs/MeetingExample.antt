@@ -20,7 +20,7 @@ use Rattle.stun_proto.specs.declared.replay.call.ServerCall.TheVariants as Call
 use Rattle.stun_proto.specs.Negotiation.{Meeting, client_request, failure, request}
 use Rattle.stun_proto.specs.Serving.{Refused, Signed, Validated, replies}
 
--- who asks
+-- the client's user
 abbrev pub a_user : NameAndPassword
 a_user = record { username = codes "user"; password = codes "pass" }
 
@@ -39,7 +39,7 @@ a_client = record {
   credentials = Some a_user;
 }
 
--- they meet: the ids 7 and 8, at 0 and after a second, with no calls between
+-- they meet: with the IDs 7 and 8, at 0 and after a second, with no calls in between
 abbrev pub a_meeting : SocketAddr → List ℕ → List ℕ → Meeting
 a_meeting from words more = record {
   settings = a_client;
@@ -48,9 +48,9 @@ a_meeting from words more = record {
   second = record { id = 8; now = 1_000_000_000; words = more; before = [] };
 }
 
--- what the server replies to the three calls that its client gives rise to, whatever vectors hold
--- their messages: the first request is challenged, the challenge is signed, and the request that
--- the client signs once it has read the challenge is validated
+-- what the server replies to the three calls that its client causes, whatever vectors hold their
+-- messages: the first request is challenged, the challenge is signed, and the request that the
+-- client signs once it has read the challenge is validated
 pub record IsServed (from : SocketAddr) (words more : List ℕ) : Type 0 where
   pub challenge : Page
   pub again : Page

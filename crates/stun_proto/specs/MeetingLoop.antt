@@ -1,6 +1,6 @@
 -- A client and a server whose calls their users make one by one, each on what the other side has
 -- sent, in order: what the clauses of these calls say, and that the two are in a meeting as
--- `negotiate` has it, of Binding messages without other attributes. Each definition of the meeting
+-- `negotiate` runs it, of Binding messages without other attributes. Each definition of the meeting
 -- is what is left from one call on, the last call first.
 use Rattle.std.specs.Prelude.{◌≡◌, ℕ, List, true}
 use Rattle.std.specs.declared.result.Result.{Result}
@@ -133,13 +133,13 @@ HaveMet m state server met =
 
 -- ---- the law
 
--- so they come to what `negotiate` comes to: the same outcome, and both sides the same
+-- so they end as `negotiate` ends: the same outcome, and both sides the same
 abbrev pub MeetingsAreNegotiated : Type 0
 MeetingsAreNegotiated =
     (m : Meeting) (state : ClientState) (server : ServerSeen) (met : Met)
     → HaveMet m state server met → met ≡ whole_negotiation m state server
 
--- and a client that is honest and its server come to the strongest algorithm of both
+-- and a client that is honest and its server agree on the strongest algorithm of both
 abbrev pub MeetingsAgree : Type 0
 MeetingsAgree =
     (m : Meeting) (who : NameAndPassword) (server : ServerSeen) (met : Met)

@@ -1,4 +1,4 @@
--- What a run of a meeting answers and leaves.
+-- What a run of a meeting returns and leaves.
 use Rattle.std.specs.Prelude.{ℕ, List, [], map, slice_index, slice_index_or, Option, Some, None}
 use Rattle.std.specs.declared.result.Result.{Result}
 use Rattle.std.specs.declared.result.Result.TheVariants.{Ok, Err}
@@ -32,7 +32,8 @@ round_at i ids moments words between = record {
   before = slice_index_or between i [];
 }
 
--- the meeting of a client that is set so, by two of each: the first is that of the first request
+-- the meeting of a client with these settings, from two of each: the first is that of the first
+-- request
 abbrev pub meeting : ClientSettings → SocketAddr → List ℕ → List ℕ → List (List ℕ)
     → List (List ServerCall) → Meeting
 meeting settings from ids moments words between = record {
@@ -42,7 +43,7 @@ meeting settings from ids moments words between = record {
   second = round_at 1 ids moments words between;
 }
 
--- how a run has ended and what it has left, where no allocation failed
+-- how a run has ended and what it has left, if no allocation failed
 abbrev pub met_by : Result Outcome NegotiateError → ClientState → ServerSeen → Option Met
 met_by (Ok outcome) client server = Some (ending_with outcome client server)
 met_by (Err (Write reason)) client server = Some (ending_unwritten reason client server)

@@ -1,6 +1,6 @@
 -- A client and a server that meet (RFC 8489, sections 9.2.3 to 9.2.5), computed step by step over
 -- the bytes of their messages: a request, its challenge, the request with credentials, its success.
--- All are Binding messages, without attributes but those of signing and ERROR-CODE.
+-- All are Binding messages, without attributes except those of signing and ERROR-CODE.
 use Rattle.std.specs.Prelude.{ℕ, List, [], ◌∷◌, true}
 use Rattle.std.specs.declared.result.Result.{Result}
 use Rattle.std.specs.declared.result.Result.TheVariants.{Ok, Err}
@@ -37,16 +37,16 @@ use Rattle.stun_proto.specs.declared.replay.negotiation.Outcome.TheVariants.{Cli
 
 -- ---- who meets
 
--- A request and its answer: the id, the moment at which the server reads the request, and the
--- random words of a nonce. `before` has the server's calls just before the 401 is read, or before
--- the second request is
+-- A request and its answer: the ID, the time at which the server reads the request, and the random
+-- words of a nonce. `before` has the server's calls just before the 401 is read, or before the
+-- second request is
 pub record Round : Type 0 where
   pub id : ℕ
   pub now : ℕ
   pub words : List ℕ
   pub before : List ServerCall
 
--- what the client is set to, its address, and its two requests
+-- the client's settings, its address, and its two requests
 pub record Meeting : Type 0 where
   pub settings : ClientSettings
   pub from : SocketAddr

@@ -1,4 +1,4 @@
--- A nonce that has run out, and the one that takes its place (RFC 8489, sections 9.2.4 and 9.2.5).
+-- A nonce that has expired, and the one that replaces it (RFC 8489, sections 9.2.4 and 9.2.5).
 use Rattle.std.specs.Prelude.{◌≡◌, ℕ, ◌<◌, ◌≤◌, nat_le, not, ◌&&◌, List}
 use Rattle.std.specs.Prelude.{Bool, true, false, if◌then◌else◌, Some}
 use Rattle.std.specs.List.{All}
@@ -29,14 +29,14 @@ use Rattle.stun_proto.specs.Serving.{after_calls}
 use Rattle.stun_proto.specs.declared.replay.call.ServerCall.{ServerCall}
 use Rattle.stun_proto.specs.declared.replay.call.ServerCall.TheVariants as Call
 
--- ---- a request, the error that tells it stale, and a request again
+-- ---- a request, the error that says its nonce is stale, and a request again
 
--- the moment at which the server reads a request, and the random words of a nonce
+-- the time at which the server reads a request, and the random words of a nonce
 pub record Arrival : Type 0 where
   pub now : ℕ
   pub words : List ℕ
 
--- What the client is set to, its address, and whether calls meanwhile may remove it there. Its two
+-- The client's settings, its address, and whether calls meanwhile may remove it there. Its two
 -- requests, and the server's calls before the first, the error and the second
 pub record Renewal : Type 0 where
   pub settings : ClientSettings
@@ -76,7 +76,7 @@ abbrev pub at_error : Renewal → ServerSeen → Page → ServerSeen
 at_error m server asking =
     after_calls (after_request m m.first (at_first m server) asking) m.before_error
 
--- the client that has read it
+-- the client that has read the error
 abbrev pub client_after_error : Renewal → ClientState → Page → ClientState
 client_after_error m state telling = (client_step m.settings state (reading_of telling.bytes)).state
 
@@ -105,8 +105,8 @@ pub record IsTold (s : Sight) (telling : Page) : Type 0 where
 -- ---- the law
 
 -- whether a call leaves users, settings and the nonce of an address: messages from there are read
--- up to its end. Where the client there may be removed, expired nonces are forgotten only up to
--- that end. Else they are forgotten at any moment, since a place with a client is kept. The address
+-- up to its end. If the client there may be removed, expired nonces are forgotten only up to that
+-- end. Otherwise they are forgotten at any time, since a record with a client is kept. The address
 -- itself is not forgotten
 abbrev pub leaves_nonce : SocketAddr → ℕ → Bool → ServerCall → Bool
 leaves_nonce a end removable (Call.Validate from now message words) =
@@ -123,10 +123,10 @@ leaves_nonce a end removable (Call.SetExpiry expiry) = false
 leaves_nonce a end removable (Call.ForgetExpired now) = if removable then nat_le now end else true
 leaves_nonce a end removable (Call.Forget address) = not (same_address address a)
 
--- whether a call leaves users, settings and the place of an address, whatever nonce is kept there:
--- messages from there are read at any moment, also after the nonce's end, which make another. Where
--- the client there may be removed, expired nonces are forgotten up to that end alone, and no moment
--- is past the last one. The address itself is not forgotten
+-- whether a call leaves users, settings and the record of an address, whatever nonce is kept there:
+-- messages from there are read at any time, also after the nonce's end, when they make another. If
+-- the client there may be removed, expired nonces are forgotten only up to that end, and no time is
+-- past the last one. The address itself is not forgotten
 abbrev pub leaves_place : SocketAddr → ℕ → Bool → ServerCall → Bool
 leaves_place a end removable (Call.Validate from now message words) = true
 leaves_place a end removable (Call.Sign to message) = true
@@ -148,8 +148,8 @@ LeavePlace a end removable calls = All (λ call. leaves_place a end removable ca
 abbrev pub LeaveNonce : SocketAddr → ℕ → Bool → List ServerCall → Type 0
 LeaveNonce a end removable calls = All (λ call. leaves_nonce a end removable call ≡ true) calls
 
--- a client is authenticated, and its nonce has ended before its first request, which others of its
--- messages may have come before; the nonce that is current then is current at its second
+-- a client is authenticated, and its nonce has ended before its first request, which other messages
+-- of it may precede; the nonce that is current then is still current at its second request
 pub record HasRunOut (m : Renewal) (who : NameAndPassword) (server : ServerSeen) (p : PlaceSeen)
     (c : Challenge) : Type 0 where
   pub joined : AreJoined (sight server m.from) p c who
@@ -159,10 +159,10 @@ pub record HasRunOut (m : Renewal) (who : NameAndPassword) (server : ServerSeen)
   pub calls_before_second : LeaveNonce m.from (end m server) m.may_be_removed m.before_second
   pub in_time : m.second.now ≤ end m server
 
--- a client is told that its nonce is stale, and asks again
+-- a client learns that its nonce is stale, and asks again
 pub record IsToldStale (m : Renewal) (server : ServerSeen) (p : PlaceSeen) (c : Challenge)
     (asking telling again : Page) : Type 0 where
-  -- the client signs a request under the nonce that has run out
+  -- the client signs a request under the nonce that has expired
   pub asked : IsAsked (authenticated c) asking
   -- the nonce that is current when the server reads it is another one
   pub other_nonce : bytes_eq p.nonce (current_nonce m server) ≡ false
@@ -186,7 +186,7 @@ pub record IsRenewed (m : Renewal) (who : NameAndPassword) (server : ServerSeen)
       → answer_at m m.first (at_first m server) asking
       ≡ (if bytes_eq p.nonce (current_nonce m server) then Ok (Validated c.algorithm)
       else Err StaleNonce)
-  -- once the client has been told that its nonce is stale, its next request is accepted
+  -- once the client has learned that its nonce is stale, its next request is accepted
   pub second : (asking telling again : Page) → IsToldStale m server p c asking telling again
       → IsAcceptedAnew m who c (at_second m server asking) telling again
 

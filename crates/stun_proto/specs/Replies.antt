@@ -1,5 +1,5 @@
--- What one address can tell of a run by its own calls and the replies to them: so a reader need not
--- know when a signing succeeds, nor why a message is refused.
+-- What one address can tell of a run by its own calls and the replies to them, so that a reader
+-- need not know when a signing succeeds, nor why a message is refused.
 use Rattle.std.specs.Prelude.{ℕ, List, [], ◌∷◌, Bool, true, false}
 use Rattle.std.specs.Prelude.{if◌then◌else◌, Option, None, Some}
 use Rattle.std.specs.Option.{option_map, option_map_or}
@@ -23,8 +23,8 @@ use Rattle.stun_proto.specs.Signing.{place_offered}
 
 -- ---- what bytes say
 
--- what bytes say, where they are a message. The definitions below take it as an argument: they hang
--- on what is read of a message, and not on how it is read of its bytes
+-- what bytes say, if they are a message. The definitions below take it as an argument: they depend
+-- on what is read of a message, and not on how it is read from its bytes
 abbrev pub Reads : Type 0
 Reads = List ℕ → Option Reading
 
@@ -48,7 +48,7 @@ is_signed (SignRefused error) = false
 is_signed Done = false
 is_signed TooShort = false
 
--- the place with the named user as its client, where the message was validated
+-- the record with the named user as its client, if the message was validated
 abbrev pub client_by_reply : PlaceSeen → Option RegisteredUser → Reply → PlaceSeen
 client_by_reply place who (NotAMessage error) = place
 client_by_reply place who (Validated algorithm) =
@@ -65,29 +65,29 @@ client_by_reply place who (SignRefused error) = place
 client_by_reply place who Done = place
 client_by_reply place who TooShort = place
 
--- the place after a message: where one needs a nonce, the current nonce stays, or else one is made
+-- the record after a message: if it needs a nonce, the current nonce stays, or else one is made
 abbrev pub place_by_answer : Sight → ℕ → List ℕ → Reading → Reply → Option PlaceSeen
 place_by_answer s now words m r =
     if needs_nonce m
     then Some (client_by_reply (current_place s now words) (named_user s.registered s.feature m) r)
     else s.place
 
--- the same, where the bytes are a message
+-- the same, if the bytes are a message
 abbrev pub place_by_message : Sight → ℕ → List ℕ → Option Reading → Reply → Option PlaceSeen
 place_by_message s now words None r = s.place
 place_by_message s now words (Some m) r = place_by_answer s now words m r
 
--- the place after a message that was signed: what a response offered is kept
+-- the record after a message that was signed: what a response offered is kept
 abbrev pub place_by_signing : Sight → Option Reading → Option PlaceSeen
 place_by_signing s None = s.place
 place_by_signing s (Some m) = place_offered s (is_response m.class)
 
--- What a call makes of an address's place. It is changed by:
+-- The record of an address after a call. It is changed by:
 --
 -- - a message that needs a nonce;
 -- - a response that was signed;
 -- - the call that removes its client;
--- - the one that forgets expired nonces, where no client is known;
+-- - the one that forgets expired nonces, if no client is known;
 -- - the one that forgets the address
 abbrev pub place_by_reply : Reads → Sight → ServerCall → Reply → Option PlaceSeen
 place_by_reply read s (Call.Validate from now message words) r =
@@ -104,7 +104,7 @@ place_by_reply read s (Call.SetExpiry expiry) r = s.place
 place_by_reply read s (Call.ForgetExpired now) r = place_kept now s.place
 place_by_reply read s (Call.Forget address) r = None
 
--- what a call of its own, or one that concerns every address, makes of what an address can tell
+-- what an address can tell after a call of its own, or one that concerns every address
 abbrev pub sight_by_reply : Reads → Sight → ServerCall → Reply → Sight
 sight_by_reply read s call r = record {
   registered = registered_after s.registered call;
@@ -114,6 +114,7 @@ sight_by_reply read s call r = record {
 }
 
 -- what an address can tell after calls and the replies to them: a call of another address leaves it
+-- unchanged
 abbrev pub sight_by_replies : Reads → SocketAddr → Sight → List ServerCall → List Reply → Sight
 sight_by_replies read a s [] given = s
 sight_by_replies read a s (call ∷ calls) [] = s

@@ -32,11 +32,11 @@ abbrev pub end_step : ℕ → ℕ × Transaction → Step
 end_step now e = if repeats e.1.sending then TimedOut now e.0 else Cancelled now e.0
 
 -- ---- events
--- the agent once the request of an id is changed, if there is one
+-- the agent once the request of an ID is changed, if there is one
 abbrev pub after_change : (Transaction → Transaction) → ℕ → Agent → Agent
 after_change f id agent = with_transactions agent (with_change_at f id agent.transactions)
 
--- a message is sent that wants no answer
+-- a message is sent, which awaits no answer
 abbrev pub after_sending : List ℕ → SocketAddr → Agent → Agent
 after_sending bytes to agent =
     option_map_or (λ _. agent) (sending_refusal agent bytes to) (after_send bytes agent)
@@ -66,7 +66,7 @@ step_of_receiving now bytes from agent =
     option_map_or (λ error. Refused now (ParseError error)) (refusal bytes)
     (Received now (takes_message bytes from agent))
 
--- the agent after an event. What is refused changes nothing
+-- the agent after an event. An event that is refused changes nothing
 abbrev pub after_event : ℕ → AgentEvent → Agent → Agent
 after_event now (Send bytes to) agent = after_sending bytes.items to agent
 after_event now (SendRequest bytes to) agent = after_asking now bytes.items to agent
@@ -95,9 +95,9 @@ steps_of_event now (CancelRetransmissions id) agent = []
 steps_of_event now (Configure id initial retransmits last max) agent = []
 steps_of_event now (ValidatePeer address) agent = []
 
--- ---- one turn at a moment
--- transmissions until there are none, then ends until there are none, and again while the next
--- moment is this one
+-- ---- one turn at a time
+-- transmissions until there are none, then ends until there are none, and again while the next time
+-- is this one
 pub data Phase : Type 0 where
   sending : Phase
   ending : Phase
@@ -117,20 +117,20 @@ pub data Turn (now : ℕ) : Phase → Agent → List Step → Agent → Type 0 w
       → (now < wake_up a.transport now a.transactions) ⊎ (now ≡ last_moment)
       → Turn now ending a [] a
 
--- ---- the turns at awaited moments
--- a transaction that is not canceled awaits this moment
+-- ---- the turns at awaited times
+-- a transaction that is not canceled awaits this time
 abbrev pub IsAwaited : Agent → ℕ → Type 0
 IsAwaited a moment =
     (id : ℕ) × (t : Transaction) × (at id a.transactions ≡ Some t)
     × (is_cancelled t.sending ≡ false) × (awaited_moment a.transport t ≡ moment)
 
--- the least of the awaited moments from `from` on
+-- the least of the awaited times from `from` on
 pub record IsNext (a : Agent) (from moment : ℕ) : Type 0 where
   pub awaited_then : IsAwaited a moment
   pub late : from ≤ moment
   pub least : (other : ℕ) → IsAwaited a other → from ≤ other → moment ≤ other
 
--- a turn at each awaited moment from `from` on and below `bound`, in their order
+-- a turn at each awaited time from `from` on and below `bound`, in their order
 pub data Turns (bound : ℕ) : ℕ → Agent → List Step → Agent → Type 0 where
   turn : {a b c : Agent} {steps more : List Step} {from : ℕ} (moment : ℕ) → IsNext a from moment
       → moment < bound
@@ -141,8 +141,8 @@ pub data Turns (bound : ℕ) : ℕ → Agent → List Step → Agent → Type 0 
       → Turns bound from a [] a
 
 -- ---- a run up to a bound
--- before an event the awaited moments below its own have their turns, then comes the event, and a
--- turn. After the last event the awaited moments below the bound have their turns
+-- before an event come the turns of the awaited times below its own, then the event and a turn.
+-- After the last event come the turns of the awaited times below the bound
 pub data Run (bound : ℕ) : ℕ → Agent → List (ℕ × AgentEvent) → List Step → Agent → Type 0 where
   done : {a b : Agent} {from : ℕ} {steps : List Step} → Turns bound from a steps b
       → Run bound from a [] steps b
@@ -153,7 +153,7 @@ pub data Run (bound : ℕ) : ℕ → Agent → List (ℕ × AgentEvent) → List
       → Run bound from a ((moment, e) ∷ rest)
       (before ++ (steps_of_event moment e b ++ (after ++ more))) d
 
--- the run up to a moment. Without events nothing happens
+-- the run up to a time. Without events nothing happens
 abbrev pub IsDriven : ℕ → Agent → List (ℕ × AgentEvent) → List Step → Agent → Type 0
 IsDriven until a [] steps b = (steps ≡ []) × (b ≡ a)
 IsDriven until a (e ∷ es) steps b = Run (until + 1) 0 a (e ∷ es) steps b

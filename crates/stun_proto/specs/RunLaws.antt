@@ -1,5 +1,5 @@
--- What holds of runs, whoever makes the calls: there is one run of each list of events and no
--- other, and each request keeps its plan.
+-- Laws of runs, whoever makes the calls: there is exactly one run of each list of events, and each
+-- request keeps its plan.
 use Rattle.std.specs.Prelude.{ℕ, ◌≡◌, ◌≤◌, List, ◌∷◌, ◌++◌, filter, None}
 use Rattle.std.specs.List.{AllByRecursion}
 use Rattle.std.specs.Global.{Vec}
@@ -25,10 +25,10 @@ requester a =
       outstanding = a.transactions;
     }
 
--- The steps of a run from a request on, which comes to this agent after these steps. Let the agent
--- accept it, and let nothing disturb it. Then the steps of its transaction are its plan up to its
--- first end, as far as the run goes. These are all steps of its id if no later event asks for the
--- id
+-- The steps of a run from a request on, which reaches this agent after these steps. Let the agent
+-- accept the request, and let nothing disturb it. Then the steps of its transaction are its plan up
+-- to its first end, as far as the run reaches. These are all steps of its ID if no later event asks
+-- for the ID
 pub record GoesByPlan (until : ℕ) (agent : Agent) (later : List (ℕ × AgentEvent)) (start : ℕ)
     (bytes : List ℕ) (to : SocketAddr) (before steps : List Step) : Type 0 where
   pub after : List Step
@@ -47,8 +47,8 @@ pub record GoesByPlan (until : ℕ) (agent : Agent) (later : List (ℕ × AgentE
       ≡ steps_until until
       (plan agent.transport start agent.settings (transaction_id_field bytes) to bytes)
 
--- A request of a run: the earlier events have a run up to its moment. Whatever agent and steps that
--- run comes to, from there the request goes by its plan
+-- A request of a run: the earlier events have a run up to its time. Whatever agent and steps that
+-- run ends with, from there the request follows its plan
 pub record KeepsItsPlan (until : ℕ) (a : Agent) (earlier later : List (ℕ × AgentEvent)) (start : ℕ)
     (bytes : List ℕ) (to : SocketAddr) (steps : List Step) : Type 0 where
   pub comes : (agent : Agent) × (before : List Step) × Run start 0 a earlier before agent
@@ -62,14 +62,13 @@ KeepPlans until a events steps =
     → events ≡ earlier ++ (start, SendRequest bytes to) ∷ later
     → KeepsItsPlan until a earlier later start bytes.items to steps
 
--- events have one run at most: its steps and the agent after it are determined
+-- events have at most one run: its steps and the agent after it are determined
 abbrev pub IsDetermined : Type 0
 IsDetermined = (until : ℕ) (a b c : Agent) (events : List (ℕ × AgentEvent)) (steps more : List Step)
     → IsDriven until a events steps b → IsDriven until a events more c
     → (steps ≡ more) × (b ≡ c)
 
--- the same from every moment on and up to every bound, also of a run whose bound is below its
--- events
+-- the same from every time on and up to every bound, also for a run whose bound is below its events
 abbrev pub IsDeterminedThroughout : Type 0
 IsDeterminedThroughout =
     (bound from : ℕ) (a b c : Agent) (events : List (ℕ × AgentEvent)) (steps more : List Step)

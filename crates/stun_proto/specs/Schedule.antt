@@ -18,7 +18,7 @@ use Rattle.stun_proto.specs.declared.replay.event.AgentEvent.TheVariants.{Cancel
 use Rattle.stun_proto.specs.declared.replay.event.AgentEvent.TheVariants.{Configure, ValidatePeer}
 use Rattle.stun_proto.specs.Steps.{Step, Transmitted, TimedOut, moment_of}
 
--- ---- who asks
+-- ---- the agent that sends requests
 -- an agent, as far as its requests depend on it: the transport, the one address that it may send to
 -- if it has one, the settings of new requests, and the requests that are outstanding
 pub record Requester : Type 0 where
@@ -28,8 +28,8 @@ pub record Requester : Type 0 where
   pub outstanding : Transactions
 
 -- ---- the plan
--- the moment of transmission k, counted from 0: the timeouts before it have passed since the first
--- moment
+-- the time of transmission k, counted from 0: the timeouts before it have passed since the first
+-- transmission
 abbrev pub transmission : ℕ → Settings → ℕ → ℕ
 transmission start settings k = moment_after start (sum_of_timeouts settings k)
 
@@ -41,12 +41,12 @@ plan transport start settings id to bytes =
     (range_with_len 0 (slots transport settings + 1))
     ++ TimedOut (planned_end transport settings start) id ∷ []
 
--- the steps up to a moment
+-- the steps up to a time
 abbrev pub steps_until : ℕ → List Step → List Step
 steps_until until steps = filter (λ s. nat_le (moment_of s) until) steps
 
 -- ---- what disturbs it
--- the event asks the agent to send a request of this id
+-- the event asks the agent to send a request of this ID
 abbrev pub Asks : ℕ → AgentEvent → Type 0
 Asks id (Send bytes to) = ⊥
 Asks id (SendRequest bytes to) = transaction_id_field bytes.items ≡ id
@@ -56,8 +56,8 @@ Asks id (CancelRetransmissions other) = ⊥
 Asks id (Configure other initial retransmits last max) = ⊥
 Asks id (ValidatePeer address) = ⊥
 
--- the event takes, cancels or changes the request of this id, which went to this address: a
--- response of its id that comes from there, or a call that names it
+-- the event ends, cancels or changes the request of this ID, which went to this address: a response
+-- of its ID that comes from there, or a call that names it
 abbrev pub IsAimedAt : ℕ → SocketAddr → AgentEvent → Type 0
 IsAimedAt id peer (Send bytes to) = ⊥
 IsAimedAt id peer (SendRequest bytes to) = ⊥
@@ -69,13 +69,13 @@ IsAimedAt id peer (CancelRetransmissions other) = other ≡ id
 IsAimedAt id peer (Configure other initial retransmits last max) = other ≡ id
 IsAimedAt id peer (ValidatePeer address) = ⊥
 
--- nothing is aimed at the request of this id to this address up to its end, whatever responses
+-- nothing is aimed at the request of this ID to this address up to its end, whatever responses
 -- other addresses send
 abbrev pub IsUndisturbed : ℕ → SocketAddr → ℕ → List (ℕ × AgentEvent) → Type 0
 IsUndisturbed id peer last events =
     AllByRecursion (λ e. e.0 ≤ last → IsAimedAt id peer e.1 → ⊥) events
 
--- the moments never go back, from this one on, and none is past `until`
+-- the times never go back, from this one on, and none is past `until`
 abbrev pub AreInOrder : ℕ → ℕ → List (ℕ × AgentEvent) → Type 0
 AreInOrder until from [] = Unit {0}
 AreInOrder until from (e ∷ es) = (from ≤ e.0) × (e.0 ≤ until) × AreInOrder until e.0 es

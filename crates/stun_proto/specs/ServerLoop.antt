@@ -1,5 +1,5 @@
--- A server whose calls its user makes one by one, in a loop of their own: what the clauses of these
--- calls say, and that they are a run of `serve`.
+-- A server whose calls its user makes one by one, in a loop: what the clauses of these calls say,
+-- and that the calls are a run of `serve`.
 use Rattle.std.specs.Prelude.{◌≡◌, ◌≢◌, ◌<◌, Bool, ℕ, List, [], ◌∷◌, length, Option, Some}
 use Rattle.std.specs.Prelude.{None, Result, Ok, Err, string_bytes, if◌then◌else◌}
 use Rattle.std.specs.Duration.{as_nanos}
@@ -39,7 +39,7 @@ pub record Told : Type 0 where
 abbrev pub reply_with : Reply → ServerSeen → Told
 reply_with reply server = record { reply = reply; server = server }
 
--- bytes that are no message reach no call of the server: `Message::from_bytes` refuses them
+-- bytes that are not a message reach no call of the server: `Message::from_bytes` refuses them
 abbrev pub IfMessage : ServerSeen → Option StunParseError → Told → Type 0 → Type 0
 IfMessage s (Some error) after called = after ≡ reply_with (NotAMessage error) s
 IfMessage s None after called = called
@@ -49,8 +49,9 @@ abbrev pub signed_or_refused : ServerSeen → ServerSeen → Result Page StunWri
 signed_or_refused s signed (Ok page) = reply_with (Signed page.bytes) signed
 signed_or_refused s signed (Err error) = reply_with (SignRefused error) s
 
--- what signing a message comes to in some writer, whatever its room. A call that answers `TooSmall`
--- leaves the server, and is no call of the loop: the message may be signed in a larger writer
+-- the result of signing a message in some writer, whatever its room. A call that answers `TooSmall`
+-- leaves the server unchanged, and is no call of the loop: the message may be signed in a larger
+-- writer
 abbrev pub IsSignedInSome : Sight → Bool → List ℕ → Result Page StunWriteError → Type 0
 IsSignedInSome s response message signed =
     (room : ℕ)
@@ -58,7 +59,7 @@ IsSignedInSome s response message signed =
     × (signed ≢ Err TooSmall)
 
 -- What the clauses of the server's own calls say of the reply and of the server after it. A call
--- that answers `OutOfMemory` leaves the server, and is no call of the loop
+-- that answers `OutOfMemory` leaves the server unchanged, and is no call of the loop
 abbrev pub IsMade : ServerSeen → ServerCall → Told → Type 0
 -- `validate_incoming_message`, clauses `answer` and `state`
 IsMade s (Call.Validate from now message words) after =
@@ -94,7 +95,7 @@ IsMade s (Call.SetAnonymous feature) after =
     after ≡ reply_with Done (record s { feature = feature })
 IsMade s (Call.RemoveClient address) after =
     after ≡ reply_with Done (record s { places = with_change s.places address (with_client None) })
--- less than the least expiry is not handed to the call, which asks for that much
+-- an expiry below the least one is not passed to the call, which requires at least that
 IsMade s (Call.SetExpiry expiry) after =
     after ≡ (if is_too_short expiry then reply_with TooShort s
     else reply_with Done (record s { expiry = as_nanos expiry }))
@@ -133,7 +134,7 @@ BuiltAreWrittenSo =
     (message : List ℕ) (attributes : List TypedValue) → IsBuiltUp message attributes
     → written_anew message ≡ Ok message
 
--- so the first sentence holds of such calls
+-- so the first sentence applies to such calls
 abbrev pub CallsAreValidated : Type 0
 CallsAreValidated =
     (start last : ServerSeen) (calls : List ServerCall) (given : List Reply)

@@ -67,7 +67,7 @@ abbrev pub reply_of_signing : Result Page StunWriteError → Reply
 reply_of_signing (Ok page) = Signed page.bytes
 reply_of_signing (Err error) = SignRefused error
 
--- the reply, where the bytes are a message
+-- the reply, if the bytes are a message
 abbrev pub reply_unless : Option StunParseError → Reply → Reply
 reply_unless (Some error) reply = NotAMessage error
 reply_unless None reply = reply
@@ -104,7 +104,7 @@ feature_after f (Call.SetExpiry expiry) = f
 feature_after f (Call.ForgetExpired now) = f
 feature_after f (Call.Forget address) = f
 
--- whether a nonce would last for less than a server takes
+-- whether a nonce would last for less time than a server accepts
 abbrev pub is_too_short : Duration → Bool
 is_too_short expiry = nat_lt (as_nanos expiry) MINIMUM_EXPIRY
 
@@ -122,12 +122,12 @@ expiry_after e (Call.SetExpiry expiry) = if is_too_short expiry then e else as_n
 expiry_after e (Call.ForgetExpired now) = e
 expiry_after e (Call.Forget address) = e
 
--- the places, where the bytes are a message
+-- the records, if the bytes are a message
 abbrev pub places_unless : Option StunParseError → PlacesSeen → PlacesSeen → PlacesSeen
 places_unless (Some error) before after = before
 places_unless None before after = after
 
--- the places of all addresses
+-- the records of all addresses
 abbrev pub places_after : ServerSeen → ServerCall → PlacesSeen
 places_after s (Call.Validate from now message words) =
     places_unless (refusal message.items) s.places

@@ -52,7 +52,7 @@ abbrev pub after_exchange : SocketAddr → ServerSeen → Exchange → Page → 
 after_exchange from server e asking = after_signing (at_response from server e asking) from true
 
 -- a response that the server signs: a success, or an error of any code but 438. It is of any method
--- and has any attributes but those that signing adds
+-- and has any attributes except those that signing adds
 pub record IsAnswered (s : Sight) (answering : Page) : Type 0 where
   pub message : Page
   pub unsigned : IsUnsigned message.bytes
@@ -60,9 +60,9 @@ pub record IsAnswered (s : Sight) (answering : Page) : Type 0 where
   pub not_stale : is_code STALE_NONCE (error_code message.bytes) ≡ false
   pub signed : server_signed s true message ≡ Ok answering
 
--- the nonce stays, and the request arrives before its end: the calls leave users and settings, and
--- messages of the address are read up to the end of the nonce. They may remove the client before
--- the request, which makes it known again
+-- the nonce stays, and the request arrives before its end: the calls leave users and settings
+-- unchanged, and messages of the address are read up to the end of the nonce. They may remove the
+-- client before the request, which makes it known again
 pub record IsInTime (from : SocketAddr) (p : PlaceSeen) (e : Exchange) : Type 0 where
   pub calls_before_request : LeaveNonce from p.expires true e.before_request
   pub in_time : e.arrival.now ≤ p.expires
@@ -81,7 +81,7 @@ IsAcceptedAgain from server c e asking =
     (reading_of asking.bytes)
     ≡ Ok (Validated c.algorithm)
 
--- a response of the server is accepted, and leaves the client as it is
+-- a response of the server is accepted, and leaves the client unchanged
 abbrev pub IsBelieved : ClientSettings → Challenge → Page → Type 0
 IsBelieved settings c answering =
     client_step settings (authenticated c) (reading_of answering.bytes)
@@ -115,9 +115,10 @@ pub data Part : Type 0 where
   Exchanged : Exchange → Part
   RanOut : Lapse → Part
 
--- Both sides know each other, and do so after each part. In an exchange the server accepts the
--- client's request, and the client accepts the server's response. Where the nonce has ended, the
--- request is told stale and is accepted when it is sent again (`IsRenewed`)
+-- Both sides know each other, and still do after each part. In an exchange the server accepts the
+-- client's request, and the client accepts the server's response. If the nonce has ended, the
+-- request gets the answer that its nonce is stale, and is accepted when it is sent again
+-- (`IsRenewed`)
 abbrev pub GoesOn : ClientSettings → SocketAddr → NameAndPassword → ServerSeen → PlaceSeen
     → Challenge → List Part → Type 0
 GoesOn settings from who server p c [] = AreJoined (sight server from) p c who

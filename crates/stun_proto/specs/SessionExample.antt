@@ -1,5 +1,5 @@
 -- A client that is new to its server, and a short session after that, message by message: what the
--- laws `new_clients_are_introduced` and `sessions_go_on` speak of (RFC 8489, sections 9.2.3 to
+-- laws `new_clients_are_introduced` and `sessions_go_on` are about (RFC 8489, sections 9.2.3 to
 -- 9.2.5).
 use Rattle.std.specs.Prelude.{◌≡◌, ℕ, List, [], ◌∷◌}
 use Rattle.std.specs.declared.net.socket_addr.SocketAddr.{SocketAddr}
@@ -29,14 +29,14 @@ use Rattle.stun_proto.specs.Session.{at_response}
 abbrev pub ALLOCATE : ℕ
 ALLOCATE = 3
 
--- an error of a method and a code, with id 7
+-- an error of a method and a code, with ID 7
 abbrev pub failed : ℕ → ℕ → List ℕ
 failed method code =
     spelled_message (type_number Class.Error method) 7 (error_attribute (error code) ∷ [])
 
 -- the messages of a contact, each of which its sender signs over what the other side has sent: the
 -- request, the challenge, the request again, and its success. Their method is the same, and none
--- has attributes of its own but ERROR-CODE
+-- has attributes of its own except ERROR-CODE
 pub record AreExchanged (method : ℕ) (m : Contact) (who : NameAndPassword)
     (server : ServerSeen) : Type 0 where
   pub asking : Page
@@ -70,7 +70,7 @@ a_contact from words more = record {
 -- ---- a session
 
 -- the messages of some exchanges, each of which its sender signs over what the other side has sent,
--- and all that the law asks of them
+-- and everything that the law requires of them
 abbrev pub HasMessages : ClientSettings → SocketAddr → NameAndPassword → ServerSeen → PlaceSeen
     → Challenge → List Exchange → Type 0
 HasMessages settings from who server p c [] = Unit {0}
@@ -80,7 +80,7 @@ HasMessages settings from who server p c (e ∷ later) =
     × IsAnswered (sight (at_response from server e asking) from) answering
     × HasMessages settings from who (after_exchange from server e asking) p c later
 
--- an exchange whose request arrives at a moment
+-- an exchange whose request arrives at a time
 abbrev pub exchange_at : ℕ → Exchange
 exchange_at now = record {
   before_request = [];

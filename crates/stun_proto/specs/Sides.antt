@@ -1,7 +1,7 @@
--- Where both sides of a meeting stand after its first steps, as long as another step follows: the
+-- The state of both sides of a meeting after its first steps, as long as another step follows: the
 -- server has read a message, or signed one, or made a call, or the client has read a message. What
--- a client signs leaves it as it was. Each definition is of what is left from one step on, the last
--- step first, and begins with the sides as they stand there.
+-- a client signs leaves it unchanged. Each definition is of what is left from one step on, the last
+-- step first, and begins with the sides as they are at that step.
 use Rattle.std.specs.Prelude.{◌≡◌, ◌≤◌, ◌⊎◌, ℕ, List, true, IsOk, length, take}
 use Rattle.std.specs.declared.result.Result.TheVariants.{Ok, Err}
 use Rattle.stun_auth.specs.declared.server.reason.LongTermServerAuthErrorReason.TheVariants.{
@@ -38,7 +38,7 @@ PassesAccepted m state server x =
     × IsResend (client_step m.settings state (reading_of page.bytes)).answer
     × (x ≡ sides state (after_signing server m.from true)))
 
--- the client is to ask again: it signs the second request, the server makes the second list of
+-- the client must ask again: it signs the second request, the server makes the second list of
 -- calls, and reads the request
 abbrev pub PassesResend : Meeting → ClientState → ServerSeen → Sides → Type 0
 PassesResend m state server x =
@@ -51,8 +51,8 @@ PassesResend m state server x =
     ⊎ (IsOk (answer (sight called m.from) now words (reading_of page.bytes))
     × PassesAccepted m state (after_validation called m.from now words (reading_of page.bytes)) x)))
 
--- the first request is to be challenged: the server signs the 401 and makes the first list of
--- calls, and the client reads the 401
+-- the first request must be challenged: the server signs the 401 and makes the first list of calls,
+-- and the client reads the 401
 abbrev pub PassesUnauthorized : Meeting → ClientState → ServerSeen → Sides → Type 0
 PassesUnauthorized m state server x =
     let signed = after_signing server m.from true in

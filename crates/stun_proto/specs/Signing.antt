@@ -1,5 +1,5 @@
--- What signing a message for an address comes to: its attributes are written anew, and then the
--- server's (RFC 8489, section 9.2.4).
+-- The result of signing a message for an address: its attributes are written anew, and then those
+-- of the server (RFC 8489, section 9.2.4).
 use Rattle.std.specs.Prelude.{ℕ, ◌-◌, List, length, take, filter_map, slice_get, Bool}
 use Rattle.std.specs.Prelude.{Option, Some, None, Result, Ok, Err, if◌then◌else◌}
 use Rattle.std.specs.List.{range_with_len}
@@ -29,7 +29,7 @@ abbrev pub next_if_written : {X : Type 0} → Result (List ℕ) StunWriteError
 next_if_written (Ok message) next = next message
 next_if_written (Err reason) next = Err reason
 
--- the message with the type and id of another and these attributes
+-- the message with the type and ID of another and these attributes
 abbrev pub spelled_anew : List ℕ → List TypedValue → List ℕ
 spelled_anew message attributes =
     spelled_message (type_field message) (transaction_id_field message) attributes
@@ -50,7 +50,7 @@ abbrev pub first_refusal : List ℕ → List TypedValue → Option StunWriteErro
 first_refusal message attributes =
     slice_get (filter_map (refusal_at message attributes) (range_with_len 0 (length attributes))) 0
 
--- the visible attributes of a message after a new header with its type and id, or the first refusal
+-- the visible attributes of a message after a new header with its type and ID, or the first refusal
 -- of one
 unfoldable pub written_anew : List ℕ → Result (List ℕ) StunWriteError
 written_anew message =
@@ -63,12 +63,12 @@ signing s message =
     next_if_written (written_anew message)
     (λ anew. server_signed s (is_response (class_in message)) (page_of anew))
 
--- what signing leaves, where nothing is refused
+-- what signing leaves, if nothing is refused
 abbrev pub if_signed : {X : Type 0} → Result Page StunWriteError → X → X → X
 if_signed (Ok signed) before after = after
 if_signed (Err reason) before after = before
 
--- the place of an address after a signed message: what a response offered is kept
+-- the record of an address after a signed message: what a response offered is kept
 abbrev pub place_offered : Sight → Bool → Option PlaceSeen
 place_offered s response =
     if response then option_map (with_offer s.registered.algorithms) s.place else s.place

@@ -1,4 +1,4 @@
--- The steps of a driven agent, as they are seen: moments, ids and bytes.
+-- The steps of a driven agent, as its user sees them: times, IDs and bytes.
 use Rattle.std.specs.Prelude.{ℕ, Bool, true, false, ◌==◌, List, [], ◌∷◌, map, if◌then◌else◌}
 use Rattle.std.specs.declared.net.socket_addr.SocketAddr.{SocketAddr}
 use Rattle.stun_agent.specs.declared.error.StunError.{StunError}
@@ -6,8 +6,8 @@ use Rattle.stun_proto.specs.declared.replay.event.AgentStep.{AgentStep}
 use Rattle.stun_proto.specs.declared.replay.event.AgentStep.TheVariants as code
 
 -- what an agent does: a request is sent, for the first time or again; another message is sent; a
--- message was received, and taken or not; a call was refused; a request has ended, by its time or
--- by its user
+-- message was received, and accepted or not; a call was refused; a request has ended, because its
+-- time ran out or its user canceled it
 pub data Step : Type 0 where
   Transmitted : (moment id : ℕ) (to : SocketAddr) (bytes : List ℕ) → Step
   Sent : (moment : ℕ) (to : SocketAddr) (bytes : List ℕ) → Step
@@ -16,7 +16,7 @@ pub data Step : Type 0 where
   TimedOut : (moment id : ℕ) → Step
   Cancelled : (moment id : ℕ) → Step
 
--- a step that the code answers
+-- a step that the code returns
 abbrev pub step_of : {A : Type 0} → AgentStep A → Step
 step_of (code.Transmitted moment id to bytes) = Transmitted moment id to bytes.items
 step_of (code.Sent moment to bytes) = Sent moment to bytes.items
@@ -36,7 +36,7 @@ moment_of (Refused moment error) = moment
 moment_of (TimedOut moment id) = moment
 moment_of (Cancelled moment id) = moment
 
--- a step of the transaction of this id
+-- a step of the transaction of this ID
 abbrev pub is_of : ℕ → Step → Bool
 is_of id (Transmitted moment other to bytes) = id == other
 is_of id (Sent moment to bytes) = false
@@ -54,7 +54,7 @@ is_end (Refused moment error) = false
 is_end (TimedOut moment id) = true
 is_end (Cancelled moment id) = true
 
--- the steps of the transaction of an id, up to its end
+-- the steps of the transaction of an ID, up to its end
 unfoldable pub steps_to_end : ℕ → List Step → List Step
 steps_to_end id [] = []
 steps_to_end id (s ∷ ss) =

@@ -1,5 +1,5 @@
--- A data base with two users, and a message that is judged with one of them (RFC 8489, section
--- 9.2.4): what the law `stored_calls_are_a_run` speaks of.
+-- A database with two users, and a message that is judged with one of them (RFC 8489, section
+-- 9.2.4): what the law `stored_calls_are_a_run` is about.
 use Rattle.std.specs.Prelude.{◌≡◌, ℕ, false, List, [], ◌∷◌, Some, None, codes}
 use Rattle.std.specs.Global.{Vec}
 use Rattle.std.specs.declared.net.socket_addr.SocketAddr.{SocketAddr}
@@ -18,7 +18,7 @@ use Rattle.stun_proto.specs.declared.replay.call.ServerCall.{ServerCall}
 abbrev pub another_user : NameAndPassword
 another_user = record { username = codes "another"; password = codes "other pass" }
 
--- a new server, which has no users itself, and the two users in the data base
+-- a new server, which has no users itself, and the two users in the database
 abbrev pub two_users : Stored
 two_users = record {
   server = new_server (codes "realm");
@@ -32,8 +32,8 @@ pub record NamesTheFirst (bytes : List ℕ) : Type 0 where
   pub no_hash : (reading_of bytes).userhash ≡ None
   pub named : (reading_of bytes).username ≡ Some (codes "user")
 
--- The request is judged with the user whom it names, and later what has expired is forgotten, of
--- one address at most: calls of a server without users, which are a run of the one that has both
+-- The request is judged with the user whom it names, and later what has expired is forgotten,
+-- within one address: calls of a server without users, which are a run of the one that has both
 pub record IsStored (from : SocketAddr) (now later : ℕ) (words : List ℕ) (request : Vec ℕ) : Type
     0 where
   pub named : meant_user (whole two_users) from (reading_of request.items)

@@ -1,4 +1,4 @@
--- Definitions that no clause of a public call cites: codings of models, views of the code's own
+-- Definitions that no clause of a public call cites: encodings of models, views of the code's own
 -- structs, steps of the code.
 pub mod Calls
 pub mod ClientCalls

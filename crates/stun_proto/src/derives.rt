@@ -1,4 +1,5 @@
-//! What derived impls of calls and replies do: comparisons and copies.
+//! The derived impls of calls and replies, each behind a function whose contract states what it
+//! does: comparisons and copies.
 ghost use Rattle.std.specs.Prelude.{◌≡◌, ◌-◌, ◌↔◌, IsTrue, Ok};
 ghost use Rattle.stun_proto.specs.CallValues.{call_value};
 ghost use Rattle.stun_proto.specs.EventValues.{event_value};
@@ -10,50 +11,53 @@ use crate::replay::{
 };
 use std::alloc::{AllocError, Allocator};
 
-/// Equality of outcomes is equality of values.
+/// Returns whether two `Outcome`s are equal: the same variant with the same algorithm or the same
+/// reason.
 pub fn is_same_outcome(one: Outcome, other: Outcome) -> bool
     ensures { IsTrue result ↔ (one ≡ other) }
 {
     one == other
 }
 
-/// Equality of the errors of a meeting is equality of values.
+/// Returns whether two `NegotiateError`s are equal: the same variant and, for `Write`, equal inner
+/// errors.
 pub fn is_same_negotiate_error(one: NegotiateError, other: NegotiateError) -> bool
     ensures { IsTrue result ↔ (one ≡ other) }
 {
     one == other
 }
 
-/// Replies are equal as values: errors, algorithms and reasons as they are, and signed messages by
-/// their bytes.
+/// Returns whether two `ServerReply`s are equal: the same variant with equal contents. Signed
+/// messages are compared by their bytes.
 pub fn is_same_reply<A: Allocator>(one: &ServerReply<A>, other: &ServerReply<A>) -> bool
     ensures { IsTrue result ↔ (reply_of one.now ≡ reply_of other.now) }
 {
     one == other
 }
 
-/// Calls are equal as values: messages by their bytes, names and passwords by theirs.
+/// Returns whether two `ServerCall`s are equal: the same variant with equal fields. Messages, names
+/// and passwords are compared by their bytes.
 pub fn is_same_call(one: &ServerCall, other: &ServerCall) -> bool
     ensures { IsTrue result ↔ (call_value one.now ≡ call_value other.now) }
 {
     one == other
 }
 
-/// Events are equal as values: bytes, addresses, ids and timeouts as they are.
+/// Returns whether two `AgentEvent`s are equal: the same variant with equal fields.
 pub fn is_same_event(one: &AgentEvent, other: &AgentEvent) -> bool
     ensures { IsTrue result ↔ (event_value one.now ≡ event_value other.now) }
 {
     one == other
 }
 
-/// Stops of runs are equal where as many events or calls are complete.
+/// Returns whether two `Stopped`s are equal: the same number of events or calls is complete.
 pub fn is_same_stop(one: Stopped, other: Stopped) -> bool
     ensures { IsTrue result ↔ (one ≡ other) }
 {
     one == other
 }
 
-/// Copies of outcomes, of errors and of stops are the same values.
+/// Copies an outcome and two errors.
 pub fn copied_outcomes(
     outcome: &Outcome,
     error: &NegotiateError,
@@ -64,7 +68,8 @@ pub fn copied_outcomes(
     Ok((outcome.clone()?, error.clone()?, stopped.clone()?))
 }
 
-/// Steps of an agent are equal where moments, ids, addresses, bytes and answers are.
+/// Returns whether two `AgentStep`s are equal: the same variant with equal fields. Messages are
+/// compared by their bytes.
 pub fn is_same_step<A: Allocator>(one: &AgentStep<A>, other: &AgentStep<A>) -> bool
     ensures { IsTrue result ↔ (step_of one.now ≡ step_of other.now) }
 {

@@ -1,5 +1,5 @@
-//! Laws of runs: what holds of the definitions alone, and which step of a run a single call of a
-//! server is.
+//! Laws of runs: those that follow from the definitions alone, and those that relate single calls
+//! on a server or an agent to a run.
 ghost use Rattle.std.specs.Prelude.{◌≡◌, ◌≤◌, List, [], Ok, IsErrOf, OnErr, length, ℕ};
 ghost use Rattle.std.specs.declared.net.socket_addr.SocketAddr.{SocketAddr as Address};
 ghost use Rattle.std.specs.Global.{Vec as TheVec};
@@ -61,23 +61,22 @@ use stun_base::instant::Instant;
 use stun_types::message::Message;
 use stun_types::prelude::MessageWrite;
 
-/// A list of events has at most one run: its steps and the agent after it are determined, up to
-/// every time, and from every time on.
+/// A list of events has at most one run: the events determine its steps and the agent after it.
+/// This holds for every time at which the run begins or ends.
 pub fn runs_are_determined()
     ensures driven { IsDetermined }
     ensures throughout { IsDeterminedThroughout }
 {}
 
-/// Every list of events whose times do not decrease has a run.
+/// Every list of events has a run, if the times of the events do not decrease.
 pub fn events_have_runs()
     ensures { EventsHaveRuns }
 {}
 
 /// A run that stopped because an allocation failed can be continued: the agent, as it was left, is
-/// driven through the events that are left. This makes exactly the later steps of the whole run and
-/// leaves the same agent, so that no transmission is made twice. The continued run may stop again,
-/// any number of times. If no event is left, the agent is already the one that the whole run
-/// leaves.
+/// driven through the remaining events. The continued run makes exactly the later steps of the
+/// whole run and leaves the same agent, so nothing is sent twice. It may stop again, any number of
+/// times. If no event is left, the agent is already the one that the whole run leaves.
 pub fn stopped_runs_go_on()
     ensures left { StoppedRunsGoOn }
     ensures parts { StoppedRunsHaveTheRest }
@@ -85,66 +84,67 @@ pub fn stopped_runs_go_on()
     ensures complete { StoppedRunsEnd }
 {}
 
-/// The steps of a run and the counters of its agent agree on the requests that timed out or were
-/// canceled, on the indications and responses that were sent, and on the bytes that were sent,
+/// The steps of a run and the counters of its agent agree on the number of requests that timed out
+/// or were canceled, of indications and responses that were sent, and of bytes that were sent,
 /// retransmissions included (RFC 8489, section 6.2). So a program that stores the steps needs no
 /// counters.
 pub fn runs_count_steps()
     ensures { RunsCountSteps }
 {}
 
-/// If an agent is driven in this way, and is polled at the times that it returns, then a request
-/// that one event sends, and that is undisturbed, is sent by its plan. It times out once, as far as
-/// the run goes.
+/// Suppose that an agent makes a run of `drive`. Then a request that exactly one event sends, and
+/// that is undisturbed, is sent at the times of its plan. It times out once if the run lasts until
+/// then.
 pub fn runs_send_by_plan()
     ensures { (until : ℕ) (a b : Agent) (events : List (ℕ × TheEvent)) (steps : List Step)
         → until ≤ last_moment → IsAscending a.transactions → AreInOrder until 0 events
         → IsDriven until a events steps b → SendsByPlan until (requester a) events steps }
 {}
 
-/// Like `runs_send_by_plan`, but for transaction IDs that occur again: each request that the agent
-/// accepts, and that is undisturbed, follows its plan up to its end. If no later event sends a
-/// request with its ID, these are all the steps with this ID from then on.
+/// Like `runs_send_by_plan`, but for transaction IDs that are used again: each request that the
+/// agent accepts, and that is undisturbed, follows its plan until it ends. If no later event sends
+/// a request with this ID, the run has no other steps with this ID from then on.
 pub fn runs_keep_plans()
     ensures { (until : ℕ) (a b : Agent) (events : List (ℕ × TheEvent)) (steps : List Step)
         → until ≤ last_moment → IsAscending a.transactions → AreInOrder until 0 events
         → IsDriven until a events steps b → KeepPlans until a events steps }
 {}
 
-/// If an agent starts with no outstanding request, and its user polls it on time in a loop of whole
-/// turns (`Loop`), then it makes the steps that `drive` makes with the same events. So the third
-/// sentence holds of it (RFC 8489, section 6.2.1). For any events at times that do not decrease
-/// there is such a loop, on time or late.
+/// If an agent starts without outstanding requests, and its user polls it on time in a loop of
+/// whole turns (`Loop`), then it makes the steps that `drive` makes with the same events. So the
+/// third theorem of this library (the clause `headline` of `drive`) holds for this agent (RFC 8489,
+/// section 6.2.1). For any events at times that do not decrease there is such a loop, on time or
+/// late.
 ///
-/// It speaks of loops over a simulated clock: at the time of each event there is a whole turn, and
-/// no turn comes later than `poll` returned, to the nanosecond. Of loops over a real clock
-/// `any_loop_sends_in_time` speaks.
+/// The law is about loops over a simulated clock: there is a whole turn at the time of each event,
+/// and no turn comes later than `poll` returned, to the nanosecond. For loops over a real clock see
+/// `any_loop_sends_in_time`.
 pub fn loops_are_driven()
     ensures driven { LoopsAreDriven }
     ensures plans { LoopsSendByPlan }
     ensures exist { LoopsExist }
 {}
 
-/// An agent in whatever loop you have (`Calls`): any calls, in any order, each at a time of its own
-/// that is not before the one of the call before. Among them are events that no poll follows,
-/// `poll_transmit` that is not called until it returns `None`, and calls that change no request. Let
-/// no deadline be more than `late` nanoseconds ago at any of these calls.
+/// An agent is called in any loop (`Calls`): any calls, in any order, each at a time that is not
+/// before the time of the previous call. The loop need not poll after each event, and need not
+/// repeat `poll_transmit` until it returns `None`. It may also make calls that change no request.
+/// Suppose that at each of these calls no deadline is more than `late` nanoseconds ago.
 ///
-/// Then a request that is undisturbed is sent again only once its timeout since the transmission
-/// before has passed, and at most `late` after that. It is sent at most as often as its settings
-/// allow, and times out once the final wait has passed, at most `late` after that. So transmission
-/// k, counted from 0, is never before its time in the plan, and at most k times `late` after it. If
-/// one of these steps is missing at the end, the last call was at most `late` after the time of that
-/// step. Whatever is called at times that do not go back is such a loop, for some `late`.
+/// Then a request that is undisturbed is retransmitted only once its timeout since the previous
+/// transmission has passed, and at most `late` after that. It is sent at most as often as its
+/// settings allow, and times out once the final wait has passed, at most `late` after that. So
+/// transmission k, counted from 0, is never before its time in the plan, and at most k times `late`
+/// after it. If one of these steps is missing at the end, the last call was at most `late` after
+/// the time of that step. Any calls at times that do not go back are such a loop, for some `late`.
 pub fn any_loop_sends_in_time()
     ensures in_time { CallsSendInTime }
     ensures exist { CallsExist }
 {}
 
-/// The plan of one request, spelled out. With the default settings, over UDP, it is sent at 0, 500,
-/// 1500, 3500, 7500, 15500 and 31500 ms, and times out at 39500 ms. Over TCP it is sent once, and
-/// times out at the same time (RFC 8489, sections 6.2.1 and 6.2.2). A new agent that sends this
-/// request and nothing else meets the premise of `runs_send_by_plan`.
+/// The plan of a request with the default settings, in numbers. Over UDP, the request is sent at 0,
+/// 500, 1500, 3500, 7500, 15500 and 31500 ms, and times out at 39500 ms. Over TCP it is sent once,
+/// and times out at the same time (RFC 8489, sections 6.2.1 and 6.2.2). A new agent that sends only
+/// this request meets the premise of `runs_send_by_plan`.
 pub fn plan_of_a_request()
     ensures udp { (to : Address) → plan Udp 0 default_settings 7 to example_request ≡ udp_steps to }
     ensures tcp { (to : Address) → plan Tcp 0 default_settings 7 to example_request ≡ tcp_steps to }
@@ -152,7 +152,7 @@ pub fn plan_of_a_request()
         → IsAskedOnce (requester (new_agent transport here)) 7 0 example_request to [] [] }
 {}
 
-/// The reply to one request or indication is `Validated` if and only if the message is accepted
+/// The reply to a request or an indication is `Validated` if and only if the message is accepted
 /// (RFC 8489, section 9.2.4).
 pub fn one_call_validates()
     ensures { (s : Sight) (now : ℕ) (words : List ℕ) (r : Reading)
@@ -161,12 +161,14 @@ pub fn one_call_validates()
     stun_auth::laws::accepted_messages_are_validated();
 }
 
-/// The calls that a program makes on one server, one by one, are a run of `serve`. The calls are
-/// those that `ServerCall` has, so that no user is passed with a message
-/// (`validate_incoming_message_of`), and there is no `forget_expired_within`. Each call does what
-/// the clauses of the server's own call say (`IsMade`), to the server that the call before left.
-/// The calls return what the run returns, and leave the server that it leaves. So the first
-/// sentence holds of them (RFC 8489, section 9.2.4).
+/// If a program makes calls on one server, one by one, these calls are a run of `serve`: they
+/// return the replies of the run, and leave the server that the run leaves. So the first theorem of
+/// this library (the clause `headline` of `serve`) holds for them (RFC 8489, section 9.2.4).
+///
+/// The calls must be among those that `ServerCall` has, so no user is passed with a message
+/// (`validate_incoming_message_of`), and `forget_expired_within` is not called. Each call does what
+/// the clauses of the server's own call state (`IsMade`), on the server as the previous call left
+/// it.
 pub fn calls_are_a_run()
     ensures served { CallsAreServed }
     ensures validated { CallsAreValidated }
@@ -175,15 +177,16 @@ pub fn calls_are_a_run()
     auth_laws::accepted_messages_are_validated();
 }
 
-/// A server whose users are in a data base makes a run of `serve` too: of the server that has all
-/// users of the data base. For each message its user looks up the one whom `named_user` returns, or
-/// the client of the address for signing, and passes that user, by a password or by stored keys
-/// (`validate_incoming_message_of`, `sign_outgoing_message_of`). The data base may change between
-/// any two calls. A step of `forget_expired_within` is a list of calls of `forget`, one for each
-/// address that it forgets. So the first sentence holds of these calls (RFC 8489, section 9.2.4).
+/// A server whose users are in a database makes a run of `serve` too: the run of a server that has
+/// all users of the database. For each message, the caller looks up the user whom `named_user`
+/// returns or, to sign, the client of the address. It passes this user, with a password or with
+/// stored keys (`validate_incoming_message_of`, `sign_outgoing_message_of`). The database may
+/// change between any two calls. A step of `forget_expired_within` is a list of calls of `forget`,
+/// one for each address that it forgets. So the first theorem of this library (the clause
+/// `headline` of `serve`) holds for these calls (RFC 8489, section 9.2.4).
 ///
-/// Each call is as the clauses of the server's own call say (`IsMadeOf`), from the server that the
-/// one before left.
+/// Each call does what the clauses of the server's own call state (`IsMadeOf`), on the server as
+/// the previous call left it.
 pub fn stored_calls_are_a_run()
     ensures served { StoredCallsAreServed }
     ensures exist { OneIsStored }
@@ -193,8 +196,8 @@ pub fn stored_calls_are_a_run()
 }
 
 /// One call of `validate_incoming_message` is the call `Validate` of a run (`IsMade`), with the
-/// next sixteen numbers of its source. If an allocation failed, it is not a call of the run, and
-/// the server is unchanged.
+/// next sixteen numbers of `rng`. If an allocation failed, it is not a call of a run, and the
+/// server is unchanged.
 pub fn a_validation_is_made<A: Allocator + Copy, R: Rng>(
     server: &mut LongTermServerAuth<A>,
     message: &Message<'_>,
@@ -208,14 +211,14 @@ pub fn a_validation_is_made<A: Allocator + Copy, R: Rng>(
         (reply_with (reply_of_answer result) server.new))
         (server.new ≡ server.old) }
 {
-    // For the proof alone: its clause tells that the bytes are a message.
+    // For the proof alone: the clause of this call states that the bytes are a message.
     let _bytes = message.as_bytes();
     server.validate_incoming_message(message, from, now, rng)
 }
 
 /// One call of `sign_outgoing_message` is the call `Sign` of a run (`IsMade`), whatever writer the
 /// message is in. `serve` writes the message again as it is (clause `plain` of `calls_are_a_run`).
-/// If an allocation failed, or the writer has too little room, it is not a call of the run, and the
+/// If an allocation failed, or the writer had too little room, it is not a call of a run, and the
 /// server is unchanged.
 pub fn a_signing_is_made<A: Allocator + Copy, W: MessageWrite>(
     server: &mut LongTermServerAuth<A>,
@@ -235,19 +238,20 @@ pub fn a_signing_is_made<A: Allocator + Copy, W: MessageWrite>(
     server.sign_outgoing_message(writer, to)
 }
 
-/// What a client and a server can agree on is the strongest algorithm that both support. They can
-/// agree on none if and only if they share none, or if the client must send a hash of its user name
-/// and the server does not allow that.
+/// The algorithm that a client and a server can agree on is the strongest one that both support.
+/// They cannot agree if and only if they have no algorithm in common, or the client must send a
+/// hash of its user name and the server does not allow that.
 pub fn best_is_strongest()
     ensures { BestIsStrongest }
 {}
 
-/// If two messages have the same bytes up to the end of the integrity attribute that decides in
-/// both, except for the length field, they get the same reply and leave the same server, with the
-/// same record of their address. The same holds of two runs that differ only in which of the two
-/// they contain. So an attacker who appends to a signed request does not change what the server
-/// makes of it, with one exception: a MESSAGE-INTEGRITY-SHA256 that is put after a
-/// MESSAGE-INTEGRITY has the digest that decides (RFC 8489, sections 14.5 to 14.7).
+/// Suppose that two messages have the same bytes, except for the length field, up to the end of the
+/// integrity attribute that decides in both. Then the server gives both the same reply, and is in
+/// the same state after either of them, with the same record of their address. The same holds for
+/// two runs that differ only in which of these two messages they contain. So an attacker who
+/// appends to a signed request does not change how the server judges it, with one exception: if he
+/// appends a MESSAGE-INTEGRITY-SHA256 to a MESSAGE-INTEGRITY, the new attribute decides (RFC 8489,
+/// sections 14.5 to 14.7).
 pub fn appending_changes_no_reply()
     ensures agreeing { AgreeingAreAnsweredAlike }
     ensures appended { ContinuedAreAnsweredAlike }
@@ -256,20 +260,20 @@ pub fn appending_changes_no_reply()
     auth_laws::what_follows_integrity_is_not_read();
 }
 
-/// Addresses can be divided among any number of servers that start alike. Each server gets the
-/// calls of its own addresses, and all calls that concern every address (users, settings,
-/// forgetting). Then each address gets the replies that a single server with all the calls would
-/// give it, and has the same record.
+/// The addresses of clients can be divided among any number of servers that start with the same
+/// state. Each server gets the calls for its own addresses, and all calls that concern every
+/// address (users, settings, forgetting). Then each address gets the replies that it would get from
+/// a single server with all the calls, and its server has the same record of it.
 pub fn shards_serve_as_one()
     ensures { ShardsServeAsOne }
 {}
 
-/// If a client is ready, and every message can be signed (`IsHonest`), and if the two can agree on
-/// an algorithm (`best_is_strongest`), then the second request of the client is accepted, with that
-/// algorithm, and both sides know each other. If they cannot agree, the client gives up and stores
-/// nothing (RFC 8489, section 9.2).
+/// If a client is ready, every message can be signed (`IsHonest`), and the client and the server
+/// can agree on an algorithm (`best_is_strongest`), then the server accepts the client's second
+/// request with that algorithm, and both sides are authenticated. If they cannot agree, the client
+/// gives up and stores nothing (RFC 8489, section 9.2).
 ///
-/// The law is about the steps of a meeting, which are computed over the bytes of its messages.
+/// The law is about the steps of a meeting, which are computed from the bytes of its messages.
 pub fn strongest_is_agreed()
     ensures { StrongestIsAgreed }
 {
@@ -279,11 +283,11 @@ pub fn strongest_is_agreed()
     auth_laws::sides_add_by_attribute();
 }
 
-/// If the programs of a client and a server make their calls one by one, in order, each on what the
-/// other has sent (`HaveMet`), then the two are in a meeting as `negotiate` has it, of Binding
-/// messages without other attributes. They have the same outcome, and both sides are left as
-/// `negotiate` leaves them. So an honest client and its server agree as `strongest_is_agreed` says
-/// (RFC 8489, section 9.2).
+/// Suppose that the programs of a client and a server make their calls one by one, in order, each
+/// on what the other has sent (`HaveMet`). Then the two are in a meeting as in `negotiate`, of
+/// Binding messages without other attributes. They get the same outcome, and both sides are left as
+/// `negotiate` leaves them. So an honest client and its server agree as `strongest_is_agreed`
+/// states (RFC 8489, section 9.2).
 pub fn calls_are_a_meeting()
     ensures negotiated { MeetingsAreNegotiated }
     ensures strongest { MeetingsAgree }
@@ -292,8 +296,8 @@ pub fn calls_are_a_meeting()
 }
 
 /// Every message in the meeting of a ready client (`IsReady`) can be signed if the realm and the
-/// user name fit into their attributes, which hold 763 and 513 bytes (RFC 8489, sections 14.3 and
-/// 14.9).
+/// user name fit into their attributes, which hold at most 763 and 513 bytes (RFC 8489, sections
+/// 14.3 and 14.9).
 pub fn short_names_are_signed()
     ensures { ShortNamesAreSigned }
 {
@@ -304,14 +308,15 @@ pub fn short_names_are_signed()
     auth_laws::sides_sign_with_room();
 }
 
-/// One meeting: a client whose user name must be sent as a hash (USERHASH, RFC 8489, section 14.4),
-/// and a server that has this user alone. Both support HMAC-SHA1 and HMAC-SHA256. Whatever the
-/// address of the client is, and whatever the random numbers are:
+/// An example of a meeting: a client that must send its user name as a hash (USERHASH; RFC 8489,
+/// section 14.4), and a server whose only user this is. Both support HMAC-SHA1 and HMAC-SHA256. For
+/// any address of the client, and any random numbers:
 ///
-/// - The client meets the premise of the second sentence.
+/// - The client meets the premise of the second theorem of this library (the clause `headline` of
+///   `negotiate`).
 /// - The meeting ends `Validated` with HMAC-SHA256.
-/// - The server makes three calls. `serve` challenges the first, signs the challenge, and validates
-///   the last.
+/// - The server makes three calls: `serve` challenges the first request, signs the challenge, and
+///   validates the second request.
 pub fn a_hashed_name_is_validated()
     ensures ready { (from : Address) (words more : List ℕ)
         → IsReadyClient initial (a_meeting from words more) a_user a_server }
@@ -328,22 +333,21 @@ pub fn a_hashed_name_is_validated()
     auth_laws::sides_add_by_attribute();
 }
 
-/// An authenticated client sends a request after its nonce has expired. The server refuses it with
-/// `StaleNonce`, or accepts it if the nonce that is current by then is the old one, made again by
-/// chance. If the request is refused, the client reads one error of code 438 that the server
-/// signed. Its next request is then accepted while the nonce of that error is current (RFC 8489,
-/// sections 9.2.4 and 9.2.5).
+/// An authenticated client sends a request after its nonce has expired. The server refuses the
+/// request with `StaleNonce`, unless the nonce that is then current happens to equal the expired
+/// one. In that case it accepts the request. If the request is refused, the client reads one error
+/// of code 438 that the server signed. Its next request is then accepted while the nonce of that
+/// error is current (RFC 8489, sections 9.2.4 and 9.2.5).
 ///
-/// - The messages are of any method. They have any attributes of their own except those that
-///   signing adds.
+/// - The messages are of any method, and have any attributes except those that signing adds.
 /// - Users and settings do not change between the messages.
-/// - Before the request, other messages of the client's address may be read at any time. One of
-///   them may have made the nonce that is current. After the request they are read while that nonce
-///   is current.
-/// - If no call removes the client at its address, expired nonces may be forgotten at any time.
-/// - If such calls come too, a record without a client is forgotten. So before the request, expired
-///   nonces are forgotten up to the end of the client's nonce, and after it up to the end of the
-///   new one.
+/// - Before the request, the server may read other messages from the client's address at any time.
+///   One of them may have made the nonce that is current. After the request, the server may read
+///   such messages while that nonce is current.
+/// - If no call removes the client at its address, `forget_expired` may be called with any times.
+/// - If calls do remove the client, `forget_expired` can remove its record too. So its times must
+///   not be later than the expiry of the client's nonce before the request, nor later than the
+///   expiry of the new nonce after the request.
 pub fn nonce_is_renewed()
     ensures { NonceIsRenewed }
 {
@@ -353,17 +357,17 @@ pub fn nonce_is_renewed()
     auth_laws::sides_add_by_attribute();
 }
 
-/// From the time when a client and its server know each other, each request that the client signs
-/// is accepted while the nonce lasts, and each response that the server signs is accepted by the
-/// client (RFC 8489, sections 9.2.4 and 9.2.5). The law holds for any list of such exchanges, with
-/// any number of renewals of the nonce (`nonce_is_renewed`) between them.
+/// Once a client and its server are authenticated, each request that the client signs is accepted
+/// while the nonce is valid, and each response that the server signs is accepted by the client
+/// (RFC 8489, sections 9.2.4 and 9.2.5). The law holds for any list of such exchanges, with any
+/// number of renewals of the nonce (`nonce_is_renewed`) between them.
 ///
 /// - Requests and responses are of any method, and have any attributes except those that signing
 ///   adds. A response is a success, or an error with any code except 438.
-/// - Users and settings stay. Messages from the client's address may be read in between until the
-///   nonce expires, and any calls may be made for other addresses.
+/// - Users and settings do not change. In between, the server may read messages from the client's
+///   address until the nonce expires, and may make any calls for other addresses.
 /// - A request is accepted even if the client was removed before. A response is accepted if the
-///   server still knows the client at its address when it signs the response.
+///   server still has a client at that address when it signs the response.
 pub fn sessions_go_on()
     ensures go_on { SessionsGoOn }
     ensures exist { (from : Address) → HasSession from }
@@ -376,17 +380,19 @@ pub fn sessions_go_on()
 }
 
 /// A client that is new to a server sends a request without credentials, and the server answers it
-/// with a challenge. Then the client sends the request again, and the server accepts it by the
-/// strongest algorithm that both support. The client accepts the success, and both know each other
-/// (RFC 8489, sections 9.2.3 to 9.2.5), so `sessions_go_on` speaks of what follows. If they can
-/// agree on no algorithm (`best_is_strongest`), the client gives up and stores nothing.
+/// with a challenge. Then the client sends the request again, and the server accepts it with the
+/// strongest algorithm that both support. The client accepts the success response, and both sides
+/// are then authenticated (RFC 8489, sections 9.2.3 to 9.2.5), so `sessions_go_on` covers what
+/// follows. If they can agree on no algorithm (`best_is_strongest`), the client gives up and stores
+/// nothing.
 ///
 /// - The messages are of any method, and have any attributes except those that signing adds.
-/// - The client has the credentials of a registered user, no two registered users share a hash, and
-///   the server has no record of the client's address.
-/// - Until the challenge is signed only calls for other addresses come in between. After it users,
-///   settings and the nonce stay, and the second request arrives before the nonce expires.
-/// - The server still knows the client when it signs the success.
+/// - The client has the credentials of a registered user, no two registered users share a USERHASH,
+///   and the server has no record of the client's address.
+/// - Until the challenge is signed, only calls for other addresses come in between. After that,
+///   users, settings and the nonce stay the same, and the second request arrives before the nonce
+///   expires.
+/// - When the server signs the success response, it still has the client at its address.
 pub fn new_clients_are_introduced()
     ensures introduced { NewClientsAreIntroduced }
     ensures exist { (from : Address) (words more : List ℕ) → length words ≤ 16

@@ -1,10 +1,11 @@
-//! STUN (RFC 8489) without I/O: message bytes, addresses, times and random numbers go in, and what
-//! to send, how long to wait and who signed come out. No call reads a socket, a clock or a random
-//! number generator, and each function is proved to meet its contract.
+//! STUN (RFC 8489) without I/O. You pass message bytes, addresses, times and random numbers, and
+//! get the bytes to send, the time to wait until, and the user who signed a message. No call reads
+//! a socket, a clock or a random number generator, and each function is proved to meet its
+//! contract.
 //!
-//! This is the crate to import. It has the crates below under one name, and `replay` beside them,
-//! which runs a server, a meeting of a client and a server, or an agent over a list of calls, and
-//! returns what they did.
+//! Import this crate: it exports the crates below it under one name. It also has `replay`, which
+//! runs a server, an agent, or a client and a server that authenticate each other, over a list of
+//! calls, and returns the results.
 //!
 //! ```text
 //!   socket --- bytes, from ---> types::message::Message::from_bytes
@@ -35,9 +36,9 @@
 //! | `types` | messages, attributes, writers, credentials, digests (the crate `stun_types`) |
 //! | `agent` | requests: when they are retransmitted, and when they end |
 //! | `auth` | who signed: short-term, long-term client, long-term server |
-//! | `stats` | what an agent has counted |
+//! | `stats` | the statistics of an agent |
 //! | `replay` | whole runs: `serve`, `negotiate`, `drive` |
-//! | `laws` | what holds of all runs, each law as a function that does nothing or makes one call |
+//! | `laws` | laws of all runs, each as a function that does nothing or makes one call |
 //! | `Instant` | a time, in nanoseconds since a start that the caller chooses |
 #![tactic(auto)]
 

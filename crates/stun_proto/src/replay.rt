@@ -1,4 +1,5 @@
-//! Whole runs: each function makes a series of calls in a fixed order and returns their results.
+//! Whole runs: each function of this module makes a series of calls in a fixed order and returns
+//! their results.
 
 mod apply;
 mod call;
@@ -12,7 +13,7 @@ mod signing;
 mod step_log;
 mod turn;
 
-// Three laws on meetings are here too, beside `negotiate`.
+// These three laws on meetings are exported here too, next to `negotiate`.
 pub use crate::laws::{nonce_is_renewed, short_names_are_signed, strongest_is_agreed};
 pub use call::{ServerCall, ServerReply};
 pub use driven::drive;

@@ -51,6 +51,7 @@ use Rattle.stun_client.specs.Challenges.{Answered}
 use Rattle.stun_client.specs.Judging.{long_term}
 use Rattle.stun_client.specs.Signing.{additions_of as additions_for}
 use Rattle.stun_client.specs.declared.preferences.Preferences.{Preferences}
+use Rattle.stun_exchanges.proofs.SealedLemmas.{still_none}
 use Rattle.stun_client_endpoint.specs.Bodies.{BODY_LIMIT, Body, Piece, RESERVED, attribute_for}
 use Rattle.stun_client_endpoint.specs.Bodies.{body_length, body_size_refusal, is_reserved}
 use Rattle.stun_client_endpoint.specs.Bodies.{of_peer, piece_length, with_value}
@@ -63,8 +64,8 @@ use Rattle.stun_client_endpoint.specs.declared.body.BodyError.{BodyError}
 use Rattle.stun_client_endpoint.specs.declared.body.BodyError.TheVariants as Bodies
 use Rattle.stun_requests.specs.Fitting.{IsBuiltBody, IsShort, IsWhole, IsWritten, adds, adds_peer, new}
 use Rattle.stun_requests.specs.ReadBack.{AreOrdinary, IsOrdinary}
-use Rattle.stun_requests.proofs.ReadBackLemmas.{ReadingLaws, begun, flip, none_of, still_none}
-use Rattle.stun_requests.proofs.ReadBackLemmas.{not_print, there_already}
+use Rattle.stun_requests.proofs.ReadBackLemmas.{ReadingLaws, begun, flip, none_of, not_print}
+use Rattle.stun_requests.proofs.ReadBackLemmas.{there_already}
 
 -- ---- bodies
 

@@ -3,7 +3,7 @@ use Rattle.std.proofs.Common.{◌≡◌, ◌≤◌, ◌<◌, ◌^◌, ◌+◌, �
 use Rattle.std.proofs.Common.{List, [], ◌∷◌, ◌++◌, length, Option, Some, None, Ok, Err, refl, sym}
 use Rattle.std.proofs.Common.{◌∙◌}
 use Rattle.std.proofs.Common.{ap, arith, cond, subst}
-use Rattle.std.specs.Prelude.{find, map, nat_lt, ◌==◌, ◌||◌, Result, reverse}
+use Rattle.std.specs.Prelude.{find, map, nat_lt, ◌==◌, Result, reverse}
 use Rattle.std.specs.List.{AllByRecursion, list_any}
 use Rattle.std.specs.Option.{is_some, option_and_then, option_map, option_or}
 use Rattle.std.proofs.lemmas.Bool.{eq-eqb, ne_eqb}
@@ -68,6 +68,7 @@ use Rattle.stun_client_endpoint.specs.Bodies.{of_peer, with_value}
 use Rattle.stun_requests.specs.ReadBack.{AreOrdinary, IsOrdinary, IsReadAsMade, added_to}
 use Rattle.stun_requests.specs.ReadBack.{print_of}
 use Rattle.stun_client.proofs.SigningLemmas.{reads_as}
+use Rattle.stun_exchanges.proofs.SealedLemmas.{both_false, still_none}
 use Rattle.stun_client_endpoint.specs.Written.{Form, Page?, and_then, closed_request}
 use Rattle.stun_client_endpoint.specs.Written.{completed_request, is_text_too_long, page_bytes}
 use Rattle.stun_client_endpoint.specs.Written.{request_bytes, room_left, unless, whole_request}
@@ -95,10 +96,6 @@ pub record ReadingLaws : Type 0 where
   pub writes : WritingLaws
 
 -- ---- tests and numbers
-
-pub both_false : (a b : Bool) → (a || b) ≡ false → (a ≡ false) × (b ≡ false)
-both_false true b is = cc
-both_false false b is = (refl, is)
 
 true_false : true ≡ false → ⊥
 true_false is = cc
@@ -169,14 +166,6 @@ apart_of kind free =
       algorithms = flip PASSWORD_ALGORITHMS kind all.1.1.1.1.1.1.1.1.1.1.0;
       algorithm = flip PASSWORD_ALGORITHM kind all.1.1.1.1.1.1.1.0;
     }
-
-pub still_none : (kind : ℕ) (members : List Member) (last : Member) → has_kind kind members ≡ false
-    → (last.1.kind == kind) ≡ false → has_kind kind (members ++ last ∷ []) ≡ false
-still_none kind [] last none other = ap (λ b. b || false) other
-still_none kind (m ∷ members) last none other =
-    let parts = both_false (m.1.kind == kind) (has_kind kind members) none in
-    (λ i. parts.0 i || has_kind kind (members ++ last ∷ []))
-    ∙ still_none kind members last parts.1 other
 
 module _ (laws : ReadingLaws) (method : ℕ) where
   one_more : (page : List ℕ) (a : TypedValue) → Fresh method page → IsAddable page a

@@ -1,5 +1,5 @@
--- Each request that a client is given can be written, with a signature and without one (RFC 8489,
--- sections 5 and 14).
+-- Each request that a client is asked to start can be written, with a signature and without one
+-- (RFC 8489, sections 5 and 14).
 use Rattle.std.specs.Prelude.{◌≡◌, ◌≤◌, ◌<◌, ◌^◌, ◌++◌, ◌∷◌, [], ℕ, Bool, List, length, Option, None}
 use Rattle.std.specs.Prelude.{Ok}
 use Rattle.std.specs.Net.Addr.{ipv4_octets, ipv6_octets}
@@ -38,14 +38,14 @@ pub data IsBuiltBody : Body → Type 0 where
       → IsWhole (socket_ip address) → body_size_refusal body 20 ≡ None
       → after ≡ body ++ of_peer address ∷ [] → IsBuiltBody after
 
--- such a body has attributes that `Body` takes, of at most 60,000 bytes together
+-- such a body has attributes that `Body` accepts, of at most 60,000 bytes together
 abbrev pub BuiltAreOrdinary : Type 0
 BuiltAreOrdinary = (body : Body) → IsBuiltBody body → AreOrdinary body × (body_length body ≤ BODY_LIMIT)
 
 -- ---- challenges
 
--- the most bytes of a list of algorithms for which there is always room. A server of this library
--- sends at most 8
+-- the largest number of bytes of a list of algorithms for which there is always room. A server of
+-- this library sends at most 8
 abbrev pub LIST_LIMIT : ℕ
 LIST_LIMIT = 2600
 
@@ -67,7 +67,8 @@ pub record IsWritten (form : Form) (who : NameAndPassword) (p : Preferences)
   pub bytes : List ℕ
   pub is : request_bytes form (long_term who p accepts_unsigned) challenge method id body ≡ Ok bytes
 
--- with each body that `Body` builds, SOFTWARE within its limit, and for none or any such challenge
+-- this holds with each body that `Body` builds, with SOFTWARE within its limit, and for no
+-- challenge or any such challenge
 abbrev pub RequestsAreWritten : Type 0
 RequestsAreWritten =
     (form : Form) (who : NameAndPassword) (p : Preferences) (accepts_unsigned : Bool)

@@ -1,8 +1,8 @@
--- What the contracts of this crate say, in the order to read it.
+-- What the contracts of this crate say, in reading order.
 
--- what is read of a request is what it was made of
+-- a reader finds in a request what it was made of
 pub mod ReadBack
--- what a server makes of it
+-- how a server judges a request
 pub mod Served
 -- each request can be written
 pub mod Fitting

@@ -1,4 +1,4 @@
--- What is read of a request is what it was made of (RFC 8489, sections 9.2.5 and 14).
+-- A reader finds in a request what it was made of (RFC 8489, sections 9.2.5 and 14).
 use Rattle.std.specs.Prelude.{◌≡◌, ◌<◌, ◌^◌, ℕ, Bool, true, false, List, Option, Some, None, Ok, ⊤}
 use Rattle.std.specs.Prelude.{if◌then◌else◌, map, ◌++◌}
 use Rattle.std.specs.List.{AllByRecursion}
@@ -26,7 +26,7 @@ use Rattle.stun_client_endpoint.specs.Bodies.{Body, Piece, attribute_for, is_res
 use Rattle.stun_client_endpoint.specs.Bodies.{with_value}
 use Rattle.stun_client_endpoint.specs.Written.{Form, request_bytes}
 
--- an attribute that `Body::add` and `add_xor_peer_address` take
+-- an attribute that `Body::add` and `add_xor_peer_address` accept
 abbrev pub IsOrdinary : Piece → Type 0
 IsOrdinary (with_value a) = (is_reserved a.kind ≡ false) × (a.kind < 2 ^ 16)
 IsOrdinary (of_peer address) = ⊤
@@ -34,7 +34,7 @@ IsOrdinary (of_peer address) = ⊤
 abbrev pub AreOrdinary : Body → Type 0
 AreOrdinary body = AllByRecursion IsOrdinary body
 
--- what a server reads that signing adds: for a challenge, and for none
+-- what a server reads of what signing adds: for a challenge, and for none
 abbrev pub added_to : Option Answered → Added
 added_to None = record {
   nonce = None;
@@ -47,12 +47,12 @@ added_to None = record {
 }
 added_to (Some c) = added_under true c.challenge
 
--- the FINGERPRINT of a request: right, or none
+-- the state of the FINGERPRINT of a request: valid, or none
 abbrev pub print_of : Bool → Fingerprint
 print_of has = if has then Right else Absent
 
--- a request is a message of this method whose FINGERPRINT is as its form says, and what is read of
--- it is what was added to sign it
+-- a request is a message of this method whose FINGERPRINT is as its form says, and a reader finds
+-- in it what was added to sign it
 pub record IsReadAsMade (form : Form) (method : ℕ) (added : Added) (bytes : List ℕ) : Type 0 where
   pub message : refusal bytes ≡ None
   pub class : class_in bytes ≡ Request
@@ -75,7 +75,7 @@ abbrev pub BeginsWith : List TypedValue → List ℕ → Type 0
 BeginsWith front bytes =
     (more : List TypedValue) × (attributes_of (visible bytes) ≡ front ++ more)
 
--- and the attributes of its body come first, as they are
+-- and the attributes of its body come first, unchanged
 abbrev pub BodiesAreReadBack : Type 0
 BodiesAreReadBack =
     (form : Form) (who : NameAndPassword) (p : Preferences) (accepts_unsigned : Bool)
@@ -84,7 +84,7 @@ BodiesAreReadBack =
     → request_bytes form (long_term who p accepts_unsigned) challenge method id body ≡ Ok bytes
     → BeginsWith (map (attribute_for id) body) bytes
 
--- no downgrade, of the bytes that are written: of a request without a signature, and of one for a
+-- no downgrade, for the bytes that are written: of a request without a signature, and of one for a
 -- challenge by the client's own rule, as each is that `judge` returns (`own`)
 abbrev pub WrittenIsNotBidDown : Type 0
 WrittenIsNotBidDown =

@@ -1,4 +1,4 @@
--- What a server makes of the requests that a client writes (RFC 8489, sections 9.2.3 and 9.2.4).
+-- How a server judges the requests that a client writes (RFC 8489, sections 9.2.3 and 9.2.4).
 use Rattle.std.specs.Prelude.{◌≡◌, ◌<◌, ℕ, Bool, true, List, Some, None, Ok, IsUtf8}
 use Rattle.std.specs.declared.net.socket_addr.SocketAddr.{SocketAddr}
 use Rattle.stun_base.specs.Credentials.{NameAndPassword}
@@ -34,7 +34,7 @@ RequestsAreChallenged =
     ≡ answered (challenge_answer s Unauthenticated (current_nonce s from now) from bytes)
 
 -- each request that is signed for the challenge of a server, by one of its users, is accepted as
--- that user's by the algorithm on which both agree, in the epoch of the challenge and in the next
+-- that user's with the algorithm on which both agree, in the epoch of the challenge and in the next
 -- one
 abbrev pub RequestsAreAccepted : Type 0
 RequestsAreAccepted =

@@ -1,16 +1,16 @@
-//! Laws of the bytes of a request.
+//! Laws about the bytes of a request.
 ghost use Rattle.stun_requests.specs.Fitting.{BuiltAreOrdinary, RequestsAreWritten};
 ghost use Rattle.stun_requests.specs.ReadBack.{BodiesAreReadBack, RequestsAreReadBack};
 ghost use Rattle.stun_requests.specs.ReadBack.{WrittenIsNotBidDown};
 ghost use Rattle.stun_requests.specs.Served.{RequestsAreAccepted, RequestsAreChallenged};
 
-/// What is read of a request is what it was made of: its method, what the challenge asks for and no
-/// other attribute that signing adds, and a right FINGERPRINT or none. The digest verifies under
-/// the key of the challenge (`as_made`). The attributes of its body come first, as they are,
-/// whatever the body is (`body`).
+/// A reader finds in a request the parts that it was made of: its method, the attributes that the
+/// challenge requires and no other attribute that signing adds, and a valid FINGERPRINT if the
+/// client sends one, or none otherwise. The signature is valid under the key of the challenge
+/// (`as_made`). The attributes of its body come first, unchanged, whatever the body is (`body`).
 ///
-/// Premises: the method has 12 bits, as each `Method`; the body has attributes that `Body` takes
-/// (`AreOrdinary`; `Body::add` refuses others); and the texts of the challenge are UTF-8
+/// Premises: the method has 12 bits, as each `Method` does; the body has attributes that `Body`
+/// accepts (`AreOrdinary`; `Body::add` refuses others); and the texts of the challenge are UTF-8
 /// (`IsText`), as those of each `Challenge` are.
 pub fn requests_are_read_back()
     ensures as_made { RequestsAreReadBack }
@@ -23,11 +23,12 @@ pub fn requests_are_read_back()
     stun_auth::laws::additions_are_read_back();
 }
 
-/// No server whose settings do not change accepts the bytes of a request by less than the strongest
-/// algorithm that both sides support, whatever challenge they answer by the client's own rule.
+/// No server whose settings do not change accepts the bytes of a request with a weaker algorithm
+/// than the strongest that both sides support, whatever challenge the request answers by the
+/// client's own rule.
 ///
-/// Premises: those of `requests_are_read_back`; and the challenge is by the rule with the client's
-/// preferences (`IsChosen`), as each that `judge` returns is.
+/// Premises: those of `requests_are_read_back`; and the challenge follows the rule for the client's
+/// preferences (`IsChosen`), as each challenge that `judge` returns does.
 pub fn written_requests_are_not_bid_down()
     ensures { WrittenIsNotBidDown }
 {
@@ -35,8 +36,8 @@ pub fn written_requests_are_not_bid_down()
     stun_client::laws::signed_requests_are_not_bid_down();
 }
 
-/// A server answers each request without a signature with a 401 that has the nonce which is current
-/// at its source, whatever method and body the request has, and whoever its users are.
+/// A server answers each unsigned request with a 401 that has the nonce that is current at its
+/// source, whatever method and body the request has, and whatever users the server has.
 ///
 /// Premises: those of `requests_are_read_back`; and if the server requires FINGERPRINT, the client
 /// sends it.
@@ -47,13 +48,14 @@ pub fn requests_are_challenged()
     stun_exchanges::server::unsigned_requests_are_challenged();
 }
 
-/// A server accepts each request that a registered user's client signs for its challenge, in the
-/// epoch of the challenge and in the next one, whatever method and body the request has: as that
-/// user's, by the algorithm on which both sides agree, the strongest that both support.
+/// A server accepts each request that a registered user's client signs for the server's challenge,
+/// in the epoch of the challenge and in the next epoch, whatever method and body the request has.
+/// It accepts the request as that user's, with the algorithm on which both sides agree, the
+/// strongest that both support.
 ///
 /// Premises: those of `requests_are_challenged`; the user is registered with this password and
-/// found by the hash of the name (`IsRegisteredUser`); the name is UTF-8, as each `str`; the server
-/// was built (`IsServer`); and both agree on an algorithm (`AgreeOn`).
+/// found by the hash of the name (`IsRegisteredUser`); the name is UTF-8, as each `str` is; the
+/// server was built (`IsServer`); and both agree on an algorithm (`AgreeOn`).
 pub fn requests_are_accepted()
     ensures { RequestsAreAccepted }
 {
@@ -62,15 +64,15 @@ pub fn requests_are_accepted()
     stun_exchanges::exchanges::users_are_accepted_by_the_strongest();
 }
 
-/// Each request that a client is given can be written, without a signature and signed for any
-/// challenge of a server of this library. What `Body` builds has attributes that the client does
-/// not write itself, of at most 60,000 bytes (`bodies`), and what the client adds to them always
-/// fits the message (`written`), so that a caller need not test it.
+/// Each request that a client is asked to start can be written, both unsigned and signed for any
+/// challenge of a server of this library. A body that `Body` builds has attributes that the client
+/// does not write itself, of at most 60,000 bytes (`bodies`), and the attributes that the client
+/// adds always fit into the message (`written`), so a caller need not test whether they fit.
 ///
 /// Premises: SOFTWARE has at most 763 bytes, as `request` tests; realm and nonce have at most 763
-/// bytes, as those of each `Challenge`; the name of the user has at most 513; and the list of
-/// algorithms has at most 2,600 (`IsShort`). A server of this library lists at most 8 bytes. The
-/// method has 12 bits, as each `Method`.
+/// bytes, as those of each `Challenge` do; the name of the user has at most 513 bytes; and the list
+/// of algorithms has at most 2,600 bytes (`IsShort`). The list of a server of this library has at
+/// most 8 bytes. The method has 12 bits, as each `Method` does.
 pub fn requests_can_be_written()
     ensures bodies { BuiltAreOrdinary }
     ensures written { RequestsAreWritten }

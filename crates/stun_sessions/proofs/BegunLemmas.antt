@@ -1,22 +1,19 @@
 -- What the caller of a server begins is a response that can be ended.
-use Rattle.std.proofs.Common.{◌≡◌, ◌≢◌, ◌≤◌, ◌<◌, ◌^◌, ◌+◌, ◌*◌, ◌/◌, ◌%◌, ℕ, Bool, true, false}
+use Rattle.std.proofs.Common.{◌≡◌, ◌≢◌, ◌≤◌, ◌<◌, ◌^◌, ◌+◌, ◌*◌, ◌/◌, ◌%◌, ℕ, Bool, false}
 use Rattle.std.proofs.Common.{List, [], ◌∷◌, ◌++◌, length, Option, Some, None, refl, ◌∙◌, ap, arith}
-use Rattle.std.specs.Prelude.{cond, find, ◌==◌, ◌||◌}
-use Rattle.std.specs.Option.{option_and_then, option_map, option_or}
+use Rattle.std.specs.Prelude.{cond, ◌==◌, ◌||◌}
+use Rattle.std.specs.Option.{option_and_then, option_map}
 use Rattle.std.proofs.lemmas.Bool.Decides.{nat_tests}
-use Rattle.std.proofs.lemmas.List.Folds.{find-append}
-use Rattle.byteorder.specs.Endian.{big_bytes}
-use Rattle.byteorder.specs.Numbers.{big_number-reads_back}
 use Rattle.stun_base.specs.Attributes.{ERROR_CODE}
-use Rattle.stun_base.specs.Header.{MAGIC_COOKIE, transaction_id_field, type_field}
+use Rattle.stun_base.specs.Header.{transaction_id_field, type_field}
 use Rattle.stun_base.specs.MessageType.{class_in, class_of, class_of_bits, is_error, method_of}
 use Rattle.stun_base.specs.MessageType.{type_number}
 use Rattle.stun_base.specs.declared.wire.message_type.MessageClass.{MessageClass}
 use Rattle.stun_base.specs.declared.wire.message_type.MessageClass.TheVariants as Class
 use Rattle.stun_types.specs.Attribute.{TypedValue}
-use Rattle.stun_types.specs.ErrorCode.{CodeAndReason, error_of, error_value}
+use Rattle.stun_types.specs.ErrorCode.{CodeAndReason, error_of}
 use Rattle.stun_types.specs.ErrorCodeLaws.{error_of-written}
-use Rattle.stun_types.specs.Grammar.{spelled_attribute, spelled_attributes, spelled_message}
+use Rattle.stun_types.specs.Grammar.{spelled_attribute, spelled_message}
 use Rattle.stun_types.specs.Integrity.{first_of}
 use Rattle.stun_types.specs.Visible.{visible}
 use Rattle.stun_types.specs.Walk.{Member, walk}
@@ -25,9 +22,13 @@ use Rattle.stun_types.specs.Writing.{with_attribute}
 use Rattle.stun_types.proofs.AddingLemmas.{length-spelled_attribute, raised}
 use Rattle.stun_auth.specs.ClientStep.{STALE_NONCE, UNAUTHORIZED, is_code}
 use Rattle.stun_extra.specs.Errors.{error_code_attribute}
+use Rattle.stun_extra.proofs.FingerprintLemmas.{first_of-other}
 use Rattle.stun_client.specs.Challenging.{code_in}
-use Rattle.stun_client.specs.Requests.{is_answer, is_answer_of}
+use Rattle.stun_client.specs.Answers.{is_answer_of}
 use Rattle.stun_exchanges.specs.Exchange.{IsPage}
+use Rattle.stun_exchanges.proofs.ChallengeLemmas.{error_long, header_long, id_again, same_number}
+use Rattle.stun_exchanges.proofs.ChallengeLemmas.{type_again}
+use Rattle.stun_exchanges.proofs.SealedLemmas.{same_answer}
 use Rattle.stun_sessions.specs.Responses.{IsFinal, IsMore, error_begun, success_begun}
 
 -- what the laws of the crates below say of writing and of successes
@@ -48,28 +49,8 @@ pub record BeginningLaws : Type 0 where
 
 -- ---- numbers
 
-same_number : (n : ℕ) → (n == n) ≡ true
-same_number n = grind (arith, nat_tests)
-
 other_number : (n m : ℕ) → n ≢ m → (n == m) ≡ false
 other_number n m other = grind (arith, nat_tests)
-
-type_again : (message_type id : ℕ) (list : List TypedValue) → message_type < 2 ^ 14
-    → type_field (spelled_message message_type id list) ≡ message_type
-type_again message_type id list fits =
-    big_number-reads_back 2 message_type
-    (big_bytes 2 (length (spelled_attributes list)) ++ big_bytes 4 MAGIC_COOKIE ++ big_bytes 12 id
-    ++ spelled_attributes list) (omega (arith, fits))
-
-id_again : (message_type id : ℕ) → id < 2 ^ 96
-    → transaction_id_field (spelled_message message_type id []) ≡ id
-id_again message_type id fits = big_number-reads_back 12 id [] fits
-
-header_long : (message_type id : ℕ) → length (spelled_message message_type id []) ≡ 20
-header_long message_type id = refl
-
-error_long : (error : CodeAndReason) → length (error_value error) ≡ 4 + length error.reason
-error_long error = omega arith
 
 -- ---- what asks for credentials depends on class and first ERROR-CODE alone
 
@@ -80,30 +61,6 @@ code_with class found =
 
 abbrev asks_with : Option ℕ → Bool
 asks_with code = is_code UNAUTHORIZED code || is_code STALE_NONCE code
-
--- what answers a request depends on class and method alone
-of_class : (method : ℕ) (class : MessageClass) (a b : List ℕ)
-    → method_of (type_field a) ≡ method_of (type_field b)
-    → is_answer_of method class a ≡ is_answer_of method class b
-of_class method Class.Request a b same = refl
-of_class method Class.Indication a b same = refl
-of_class method Class.Success a b same = ap (λ n. n == method) same
-of_class method Class.Error a b same = ap (λ n. n == method) same
-
-same_answer : (method : ℕ) (a b : List ℕ) → class_in a ≡ class_in b
-    → method_of (type_field a) ≡ method_of (type_field b) → is_answer method a ≡ is_answer method b
-same_answer method a b class same =
-    ap (λ c. is_answer_of method c a) class ∙ of_class method (class_in b) a b same
-
-first_of-other : (kind : ℕ) (members : List Member) (last : Member)
-    → (last.1.kind == kind) ≡ false
-    → first_of kind (members ++ last ∷ []) ≡ first_of kind members
-first_of-other kind members last other =
-    let none : (found : Option Member) → option_or found None ≡ found =
-    λ found. elim found as (λ f. option_or f None ≡ f) [ Some m ↦ refl | None ↦ refl ] in
-    find-append (λ m. m.1.kind == kind) members (last ∷ [])
-    ∙ (ap (λ b. option_or (first_of kind members) (cond b (Some last) None)) other
-    ∙ none (first_of kind members))
 
 -- ---- one more attribute
 

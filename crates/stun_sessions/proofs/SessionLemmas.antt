@@ -20,30 +20,19 @@ use Rattle.stun_auth.specs.Registered.{of_password, user_named}
 use Rattle.stun_auth.specs.Signed.{plain_name}
 use Rattle.stun_auth.specs.ClientStep.{naming_of}
 use Rattle.stun_auth.specs.Feature.{is_possible}
-use Rattle.stun_extra.specs.CanonicalAddress.{is_same_address}
 use Rattle.stun_client.specs.Challenges.{Answered, is_one}
-use Rattle.stun_client.specs.Clients.{EndpointClient, heard, responded}
-use Rattle.stun_client.specs.Judging.{believed}
-use Rattle.stun_client.specs.Requests.{AskedSeen}
 use Rattle.stun_client.specs.Standing.{StandingSeen, after_answer, after_success, confirmed}
 use Rattle.stun_client.specs.Standing.{gives_way, is_ignored, is_standing, is_stronger_than}
 use Rattle.stun_client.specs.Standing.{is_weaker_than}
 use Rattle.stun_client.specs.declared.preferences.Preferences.{Preferences}
-use Rattle.stun_endpoint.specs.Answers.{with_end}
 use Rattle.stun_endpoint.specs.Judged.{key_of_client}
 use Rattle.stun_endpoint.specs.Lookups.{users_with}
 use Rattle.stun_endpoint.specs.Nonces.{current_nonce, epoch_of, nonce_in}
-use Rattle.stun_endpoint.specs.Received.{Outcome, answered, dropped, indicated, requested}
-use Rattle.stun_endpoint.specs.Received.{responded as passed_on}
 use Rattle.stun_endpoint.specs.Settings.{Settings}
 use Rattle.stun_exchanges.specs.Agreement.{AgreeOn}
-use Rattle.stun_exchanges.specs.Exchange.{AnswersAreHeard, IsRegisteredUser}
-use Rattle.stun_exchanges.specs.Exchange.{UserSecrets, meant_for, realm_knowing}
+use Rattle.stun_exchanges.specs.Exchange.{IsRegisteredUser, UserSecrets, meant_for, realm_knowing}
 use Rattle.stun_exchanges.proofs.AgreementLemmas.{supported_is}
-use Rattle.stun_sessions.specs.Responses.{EndsAtClient, OutcomeEnds}
-use Rattle.stun_sessions.specs.Sessions.{EndsThere, IsConfirmedBy, IsInSession, IsMeantHere}
-use Rattle.stun_sessions.specs.Sessions.{IsNotUnder}
-use Rattle.stun_sessions.specs.Sessions.{client_named}
+use Rattle.stun_sessions.specs.Sessions.{IsConfirmedBy, IsMeantHere, IsNotUnder, client_named}
 use Rattle.stun_sessions.proofs.StaleLemmas.{other_bytes}
 
 -- ---- the algorithm of the digest
@@ -90,43 +79,6 @@ key_again s users who p a known agree =
     ∙ ap (λ b. unwrap_or (key_if b a who.username s.realm (of_password who.password)) [])
     (supported_is p s.algorithms a agree.first)
 
--- ---- what the server makes of a request ends it
-
-pub ends_there : AnswersAreHeard → (s : Settings) (users : UserSecrets) (who : NameAndPassword)
-    (p : Preferences) (a : IntegrityAlgorithm) (from server : SocketAddr) (made : ℕ)
-    (bytes : List ℕ) (c : EndpointClient) (asked : AskedSeen)
-    → IsInSession s users who p a from made bytes c asked
-    → is_same_address server c.server ≡ true → (o : Outcome)
-    → OutcomeEnds c.requires_fingerprint bytes
-    (long_term_key a who.username s.realm who.password) a o
-    → EndsThere c server asked.number a bytes o
-ends_there heard_law s users who p a from server made bytes c asked is same o answers =
-    by o answers
-  where
-    ended : (response : List ℕ)
-        → EndsAtClient c.requires_fingerprint bytes
-        (long_term_key a who.username s.realm who.password) a response
-        → heard c server response ≡ responded response asked.number (believed (Some a))
-    ended response ends =
-        heard_law server bytes response c asked (meant_for s p who (current_nonce s from made) a) who
-        p is.accepts_unsigned a is.identity (record {
-          server = same;
-          outstanding = is.outstanding;
-          method = is.method;
-          answers = ends.answers;
-        }) is.signed_for ends.signed
-
-    by : (o : Outcome)
-        → OutcomeEnds c.requires_fingerprint bytes
-        (long_term_key a who.username s.realm who.password) a o
-        → EndsThere c server asked.number a bytes o
-    by (answered answer) answers = ended answer.bytes answers
-    by (requested accepted) answers =
-        λ page is_page. ended (with_end accepted.reply.ending page) (answers page is_page)
-    by (indicated message) answers = absurd answers
-    by (passed_on message) answers = absurd answers
-    by (dropped why) answers = absurd answers
-
 -- ---- a new challenge is another one, and not weaker
 
 not_first : (s : Settings) (secret : List ℕ) (from : SocketAddr) (epoch : ℕ) (nonce : List ℕ)
@@ -161,21 +113,20 @@ no_weaker a m n same =
     (λ i. no_both (is_sha256 a) i || (is_none (plain_name m) && not (same i)))
     ∙ no_both (is_none (plain_name m))
 
-pub is_strong : (s : Settings)
+pub is_heeded : (s : Settings)
     → ((secret : List ℕ) (from : SocketAddr) (epoch : ℕ)
     → asks_for_userhash (nonce_in s secret from epoch) ≡ is_possible s.feature)
-    → (p : Preferences) (who : NameAndPassword) (a : IntegrityAlgorithm) (from : SocketAddr)
-    (now : ℕ) (standing : StandingSeen) → IsConfirmedBy s who p a standing
-    → is_ignored standing (meant_for s p who (current_nonce s from now) a) ≡ false
-is_strong s hashes p who a from now standing (inl none) =
-    ap (is_weaker_than (meant_for s p who (current_nonce s from now) a)) none
-is_strong s hashes p who a from now standing (inr known) =
-    let meant = meant_for s p who (current_nonce s from now) a in
+    → (p : Preferences) (who : NameAndPassword) (a : IntegrityAlgorithm) (standing : StandingSeen)
+    (secret : List ℕ) (from : SocketAddr) (epoch : ℕ) → IsConfirmedBy s who p a standing
+    → is_ignored standing (meant_for s p who (nonce_in s secret from epoch) a) ≡ false
+is_heeded s hashes p who a standing secret from epoch (inl none) =
+    ap (is_weaker_than (meant_for s p who (nonce_in s secret from epoch) a)) none
+is_heeded s hashes p who a standing secret from epoch (inr known) =
+    let meant = meant_for s p who (nonce_in s secret from epoch) a in
     let other = meant_for s p who (nonce_in s known.secret known.from known.epoch) a in
-    let alike : asks_for_userhash (current_nonce s from now)
+    let alike : asks_for_userhash (nonce_in s secret from epoch)
     ≡ asks_for_userhash (nonce_in s known.secret known.from known.epoch) =
-    hashes s.secret from (epoch_of s now)
-    ∙ sym (hashes known.secret known.from known.epoch) in
+    hashes secret from epoch ∙ sym (hashes known.secret known.from known.epoch) in
     ap (is_weaker_than meant) known.is
     ∙ no_weaker a other.challenge.naming meant.challenge.naming
     (ap (λ b. is_none (plain_name (naming_of (b && is_possible p.anonymous_username) who.username

@@ -1,9 +1,8 @@
 -- The 420 of a server has room for all types that a request can have.
 use Rattle.std.proofs.Common.{◌≡◌, ◌≤◌, ◌+◌, ◌*◌, ℕ, Bool, true, false, refl, ap}
 use Rattle.std.proofs.Common.{List, [], ◌∷◌, ◌++◌, length, Option, Some, None, ◌∙◌, arith, subst}
-use Rattle.std.specs.Prelude.{codes, cond, filter, not, nat_lt, ◌==◌}
+use Rattle.std.specs.Prelude.{codes, cond, not, nat_lt, ◌==◌}
 use Rattle.std.proofs.lemmas.Bool.Decides.{nat_tests}
-use Rattle.std.proofs.lemmas.List.{length-map}
 use Rattle.std.proofs.lemmas.List.Sums.{count_by-le-length, length-filter, sum_by-cons}
 use Rattle.std.proofs.lemmas.Str.{IsUtf8-from_ascii}
 use Rattle.stun_base.specs.Header.{header_refusal, length_field, transaction_id_field, type_field}
@@ -20,9 +19,10 @@ use Rattle.stun_types.specs.Visible.{is_visible, visible}
 use Rattle.stun_types.specs.Walk.{Member, attributes_length, walk}
 use Rattle.stun_types.specs.Writing.{length_with, with_attribute}
 use Rattle.stun_types.proofs.AddingLemmas.{length-spelled_attribute, raised}
-use Rattle.stun_extra.specs.Unknown.{UNKNOWN_ATTRIBUTES, is_unknown, kinds_of, refusing_answer}
-use Rattle.stun_extra.specs.Unknown.{spelled_types, types_of, unknown_attribute_error}
-use Rattle.stun_extra.specs.Unknown.{unknown_types, without_repeats}
+use Rattle.stun_extra.specs.Unknown.{UNKNOWN_ATTRIBUTES, refusing_answer}
+use Rattle.stun_extra.specs.Unknown.{spelled_types, unknown_attribute_error}
+use Rattle.stun_extra.specs.Unknown.{unknown_types}
+use Rattle.stun_extra.proofs.UnknownLemmas.{length_of_types, unknown_types-few}
 use Rattle.stun_exchanges.proofs.Ascii.{from_small}
 use Rattle.stun_exchanges.specs.Exchange.{IsPage}
 use Rattle.stun_sessions.specs.Responses.{IsFinal, IsShortRequest, error_begun}
@@ -30,43 +30,12 @@ use Rattle.stun_sessions.proofs.BegunLemmas.{BeginningLaws, error_is_begun, more
 
 -- ---- how many types a request has
 
-without_repeats-few : (xs : List ℕ) → length (without_repeats xs) ≤ length xs
-without_repeats-few [] = omega arith
-without_repeats-few (x ∷ xs) =
-    let kept = λ (y : ℕ). not (y == x) in
-    omega (
-      arith,
-      without_repeats-few xs,
-      length-filter kept (without_repeats xs),
-      count_by-le-length kept (without_repeats xs),
-    )
-
 -- there are no more of them than attributes
-unknown_types-few : (known : List AttributeType) (bytes : List ℕ)
-    → length (unknown_types known bytes) ≤ length (walk bytes)
+visible-few : (bytes : List ℕ) → length (visible bytes) ≤ length (walk bytes)
 unfolding visible
-unknown_types-few known bytes =
-    let shown = filter (is_visible (walk bytes)) (walk bytes) in
-    let kinds = kinds_of shown in
-    let unknown = filter (is_unknown known) kinds in
-    let one : length (types_of (without_repeats unknown)) ≡ length (without_repeats unknown) =
-    length-map (without_repeats unknown) _ in
-    let two : length kinds ≡ length shown = length-map shown _ in
-    omega (
-      arith,
-      one,
-      two,
-      without_repeats-few unknown,
-      length-filter (is_unknown known) kinds,
-      count_by-le-length (is_unknown known) kinds,
-      length-filter (is_visible (walk bytes)) (walk bytes),
-      count_by-le-length (is_visible (walk bytes)) (walk bytes),
-    )
-
--- each takes 2 bytes
-length_of_types : (types : List AttributeType) → length (spelled_types types) ≡ 2 * length types
-length_of_types [] = refl
-length_of_types (kind ∷ types) = omega (arith, length_of_types types)
+visible-few bytes =
+    let is_shown = is_visible (walk bytes) in
+    omega (arith, length-filter is_shown (walk bytes), count_by-le-length is_shown (walk bytes))
 
 -- each attribute takes the 4 bytes of its header or more
 four_each : (members : List Member) → 4 * length members ≤ attributes_length members
@@ -102,6 +71,7 @@ types_short known request is =
       arith,
       length_of_types (unknown_types known request),
       unknown_types-few known request,
+      visible-few request,
       four_each (walk request),
       filled_is request is.message,
       is.short,

@@ -1,4 +1,4 @@
--- What the contracts of this crate say, in the order to read it.
+-- What the contracts of this crate say, in reading order.
 
 -- the responses that end a request
 pub mod Responses

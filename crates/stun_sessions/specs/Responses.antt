@@ -23,14 +23,14 @@ use Rattle.stun_endpoint.specs.Settings.{Settings}
 use Rattle.stun_exchanges.specs.Agreement.{IsSignedAnswer}
 use Rattle.stun_exchanges.specs.Exchange.{IsPage, IsResponseTo, IsServer, SendsRequired}
 
--- ---- what is begun
+-- ---- responses that are begun
 
--- what `Reply::success` begins, with the method and the ID of the request
+-- the response that `Reply::success` begins, with the method and the ID of the request
 abbrev pub success_begun : List ℕ → List ℕ
 success_begun request =
     empty_message Class.Success (method_of (type_field request)) (transaction_id_field request)
 
--- what `Reply::error` begins
+-- the response that `Reply::error` begins
 abbrev pub error_begun : List ℕ → CodeAndReason → List ℕ
 error_begun request error =
     with_attribute
@@ -43,7 +43,7 @@ pub record IsFinal (error : CodeAndReason) : Type 0 where
   pub not_unauthenticated : error.code ≢ 401
   pub not_stale : error.code ≢ 438
 
--- a request as it arrives: its ID has 96 bits, and it is as long as a message can be
+-- a request as it arrives: its ID has 96 bits, and it is at most as long as a message can be
 pub record IsShortRequest (request : List ℕ) : Type 0 where
   pub identified : transaction_id_field request < 2 ^ 96
   pub message : refusal request ≡ None
@@ -59,7 +59,7 @@ ErrorsArePages =
     (request : List ℕ) (error : CodeAndReason) → transaction_id_field request < 2 ^ 96
     → IsFinal error → IsPage request (error_begun request error)
 
--- an attribute that the caller may add to what is begun
+-- an attribute that the caller may add to a response that is begun
 pub record IsMore (page : List ℕ) (attribute : TypedValue) : Type 0 where
   pub fits : IsAddable page attribute
   pub plain : is_set_apart attribute.kind ≡ false
@@ -77,7 +77,7 @@ UnknownIsPage =
     (known : List AttributeType) (request : List ℕ) → IsShortRequest request
     → IsPage request (refusing_answer known request)
 
--- ---- what is answered
+-- ---- answers
 
 -- a response answers a request at the client that has signed it with a key, and ends it there
 pub record EndsAtClient (required : Bool) (request key : List ℕ) (a : IntegrityAlgorithm)
@@ -85,8 +85,8 @@ pub record EndsAtClient (required : Bool) (request key : List ℕ) (a : Integrit
   pub answers : IsResponseTo required request response
   pub signed : IsSignedAnswer required response key a
 
--- what comes of an accepted request ends it: the answer of the server itself, or whatever page the
--- caller ends by `Reply::finish`
+-- the outcome of an accepted request ends it: the answer of the server itself, or whatever page the
+-- caller ends with `Reply::finish`
 abbrev pub OutcomeEnds : Bool → List ℕ → List ℕ → IntegrityAlgorithm → Outcome → Type 0
 OutcomeEnds required request key a (answered answer) =
     EndsAtClient required request key a answer.bytes

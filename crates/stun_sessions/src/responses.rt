@@ -1,17 +1,17 @@
-//! Laws of the responses that end a request: those that a server writes by itself, and those that
-//! its caller begins with `success` or `error` and ends with `finish`.
+//! Laws about the responses that end a request: the responses that a server writes itself, and the
+//! responses that its caller begins with `success` or `error` and completes with `finish`.
 ghost use Rattle.stun_sessions.specs.Responses.{AcceptedAreAnswered, AddingKeepsPages};
 ghost use Rattle.stun_sessions.specs.Responses.{ErrorsArePages, SuccessesBegin, UnknownIsPage};
 
-/// What `Reply::success` and `Reply::error` begin is a response that `finish` can end (`success`,
-/// `error`), and so it is with each attribute that the caller adds (`added`). The 420 of a server
-/// is one too (`unknown`). That such a response, once it is ended, answers the request and is
-/// signed is law `signed_answers_end_requests` of `stun_exchanges`.
+/// `Reply::success` and `Reply::error` begin a response that `finish` can complete (`success`,
+/// `error`), and it stays such a response when an attribute is added (`added`). The 420 of a server
+/// is also such a response (`unknown`). By law `answers_of_a_server_are_signed` of
+/// `stun_exchanges`, such a response, once it is completed, answers the request and is signed.
 ///
-/// Premises: an ID has 96 bits; the code is neither 401 nor 438, which a server answers by itself,
-/// and can be written, as `error` tests; an added attribute fits the message, as `add_attribute`
-/// tests, and is neither a signature, FINGERPRINT nor a second ERROR-CODE; and the response has at
-/// most 60,000 bytes before its end.
+/// Premises: an ID has 96 bits; the code is neither 401 nor 438, which a server answers itself, and
+/// is a code that `error` can write; an added attribute fits into the message, as `add_attribute`
+/// tests, and is not a signature, FINGERPRINT or a second ERROR-CODE; and the response has at most
+/// 60,000 bytes before it is completed.
 pub fn begun_responses_are_pages()
     ensures success { SuccessesBegin }
     ensures error { ErrorsArePages }
@@ -19,18 +19,21 @@ pub fn begun_responses_are_pages()
     ensures unknown { UnknownIsPage }
 {
     stun_types::laws::writing_adds_one_attribute();
-    stun_exchanges::exchanges::signed_answers_end_requests();
+    stun_exchanges::exchanges::answers_of_a_server_are_signed();
 }
 
-/// Each response to an accepted request is signed with the key of its user and answers the
-/// request: the answer to a Binding request and the 420, which the server writes by itself, and
-/// each that the caller ends with `Reply::finish`.
+/// Each response to an accepted request is signed with the key of the request's user, and ends the
+/// request at the client. This covers the responses that the server writes itself, which are the
+/// success for a Binding request and the 420, and each response that the caller begins with
+/// `Reply::success` or `Reply::error` (`begun_responses_are_pages`) and completes with
+/// `Reply::finish`.
 ///
 /// Premises: the server was built; the request is signed, as each accepted one is, and has at most
-/// 65,552 bytes; an ID has 96 bits; and a client that requires FINGERPRINT sends one.
+/// 65,552 bytes; its transaction ID has 96 bits; and if the client requires FINGERPRINT, the
+/// request has one.
 pub fn accepted_requests_are_answered()
     ensures { AcceptedAreAnswered }
 {
     begun_responses_are_pages();
-    stun_exchanges::exchanges::signed_answers_end_requests();
+    stun_exchanges::exchanges::answers_of_a_server_are_signed();
 }

@@ -47,14 +47,8 @@ taken_by (Some e) P Q h none = absurd (none e h)
 
 -- an error is not that an allocation failed
 abbrev pub IsNoMemory : StunError → Type 0
-IsNoMemory Error.AlreadyInProgress = Unit {0}
-IsNoMemory Error.ProtocolViolation = Unit {0}
 IsNoMemory Error.OutOfMemory = ⊥
-IsNoMemory (Error.ParseError error) = Unit {0}
-IsNoMemory Error.ResourceNotFound = Unit {0}
-IsNoMemory Error.TimedOut = Unit {0}
-IsNoMemory Error.Aborted = Unit {0}
-IsNoMemory (Error.WriteError error) = Unit {0}
+IsNoMemory other = Unit {0}
 
 -- what is looked for before a request is kept
 either : (b : Bool) (x y : Option StunError) → IfSome x IsNoMemory → IfSome y IsNoMemory
@@ -80,21 +74,13 @@ refusals_are_no_memory a bytes to =
 -- a fact of the refusal for such an error
 of_parse : (error : StunParseError) (P Q : Type 0) → P → ForRefusal (refusal_of_parse error) P Q
 of_parse Parse.Truncated P Q p = p
-of_parse Parse.NotStun P Q p = p
-of_parse Parse.TooLarge P Q p = p
-of_parse (Parse.MissingAttribute _) P Q p = p
-of_parse Parse.InvalidAttributeData P Q p = p
+of_parse other P Q p = p
 
 of_error : (error : StunError) (P Q : Type 0) → IsNoMemory error → P
     → ForRefusal (refusal_of_agent error) P Q
-of_error Error.AlreadyInProgress P Q n p = p
-of_error Error.ProtocolViolation P Q n p = p
 of_error Error.OutOfMemory P Q n p = absurd n
 of_error (Error.ParseError error) P Q n p = of_parse error P Q p
-of_error Error.ResourceNotFound P Q n p = p
-of_error Error.TimedOut P Q n p = p
-of_error Error.Aborted P Q n p = p
-of_error (Error.WriteError error) P Q n p = p
+of_error other P Q n p = p
 
 -- an error is the refusal that was to come, or that an allocation failed where none was to come
 pub refused_or_memory : (o : Option StunError) (error : StunError) (refusal : Refusal)

@@ -7,22 +7,7 @@ use lib.Dec.{leb-suc-zero}
 use Rattle.stun_numbers.specs.Refusals.{refusal_number}
 use Rattle.stun_numbers.specs.Buffers.{buffer_after, length_of}
 use Rattle.stun_numbers.specs.declared.refusal.Refusal.{Refusal}
-use Rattle.stun_numbers.specs.declared.refusal.Refusal.TheVariants.{Truncated, NotStun, TooLarge}
-use Rattle.stun_numbers.specs.declared.refusal.Refusal.TheVariants.{NoIntegrity, MalformedIntegrity}
-use Rattle.stun_numbers.specs.declared.refusal.Refusal.TheVariants.{IntegrityFailed, BadArgument}
-use Rattle.stun_numbers.specs.declared.refusal.Refusal.TheVariants.{NotText, TextTooLong}
-use Rattle.stun_numbers.specs.declared.refusal.Refusal.TheVariants.{BufferTooSmall, NotAllowed}
-use Rattle.stun_numbers.specs.declared.refusal.Refusal.TheVariants.{Closed, AttributeExists}
-use Rattle.stun_numbers.specs.declared.refusal.Refusal.TheVariants.{MessageTooLong}
-use Rattle.stun_numbers.specs.declared.refusal.Refusal.TheVariants.{MissingAttribute}
-use Rattle.stun_numbers.specs.declared.refusal.Refusal.TheVariants.{MalformedAttribute, OutOfMemory}
-use Rattle.stun_numbers.specs.declared.refusal.Refusal.TheVariants.{EmptyHandle, FullHandle}
-use Rattle.stun_numbers.specs.declared.refusal.Refusal.TheVariants.{AlreadyInProgress}
-use Rattle.stun_numbers.specs.declared.refusal.Refusal.TheVariants.{ProtocolViolation, Unauthorized}
-use Rattle.stun_numbers.specs.declared.refusal.Refusal.TheVariants.{BadRequest, StaleNonce}
-use Rattle.stun_numbers.specs.declared.refusal.Refusal.TheVariants.{UnsupportedFeature, NoWait}
-use Rattle.stun_numbers.specs.declared.refusal.Refusal.TheVariants.{TooManyAddresses, CannotSign}
-use Rattle.stun_numbers.specs.declared.refusal.Refusal.TheVariants.{WrongHandle}
+use Rattle.stun_numbers.specs.declared.refusal.Refusal.TheVariants.{OutOfMemory, Truncated}
 use Rattle.stun_handles.specs.Numbers.{OrOutOfMemory, length_answer}
 use Rattle.stun_state.specs.Answers.{ForRefusal, CallUnlessMemory}
 use Rattle.stun_state.specs.Numbers.{left_by}
@@ -38,63 +23,9 @@ unless_memory : {V S : Type 0} (Q : Type 0) (number : Result V Refusal → ℤ) 
     → ForRefusal refusal (Err refusal ≡ expected) Q
     → ForRefusal refusal (now ≡ after) (now ≡ before)
     → OrOutOfMemory told before now (number expected) after
-unless_memory Q number Truncated expected told before now after memory is p q =
-    inl (is ∙ ap number p, q)
-unless_memory Q number NotStun expected told before now after memory is p q =
-    inl (is ∙ ap number p, q)
-unless_memory Q number TooLarge expected told before now after memory is p q =
-    inl (is ∙ ap number p, q)
-unless_memory Q number NoIntegrity expected told before now after memory is p q =
-    inl (is ∙ ap number p, q)
-unless_memory Q number MalformedIntegrity expected told before now after memory is p q =
-    inl (is ∙ ap number p, q)
-unless_memory Q number IntegrityFailed expected told before now after memory is p q =
-    inl (is ∙ ap number p, q)
-unless_memory Q number BadArgument expected told before now after memory is p q =
-    inl (is ∙ ap number p, q)
-unless_memory Q number NotText expected told before now after memory is p q =
-    inl (is ∙ ap number p, q)
-unless_memory Q number TextTooLong expected told before now after memory is p q =
-    inl (is ∙ ap number p, q)
-unless_memory Q number BufferTooSmall expected told before now after memory is p q =
-    inl (is ∙ ap number p, q)
-unless_memory Q number NotAllowed expected told before now after memory is p q =
-    inl (is ∙ ap number p, q)
-unless_memory Q number Closed expected told before now after memory is p q =
-    inl (is ∙ ap number p, q)
-unless_memory Q number AttributeExists expected told before now after memory is p q =
-    inl (is ∙ ap number p, q)
-unless_memory Q number MessageTooLong expected told before now after memory is p q =
-    inl (is ∙ ap number p, q)
-unless_memory Q number MissingAttribute expected told before now after memory is p q =
-    inl (is ∙ ap number p, q)
-unless_memory Q number MalformedAttribute expected told before now after memory is p q =
-    inl (is ∙ ap number p, q)
 unless_memory Q number OutOfMemory expected told before now after memory is p q =
     inr (is ∙ memory, q)
-unless_memory Q number EmptyHandle expected told before now after memory is p q =
-    inl (is ∙ ap number p, q)
-unless_memory Q number FullHandle expected told before now after memory is p q =
-    inl (is ∙ ap number p, q)
-unless_memory Q number AlreadyInProgress expected told before now after memory is p q =
-    inl (is ∙ ap number p, q)
-unless_memory Q number ProtocolViolation expected told before now after memory is p q =
-    inl (is ∙ ap number p, q)
-unless_memory Q number Unauthorized expected told before now after memory is p q =
-    inl (is ∙ ap number p, q)
-unless_memory Q number BadRequest expected told before now after memory is p q =
-    inl (is ∙ ap number p, q)
-unless_memory Q number StaleNonce expected told before now after memory is p q =
-    inl (is ∙ ap number p, q)
-unless_memory Q number UnsupportedFeature expected told before now after memory is p q =
-    inl (is ∙ ap number p, q)
-unless_memory Q number NoWait expected told before now after memory is p q =
-    inl (is ∙ ap number p, q)
-unless_memory Q number TooManyAddresses expected told before now after memory is p q =
-    inl (is ∙ ap number p, q)
-unless_memory Q number CannotSign expected told before now after memory is p q =
-    inl (is ∙ ap number p, q)
-unless_memory Q number WrongHandle expected told before now after memory is p q =
+unless_memory Q number other expected told before now after memory is p q =
     inl (is ∙ ap number p, q)
 
 pub or_memory : {V S : Type 0} (Q : Type 0) (number : Result V Refusal → ℤ)
@@ -114,34 +45,7 @@ not_below n = leb-suc-zero n
 
 pub below : (refusal : Refusal) → int_lt (refusal_number refusal) (pos 0) ≡ true
 below Truncated = refl
-below NotStun = refl
-below TooLarge = refl
-below NoIntegrity = refl
-below MalformedIntegrity = refl
-below IntegrityFailed = refl
-below BadArgument = refl
-below NotText = refl
-below TextTooLong = refl
-below BufferTooSmall = refl
-below NotAllowed = refl
-below Closed = refl
-below AttributeExists = refl
-below MessageTooLong = refl
-below MissingAttribute = refl
-below MalformedAttribute = refl
-below OutOfMemory = refl
-below EmptyHandle = refl
-below FullHandle = refl
-below AlreadyInProgress = refl
-below ProtocolViolation = refl
-below Unauthorized = refl
-below BadRequest = refl
-below StaleNonce = refl
-below UnsupportedFeature = refl
-below NoWait = refl
-below TooManyAddresses = refl
-below CannotSign = refl
-below WrongHandle = refl
+below other = refl
 
 -- what is kept after a call that answers a length, where a refusal leaves all
 pub left_length : {S H : Type 0} (E : Type 0) (wrap : S → H) (answer : Result ℕ Refusal) (told : ℤ)
@@ -167,61 +71,8 @@ unwritten refusal (Err other) before after is written = written
 unwritten_by : (refusal : Refusal) (signed : Result (List ℕ) Refusal) (before after : List ℕ)
     → ForRefusal refusal (Err refusal ≡ length_of signed) ⊤
     → ForRefusal refusal (after ≡ buffer_after signed before) (after ≡ before) → after ≡ before
-unwritten_by Truncated signed before after is written =
-    unwritten Truncated signed before after is written
-unwritten_by NotStun signed before after is written =
-    unwritten NotStun signed before after is written
-unwritten_by TooLarge signed before after is written =
-    unwritten TooLarge signed before after is written
-unwritten_by NoIntegrity signed before after is written =
-    unwritten NoIntegrity signed before after is written
-unwritten_by MalformedIntegrity signed before after is written =
-    unwritten MalformedIntegrity signed before after is written
-unwritten_by IntegrityFailed signed before after is written =
-    unwritten IntegrityFailed signed before after is written
-unwritten_by BadArgument signed before after is written =
-    unwritten BadArgument signed before after is written
-unwritten_by NotText signed before after is written =
-    unwritten NotText signed before after is written
-unwritten_by TextTooLong signed before after is written =
-    unwritten TextTooLong signed before after is written
-unwritten_by BufferTooSmall signed before after is written =
-    unwritten BufferTooSmall signed before after is written
-unwritten_by NotAllowed signed before after is written =
-    unwritten NotAllowed signed before after is written
-unwritten_by Closed signed before after is written = unwritten Closed signed before after is written
-unwritten_by AttributeExists signed before after is written =
-    unwritten AttributeExists signed before after is written
-unwritten_by MessageTooLong signed before after is written =
-    unwritten MessageTooLong signed before after is written
-unwritten_by MissingAttribute signed before after is written =
-    unwritten MissingAttribute signed before after is written
-unwritten_by MalformedAttribute signed before after is written =
-    unwritten MalformedAttribute signed before after is written
 unwritten_by OutOfMemory signed before after is written = written
-unwritten_by EmptyHandle signed before after is written =
-    unwritten EmptyHandle signed before after is written
-unwritten_by FullHandle signed before after is written =
-    unwritten FullHandle signed before after is written
-unwritten_by AlreadyInProgress signed before after is written =
-    unwritten AlreadyInProgress signed before after is written
-unwritten_by ProtocolViolation signed before after is written =
-    unwritten ProtocolViolation signed before after is written
-unwritten_by Unauthorized signed before after is written =
-    unwritten Unauthorized signed before after is written
-unwritten_by BadRequest signed before after is written =
-    unwritten BadRequest signed before after is written
-unwritten_by StaleNonce signed before after is written =
-    unwritten StaleNonce signed before after is written
-unwritten_by UnsupportedFeature signed before after is written =
-    unwritten UnsupportedFeature signed before after is written
-unwritten_by NoWait signed before after is written = unwritten NoWait signed before after is written
-unwritten_by TooManyAddresses signed before after is written =
-    unwritten TooManyAddresses signed before after is written
-unwritten_by CannotSign signed before after is written =
-    unwritten CannotSign signed before after is written
-unwritten_by WrongHandle signed before after is written =
-    unwritten WrongHandle signed before after is written
+unwritten_by other signed before after is written = unwritten other signed before after is written
 
 -- what is in the buffer after a call that signs, where an allocation may fail
 pub left_buffer : (answer : Result ℕ Refusal) (signed : Result (List ℕ) Refusal) (told : ℤ)

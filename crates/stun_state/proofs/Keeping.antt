@@ -58,35 +58,8 @@ failed : {V S : Type 0} (refusal : Refusal) (verdict : Result V Refusal) (before
     → ForRefusal refusal (now ≡ after) (now ≡ before)
     → ((Err refusal ≡ verdict) × (now ≡ after))
     ⊎ (Is {V = V} (Err refusal) (Err r.OutOfMemory) × (now ≡ before) × M)
-failed r.Truncated verdict before now after M p q = inl (p, q)
-failed r.NotStun verdict before now after M p q = inl (p, q)
-failed r.TooLarge verdict before now after M p q = inl (p, q)
-failed r.NoIntegrity verdict before now after M p q = inl (p, q)
-failed r.MalformedIntegrity verdict before now after M p q = inl (p, q)
-failed r.IntegrityFailed verdict before now after M p q = inl (p, q)
-failed r.BadArgument verdict before now after M p q = inl (p, q)
-failed r.NotText verdict before now after M p q = inl (p, q)
-failed r.TextTooLong verdict before now after M p q = inl (p, q)
-failed r.BufferTooSmall verdict before now after M p q = inl (p, q)
-failed r.NotAllowed verdict before now after M p q = inl (p, q)
-failed r.Closed verdict before now after M p q = inl (p, q)
-failed r.AttributeExists verdict before now after M p q = inl (p, q)
-failed r.MessageTooLong verdict before now after M p q = inl (p, q)
-failed r.MissingAttribute verdict before now after M p q = inl (p, q)
-failed r.MalformedAttribute verdict before now after M p q = inl (p, q)
 failed r.OutOfMemory verdict before now after M p q = inr (refl, q, p)
-failed r.EmptyHandle verdict before now after M p q = inl (p, q)
-failed r.FullHandle verdict before now after M p q = inl (p, q)
-failed r.AlreadyInProgress verdict before now after M p q = inl (p, q)
-failed r.ProtocolViolation verdict before now after M p q = inl (p, q)
-failed r.Unauthorized verdict before now after M p q = inl (p, q)
-failed r.BadRequest verdict before now after M p q = inl (p, q)
-failed r.StaleNonce verdict before now after M p q = inl (p, q)
-failed r.UnsupportedFeature verdict before now after M p q = inl (p, q)
-failed r.NoWait verdict before now after M p q = inl (p, q)
-failed r.TooManyAddresses verdict before now after M p q = inl (p, q)
-failed r.CannotSign verdict before now after M p q = inl (p, q)
-failed r.WrongHandle verdict before now after M p q = inl (p, q)
+failed other verdict before now after M p q = inl (p, q)
 
 pub returned : {V S : Type 0} (result verdict : Result V Refusal) (before now after : S)
     (M : Type 0) → CallUnlessMemory result (result ≡ verdict) M
@@ -100,35 +73,8 @@ returned (Err refusal) verdict before now after M p q =
 refused_as : (refusal : Refusal) (o : Option Refusal)
     → ForRefusal refusal (o ≡ Some refusal) (o ≡ None)
     → (o ≡ Some refusal) ⊎ ((refusal ≡ r.OutOfMemory) × (o ≡ None))
-refused_as r.Truncated why none = inl none
-refused_as r.NotStun why none = inl none
-refused_as r.TooLarge why none = inl none
-refused_as r.NoIntegrity why none = inl none
-refused_as r.MalformedIntegrity why none = inl none
-refused_as r.IntegrityFailed why none = inl none
-refused_as r.BadArgument why none = inl none
-refused_as r.NotText why none = inl none
-refused_as r.TextTooLong why none = inl none
-refused_as r.BufferTooSmall why none = inl none
-refused_as r.NotAllowed why none = inl none
-refused_as r.Closed why none = inl none
-refused_as r.AttributeExists why none = inl none
-refused_as r.MessageTooLong why none = inl none
-refused_as r.MissingAttribute why none = inl none
-refused_as r.MalformedAttribute why none = inl none
 refused_as r.OutOfMemory why none = inr (refl, none)
-refused_as r.EmptyHandle why none = inl none
-refused_as r.FullHandle why none = inl none
-refused_as r.AlreadyInProgress why none = inl none
-refused_as r.ProtocolViolation why none = inl none
-refused_as r.Unauthorized why none = inl none
-refused_as r.BadRequest why none = inl none
-refused_as r.StaleNonce why none = inl none
-refused_as r.UnsupportedFeature why none = inl none
-refused_as r.NoWait why none = inl none
-refused_as r.TooManyAddresses why none = inl none
-refused_as r.CannotSign why none = inl none
-refused_as r.WrongHandle why none = inl none
+refused_as other why none = inl none
 
 checked_by : (o : Option Refusal) (why : Refusal)
     → (o ≡ Some why) ⊎ ((why ≡ r.OutOfMemory) × (o ≡ None))
@@ -317,14 +263,9 @@ asks None (Ok (Reading.ResendRequest digest)) h = (refl, tt)
 asks None (Ok (Reading.Validated Sha1)) h = absurd (true≢false (sym h))
 asks None (Ok (Reading.Validated Sha256)) h = absurd (true≢false (sym h))
 asks None (Err w.Unauthorized) h = absurd (true≢false (sym h))
-asks None (Err w.IntegrityFailed) h = absurd (true≢false (sym h))
-asks None (Err w.UnsupportedFeature) h = absurd (true≢false (sym h))
-asks None (Err w.OutOfMemory) h = absurd (true≢false (sym h))
+asks None (Err other) h = absurd (true≢false (sym h))
 asks (Some Parse.Truncated) a h = absurd (true≢false (sym h))
-asks (Some Parse.NotStun) a h = absurd (true≢false (sym h))
-asks (Some Parse.TooLarge) a h = absurd (true≢false (sym h))
-asks (Some (Parse.MissingAttribute kind)) a h = absurd (true≢false (sym h))
-asks (Some Parse.InvalidAttributeData) a h = absurd (true≢false (sym h))
+asks (Some other) a h = absurd (true≢false (sym h))
 
 pub asks_again : (c : ClientSide) (bytes : List ℕ)
     → AsksAgain c bytes ↔ (is_resend_answer (reading_answer (client_validation c bytes)) ≡ true)

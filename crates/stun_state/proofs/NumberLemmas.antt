@@ -7,22 +7,7 @@ use Rattle.stun_base.specs.declared.keys.algorithm.IntegrityAlgorithm.TheVariant
 use Rattle.stun_numbers.specs.Algorithms.{algorithm_number, algorithm_numbered}
 use Rattle.stun_numbers.specs.Refusals.{refusal_number}
 use Rattle.stun_numbers.specs.declared.refusal.Refusal.{Refusal}
-use Rattle.stun_numbers.specs.declared.refusal.Refusal.TheVariants.{Truncated, NotStun, TooLarge}
-use Rattle.stun_numbers.specs.declared.refusal.Refusal.TheVariants.{NoIntegrity, MalformedIntegrity}
-use Rattle.stun_numbers.specs.declared.refusal.Refusal.TheVariants.{IntegrityFailed, BadArgument}
-use Rattle.stun_numbers.specs.declared.refusal.Refusal.TheVariants.{NotText, TextTooLong}
-use Rattle.stun_numbers.specs.declared.refusal.Refusal.TheVariants.{BufferTooSmall, NotAllowed}
-use Rattle.stun_numbers.specs.declared.refusal.Refusal.TheVariants.{Closed, AttributeExists}
-use Rattle.stun_numbers.specs.declared.refusal.Refusal.TheVariants.{MessageTooLong}
-use Rattle.stun_numbers.specs.declared.refusal.Refusal.TheVariants.{MissingAttribute}
-use Rattle.stun_numbers.specs.declared.refusal.Refusal.TheVariants.{MalformedAttribute, OutOfMemory}
-use Rattle.stun_numbers.specs.declared.refusal.Refusal.TheVariants.{EmptyHandle, FullHandle}
-use Rattle.stun_numbers.specs.declared.refusal.Refusal.TheVariants.{AlreadyInProgress}
-use Rattle.stun_numbers.specs.declared.refusal.Refusal.TheVariants.{ProtocolViolation, Unauthorized}
-use Rattle.stun_numbers.specs.declared.refusal.Refusal.TheVariants.{BadRequest, StaleNonce}
-use Rattle.stun_numbers.specs.declared.refusal.Refusal.TheVariants.{UnsupportedFeature, NoWait}
-use Rattle.stun_numbers.specs.declared.refusal.Refusal.TheVariants.{TooManyAddresses, CannotSign}
-use Rattle.stun_numbers.specs.declared.refusal.Refusal.TheVariants.{WrongHandle}
+use Rattle.stun_numbers.specs.declared.refusal.Refusal.TheVariants as refused
 use Rattle.stun_handles.specs.Numbers.{done_answer, length_answer, number_answer}
 use Rattle.stun_state.specs.Laws.{IsLength, TellsApart}
 use Rattle.stun_state.specs.Numbers.{algorithm_answer, found_answer}
@@ -44,67 +29,40 @@ same_value x y is = ap (value_or x) is
 -- the refusal of a number
 abbrev numbered : ℕ → Option Refusal
 numbered n =
-    if n == 1 then Some Truncated
-    else if n == 2 then Some NotStun
-    else if n == 3 then Some TooLarge
-    else if n == 4 then Some NoIntegrity
-    else if n == 5 then Some MalformedIntegrity
-    else if n == 6 then Some IntegrityFailed
-    else if n == 7 then Some BadArgument
-    else if n == 8 then Some NotText
-    else if n == 9 then Some TextTooLong
-    else if n == 10 then Some BufferTooSmall
-    else if n == 11 then Some NotAllowed
-    else if n == 12 then Some Closed
-    else if n == 13 then Some AttributeExists
-    else if n == 14 then Some MessageTooLong
-    else if n == 15 then Some MissingAttribute
-    else if n == 16 then Some MalformedAttribute
-    else if n == 17 then Some OutOfMemory
-    else if n == 18 then Some EmptyHandle
-    else if n == 19 then Some FullHandle
-    else if n == 20 then Some AlreadyInProgress
-    else if n == 21 then Some ProtocolViolation
-    else if n == 22 then Some Unauthorized
-    else if n == 23 then Some BadRequest
-    else if n == 24 then Some StaleNonce
-    else if n == 25 then Some UnsupportedFeature
-    else if n == 26 then Some NoWait
-    else if n == 27 then Some TooManyAddresses
-    else if n == 28 then Some CannotSign
-    else if n == 29 then Some WrongHandle
+    if n == 1 then Some refused.Truncated
+    else if n == 2 then Some refused.NotStun
+    else if n == 3 then Some refused.TooLarge
+    else if n == 4 then Some refused.NoIntegrity
+    else if n == 5 then Some refused.MalformedIntegrity
+    else if n == 6 then Some refused.IntegrityFailed
+    else if n == 7 then Some refused.BadArgument
+    else if n == 8 then Some refused.NotText
+    else if n == 9 then Some refused.TextTooLong
+    else if n == 10 then Some refused.BufferTooSmall
+    else if n == 11 then Some refused.NotAllowed
+    else if n == 12 then Some refused.Closed
+    else if n == 13 then Some refused.AttributeExists
+    else if n == 14 then Some refused.MessageTooLong
+    else if n == 15 then Some refused.MissingAttribute
+    else if n == 16 then Some refused.MalformedAttribute
+    else if n == 17 then Some refused.OutOfMemory
+    else if n == 18 then Some refused.EmptyHandle
+    else if n == 19 then Some refused.FullHandle
+    else if n == 20 then Some refused.AlreadyInProgress
+    else if n == 21 then Some refused.ProtocolViolation
+    else if n == 22 then Some refused.Unauthorized
+    else if n == 23 then Some refused.BadRequest
+    else if n == 24 then Some refused.StaleNonce
+    else if n == 25 then Some refused.UnsupportedFeature
+    else if n == 26 then Some refused.NoWait
+    else if n == 27 then Some refused.TooManyAddresses
+    else if n == 28 then Some refused.CannotSign
+    else if n == 29 then Some refused.WrongHandle
     else None
 
-again : (r : Refusal) → numbered (size (refusal_number r)) ≡ Some r
-again Truncated = refl
-again NotStun = refl
-again TooLarge = refl
-again NoIntegrity = refl
-again MalformedIntegrity = refl
-again IntegrityFailed = refl
-again BadArgument = refl
-again NotText = refl
-again TextTooLong = refl
-again BufferTooSmall = refl
-again NotAllowed = refl
-again Closed = refl
-again AttributeExists = refl
-again MessageTooLong = refl
-again MissingAttribute = refl
-again MalformedAttribute = refl
-again OutOfMemory = refl
-again EmptyHandle = refl
-again FullHandle = refl
-again AlreadyInProgress = refl
-again ProtocolViolation = refl
-again Unauthorized = refl
-again BadRequest = refl
-again StaleNonce = refl
-again UnsupportedFeature = refl
-again NoWait = refl
-again TooManyAddresses = refl
-again CannotSign = refl
-again WrongHandle = refl
+again : (why : Refusal) → numbered (size (refusal_number why)) ≡ Some why
+again refused.Truncated = refl
+again other = refl
 
 pub same_refusal : (r s : Refusal) → refusal_number r ≡ refusal_number s → r ≡ s
 same_refusal r s is = same_value r s (sym (again r) ∙ ap (λ z. numbered (size z)) is ∙ again s)

@@ -27,6 +27,7 @@ use Rattle.stun_handles.specs.Addresses.{caller_address, socket_address, start_f
 use Rattle.stun_handles.specs.Answers.{at_address}
 use Rattle.stun_handles.specs.Numbers.{length_answer, number_answer}
 use Rattle.stun_handles.specs.declared.address.Address.{Address}
+use Rattle.stun_handles.proofs.AddressLemmas.{address_again}
 use Rattle.stun_state.specs.Agent.{STATISTICS_SIZE, caller_statistics, caller_statistics_after}
 use Rattle.stun_state.specs.Agent.{statistics_answer}
 use Rattle.stun_state.specs.Answers.{after_address, after_start, at_start}
@@ -38,7 +39,7 @@ use Rattle.stun_state.specs.Server.{client_found, client_told, name_length_of, n
 use Rattle.stun_state.specs.Server.{nonce_at, nonce_found, nonce_told, nonce_written}
 use Rattle.stun_state.specs.Server.{server_with_algorithms, server_with_feature, step_answer}
 use Rattle.stun_state.specs.declared.agent.Statistics.{Statistics}
-use Rattle.stun_state.proofs.AgentCalls.{address_again, in_size, is_flag}
+use Rattle.stun_state.proofs.AgentCalls.{in_size, is_flag}
 use Rattle.stun_state.proofs.NumberLemmas.{no_refusal}
 use Rattle.stun_state.proofs.Verdicts.{same_number}
 

@@ -103,45 +103,16 @@ reason_of r.UnsupportedFeature = Some w.UnsupportedFeature
 reason_of r.BadRequest = Some w.BadRequest
 reason_of r.StaleNonce = Some w.StaleNonce
 reason_of r.OutOfMemory = Some w.OutOfMemory
-reason_of r.Truncated = None
-reason_of r.NotStun = None
-reason_of r.TooLarge = None
-reason_of r.NoIntegrity = None
-reason_of r.MalformedIntegrity = None
-reason_of r.BadArgument = None
-reason_of r.NotText = None
-reason_of r.TextTooLong = None
-reason_of r.BufferTooSmall = None
-reason_of r.NotAllowed = None
-reason_of r.Closed = None
-reason_of r.AttributeExists = None
-reason_of r.MessageTooLong = None
-reason_of r.MissingAttribute = None
-reason_of r.MalformedAttribute = None
-reason_of r.EmptyHandle = None
-reason_of r.FullHandle = None
-reason_of r.AlreadyInProgress = None
-reason_of r.ProtocolViolation = None
-reason_of r.NoWait = None
-reason_of r.TooManyAddresses = None
-reason_of r.CannotSign = None
-reason_of r.WrongHandle = None
+reason_of other = None
 
 again : (reason : LongTermServerAuthErrorReason)
     → reason_of (refusal_of_server reason) ≡ Some reason
 again w.Unauthorized = refl
-again w.IntegrityFailed = refl
-again w.UnsupportedFeature = refl
-again w.BadRequest = refl
-again w.StaleNonce = refl
-again w.OutOfMemory = refl
+again other = refl
 
 no_parse : (error : StunParseError) → reason_of (refusal_of_parse error) ≡ None
 no_parse Parse.Truncated = refl
-no_parse Parse.NotStun = refl
-no_parse Parse.TooLarge = refl
-no_parse (Parse.MissingAttribute kind) = refl
-no_parse Parse.InvalidAttributeData = refl
+no_parse other = refl
 
 abbrev or_other : LongTermServerAuthErrorReason → Option LongTermServerAuthErrorReason
     → LongTermServerAuthErrorReason

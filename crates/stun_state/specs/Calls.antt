@@ -25,7 +25,7 @@ use Rattle.stun_state.specs.declared.handle.state.StateHandle.{StateHandle}
 
 -- ---- a handle without the value that a call needs
 
--- if the handle has no agent, the call returns the number of the refusal for its kind, and `Left`
+-- if the handle has no agent, the call returns the number of the error for its kind, and `Left`
 -- holds
 abbrev pub WithoutAgent : StateHandle → ℤ → Type 0 → Type 0
 WithoutAgent handle result Left =
@@ -46,13 +46,13 @@ abbrev pub WithoutUser : StateHandle → ℤ → Type 0 → Type 0
 WithoutUser handle result Left =
     IfNone (user_in handle.slot.kept) ((result ≡ missing handle.kind) × Left)
 
--- ---- a handle that is filled, freed or kept
+-- ---- a handle that is filled, freed or left
 
 -- a call that fills an empty handle, for which `Made` holds
 pub record FillsHandle (old new : StateHandle) (result : ℤ) (Made : Type 0) : Type 0 where
   pub full : old.kind ≢ EMPTY → (result ≡ refusal_number FullHandle) × (new ≡ old)
   pub made : old.kind ≡ EMPTY → Made
-  -- a handle that gets no value is left as it was
+  -- a handle that gets no value is unchanged
   pub left : IfNone new.slot.kept (new ≡ old)
 
 -- a call that frees this value of a handle, if the handle has it
@@ -60,7 +60,7 @@ pub record FreesHandle {K : Type 0} (value : Option K) (old new : StateHandle) :
   pub freed : IfSome value (λ _. new.kind ≡ EMPTY)
   pub left : IfNone value (new ≡ old)
 
--- a call that leaves the value of a handle, and leaves a handle without this value as it was
+-- a call that leaves the value in a handle, and leaves a handle without this value unchanged
 pub record KeepsHandle {K : Type 0} (new old : StateHandle) (value : Option K) : Type 0 where
   pub kept : new.slot.kept ≡ old.slot.kept
   pub other : IfNone value (new ≡ old)
@@ -76,19 +76,19 @@ FillsWithAgent old new result made =
     (λ agent. OrOutOfMemory result None new.slot.kept (pos 0) (Some (kind.Agent agent)))
     (λ refusal. (result ≡ refusal_number refusal) × (new.slot.kept ≡ None)))
 
--- the agent of a handle, if the handle has one, becomes what `after` makes of it
+-- the agent of a handle, if the handle has one, becomes `after` of it
 abbrev pub AgentBecomes : StateHandle → StateHandle → (Agent → Agent) → Type 0
 AgentBecomes old new after =
     IfSome (agent_in old.slot.kept) (λ agent. new.slot.kept ≡ Some (kind.Agent (after agent)))
 
--- a call that returns what `number` makes of the agent of a handle, and changes the agent
+-- a call that returns `number` of the agent in a handle, and changes the agent
 pub record ChangesAgent (old new : StateHandle) (result : ℤ) (number : Agent → ℤ)
     (after : Agent → Agent) : Type 0 where
   pub missing : WithoutAgent old result (new ≡ old)
   pub answer : IfSome (agent_in old.slot.kept) (λ agent. result ≡ number agent)
   pub state : AgentBecomes old new after
 
--- the same of a call that may return the number of a failed allocation instead
+-- a call that does so, but may return the number of a failed allocation instead
 pub record ChangesAgentOr (old new : StateHandle) (result : ℤ) (number : Agent → ℤ)
     (after : Agent → Agent) : Type 0 where
   pub missing : WithoutAgent old result (new ≡ old)
@@ -98,7 +98,7 @@ pub record ChangesAgentOr (old new : StateHandle) (result : ℤ) (number : Agent
 
 -- ---- a server
 
--- the server of a handle, if the handle has one, becomes what `after` makes of it
+-- the server of a handle, if the handle has one, becomes `after` of it
 abbrev pub ServerBecomes : StateHandle → StateHandle → (ServerSeen → ServerSeen) → Type 0
 ServerBecomes old new after =
     IfSome (server_in old.slot.kept)
@@ -111,24 +111,25 @@ pub record ChangesServer (old new : StateHandle) (result number : ℤ)
   pub answer : IfSome (server_in old.slot.kept) (λ _. result ≡ number)
   pub state : ServerBecomes old new after
 
--- a call that returns what `number` makes of the server of a handle, and leaves what `after` makes
--- of it, unless an allocation failed
+-- a call that returns `number` of the server in a handle, and leaves `after` of it, unless an
+-- allocation failed
 pub record Judges (old new : StateHandle) (result : ℤ) (number : Server → ℤ)
     (after : Server → ServerSeen) : Type 0 where
   pub missing : WithoutServer old result (new ≡ old)
   pub answer : IfSome (server_in old.slot.kept) (λ s. OrOutOfMemory result old.slot.kept
       new.slot.kept (number s) (Some (kind.Server (record s { server = after s }))))
 
--- ---- a user whom the caller hands in
+-- ---- a user whom the caller passes
 
--- a call that validates bytes from an address by the server that has just this user
+-- a call that validates bytes from an address with the server that has just this user
 abbrev pub ValidatesWith : StateHandle → StateHandle → ℤ → List ℕ → Address → ℕ → List ℕ
     → Result RegisteredUser Refusal → Type 0
 ValidatesWith old new result bytes from now words user =
     Judges old new result (λ s. handed_validation_number s bytes from now words user)
     (λ s. kept_after_handed_validation s bytes from now words user)
 
--- a call that signs a message in the first bytes of a buffer by the server that has just this user
+-- a call that signs a message in the first bytes of a buffer with the server that has just this
+-- user
 pub record SignsWith (old new : StateHandle) (result : ℤ) (buffer buffer' : List ℕ) (count : ℕ)
     (to : Address) (user : Result RegisteredUser Refusal) : Type 0 where
   pub missing : WithoutServer old result ((new ≡ old) × (buffer' ≡ buffer))
@@ -160,13 +161,13 @@ IfUserOf server user Holds =
 
 -- ---- calls without handles
 
--- a call that fails with this refusal, if there is one, and otherwise succeeds
+-- a call that fails with this error, if there is one, and otherwise succeeds
 pub record Checks {V : Type 0} (refusal : Option Refusal) (result : Result V Refusal)
     : Type 0 where
   pub ok : OnOk result (refusal ≡ None)
   pub err : IfErr result (λ error. refusal ≡ Some error)
 
--- the same of a call that may also fail if an allocation fails, when there is no other refusal
+-- a call that does so, but may also fail because of an allocation, if there is no other error
 pub record ChecksOr {V : Type 0} (refusal : Option Refusal) (result : Result V Refusal)
     : Type 0 where
   pub accepted : OnOk result (refusal ≡ None)
@@ -179,8 +180,8 @@ pub record WritesBytes (made : Result (List ℕ) Refusal) (buffer buffer' : List
   pub answer : result ≡ length_of made
   pub written : buffer' ≡ buffer_after made buffer
 
--- a message with a header fits memory of so many bytes, which are no more than the longest message
--- has
+-- a message with a header fits into memory of this many bytes, which is at most as long as the
+-- longest message
 -- its own law: what the calls that sign require of their memory
 pub record FitsMemory (message : List ℕ) (memory : ℕ) : Type 0 where
   pub header : BeginsWithHeader message
@@ -196,8 +197,8 @@ pub record SignsInBuffer (signed : Result (List ℕ) Refusal) (buffer buffer' : 
   pub state : OnOk result (server' ≡ after)
   pub refused : OnErr result (server' ≡ server)
 
--- a call that returns this verdict and leaves `after`, unless an allocation failed. That can only
--- be if `MayFail` holds, and then nothing changes
+-- a call that returns this verdict and leaves `after`, unless an allocation failed. That is
+-- possible only if `MayFail` holds, and then nothing changes
 pub record Returns {V S : Type 0} (verdict : Result V Refusal) (before now after : S)
     (MayFail : Type 0) (result : Result V Refusal) : Type 0 where
   pub answer : CallUnlessMemory result (result ≡ verdict) MayFail

@@ -1,5 +1,5 @@
--- What the calls on a client return and leave, by the definitions of its authenticator (RFC 8489,
--- section 9.2).
+-- The results of the calls on a client, and the client after them, by the definitions of its
+-- authenticator (RFC 8489, section 9.2).
 use Rattle.std.specs.Prelude.{ℕ, List, Option, Some, None, Result, Ok, Err}
 use Rattle.stun_types.specs.Message.{refusal}
 use Rattle.stun_auth.specs.declared.algorithm_set.AlgorithmSet.{AlgorithmSet}
@@ -35,7 +35,7 @@ with_credentials name password c =
           { credentials = Some (record { username = name; password = password }) };
     }
 
--- what a message comes to
+-- the outcome of a message
 abbrev pub step : ClientSide → List ℕ → ClientStep
 step c bytes = client_step c.settings c.state (reading_of bytes)
 
@@ -43,12 +43,12 @@ abbrev pub client_validation_answer : ClientAnswer → Result LongTermClientVali
 client_validation_answer (Ok validation) = Ok validation
 client_validation_answer (Err reason) = Err (refusal_of_client reason)
 
--- what is returned for bytes
+-- the result for bytes
 abbrev pub client_validation : ClientSide → List ℕ → Result LongTermClientValidation Refusal
 client_validation c bytes =
     refusal_or (message_refusal (refusal bytes)) (client_validation_answer (step c bytes).answer)
 
--- the client that they leave
+-- the client after them
 abbrev pub client_after_validation : ClientSide → List ℕ → ClientSide
 client_after_validation c bytes =
     kept_if_refused (message_refusal (refusal bytes)) c (record c { state = (step c bytes).state })

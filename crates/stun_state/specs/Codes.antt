@@ -1,4 +1,4 @@
--- The refusals for the reasons of authenticators, and the numbers that callers give, as
+-- The errors for the reasons of authenticators, and the numbers that callers pass, as
 -- `include/stunp_state.h` has them.
 use Rattle.std.specs.Prelude.{ℕ, Option, Some, None, ◌==◌, if◌then◌else◌}
 use Rattle.stun_auth.specs.declared.algorithm_set.AlgorithmSet.{AlgorithmSet}
@@ -23,7 +23,7 @@ use Rattle.stun_numbers.specs.declared.refusal.Refusal.TheVariants.{Unauthorized
 use Rattle.stun_numbers.specs.declared.refusal.Refusal.TheVariants.{StaleNonce, UnsupportedFeature}
 use Rattle.stun_numbers.specs.Algorithms.{algorithm_number}
 
--- the refusal for the reason of a server
+-- the error for the reason of a server
 abbrev pub refusal_of_server : LongTermServerAuthErrorReason → Refusal
 refusal_of_server AtServer.Unauthorized = Unauthorized
 refusal_of_server AtServer.IntegrityFailed = IntegrityFailed
@@ -32,19 +32,19 @@ refusal_of_server AtServer.BadRequest = BadRequest
 refusal_of_server AtServer.StaleNonce = StaleNonce
 refusal_of_server AtServer.OutOfMemory = OutOfMemory
 
--- the refusal for the reason of a client
+-- the error for the reason of a client
 abbrev pub refusal_of_client : LongTermClientAuthErrorReason → Refusal
 refusal_of_client AtClient.Unauthorized = Unauthorized
 refusal_of_client AtClient.IntegrityFailed = IntegrityFailed
 refusal_of_client AtClient.UnsupportedFeature = UnsupportedFeature
 refusal_of_client AtClient.OutOfMemory = OutOfMemory
 
--- the number of an algorithm, and 0 of none
+-- the number of an algorithm, or 0 for none
 abbrev pub algorithm_or_none : Option IntegrityAlgorithm → ℕ
 algorithm_or_none None = 0
 algorithm_or_none (Some algorithm) = algorithm_number algorithm
 
--- the algorithms of a number whose bits are theirs
+-- the algorithms of a number, whose bits stand for them
 abbrev pub algorithms_numbered : ℕ → Option AlgorithmSet
 algorithms_numbered number =
     if number == 1 then Some OnlySha1 else if number == 2 then Some OnlySha256 else if number == 3

@@ -1,5 +1,5 @@
--- A verdict in two steps: whom a message names, and what the server returns that has just the user
--- whom its caller hands in (RFC 8489, section 9.2.4).
+-- A verdict in two steps: whom a message names, and the result of the server that has just the user
+-- whom its caller passes (RFC 8489, section 9.2.4).
 use Rattle.std.specs.Prelude.{◌≡◌, ℕ, ℤ, List, length, Option, Some, None, Result, Ok, Err}
 use Rattle.std.specs.declared.net.socket_addr.SocketAddr.{SocketAddr}
 use Rattle.stun_base.specs.declared.keys.algorithm.IntegrityAlgorithm.{IntegrityAlgorithm}
@@ -22,9 +22,10 @@ use Rattle.stun_state.specs.Server.{kept_after_validating, room_refusal, server_
 use Rattle.stun_state.specs.Signing.{kept_after_signing, signed_for}
 use Rattle.stun_state.specs.declared.handle.state.Server.{Server as Kept}
 
--- ---- who asks
+-- ---- the user whom a message names
 
--- by whose key the bytes from an address are judged, where they are a message that means somebody
+-- the user with whose key the bytes from an address are judged, if they are a message that names a
+-- user
 abbrev pub named_if : Option Refusal → Option Named → Option Named
 named_if None named = named
 named_if (Some refusal) named = None
@@ -33,17 +34,17 @@ abbrev pub named_in_bytes : ServerSeen → List ℕ → SocketAddr → Option Na
 named_in_bytes s bytes from =
     named_if (message_refusal (refusal bytes)) (judged_by (sight s from) (reading_of bytes))
 
--- the bytes that tell it: a name, or its hash
+-- the bytes of the name, or of its hash
 abbrev pub naming_bytes : Named → List ℕ
 naming_bytes (by_name name) = name
 naming_bytes (by_hash hash) = hash
 
--- 1 where they are a name, 2 where they are a hash, and 0 of nobody
+-- 1 if these bytes are a name, 2 if they are a hash, and 0 for nobody
 abbrev pub naming_number : Named → ℕ
 naming_number (by_name name) = 1
 naming_number (by_hash hash) = 2
 
--- what is returned, where a buffer of so many bytes has room for them
+-- the result, if a buffer of this many bytes has room for them
 abbrev pub number_if : ℕ → Result (List ℕ) Refusal → Result ℕ Refusal
 number_if number (Ok bytes) = Ok number
 number_if number (Err refusal) = Err refusal
@@ -58,7 +59,7 @@ naming_answer s bytes room from =
     refusal_or (message_refusal (refusal bytes))
     (naming_told room (judged_by (sight s from) (reading_of bytes)))
 
--- the buffer with them at its front, and how many they are, also where they have no room
+-- the buffer with them at its front, and how many they are, even if there is no room for them
 abbrev pub naming_written : List ℕ → Option Named → List ℕ
 naming_written buffer None = buffer
 naming_written buffer (Some named) =
@@ -68,21 +69,22 @@ abbrev pub naming_length : Option Named → ℕ → ℕ
 naming_length None before = before
 naming_length (Some named) before = length (naming_bytes named)
 
--- ---- the user whom a caller hands in
+-- ---- the user whom a caller passes
 
--- the user of a name who is known by a password. Both are texts, or are refused
+-- the user of a name with a password. Both must be texts
 abbrev pub user_of_password : List ℕ → List ℕ → Result RegisteredUser Refusal
 user_of_password name password =
     refusal_or (texts_refusal name password)
     (Ok (user_by_password (record { username = name; password = password })))
 
--- the user of a name who is known by stored keys
+-- the user of a name with stored keys
 abbrev pub user_known : List ℕ → Result StoredKeys Refusal → Result RegisteredUser Refusal
 user_known name (Ok keys) = Ok (user_by_keys name keys)
 user_known name (Err refusal) = Err refusal
 
--- the same as a caller gives them: the name, which is a text, the key for HMAC-SHA1 of 16 bytes
--- (RFC 8489, section 9.2.2), and that for HMAC-SHA256 of 32 (section 18.5.1)
+-- the user of a name with stored keys as a caller passes them: the name, which is a text, the key
+-- for HMAC-SHA1 of 16 bytes (RFC 8489, section 9.2.2), and that for HMAC-SHA256 of 32 (section
+-- 18.5.1)
 abbrev pub user_of_keys : List ℕ → List ℕ → List ℕ → Result RegisteredUser Refusal
 user_of_keys name sha1 sha256 =
     refusal_or (text_refusal name)
@@ -93,8 +95,7 @@ abbrev pub just_given : Registered → Result RegisteredUser Refusal → Result 
 just_given users (Ok user) = Ok (just users (Some user))
 just_given users (Err refusal) = Err refusal
 
--- what is returned with these users, and what is left; a refusal is returned, and leaves what was
--- there
+-- the result with these users, and what is left; an error is returned, and leaves what was there
 abbrev pub with_given : {V : Type 0} → Result Registered Refusal → (Registered → Result V Refusal)
     → Result V Refusal
 with_given (Ok users) answer = answer users
@@ -106,8 +107,8 @@ left_with (Err refusal) before after = before
 
 -- ---- the verdict with a user
 
--- what is returned for bytes from an address. They are refused first where they are no message,
--- then where they come from one address too many, and then where the user is refused
+-- the result for bytes from an address. The errors come in this order: they are not a message, they
+-- come from an address above the limit, and the user is refused
 abbrev pub handed_validation : Kept → List ℕ → ℕ → List ℕ → Result RegisteredUser Refusal
     → SocketAddr → Result IntegrityAlgorithm Refusal
 handed_validation k bytes now words user from =
@@ -116,7 +117,7 @@ handed_validation k bytes now words user from =
     (with_given (just_given k.server.registered user) (λ users. server_validation_answer
     (answer (sight (with_users k.server users) from) now words (reading_of bytes)))))
 
--- the server that they leave, with its own users
+-- the server after them, with its own users
 abbrev pub after_handed_validation : Kept → List ℕ → ℕ → List ℕ → Result RegisteredUser Refusal
     → SocketAddr → ServerSeen
 after_handed_validation k bytes now words user from =
@@ -126,7 +127,7 @@ after_handed_validation k bytes now words user from =
     (after_validation (with_users k.server users) from now words (reading_of bytes))
     k.server.registered)))
 
--- the number that a caller gets, and the server that is kept then
+-- the number that a caller receives, and the server after that
 abbrev pub handed_validation_number : Kept → List ℕ → Address → ℕ → List ℕ
     → Result RegisteredUser Refusal → ℤ
 handed_validation_number k bytes from now words user =
@@ -139,15 +140,15 @@ kept_after_handed_validation k bytes from now words user =
 
 -- ---- signing with a user
 
--- a message in the first bytes of a buffer, signed by the server that has just this user: where the
--- user is refused, that comes first
+-- a message in the first bytes of a buffer, signed by the server that has just this user. An error
+-- of the user comes first
 abbrev pub handed_signing : ServerSeen → List ℕ → ℕ → Address → Result RegisteredUser Refusal
     → Result (List ℕ) Refusal
 handed_signing s buffer count to user =
     with_given (just_given s.registered user)
     (λ users. signed_for (with_users s users) buffer count to)
 
--- the server that is kept then, with its own users
+-- the server after that, with its own users
 abbrev pub kept_after_handed_signing : ServerSeen → List ℕ → ℕ → Address
     → Result RegisteredUser Refusal → ServerSeen
 kept_after_handed_signing s buffer count to user =
@@ -157,7 +158,7 @@ kept_after_handed_signing s buffer count to user =
 -- ---- a user who is prepared
 
 -- such a user can be passed to a server: it was prepared at the server's realm, and for the
--- algorithms that the server supports now. It is then the one who would be prepared now, of the
+-- algorithms that the server supports now. It is then the user who would be prepared now, with the
 -- same name and secret
 abbrev pub IsUserOf : ServerSeen → Registered → Type 0
 IsUserOf s user = (user.realm ≡ s.registered.realm) × (user.algorithms ≡ s.registered.algorithms)
@@ -166,14 +167,13 @@ IsUserOf s user = (user.realm ≡ s.registered.realm) × (user.algorithms ≡ s.
 abbrev pub with_only : Kept → Registered → Kept
 with_only k user = record k { server = with_users k.server user }
 
--- the server that bytes from an address leave, with its own users
+-- the server after bytes from an address, with its own users
 abbrev pub kept_after_prepared_validation : Kept → List ℕ → Address → ℕ → List ℕ → Registered
     → ServerSeen
 kept_after_prepared_validation k bytes from now words user =
     with_users (kept_after_validating (with_only k user) bytes from now words) k.server.registered
 
--- the server that is kept once a message in the first bytes of a buffer is signed, with its own
--- users
+-- the server after a message in the first bytes of a buffer is signed, with its own users
 abbrev pub kept_after_prepared_signing : ServerSeen → List ℕ → ℕ → Address → Registered → ServerSeen
 kept_after_prepared_signing s buffer count to user =
     with_users (kept_after_signing (with_users s user) buffer count to) s.registered

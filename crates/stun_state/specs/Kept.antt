@@ -1,4 +1,4 @@
--- What a handle has, if anything: an agent, a server, a client or a prepared user.
+-- The value of a handle, if it has one: an agent, a server, a client or a prepared user.
 use Rattle.std.specs.Prelude.{ℕ, ◌==◌, if◌then◌else◌, Option, Some, None}
 use Rattle.stun_agent.specs.Agent.{Agent}
 use Rattle.stun_auth.specs.Client.{ClientSide}
@@ -22,35 +22,23 @@ kept_of number (Some k) = if kind_of k == number then Some k else None
 
 -- the agent that is a value of its kind
 abbrev pub agent_of : Option Kept → Option Agent
-agent_of None = None
 agent_of (Some (kind.Agent a)) = Some a
-agent_of (Some (kind.Server s)) = None
-agent_of (Some (kind.Client c)) = None
-agent_of (Some (kind.User u)) = None
+agent_of other = None
 
 -- the server
 abbrev pub server_of : Option Kept → Option Server
-server_of None = None
 server_of (Some (kind.Server s)) = Some s
-server_of (Some (kind.Agent a)) = None
-server_of (Some (kind.Client c)) = None
-server_of (Some (kind.User u)) = None
+server_of other = None
 
 -- the client
 abbrev pub client_of : Option Kept → Option ClientSide
-client_of None = None
 client_of (Some (kind.Client c)) = Some c
-client_of (Some (kind.Agent a)) = None
-client_of (Some (kind.Server s)) = None
-client_of (Some (kind.User u)) = None
+client_of other = None
 
 -- the prepared user
 abbrev pub user_of : Option Kept → Option Registered
-user_of None = None
 user_of (Some (kind.User u)) = Some u
-user_of (Some (kind.Agent a)) = None
-user_of (Some (kind.Server s)) = None
-user_of (Some (kind.Client c)) = None
+user_of other = None
 
 -- the agent of a handle, if it has one
 abbrev pub agent_in : Option Kept → Option Agent

@@ -1,28 +1,28 @@
--- What the contracts of this crate say, in the order to read it.
+-- What the contracts of this crate say, in reading order.
 
--- what a handle has
+-- the value of a handle
 pub mod Kept
--- the refusals for the reasons of authenticators, and the numbers that callers give
+-- the errors for the reasons of authenticators, and the numbers that callers pass
 pub mod Codes
 -- the numbers that calls return
 pub mod Numbers
--- what the calls on an agent return and leave
+-- the results of the calls on an agent, and the agent after them
 pub mod Agent
 -- what the calls on authenticators share
 pub mod Answers
--- what the calls on a server return and leave
+-- the results of the calls on a server, and the server after them
 pub mod Server
--- what signing makes of a message in a caller's buffer
+-- how signing changes a message in a caller's buffer
 pub mod Signing
--- a verdict in two steps, with a user whom the caller hands in
+-- a verdict in two steps, with a user whom the caller passes
 pub mod Handed
--- what the calls on a client return and leave
+-- the results of the calls on a client, and the client after them
 pub mod Client
--- which calls keep nothing more, and so return no failed allocation
+-- which calls store nothing more, and so return no failed allocation
 pub mod Memory
 -- the clauses that several calls share
 pub mod Calls
--- what the laws of this crate say
+-- the statements of the laws of this crate
 pub mod Laws
--- what no clause of a public call cites: what private functions alone use
+-- definitions that no clause of a public call cites: what private functions alone use
 pub mod code

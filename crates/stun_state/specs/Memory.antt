@@ -1,5 +1,5 @@
--- Which calls keep nothing more, so that no failed allocation is returned; and which may keep
--- something, so that one may be.
+-- Which calls store nothing more, so that no failed allocation is returned; and which may store
+-- something, so that one may be returned.
 use Rattle.std.specs.Prelude.{◌≡◌, ⊤, ◌||◌, not, is_some, Bool, true, ℕ, List, Option, Some, None}
 use Rattle.std.specs.Prelude.{MatchOption, Ok}
 use Rattle.std.specs.declared.net.socket_addr.SocketAddr.{SocketAddr}
@@ -16,20 +16,21 @@ use Rattle.stun_state.specs.Client.{step}
 use Rattle.stun_state.specs.Server.{room_refusal}
 use Rattle.stun_state.specs.declared.handle.state.Server.{Server as Kept}
 
--- whether naming an address adds none to those that an agent keeps: it is none, or is kept already
+-- whether adding an address to the validated peers changes nothing: it is invalid, or is one
+-- already
 abbrev pub naming_adds_none : Agent → Option SocketAddr → Bool
 naming_adds_none a None = true
 naming_adds_none a (Some peer) = is_peer peer a.peers
 
--- whether bytes add no address to them: they come from none, are no message, come from one that is
--- kept, or are not taken
+-- whether bytes add no address to them: they come from an invalid address, are not a message, come
+-- from a validated peer, or are not accepted
 abbrev pub message_adds_none : Agent → List ℕ → Option SocketAddr → Bool
 message_adds_none a bytes None = true
 message_adds_none a bytes (Some from) =
     is_some (refusal bytes) || (is_peer from a.peers || not (takes_message bytes from a))
 
--- bytes change nothing of a server: they come from no address, are no message, come from one too
--- many, or change nothing at their address
+-- bytes change nothing of a server: they come from an invalid address, are not a message, come from
+-- an address above the limit, or change nothing at their address
 abbrev pub LeavesServer : Kept → List ℕ → ℕ → List ℕ → Option SocketAddr → Type 0
 LeavesServer k bytes now words None = ⊤
 LeavesServer k bytes now words (Some from) =
@@ -40,6 +41,6 @@ LeavesServer k bytes now words (Some from) =
 abbrev pub AsksAgain : ClientSide → List ℕ → Type 0
 AsksAgain c bytes = (refusal bytes ≡ None) × IsResend (step c bytes).answer
 
--- a request to an address is taken, so that it must be kept
+-- a request to an address is accepted, so it must be stored
 abbrev pub IsRequestTaken : Agent → List ℕ → Option SocketAddr → Type 0
 IsRequestTaken a bytes to = at_address to (request_answer a bytes) ≡ Ok tt

@@ -1,5 +1,5 @@
--- What the calls on a server return and leave, by the definitions of its authenticator (RFC 8489,
--- section 9.2.4).
+-- The results of the calls on a server, and the server after them, by the definitions of its
+-- authenticator (RFC 8489, section 9.2.4).
 use Rattle.std.specs.Prelude.{ℕ, ℤ, List, ◌++◌, length, drop, max, nat_lt, ◌||◌, if◌then◌else◌}
 use Rattle.std.specs.Prelude.{is_some, Option, Some, None, Result, Ok, Err}
 use Rattle.std.specs.FinMap as map
@@ -32,7 +32,7 @@ use Rattle.stun_state.specs.declared.handle.state.Server.{Server as Kept}
 
 -- ---- settings
 
--- of so many addresses something may be kept where no bound was set
+-- the number of addresses that may have a record if no limit was set
 -- its own law: the greatest number of 64 bits
 abbrev pub UNBOUNDED : ℕ
 UNBOUNDED = 18446744073709551615
@@ -46,7 +46,7 @@ abbrev pub server_with_feature : Option Feature → ServerSeen → ServerSeen
 server_with_feature None s = s
 server_with_feature (Some feature) s = record s { feature = feature }
 
--- nonces last this long, and no shorter than they may
+-- nonces are valid for this long, but at least for the shortest time
 abbrev pub with_expiry : ℕ → ServerSeen → ServerSeen
 with_expiry nanoseconds s = record s { expiry = max nanoseconds MINIMUM_EXPIRY }
 
@@ -57,14 +57,14 @@ without_named refusal s name =
 abbrev pub without_client : ServerSeen → SocketAddr → ServerSeen
 without_client s address = record s { places = with_change s.places address (with_client None) }
 
--- what a step of forgetting returns, which looks at so many addresses: 1 where another goes on, and
--- 0 at the end
+-- the result of a step of forgetting, which visits this many addresses: 1 if another step follows,
+-- and 0 at the end
 abbrev pub step_answer : ServerSeen → ℕ → Option SocketAddr → Result ℕ Refusal
 step_answer s most from = Ok (if is_some (next_address s from most) then 1 else 0)
 
 -- ---- messages
 
--- the last nonce that was made for an address
+-- the latest nonce that was made for an address
 abbrev pub nonce_at : ServerSeen → SocketAddr → Option (List ℕ)
 nonce_at s address = option_map (λ (p : PlaceSeen). p.nonce) (map.get s.places address)
 
@@ -72,14 +72,14 @@ abbrev pub server_validation_answer : Answer → Result IntegrityAlgorithm Refus
 server_validation_answer (Ok (Validated algorithm)) = Ok algorithm
 server_validation_answer (Err reason) = Err (refusal_of_server reason)
 
--- why an address is refused, if it is: nothing is kept of it, and as many addresses are kept as may
--- be
+-- why an address is refused, if it is: it has no record, and as many addresses have one as the
+-- limit allows
 abbrev pub room_refusal : ServerSeen → ℕ → SocketAddr → Option Refusal
 room_refusal s most from =
     if nat_lt (map.len s.places) most || is_some (nonce_at s from) then None
     else Some TooManyAddresses
 
--- what is returned for bytes that came from an address
+-- the result for bytes that came from an address
 abbrev pub server_validation : Kept → List ℕ → ℕ → List ℕ → SocketAddr
     → Result IntegrityAlgorithm Refusal
 server_validation k bytes now words from =
@@ -87,14 +87,14 @@ server_validation k bytes now words from =
     (refusal_or (room_refusal k.server k.most_addresses from)
     (server_validation_answer (answer (sight k.server from) now words (reading_of bytes))))
 
--- the server that they leave
+-- the server after them
 abbrev pub server_after_validation : Kept → List ℕ → ℕ → List ℕ → SocketAddr → ServerSeen
 server_after_validation k bytes now words from =
     kept_if_refused (message_refusal (refusal bytes)) k.server
     (kept_if_refused (room_refusal k.server k.most_addresses from) k.server
     (after_validation k.server from now words (reading_of bytes)))
 
--- the number that a caller gets for bytes and an address, and the server that is kept then
+-- the number that a caller receives for bytes and an address, and the server after that
 abbrev pub validation_number : Kept → List ℕ → Address → ℕ → List ℕ → ℤ
 validation_number k bytes from now words =
     algorithm_answer (at_address (socket_address from) (server_validation k bytes now words))
@@ -103,20 +103,20 @@ abbrev pub kept_after_validating : Kept → List ℕ → Address → ℕ → Lis
 kept_after_validating k bytes from now words =
     after_address (socket_address from) k.server (server_after_validation k bytes now words)
 
--- ---- who was validated
+-- ---- the user who was validated
 
--- who is told, where a buffer of so many bytes has room for the name
+-- the user who was validated, if a buffer of this many bytes has room for the name
 abbrev pub client_told : ℕ → Option ClientSeen → Result (Option IntegrityAlgorithm) Refusal
 client_told room None = Ok None
 client_told room (Some c) =
     if nat_lt room (length c.name) then Err BufferTooSmall else Ok (Some c.algorithm)
 
--- how long the name is, also where it has no room
+-- the length of the name, even if there is no room for it
 abbrev pub name_length_of : Option ClientSeen → ℕ → ℕ
 name_length_of None before = before
 name_length_of (Some c) before = length c.name
 
--- the buffer with a text at its front, where it has room for it
+-- the buffer with a text at its front, if there is room for it
 abbrev pub with_text : List ℕ → List ℕ → List ℕ
 with_text buffer text =
     if nat_lt (length buffer) (length text) then buffer else text ++ drop (length text) buffer
@@ -126,25 +126,25 @@ abbrev pub name_written : List ℕ → Option ClientSeen → List ℕ
 name_written buffer None = buffer
 name_written buffer (Some c) = with_text buffer c.name
 
--- the same at an address as a caller gives it
+-- the user who was validated, at an address as a caller passes it
 abbrev pub client_found : ServerSeen → Address → ℕ → Result (Option IntegrityAlgorithm) Refusal
 client_found s address room =
     at_address (socket_address address) (λ a. client_told room (client_at s a))
 
 -- ---- nonces
 
--- how long it is, or 0 of none, where a buffer of so many bytes has room for it
+-- the length of the nonce, or 0 for none, if a buffer of this many bytes has room for it
 abbrev pub nonce_told : ℕ → Option (List ℕ) → Result ℕ Refusal
 nonce_told room None = Ok 0
 nonce_told room (Some nonce) =
     if nat_lt room (length nonce) then Err BufferTooSmall else Ok (length nonce)
 
--- the buffer with it at its front
+-- the buffer with the nonce at its front
 abbrev pub nonce_written : List ℕ → Option (List ℕ) → List ℕ
 nonce_written buffer None = buffer
 nonce_written buffer (Some nonce) = with_text buffer nonce
 
--- the same at an address as a caller gives it
+-- the length of the nonce, at an address as a caller passes it
 abbrev pub nonce_found : ServerSeen → Address → ℕ → Result ℕ Refusal
 nonce_found s address room =
     at_address (socket_address address) (λ a. nonce_told room (nonce_at s a))

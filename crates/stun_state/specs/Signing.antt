@@ -1,4 +1,4 @@
--- What signing makes of a message in a caller's buffer: bytes, or the first refusal.
+-- How signing changes a message in a caller's buffer: bytes, or the first error.
 use Rattle.std.specs.Prelude.{ℕ, ◌+◌, ◌-◌, Bool, true, List, length, take, nat_lt, if◌then◌else◌}
 use Rattle.std.specs.Prelude.{Result, Ok, Err}
 use Rattle.std.specs.declared.net.socket_addr.SocketAddr.{SocketAddr}
@@ -21,18 +21,18 @@ use Rattle.stun_handles.specs.Answers.{at_address}
 use Rattle.stun_handles.specs.declared.address.Address.{Address}
 use Rattle.stun_state.specs.Answers.{after_address}
 
--- whether a message that grows by so many bytes is longer than the length field can tell
+-- whether a message that grows by this many bytes is longer than the length field can state
 abbrev pub is_too_long : List ℕ → ℕ → Bool
 is_too_long message more = nat_lt max_length (length message - HEADER_LENGTH + more)
 
--- the message that signing left, or why it was refused
+-- the message after signing, or why it failed
 abbrev pub message_of : Bool → Result Page StunWriteError → Result (List ℕ) Refusal
 message_of long (Ok page) = Ok page.bytes
 message_of long (Err error) = Err (refusal_of_write long error)
 
 -- ---- the server
 
--- a message to an address, signed, for a buffer with so much room: how much is added is known
+-- a message to an address, signed, for a buffer with this much room: how much is added is known
 -- before
 abbrev pub server_signs : ServerSeen → List ℕ → ℕ → SocketAddr → Result (List ℕ) Refusal
 server_signs s message room to =
@@ -42,13 +42,13 @@ server_signs s message room to =
     else message_of (is_too_long message more)
     (server_signed (sight s to) response (page_of message))
 
--- the same with the message in the first bytes of the buffer
+-- the signed message, if it is in the first bytes of the buffer
 abbrev pub signed_by_server : ServerSeen → List ℕ → ℕ → SocketAddr → Result (List ℕ) Refusal
 signed_by_server s buffer count to =
     refusal_or (base_refusal buffer count)
     (server_signs s (take count buffer) (length buffer) to)
 
--- the same with the address as a caller gives it, and the server that is kept once it is signed
+-- the signed message with the address as a caller passes it, and the server after it is signed
 abbrev pub signed_for : ServerSeen → List ℕ → ℕ → Address → Result (List ℕ) Refusal
 signed_for s buffer count to = at_address (socket_address to) (signed_by_server s buffer count)
 
@@ -65,7 +65,7 @@ client_signs state message =
     message_of (is_too_long message (growth (client_additions true state)))
     (added_all (client_additions (is_request (class_in message)) state) (page_of message))
 
--- the same in its buffer
+-- the signed message in its buffer
 abbrev pub signed_by_client : ClientState → List ℕ → ℕ → Result (List ℕ) Refusal
 signed_by_client state buffer count =
     refusal_or (base_refusal buffer count)

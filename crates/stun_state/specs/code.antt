@@ -3,9 +3,9 @@
 
 -- the value that a handle has, and how a call borrows it
 pub mod Handle
--- how much of its memory a message has taken
+-- how much of its memory a message has used
 pub mod Desk
--- what a caller gives of a user
+-- the user that a caller passes
 pub mod Given
--- what is known of a message that is to be signed
+-- what is known about a message to sign
 pub mod Measured

@@ -39,7 +39,7 @@ use stun_numbers::id::{ID_LENGTH, transaction_id};
 use stun_numbers::refusal::Refusal;
 use stun_types::message::Message;
 
-/// The sizes of a caller's timeouts and statistics, which each begin with that number.
+/// The sizes of `Timeouts` and `Statistics`, which their first fields must state.
 const TIMEOUTS_SIZE: usize = size_of::<Timeouts>();
 
 const STATISTICS_SIZE: usize = size_of::<Statistics>();
@@ -50,7 +50,8 @@ const STATISTICS_SIZE: usize = size_of::<Statistics>();
 pub struct Timeouts {
     /// The size of this struct in the caller's program.
     pub size: usize,
-    /// The timeout after the first transmission. Each further one is twice as long.
+    /// The timeout after the first transmission. Each further timeout is twice as long as the one
+    /// before.
     pub initial: u64,
     /// The longest timeout between two transmissions.
     pub longest: u64,
@@ -60,7 +61,7 @@ pub struct Timeouts {
     pub transmissions: u32,
 }
 
-/// The statistics of an agent. Round-trip times are in nanoseconds, and 0 if none was measured.
+/// The statistics of an agent. Round-trip times are in nanoseconds, or 0 if none was measured.
 #[repr(C)]
 #[derive(Debug, Clone, Copy, PartialEq, Eq)]
 pub struct Statistics {
@@ -82,8 +83,9 @@ pub struct Statistics {
     pub round_trip_average: u64,
 }
 
-/// Converts an error of the agent. An agent returns none of the last four.
-pub fn refusal_of(error: StunError) -> Refusal
+/// Converts the error of a call on an agent. No such call returns `ResourceNotFound`, `TimedOut`,
+/// `Aborted` or `WriteError`.
+pub fn convert_error(error: StunError) -> Refusal
     ensures { result ≡ refusal_of_agent error }
 {
     match error {
@@ -99,7 +101,7 @@ pub fn refusal_of(error: StunError) -> Refusal
 }
 
 /// Returns the transport with this number, or fails with `BadArgument`.
-pub fn transport_numbered(number: u32) -> Result<TransportType, Refusal>
+pub fn read_transport(number: u32) -> Result<TransportType, Refusal>
     ensures ok { IfOk result (λ transport. transport_numbered number ≡ Some transport) }
     ensures err { IfErr result (λ refusal. (transport_numbered number ≡ None)
         × (refusal ≡ Refusal.BadArgument)) }
@@ -111,11 +113,11 @@ pub fn transport_numbered(number: u32) -> Result<TransportType, Refusal>
     }
 }
 
-/// Creates an agent that keeps statistics.
+/// Creates an agent that counts statistics, for this transport and this local address.
 pub fn new(alloc: Global, transport: u32, local: &Address) -> Result<StunAgent<Global>, Refusal>
     ensures { result ≡ agent_at (transport_numbered transport) (socket_address local.now) }
 {
-    let transport = transport_numbered(transport)?;
+    let transport = read_transport(transport)?;
     let local = local.socket()?;
     Ok(
         StunAgent::builder(alloc, transport, local)
@@ -124,8 +126,9 @@ pub fn new(alloc: Global, transport: u32, local: &Address) -> Result<StunAgent<G
     )
 }
 
-/// Fails with `BadArgument` if the timeouts have another size: then no other field is read. Fails
-/// with `NoWait` if several transmissions would be due at the same time.
+/// Checks the timeouts that a caller passes. Fails with `BadArgument` if their size is wrong, and
+/// then reads no other field. Fails with `NoWait` if several transmissions would be due at the same
+/// time.
 fn check_timeouts(timeouts: &Timeouts) -> Result<(), Refusal>
     ensures { Checks (timeouts_refusal timeouts.now) result }
 {
@@ -139,7 +142,7 @@ fn check_timeouts(timeouts: &Timeouts) -> Result<(), Refusal>
 }
 
 /// Returns the remote address, or `None` if its length is 0.
-fn remote_of(remote: &Address) -> Result<Option<SocketAddr>, Refusal>
+fn read_remote(remote: &Address) -> Result<Option<SocketAddr>, Refusal>
     ensures { result ≡ remote_given remote.now }
 {
     if remote.length == 0 {
@@ -148,8 +151,8 @@ fn remote_of(remote: &Address) -> Result<Option<SocketAddr>, Refusal>
     Ok(Some(remote.socket()?))
 }
 
-/// Creates an agent like `new`, with other timeouts, and with a remote address if its length is not
-/// 0.
+/// Creates an agent like `new`, but with these timeouts, and with a remote address unless the
+/// length of `remote` is 0.
 pub fn new_with(
     alloc: Global,
     transport: u32,
@@ -161,9 +164,9 @@ pub fn new_with(
         ≡ agent_with_timeouts (agent_at (transport_numbered transport) (socket_address local.now))
         remote.now timeouts.now }
 {
-    let transport = transport_numbered(transport)?;
+    let transport = read_transport(transport)?;
     let local = local.socket()?;
-    let remote = remote_of(remote)?;
+    let remote = read_remote(remote)?;
     check_timeouts(timeouts)?;
     let builder = StunAgent::builder(alloc, transport, local)
         .stats(true)
@@ -179,7 +182,7 @@ pub fn new_with(
     }
 }
 
-/// Stores a request and counts it.
+/// Stores a request that is sent to an address, and counts it.
 pub fn send_request(
     agent: &mut StunAgent<Global>,
     message: &[u8],
@@ -194,14 +197,15 @@ pub fn send_request(
     ensures err { OnErr result (agent.new ≡ agent.old) }
 {
     let to = to.socket()?;
+    // This checks the whole message. The agent itself only reads the header.
     let _message = Message::from_bytes(message)?;
     match agent.send_request(message, to, Instant::from_nanos(now)) {
         Ok(_) => Ok(()),
-        Err(error) => Err(refusal_of(error)),
+        Err(error) => Err(convert_error(error)),
     }
 }
 
-/// Counts a response or an indication that is sent.
+/// Counts a response or an indication that is sent to an address.
 pub fn send(agent: &mut StunAgent<Global>, message: &[u8], to: &Address) -> Result<(), Refusal>
     ensures answer { result
         ≡ at_address (socket_address to.now) (sending_answer agent.old message.now) }
@@ -209,15 +213,17 @@ pub fn send(agent: &mut StunAgent<Global>, message: &[u8], to: &Address) -> Resu
     ensures err { OnErr result (agent.new ≡ agent.old) }
 {
     let to = to.socket()?;
+    // This checks the whole message. The agent itself only reads the header.
     let _message = Message::from_bytes(message)?;
+    // Any time will do, because the agent only counts the message.
     match agent.send(message, to, Instant::from_nanos(0)) {
         Ok(_) => Ok(()),
-        Err(error) => Err(refusal_of(error)),
+        Err(error) => Err(convert_error(error)),
     }
 }
 
-/// Reports what to do now: returns 0 and the time to wait until, or 1 or 2 and the ID of the
-/// request that has ended.
+/// Polls the agent. Returns 1 if a request has timed out, or 2 if one was canceled, and writes its
+/// transaction ID to `id`. Otherwise returns 0, and writes to `until` the time to wait until.
 pub fn poll(
     agent: &mut StunAgent<Global>,
     now: u64,
@@ -231,6 +237,8 @@ pub fn poll(
     ensures err { OnErr result ((agent.new ≡ agent.old) × (until.new ≡ until.old)
         × (id.new ≡ id.old)) }
 {
+    // This is tested before the agent is polled, because the agent reports only once that a request
+    // has ended.
     if id.len() < ID_LENGTH {
         return Err(Refusal::BufferTooSmall);
     }
@@ -258,8 +266,8 @@ fn put_id(out: &mut [u8], id: TransactionId)
     BigEndian::write_uint128(out, id.as_u128(), ID_LENGTH);
 }
 
-/// Writes the next retransmission that is due to the front of the buffer, and its destination.
-/// Returns its length.
+/// Writes to the front of `out` the next retransmission that is due, and its destination to `to`.
+/// Returns the length of the retransmission, or 0 if none is due.
 pub fn poll_transmit(
     agent: &mut StunAgent<Global>,
     now: u64,
@@ -271,7 +279,7 @@ pub fn poll_transmit(
     ensures bytes { OnOk result (out.new ≡ bytes_told (sent_by_poll now agent.old) out.old) }
     ensures to { OnOk result (to.new ≡ sent_to (sent_by_poll now agent.old) to.old) }
 
-    // No transmission is lost: the agent is as before.
+    // No transmission is lost, because the agent is unchanged.
     ensures err { OnErr result ((agent.new ≡ agent.old) × (out.new ≡ out.old)
         × (to.new ≡ to.old)) }
 {
@@ -299,7 +307,7 @@ pub fn handle(
         (λ from. agent.new ≡ after_message (Some now) message.now from agent.old)) }
     ensures err { OnErr result (agent.new ≡ agent.old) }
 
-    // If no address is added to those that are kept, no failed allocation is returned.
+    // If no address is added to the validated peers, the call does not fail with `OutOfMemory`.
     ensures no_memory { IsTrue (message_adds_none agent.old message.now
         (socket_address from.now)) →
         result ≡ at_address (socket_address from.now) (receiving_answer agent.old message.now) }
@@ -311,12 +319,12 @@ pub fn handle(
 }
 
 /// Adds an address to the validated peers.
-pub fn validated_peer(agent: &mut StunAgent<Global>, peer: &Address) -> Result<(), Refusal>
+pub fn add_validated_peer(agent: &mut StunAgent<Global>, peer: &Address) -> Result<(), Refusal>
     ensures answer { CallUnlessMemory result (result ≡ done_if_given (socket_address peer.now)) ⊤ }
     ensures ok { OnOk result (agent.new ≡ kept_after_naming agent.old peer.now) }
     ensures err { OnErr result (agent.new ≡ agent.old) }
 
-    // If the address is kept already, no failed allocation is returned.
+    // If the address is a validated peer already, the call does not fail with `OutOfMemory`.
     ensures there { IsTrue (naming_adds_none agent.old (socket_address peer.now)) →
         result ≡ done_if_given (socket_address peer.now) }
 {
@@ -324,7 +332,8 @@ pub fn validated_peer(agent: &mut StunAgent<Global>, peer: &Address) -> Result<(
     Ok(())
 }
 
-/// Returns 1 if an address is a validated peer: a message from it was accepted, or it was added.
+/// Returns 1 if an address is a validated peer, because a message from it was accepted or because
+/// it was added, and otherwise 0.
 pub fn is_validated_peer(agent: &StunAgent<Global>, peer: &Address) -> Result<u32, Refusal>
     ensures { result ≡ at_address (socket_address peer.now) (peer_answer agent.now) }
 {
@@ -340,7 +349,8 @@ pub fn forget_peer(agent: &mut StunAgent<Global>, peer: &Address) -> Result<(), 
     Ok(())
 }
 
-/// Returns whether a request with this ID is outstanding, and the address that it was sent to.
+/// Returns 1 if a request with this ID is outstanding, and writes to `peer` the address that it was
+/// sent to. Otherwise returns 0.
 pub fn is_outstanding(
     agent: &StunAgent<Global>,
     id: &[u8],
@@ -358,7 +368,7 @@ pub fn is_outstanding(
     }
 }
 
-/// Cancels the request with this ID.
+/// Cancels the request with this ID. Returns 1, or 0 if no such request is outstanding.
 pub fn cancel(agent: &mut StunAgent<Global>, id: &[u8]) -> Result<u32, Refusal>
     ensures answer { result ≡ outstanding_answer (id_in id.now) agent.old }
     ensures state { agent.new ≡ with_changed with_cancellation (id_in id.now) agent.old }
@@ -372,7 +382,8 @@ pub fn cancel(agent: &mut StunAgent<Global>, id: &[u8]) -> Result<u32, Refusal>
     }
 }
 
-/// Stops retransmitting the request with this ID.
+/// Stops retransmitting the request with this ID. Returns 1, or 0 if no such request is
+/// outstanding.
 pub fn cancel_retransmissions(agent: &mut StunAgent<Global>, id: &[u8]) -> Result<u32, Refusal>
     ensures answer { result ≡ outstanding_answer (id_in id.now) agent.old }
     ensures state { agent.new ≡ with_changed without_retransmissions (id_in id.now) agent.old }
@@ -386,7 +397,8 @@ pub fn cancel_retransmissions(agent: &mut StunAgent<Global>, id: &[u8]) -> Resul
     }
 }
 
-/// Sets the timeouts of the request with this ID.
+/// Sets the timeouts of the request with this ID. Returns 1, or 0 if no such request is
+/// outstanding.
 pub fn configure(
     agent: &mut StunAgent<Global>,
     id: &[u8],
@@ -412,8 +424,9 @@ pub fn configure(
     }
 }
 
-/// Converts a duration to nanoseconds: 0 if there is none, and the greatest number if it is longer.
-fn nanos(span: Option<Duration>) -> u64
+/// Converts a duration to nanoseconds. Returns 0 if `span` is `None`, and `u64::MAX` if the
+/// duration does not fit into 64 bits.
+fn to_nanoseconds(span: Option<Duration>) -> u64
     ensures { result ≡ nanoseconds (option_map as_nanos span) }
 {
     match span {
@@ -422,8 +435,8 @@ fn nanos(span: Option<Duration>) -> u64
     }
 }
 
-/// Converts the statistics of an agent.
-fn told(stats: &StunAgentStats) -> Statistics
+/// Converts the statistics of an agent to the struct that a caller receives.
+fn convert_statistics(stats: &StunAgentStats) -> Statistics
     ensures { result ≡ caller_statistics stats.now }
 {
     Statistics {
@@ -439,14 +452,14 @@ fn told(stats: &StunAgentStats) -> Statistics
         bytes_sent: stats.bytes_sent(),
         bytes_received: stats.bytes_received(),
         round_trips: stats.rtt_count(),
-        round_trip_least: nanos(stats.rtt_min()),
-        round_trip_most: nanos(stats.rtt_max()),
-        round_trip_average: nanos(stats.rtt_average()),
+        round_trip_least: to_nanoseconds(stats.rtt_min()),
+        round_trip_most: to_nanoseconds(stats.rtt_max()),
+        round_trip_average: to_nanoseconds(stats.rtt_average()),
     }
 }
 
-/// Writes the statistics of the agent. If the caller's struct has another size, it is unchanged,
-/// and only its size is read.
+/// Writes the statistics of the agent to the caller's struct. Fails with `BadArgument` if the size
+/// of the struct is wrong, and then neither reads nor changes its other fields.
 pub fn tell_statistics(
     agent: &StunAgent<Global>,
     statistics: &mut Statistics,
@@ -460,7 +473,7 @@ pub fn tell_statistics(
         return Err(Refusal::BadArgument);
     }
     if let Some(stats) = agent.stats() {
-        *statistics = told(stats);
+        *statistics = convert_statistics(stats);
     }
     Ok(())
 }

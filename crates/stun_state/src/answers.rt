@@ -1,4 +1,4 @@
-//! The numbers that calls return, those of verdicts among them.
+//! Converts results to the numbers that calls return.
 
 ghost use Rattle.std.specs.Prelude.{◌≡◌, pos};
 ghost use Rattle.stun_state.specs.Numbers.{algorithm_answer, found_answer, is_resend_answer};
@@ -10,14 +10,15 @@ pub use stun_handles::answers::{done, length, number};
 use stun_numbers::algorithm::algorithm_number;
 use stun_numbers::refusal::Refusal;
 
-/// Returned for a response that asks for another request and has no valid signature.
+/// The result of `stunp_client_validate` for a response that asks for another request and has no
+/// valid signature.
 const RESEND: i64 = 3;
 
-/// Returned for such a response with a valid HMAC-SHA256 signature, which is the greatest of the
-/// three numbers.
+/// The result of `stunp_client_validate` for a response that asks for another request and has a
+/// valid HMAC-SHA256 signature. It is the greatest of the three such results.
 const RESEND_SHA256: i64 = 5;
 
-/// Returns the number of an algorithm, or the number of the error.
+/// Returns the number of an algorithm, or a negative error code.
 pub fn algorithm(answer: Result<IntegrityAlgorithm, Refusal>) -> i64
     ensures { result ≡ algorithm_answer answer }
 {
@@ -27,8 +28,8 @@ pub fn algorithm(answer: Result<IntegrityAlgorithm, Refusal>) -> i64
     }
 }
 
-/// Returns the number for a response that asks for another request and is signed with this
-/// algorithm or unsigned.
+/// Returns the number for a response that asks for another request. `signed_by` is the algorithm of
+/// its signature, or `None` if it has no valid signature.
 fn resend(signed_by: Option<IntegrityAlgorithm>) -> i64
     ensures { result ≡ pos (resend_number signed_by) }
 {
@@ -38,14 +39,14 @@ fn resend(signed_by: Option<IntegrityAlgorithm>) -> i64
     }
 }
 
-/// Returns `true` if a number says that another request is asked for.
+/// Returns `true` if this result of `stunp_client_validate` asks for another request.
 pub fn is_resend(answer: i64) -> bool
     ensures { result ≡ is_resend_answer answer }
 {
     answer >= RESEND && answer <= RESEND_SHA256
 }
 
-/// Returns the number for a judged response, or the number of the error.
+/// Returns the number for the verdict on a response, or a negative error code.
 pub fn reading(answer: Result<LongTermClientValidation, Refusal>) -> i64
     ensures { result ≡ reading_answer answer }
 {
@@ -58,7 +59,7 @@ pub fn reading(answer: Result<LongTermClientValidation, Refusal>) -> i64
     }
 }
 
-/// Returns the number of an algorithm, 0 for none, or the number of the error.
+/// Returns the number of an algorithm, 0 if there is none, or a negative error code.
 pub fn found(answer: Result<Option<IntegrityAlgorithm>, Refusal>) -> i64
     ensures { result ≡ found_answer answer }
 {

@@ -22,8 +22,8 @@ ghost use Rattle.stun_state.specs.Memory.{AsksAgain};
 ghost use Rattle.stun_state.specs.Signing.{client_signs, is_too_long, message_of, signed_by_client};
 ghost use Rattle.stun_state.specs.code.Measured.{HoldsSigned};
 
-use crate::codes::{algorithms_numbered, client_refusal, feature_numbered};
-use crate::signing::{SHORT, is_too_long, writer_of};
+use crate::codes::{convert_client_reason, read_algorithms, read_feature};
+use crate::signing::{SHORT, begin_writer, is_too_long};
 use std::alloc::Global;
 use stun_auth::auth::{LongTermClientAuth, LongTermClientValidation};
 use stun_base::algorithm::IntegrityAlgorithm;
@@ -63,7 +63,7 @@ pub fn set_credentials(
     Ok(())
 }
 
-/// Sets the algorithms that the client supports: 1 is HMAC-SHA1, 2 HMAC-SHA256, 3 both.
+/// Sets the algorithms that the client supports: 1 is HMAC-SHA1, 2 is HMAC-SHA256, and 3 is both.
 pub fn set_algorithms(
     client: &mut LongTermClientAuth<Global>,
     algorithms: u32,
@@ -72,7 +72,7 @@ pub fn set_algorithms(
     ensures state { client.new
         ≡ client_with_algorithms (algorithms_numbered algorithms) client.old }
 {
-    match algorithms_numbered(algorithms)? {
+    match read_algorithms(algorithms)? {
         Some(one) => client.set_supported_integrity(one),
         None => {
             client.set_supported_integrity(IntegrityAlgorithm::Sha256);
@@ -82,7 +82,8 @@ pub fn set_algorithms(
     Ok(())
 }
 
-/// Sets whether the user name is sent as a hash: 0 if the server accepts that, 1 always, 2 never.
+/// Sets when the user name is sent as a hash: 0 means if the server accepts hashes, 1 means always,
+/// and 2 means never.
 pub fn set_anonymous_username(
     client: &mut LongTermClientAuth<Global>,
     feature: u32,
@@ -90,11 +91,12 @@ pub fn set_anonymous_username(
     ensures answer { result ≡ done_if_given (feature_numbered feature) }
     ensures state { client.new ≡ client_with_feature (feature_numbered feature) client.old }
 {
-    client.set_anonymous_username(feature_numbered(feature)?);
+    client.set_anonymous_username(read_feature(feature)?);
     Ok(())
 }
 
-/// Signs the message in the first `length` bytes of a buffer. An error leaves the buffer unchanged.
+/// Signs the message in the first `length` bytes of a buffer, and returns its new length. An error
+/// leaves the buffer unchanged.
 pub fn sign(
     client: &mut LongTermClientAuth<Global>,
     buffer: &mut [u8],
@@ -114,7 +116,8 @@ pub fn sign(
     }
 }
 
-/// Signs a message that then has at most `N` bytes, or any message if `N` is `LENGTH_LIMIT`.
+/// Signs the message in the first `count` bytes of the buffer. The signed message must have at most
+/// `N` bytes, but may have any length if `N` is `LENGTH_LIMIT`.
 #[inline(never)]
 fn sign_within<const N: usize>(
     client: &mut LongTermClientAuth<Global>,
@@ -139,7 +142,7 @@ fn sign_within<const N: usize>(
     fill(buffer, signed)
 }
 
-/// Signs the message in memory that is large enough.
+/// Signs a copy of the message in memory that is large enough, and returns the signed message.
 fn sign_in<'m>(
     client: &mut LongTermClientAuth<Global>,
     message: &[u8],
@@ -158,13 +161,14 @@ fn sign_in<'m>(
         ≡ Err refusal) }
     ensures state { client.new ≡ client.old }
 {
-    match client.sign_outgoing_message(writer_of(message, memory)) {
+    match client.sign_outgoing_message(begin_writer(message, memory)) {
         Ok(signed) => Ok(signed.finish()),
         Err(error) => Err(Refusal::of_write(error, is_long)),
     }
 }
 
-/// Returns the number of the algorithm with which a message would be signed now, or 0 for none.
+/// Returns the number of the algorithm with which the client would sign a message now, or 0 if the
+/// client would not sign the message.
 pub fn signing_algorithm(client: &LongTermClientAuth<Global>) -> u32
     ensures { result ≡ algorithm_or_none (signing_algorithm client.now.state) }
 {
@@ -174,7 +178,7 @@ pub fn signing_algorithm(client: &LongTermClientAuth<Global>) -> u32
     }
 }
 
-/// Judges a response: it is accepted, or asks for another request.
+/// Judges a response, and returns whether it is accepted or asks for another request.
 pub fn validate(
     client: &mut LongTermClientAuth<Global>,
     message: &[u8],
@@ -188,7 +192,7 @@ pub fn validate(
     validate_message(client, &message)
 }
 
-/// Judges a message.
+/// Judges a response that was parsed.
 fn validate_message(
     client: &mut LongTermClientAuth<Global>,
     message: &Message<'_>,
@@ -201,6 +205,6 @@ fn validate_message(
 {
     match client.validate_incoming_message(message) {
         Ok(validation) => Ok(validation),
-        Err(error) => Err(client_refusal(error.reason())),
+        Err(error) => Err(convert_client_reason(error.reason())),
     }
 }

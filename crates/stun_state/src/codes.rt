@@ -1,5 +1,5 @@
-//! Converts the errors of authenticators, and the numbers of algorithms and features, as
-//! `include/stunp_state.h` has them.
+//! Converts the errors of authenticators to the errors of the calls, and the numbers of algorithms
+//! and features, which `include/stunp.h` lists.
 
 ghost use Rattle.std.specs.Prelude.{◌≡◌, IfOk, IfErr, Some, None};
 ghost use Rattle.std.specs.Option.{option_map_or};
@@ -12,8 +12,8 @@ use stun_auth::auth::{Feature, LongTermClientAuthErrorReason, LongTermServerAuth
 use stun_base::algorithm::IntegrityAlgorithm;
 use stun_numbers::refusal::Refusal;
 
-/// Converts the error of a server.
-pub fn server_refusal(reason: LongTermServerAuthErrorReason) -> Refusal
+/// Converts the error with which the authenticator of a server refuses a message.
+pub fn convert_server_reason(reason: LongTermServerAuthErrorReason) -> Refusal
     ensures { result ≡ refusal_of_server reason }
 {
     match reason {
@@ -26,8 +26,8 @@ pub fn server_refusal(reason: LongTermServerAuthErrorReason) -> Refusal
     }
 }
 
-/// Converts the error of a client.
-pub fn client_refusal(reason: LongTermClientAuthErrorReason) -> Refusal
+/// Converts the error with which the authenticator of a client refuses a message.
+pub fn convert_client_reason(reason: LongTermClientAuthErrorReason) -> Refusal
     ensures { result ≡ refusal_of_client reason }
 {
     match reason {
@@ -38,9 +38,9 @@ pub fn client_refusal(reason: LongTermClientAuthErrorReason) -> Refusal
     }
 }
 
-/// Returns the algorithm with this number, or `None` if the number means both. Fails with
-/// `BadArgument` for another number.
-pub fn algorithms_numbered(number: u32) -> Result<Option<IntegrityAlgorithm>, Refusal>
+/// Returns the algorithm with this number, or `None` if the number stands for both algorithms.
+/// Fails with `BadArgument` for any other number.
+pub fn read_algorithms(number: u32) -> Result<Option<IntegrityAlgorithm>, Refusal>
     ensures ok { IfOk result (λ one. algorithms_numbered number
         ≡ Some (option_map_or only one Both)) }
     ensures err { IfErr result (λ refusal. (algorithms_numbered number ≡ None)
@@ -54,8 +54,8 @@ pub fn algorithms_numbered(number: u32) -> Result<Option<IntegrityAlgorithm>, Re
     }
 }
 
-/// Returns the feature with this number. Fails with `BadArgument` for another number.
-pub fn feature_numbered(number: u32) -> Result<Feature, Refusal>
+/// Returns the feature with this number. Fails with `BadArgument` if no feature has this number.
+pub fn read_feature(number: u32) -> Result<Feature, Refusal>
     ensures ok { IfOk result (λ feature. feature_numbered number ≡ Some feature) }
     ensures err { IfErr result (λ refusal. (feature_numbered number ≡ None)
         × (refusal ≡ Refusal.BadArgument)) }

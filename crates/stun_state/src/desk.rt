@@ -11,8 +11,8 @@ use stun_types::prelude::*;
 
 /// A writer over borrowed memory. It does not allocate.
 ///
-/// It fails like a writer that grows up to the longest message. If only the memory is too short, it
-/// fails with `OutOfMemory`.
+/// It fails like a writer that can grow up to the length of the longest message, but with
+/// `OutOfMemory` if the memory is too short.
 #[derive(Drop)]
 pub struct Desk<'a> {
     memory: &'a mut [u8],
@@ -51,6 +51,9 @@ impl<'a> MessageWrite for Desk<'a> {
     type Output = &'a [u8];
 
     ghost bytes = { λ desk. desk.bytes };
+
+    // `reserve` can fail, because the memory may be too short.
+    ghost grants = { ⊥ };
 
     ghost room = { λ desk. LENGTH_LIMIT - length desk.bytes };
 

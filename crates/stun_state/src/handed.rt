@@ -37,7 +37,7 @@ use stun_numbers::text::text;
 use stun_types::limits::LENGTH_LIMIT;
 use stun_types::message::Message;
 
-/// The secret of a user that a caller passes.
+/// The secret of a user whom the caller passes.
 #[derive(Clone, Copy)]
 pub(crate) enum Given<'a> {
     /// The password.
@@ -47,10 +47,11 @@ pub(crate) enum Given<'a> {
     Keys(&'a [u8], &'a [u8]),
 }
 
-/// Determines with which user's key a message from an address will be verified: returns 1 and the
-/// name, 2 and its hash, or 0 if the message names nobody. The name or the hash is written to the
-/// front of the buffer. Its length is written even if the buffer has no room for it.
-pub fn named_user(
+/// Determines the user with whose key a message from an address will be verified. Returns 1 and
+/// writes the name of the user, returns 2 and writes the hash of the name, or returns 0 if the
+/// message names nobody. If the name or the hash does not fit into `name`, fails with
+/// `BufferTooSmall`, but still writes its length to `name_length`.
+pub fn write_named_user(
     server: &LongTermServerAuth<Global>,
     message: &[u8],
     from: &Address,
@@ -81,8 +82,9 @@ pub fn named_user(
     }
 }
 
-/// Creates the user with this name and secret, with keys for the server.
-pub(crate) fn prepared(
+/// Creates a user with this name and secret, and with keys for the realm and the algorithms of the
+/// server.
+pub(crate) fn prepare(
     alloc: Global,
     server: &LongTermServerAuth<Global>,
     name: &[u8],
@@ -110,7 +112,7 @@ pub(crate) fn prepared(
     }
 }
 
-/// Validates a message, as a server whose only user has this name.
+/// Validates a message like a server whose only user has this name and secret.
 pub(crate) fn validate(
     alloc: Global,
     kept: &mut Server,
@@ -131,13 +133,14 @@ pub(crate) fn validate(
     let from = from.socket()?;
     let message = Message::from_bytes(message)?;
     check_room(&kept.server, kept.most_addresses, from)?;
-    let mut user = prepared(alloc, &kept.server, name, given)?;
+    let mut user = prepare(alloc, &kept.server, name, given)?;
     let moment = Instant::from_nanos(now);
     validate_message(&mut kept.server, &message, from, moment, *words, &mut user)
 }
 
-/// Signs the message in the first `length` bytes of a buffer, which goes to an address, as a server
-/// whose only user has this name. An error leaves the buffer unchanged.
+/// Signs the message in the first `length` bytes of a buffer, which will be sent to an address,
+/// like a server whose only user has this name and secret. Returns its new length. An error leaves
+/// the buffer unchanged.
 pub(crate) fn sign(
     alloc: Global,
     server: &mut LongTermServerAuth<Global>,
@@ -157,11 +160,12 @@ pub(crate) fn sign(
         to.now (user_given name.now given.entry)) }
     ensures refused { OnErr result (server.new ≡ server.old) }
 {
-    let mut user = prepared(alloc, server, name, given)?;
+    let mut user = prepare(alloc, server, name, given)?;
     sign_with(server, buffer, length, to, &mut user)
 }
 
-/// Signs like `sign`, with a user whose keys were derived before. This does not allocate.
+/// Signs a message like `sign`, but with a user whose keys were made before, so it does not
+/// allocate.
 pub(crate) fn sign_with(
     server: &mut LongTermServerAuth<Global>,
     buffer: &mut [u8],

@@ -1,4 +1,4 @@
-//! Laws over the definitions that the contracts of this crate cite. They do nothing when they run.
+//! Laws about the definitions that the contracts of this crate cite. They do nothing when they run.
 
 ghost use Rattle.std.specs.Prelude.{◌⊎◌, ◌↔◌, ◌<◌, ◌^◌, ◌+◌, ◌++◌, ◌==◌, if◌then◌else◌, is_some};
 ghost use Rattle.std.specs.Prelude.{Option};
@@ -106,8 +106,8 @@ use stun_base::algorithm::IntegrityAlgorithm;
 use stun_base::transport::TransportType;
 use stun_numbers::refusal::Refusal;
 
-/// No two results of the library's calls have the same number, so a program learns from the number
-/// which result it was. Lengths are below 2^63, as those of all buffers are.
+/// Different results of the library's calls have different numbers, so a program learns from the
+/// number which result it was. For lengths this holds below 2^63, and every buffer is shorter.
 pub fn numbers_tell_results_apart()
     ensures done { TellsApart done_answer }
     ensures number { TellsApart number_answer }
@@ -117,8 +117,8 @@ pub fn numbers_tell_results_apart()
         → length_answer r ≡ length_answer s → r ≡ s }
 {}
 
-/// A call returns `STUNP_EMPTY_HANDLE` for a handle that begins with 0, and `STUNP_WRONG_HANDLE` for
-/// one that has a value of another kind than the call takes.
+/// A call fails with `STUNP_EMPTY_HANDLE` if the handle begins with 0, and with
+/// `STUNP_WRONG_HANDLE` if it has a value of another kind than the call needs.
 pub fn other_handles_are_refused()
     ensures agent { (h : StateHandle) (result : ℤ) → WithoutAgent h result ⊤
         → IsRefusedAs h agent_kind result }
@@ -130,8 +130,8 @@ pub fn other_handles_are_refused()
         → IsRefusedAs h user_kind result }
 {}
 
-/// A handle keeps the kind that it begins with, whatever a call returns. Only the calls that create
-/// an object and those that free one change it.
+/// A handle begins with the same kind before and after a call, whatever the call returns. Only the
+/// calls that create or free an object change the kind.
 pub fn handles_keep_their_kind()
     ensures agent { (old new : StateHandle) (result : ℤ) (number : Agent → ℤ)
         (after : Agent → Agent) → ChangesAgent old new result number after
@@ -157,8 +157,8 @@ pub fn handles_keep_their_kind()
         → KeepsHandle new old (user_in old.slot.kept) → new.kind ≡ old.kind }
 {}
 
-/// A call that frees an object leaves none of its kind in the handle, and frees nothing of another
-/// kind.
+/// After a call that frees an object, the handle has no object of this kind. If the handle had an
+/// object of another kind, the handle is unchanged.
 pub fn objects_are_freed_by_their_kind()
     ensures agent { (old new : StateHandle) → FreesHandle (agent_in old.slot.kept) old new
         → (agent_in new.slot.kept ≡ None)
@@ -174,9 +174,9 @@ pub fn objects_are_freed_by_their_kind()
         × ((k : Kept) → old.slot.kept ≡ Some k → kind_of k ≢ user_kind → new ≡ old) }
 {}
 
-/// If a call that creates an object returns 0, the handle was empty, and has the object that the
-/// library makes. After an error the handle is as it was. A user who is prepared belongs to the
-/// server that was passed.
+/// If a call that creates an object returns 0, the handle was empty, and now has the object that
+/// the library makes. After an error the handle is unchanged. A user who was prepared belongs to
+/// the server that was passed.
 pub fn handles_are_filled_with_what_is_made()
     ensures agent { (old new : StateHandle) (made : Result Agent Refusal)
         → FillsWithAgent old new (pos 0) made → (old.kind ≡ empty_kind)
@@ -193,9 +193,9 @@ pub fn handles_are_filled_with_what_is_made()
         → IsErrorNumber result → new ≡ old }
 {}
 
-/// After an error a handle holds what it held before, and a buffer that was to be signed is as it
-/// was. Calls that judge a message are not among these: a server may make a nonce for a message
-/// that it refuses.
+/// After an error a handle has the value that it had before the call, and the buffer with the
+/// message to sign is unchanged. This does not apply to calls that judge a message, because a
+/// server may make a nonce for a message that it refuses.
 pub fn errors_leave_what_a_handle_holds()
     ensures agent { (old new : StateHandle) (result : ℤ) (number : Agent → ℤ)
         (after : Agent → Agent)
@@ -249,11 +249,11 @@ pub fn errors_leave_what_a_handle_holds()
         → (new.slot.kept ≡ old.slot.kept) × (after ≡ buffer) }
 {}
 
-/// A server accepts a message only if the library does, and its handle then has the server that the
-/// library leaves. A number of success is that of the algorithm with which the library validates
-/// the message at this address. The number of a reason of the authenticator is returned for this
-/// reason alone. A message that is accepted with a user whom the caller hands in is accepted by the
-/// server that has just this user, and the server's own users stay.
+/// A server accepts a message only if the library does, and its handle then has the server as the
+/// library leaves it. A call that succeeds returns the number of the algorithm with which the
+/// library validates the message at this address. A call fails with an error of the authenticator
+/// only if the library does. A message that is accepted with a user whom the caller passes is
+/// accepted by the server that has just this user, and the server's own users are unchanged.
 pub fn verdicts_are_those_of_the_authenticator()
     ensures accepted { (k : Server) (bytes : List ℕ) (from : Address) (now : ℕ) (words : List ℕ)
         (n : ℕ) → validation_number k bytes from now words ≡ pos n
@@ -290,9 +290,10 @@ pub fn verdicts_are_those_of_the_authenticator()
         → (kept_after_handed_signing s buffer count to user).registered ≡ s.registered }
 {}
 
-/// A user who is prepared once is judged, and signed for, as one whom the caller hands in with each
-/// message: the verdict, the bytes and what the server keeps are the same (`answer`: a user who was
-/// prepared for a server can be passed to it).
+/// With a user who was prepared once, a server returns the same verdict, signs the same bytes and
+/// stores the same data as if the caller passed the name and the secret of this user with each
+/// message. (Clause `answer` states this for the handles of the server and of a user who was
+/// prepared for it.)
 pub fn prepared_users_are_as_those_who_are_handed_in()
     ensures answer { (old new server : StateHandle) (user : Result RegisteredUser Refusal)
         (bytes : List ℕ) (from : Address) (now : ℕ) (words : List ℕ) (result : ℤ)
@@ -319,8 +320,8 @@ pub fn prepared_users_are_as_those_who_are_handed_in()
         ≡ kept_after_handed_signing s buffer count to (Ok u) }
 {}
 
-/// What is signed in a buffer is what the library makes of the message in it: for a server at this
-/// address, and for a client in this state.
+/// A call that signs a message writes to the buffer what the library returns for this message, with
+/// the server for this address or with the client in this state.
 pub fn messages_are_signed_as_by_the_authenticator()
     ensures server { (s : ServerSeen) (buffer : List ℕ) (count : ℕ) (to : Address)
         (bytes : List ℕ) → signed_for s buffer count to ≡ Ok bytes
@@ -337,8 +338,8 @@ pub fn messages_are_signed_as_by_the_authenticator()
         × (length bytes ≤ length buffer) }
 {}
 
-/// A user whom the caller hands in is the one of this name, with this password, or with these keys:
-/// 16 bytes for HMAC-SHA1 and 32 for HMAC-SHA256, or none of no bytes.
+/// A user whom the caller passes has the name that was passed, and either the password or the
+/// stored keys: 16 bytes for HMAC-SHA1 and 32 for HMAC-SHA256. A key without bytes is missing.
 pub fn users_are_those_who_are_handed_in()
     ensures password { (name password : List ℕ) (u : RegisteredUser)
         → user_of_password name password ≡ Ok u
@@ -350,9 +351,9 @@ pub fn users_are_those_who_are_handed_in()
         × IsKeyPassed 16 sha1 keys.sha1 × IsKeyPassed 32 sha256 keys.sha256 }
 {}
 
-/// A call that says whom a message names says what the library does: the number, the name or the
-/// hash at the front of the buffer, and its length are those by which the library judges the
-/// message.
+/// `stunp_server_named_user` names the user with whose key the library judges the message: this
+/// holds for the number that it returns, for the name or the hash at the front of the buffer, and
+/// for its length.
 pub fn callers_are_told_who_is_named()
     ensures { (s : ServerSeen) (bytes buffer : List ℕ) (from : Address) (before n : ℕ)
         → number_answer
@@ -365,8 +366,8 @@ pub fn callers_are_told_who_is_named()
         (λ a. naming_length (named_in_bytes s bytes a) before)) }
 {}
 
-/// A client's verdict is that of the library, and its handle then has the client that the library
-/// leaves.
+/// The verdict of a client is the verdict of the library, and the handle then has the client as the
+/// library leaves it.
 pub fn client_verdicts_are_those_of_the_authenticator()
     ensures { (c : ClientSide) (bytes : List ℕ) (n : ℕ)
         → reading_answer (client_validation c bytes) ≡ pos n
@@ -376,9 +377,10 @@ pub fn client_verdicts_are_those_of_the_authenticator()
         ≡ record c { state = (client_step c.settings c.state (reading_of bytes)).state }) }
 {}
 
-/// An agent in a handle is the agent of the library. A call that succeeds does what the library
-/// does with the same bytes, at the address that the caller passes: it sends a request or a message
-/// only if the library sends it, and it says of one that arrived what the library does.
+/// An agent in a handle is an agent of the library. A call that succeeds does what the library does
+/// with the same bytes, at the address that the caller passes: it accepts a request or another
+/// message to send only if the library does, and for a message that arrived it returns what the
+/// library returns.
 pub fn agents_are_those_of_the_library()
     ensures request { (a : Agent) (bytes : List ℕ) (to : Address) (now : ℕ)
         → done_answer (at_address (socket_address to) (request_answer a bytes)) ≡ pos 0
@@ -418,10 +420,10 @@ pub fn agents_are_those_of_the_library()
         (big_number 12 id) a.transactions)) }
 {}
 
-/// A new agent has the transport and the address that the caller passes, and nothing else: it may
-/// send to any address, and has the time-outs of RFC 8489. With time-outs of the caller's, no two
-/// transmissions of a request are due at one moment, and the agent sends to the address that the
-/// caller passes and to no other, if the caller passes one.
+/// A new agent has the transport and the address that the caller passes. It has no requests and no
+/// validated peers yet, may send to any address, and has the timeouts of RFC 8489. If the caller
+/// passes timeouts, no two transmissions of a request are due at the same time. If the caller
+/// passes a remote address, the agent only sends to that address.
 pub fn agents_are_made_as_asked_for()
     ensures made { (n : ℕ) (local : Address) (a : Agent)
         → agent_at (transport_numbered n) (socket_address local) ≡ Ok a
@@ -434,8 +436,9 @@ pub fn agents_are_made_as_asked_for()
         × (b.settings ≡ settings_of_timeouts t) }
 {}
 
-/// A caller that polls is told what the library returns: the moment, the ID of the request that has
-/// ended and how, and the bytes that are due again, with the address that the request was sent to.
+/// A caller that polls receives what the library returns: the time to wait until, the ID of the
+/// request that has ended and how it ended, and the bytes to send again, with the address that the
+/// request was sent to.
 pub fn polls_tell_what_the_library_returns()
     ensures polled { (answer : StunAgentPollRet) (until : ℕ) (buffer : List ℕ) (n : ℕ)
         → number_answer (polling_answer (length buffer) answer) ≡ pos n
@@ -446,9 +449,9 @@ pub fn polls_tell_what_the_library_returns()
         → TellsOfSending e n (bytes_told e buffer) (sent_to e to) }
 {}
 
-/// An address that the library returns is told to the caller as the address that the caller passed
-/// for it, so that a message goes there and not elsewhere. A walk over addresses continues at the
-/// address that the caller was told.
+/// If the library returns an address that the caller has passed, the caller receives that address,
+/// so a message goes there and nowhere else. A walk over addresses continues at the address that
+/// the caller has received.
 pub fn addresses_are_those_that_were_passed()
     ensures address { (a : Address) (address : SocketAddr) → length a.octets ≡ 16
         → socket_address a ≡ Some address
@@ -465,8 +468,9 @@ pub fn addresses_are_those_that_were_passed()
         ≡ start_for (next_address s start most)) }
 {}
 
-/// A caller is told who was validated at an address, and the nonce of an address, as the library
-/// has them: the number, the text at the front of the buffer, and its length.
+/// A caller receives what the library has for an address: the user who was validated last there,
+/// and the nonce. This holds for the number that the call returns, for the text at the front of the
+/// buffer, and for its length.
 pub fn callers_are_told_what_a_server_has()
     ensures client { (s : ServerSeen) (at : Address) (buffer : List ℕ) (before n : ℕ)
         → found_answer (client_found s at (length buffer)) ≡ pos n
@@ -484,9 +488,9 @@ pub fn callers_are_told_what_a_server_has()
         (λ a. nonce_written buffer (nonce_at s a))) }
 {}
 
-/// A setting is the one that the number in the header means: the number of a set of algorithms is
-/// the sum of theirs. A nonce lasts no shorter than 30 seconds. Statistics are written only into a
-/// struct of the size that they have.
+/// A call that sets algorithms or a feature sets those whose number the caller passes. The number
+/// of a set of algorithms is the sum of the numbers of the algorithms. A nonce is valid for at
+/// least 30 seconds. Statistics are written only to a struct of the same size.
 pub fn settings_are_those_of_their_numbers()
     ensures algorithms { (n : ℕ) (set : AlgorithmSet) (s : ServerSeen) (c : ClientSide)
         → algorithms_numbered n ≡ Some set
@@ -516,9 +520,9 @@ pub fn settings_are_those_of_their_numbers()
         → (caller_statistics_after counted before).size ≡ before.size }
 {}
 
-/// A call may return a failed allocation in place of its result, and then nothing changes. Where a
-/// clause rules that out, because nothing has to be kept, nothing is: a message changes nothing of
-/// the server, or no address is added to those of an agent.
+/// A call that fails with `STUNP_OUT_OF_MEMORY` changes nothing. If a contract rules out this
+/// error, the call has nothing to store: the message does not change the server, or adds no address
+/// to the validated peers of the agent.
 pub fn failed_allocations_change_nothing()
     ensures returned { (result verdict : Result IntegrityAlgorithm Refusal)
         (before now after : Server) → Returns verdict before now after ⊤ result
@@ -558,8 +562,8 @@ pub fn failed_allocations_change_nothing()
         ↔ (is_resend_answer (reading_answer (client_validation c bytes)) ≡ true) }
 {}
 
-/// A user who is removed is registered no more. A client that is removed is forgotten, and each
-/// address keeps its nonce.
+/// A user who is removed is no longer registered. A client that is removed is no longer the client
+/// of its address, and every address still has its nonce.
 pub fn what_is_removed_is_gone()
     ensures user { (s : ServerSeen) (name : List ℕ) → is_utf8 name ≡ true
         → user_named (without_named (text_refusal name) s name).registered name ≡ None }

@@ -1,8 +1,8 @@
 //! The calls with state for programs in C and Rust, which `include/stunp_state.h` declares.
 //!
 //! Each call takes the value out of its handle, calls the crates below with it, and puts it back.
-//! The clauses say what a call returns, writes and changes in the terms of those crates: `kept` is
-//! the value in the handle before the call, and `handle.new` has the value after it.
+//! The contracts state in the terms of those crates what a call returns, writes and changes: `kept`
+//! is the value in the handle before the call, and `handle.new` has the value after it.
 #![tactic(auto)]
 
 mod agent;

@@ -1,5 +1,5 @@
-//! What the exports do with a user who is prepared once, and passed along with many messages (RFC
-//! 8489, section 9.2.4).
+//! The validation of messages with a user who was prepared once, and whom the caller passes with
+//! each message (RFC 8489, section 9.2.4).
 
 ghost use Rattle.std.specs.Prelude.{◌≡◌, ⊤};
 ghost use Rattle.stun_handles.specs.Addresses.{socket_address};
@@ -20,7 +20,7 @@ use stun_handles::address::Address;
 use stun_numbers::refusal::Refusal;
 use stun_types::message::Message;
 
-/// Validates a message. The server has just this user.
+/// Validates a message like a server whose only user is `user`.
 pub(crate) fn validate(
     kept: &mut Server,
     message: &[u8],
@@ -36,7 +36,7 @@ pub(crate) fn validate(
               user.old;
         }) ⊤ result }
 
-    // If nothing of the server changes, no failed allocation is returned.
+    // If the message does not change the server, the call does not fail with `OutOfMemory`.
     ensures unchanged { LeavesServer (with_only kept.old user.old) message.now now words.now
         (socket_address from.now) →
         result ≡ at_address (socket_address from.now)

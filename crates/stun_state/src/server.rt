@@ -23,7 +23,7 @@ ghost use Rattle.stun_state.specs.Server.{room_refusal, step_answer, server_vali
 ghost use Rattle.stun_state.specs.Server.{server_with_algorithms, with_expiry, server_with_feature};
 ghost use Rattle.stun_state.specs.Server.{without_client, without_named};
 
-use crate::codes::{algorithms_numbered, feature_numbered};
+use crate::codes::{read_algorithms, read_feature};
 use crate::handle::state::Server;
 use crate::signing::{SHORT, is_response, is_too_long};
 use crate::users::{OwnUsers, sign_within, validate_message};
@@ -54,7 +54,7 @@ pub fn new(alloc: Global, realm: &[u8]) -> Result<LongTermServerAuth<Global>, Re
     Ok(LongTermServerAuth::new(alloc, realm))
 }
 
-/// Sets the algorithms that the server supports: 1 is HMAC-SHA1, 2 HMAC-SHA256, 3 both.
+/// Sets the algorithms that the server supports: 1 is HMAC-SHA1, 2 is HMAC-SHA256, and 3 is both.
 pub fn set_algorithms(
     server: &mut LongTermServerAuth<Global>,
     algorithms: u32,
@@ -63,7 +63,7 @@ pub fn set_algorithms(
     ensures state { server.new
         ≡ server_with_algorithms (algorithms_numbered algorithms) server.old }
 {
-    match algorithms_numbered(algorithms)? {
+    match read_algorithms(algorithms)? {
         Some(one) => server.set_supported_integrity(one),
         None => {
             server.set_supported_integrity(IntegrityAlgorithm::Sha256);
@@ -73,7 +73,7 @@ pub fn set_algorithms(
     Ok(())
 }
 
-/// Sets whether users may send a hash in place of their names: 0 and 1 mean yes, 2 no.
+/// Sets whether users may send a hash in place of their names: 0 and 1 mean yes, and 2 means no.
 pub fn set_anonymous_username(
     server: &mut LongTermServerAuth<Global>,
     feature: u32,
@@ -81,7 +81,7 @@ pub fn set_anonymous_username(
     ensures answer { result ≡ done_if_given (feature_numbered feature) }
     ensures state { server.new ≡ server_with_feature (feature_numbered feature) server.old }
 {
-    let feature = feature_numbered(feature)?;
+    let feature = read_feature(feature)?;
     server.set_anonymous_username(feature)?;
     Ok(())
 }
@@ -94,7 +94,7 @@ pub fn set_nonce_expiry(server: &mut LongTermServerAuth<Global>, nanoseconds: u6
     server.set_nonce_expiry_duration(Duration::from_nanos(expiry));
 }
 
-/// Adds a user, or replaces the password of an existing one.
+/// Adds a user, or replaces the password of an existing user.
 pub fn add_user(
     alloc: Global,
     server: &mut LongTermServerAuth<Global>,
@@ -124,7 +124,7 @@ pub fn remove_user(server: &mut LongTermServerAuth<Global>, name: &[u8]) -> Resu
     Ok(())
 }
 
-/// Forgets the client of an address, but keeps its nonce.
+/// Removes the client of an address, but not the nonce of the address.
 pub fn remove_client(server: &mut LongTermServerAuth<Global>, at: &Address) -> Result<(), Refusal>
     ensures answer { result ≡ done_if_given (socket_address at.now) }
     ensures state { server.new ≡ after_address (socket_address at.now) server.old
@@ -152,8 +152,9 @@ pub fn forget_expired(server: &mut LongTermServerAuth<Global>, now: u64, age: u6
     server.forget_expired(Instant::from_nanos(now.saturating_sub(age)));
 }
 
-/// Removes records like `forget_expired`, but visits at most `most` of them, beginning at an
-/// address. Returns whether there are more to visit, and writes the address at which to continue.
+/// Removes records like `forget_expired`, but visits at most `most` of them, beginning at the
+/// address `from`. Returns 1 and sets `from` to the address at which to continue. If there are no
+/// more records, returns 0 and sets the length of `from` to 0.
 pub fn forget_expired_within(
     server: &mut LongTermServerAuth<Global>,
     now: u64,
@@ -174,10 +175,10 @@ pub fn forget_expired_within(
     Ok(u32::from(next.is_some()))
 }
 
-/// Returns the user who was validated last at an address: the algorithm of the key, and the name,
-/// which is written to the front of the buffer. The length of the name is written even if the
-/// buffer has no room for it.
-pub fn client(
+/// Writes the name of the user who was validated last at an address to `name`, and its length to
+/// `name_length`. Returns the algorithm of the user's key, or `None` if the address has no such
+/// user. If the name does not fit, fails with `BufferTooSmall`, but still writes its length.
+pub fn write_client(
     server: &LongTermServerAuth<Global>,
     at: &Address,
     name: &mut [u8],
@@ -203,9 +204,9 @@ pub fn client(
     Ok(Some(algorithm))
 }
 
-/// Writes the nonce of an address to the front of the buffer, and returns its length, or 0 if there
-/// is none.
-pub fn nonce(
+/// Writes the nonce of an address to the front of the buffer, and returns its length, or 0 if the
+/// address has none.
+pub fn write_nonce(
     server: &LongTermServerAuth<Global>,
     at: &Address,
     buffer: &mut [u8],
@@ -227,8 +228,8 @@ pub fn nonce(
     Ok(nonce.len())
 }
 
-/// Signs the message in the first `length` bytes of a buffer, which goes to an address. An error
-/// leaves the buffer unchanged.
+/// Signs the message in the first `length` bytes of a buffer, which will be sent to an address, and
+/// returns its new length. An error leaves the buffer unchanged.
 pub fn sign(
     server: &mut LongTermServerAuth<Global>,
     buffer: &mut [u8],
@@ -241,6 +242,8 @@ pub fn sign(
     let to = to.socket()?;
     let message = base_message(buffer, length)?;
     let measured = measure(server, &message, buffer.len(), to)?;
+    // The message is signed on the stack, where a datagram needs little memory, and the longest
+    // message 64 KiB.
     if measured.whole <= SHORT {
         sign_within::<SHORT, _>(server, buffer, length, to, measured.is_long, &mut OwnUsers)
     } else {
@@ -248,17 +251,17 @@ pub fn sign(
     }
 }
 
-/// The length of a message after it is signed.
+/// The length that a message will have after it is signed.
 #[derive(Clone, Copy)]
 pub struct Measured {
-    /// The number of bytes, or the greatest number if it does not fit.
+    /// The length in bytes, or `usize::MAX` if the length does not fit into a `usize`.
     pub whole: usize,
-    /// Whether the message is longer than its length field can state.
+    /// Whether the length is greater than the length field of the message can state.
     pub is_long: bool,
 }
 
-/// Returns the length of a message to an address after it is signed, if a buffer of `room` bytes
-/// has room for it then.
+/// Returns the length that a message to an address will have after it is signed. Fails with
+/// `BufferTooSmall` if the length is more than `room` bytes.
 pub fn measure(
     server: &LongTermServerAuth<Global>,
     message: &Message<'_>,
@@ -281,7 +284,8 @@ pub fn measure(
         IfErr result (λ refusal. (refusal ≡ Refusal.BufferTooSmall)
         × (nat_lt room (length message.now + more) ≡ true)) }
 {
-    // Before anything is signed, because signing changes what the server has offered the address.
+    // Computed before anything is signed, because signing changes what the server has offered the
+    // address.
     let more = server.message_signature_bytes(to, !is_response(message));
     let whole = message.as_bytes().len().saturating_add(more);
     if room < whole {
@@ -293,7 +297,8 @@ pub fn measure(
     })
 }
 
-/// Validates a message that came from an address, and returns the algorithm of its signature. If it
+/// Validates a message that arrived from an address. For a request or an indication returns the
+/// algorithm of the user's key, and for a response the algorithm of the signature. If the message
 /// is refused, a nonce may be made for the address.
 pub fn validate(
     kept: &mut Server,
@@ -308,7 +313,7 @@ pub fn validate(
           server = kept_after_validating kept.old message.now from.now now words.now;
         }) ⊤ result }
 
-    // If nothing of the server changes, no failed allocation is returned.
+    // If the message does not change the server, the call does not fail with `OutOfMemory`.
     ensures unchanged { LeavesServer kept.old message.now now words.now
         (socket_address from.now) →
         result ≡ at_address (socket_address from.now)
@@ -328,7 +333,8 @@ pub fn validate(
     )
 }
 
-/// Fails with `TooManyAddresses` if the address has no record and the limit is reached.
+/// Fails with `TooManyAddresses` if the address has no record, and the server has `most` records or
+/// more.
 pub fn check_room(
     server: &LongTermServerAuth<Global>,
     most: usize,
@@ -336,14 +342,15 @@ pub fn check_room(
 ) -> Result<(), Refusal>
     ensures { Checks (room_refusal server.now most from) result }
 {
+    // An address that has a record has a nonce.
     if server.address_count() < most || server.nonce_for_client(from).is_some() {
         return Ok(());
     }
     Err(Refusal::TooManyAddresses)
 }
 
-/// Returns the algorithm with which a message is accepted.
-pub fn validated_algorithm(validation: LongTermServerValidation) -> IntegrityAlgorithm
+/// Returns the algorithm with which a message was accepted.
+pub fn unwrap_validation(validation: LongTermServerValidation) -> IntegrityAlgorithm
     ensures { LongTermServerValidation.Validated result ≡ validation }
 {
     match validation {

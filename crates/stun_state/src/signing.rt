@@ -1,4 +1,4 @@
-//! The message to sign in a caller's buffer.
+//! Prepares to sign the message in a caller's buffer.
 
 ghost use Rattle.std.specs.Prelude.{◌≡◌, ◌-◌, length};
 ghost use Rattle.stun_base.specs.Header.{BeginsWithHeader};
@@ -12,7 +12,8 @@ use stun_types::limits::MAX_LENGTH;
 use stun_types::message::Message;
 use stun_types::prelude::*;
 
-/// The number of bytes of memory for a signed message that is not long. Datagrams are shorter.
+/// The size in bytes of the smaller of the two memories in which messages are signed. A message
+/// that is sent in a datagram usually fits into it.
 pub const SHORT: usize = 2048;
 
 /// Returns `true` if a message is a response.
@@ -22,7 +23,8 @@ pub fn is_response(message: &Message<'_>) -> bool
     message.is_response()
 }
 
-/// Returns `true` if a message with this many bytes more is longer than its length field can state.
+/// Returns `true` if a message would be longer than its length field can state after `more` bytes
+/// are added to it.
 pub fn is_too_long(message: &Message<'_>, more: usize) -> bool
     ensures { result ≡ is_too_long message.now more }
 {
@@ -31,7 +33,7 @@ pub fn is_too_long(message: &Message<'_>, more: usize) -> bool
 }
 
 /// Returns a writer over memory that has a copy of the message, to which attributes can be added.
-pub fn writer_of<'m>(message: &[u8], memory: &'m mut [u8]) -> Desk<'m>
+pub fn begin_writer<'m>(message: &[u8], memory: &'m mut [u8]) -> Desk<'m>
     requires { FitsMemory message.now (length memory.old) }
     ensures message { result.bytes ≡ message.now }
     ensures header { BeginsWithHeader result.bytes }

@@ -1,5 +1,5 @@
-//! The users with whom a server validates and signs: its own, or one whom the caller passes (RFC
-//! 8489, section 9.2.4).
+//! The users with whom a server validates and signs messages: its own, or one whom the caller
+//! passes (RFC 8489, section 9.2.4).
 
 ghost use Rattle.std.specs.Prelude.{◌≡◌, ◌≤◌, ◌+◌, ◌-◌, ⊤, length, take, Ok, Err};
 ghost use Rattle.std.specs.Prelude.{IfOk, IfErr, OnErr, OnOk};
@@ -21,9 +21,9 @@ ghost use Rattle.stun_state.specs.Server.{server_validation_answer};
 ghost use Rattle.stun_state.specs.Signing.{message_of, server_signs};
 ghost use Rattle.stun_state.specs.code.Measured.{HoldsSigned, IsMeasured};
 
-use crate::codes::server_refusal;
-use crate::server::validated_algorithm;
-use crate::signing::writer_of;
+use crate::codes::convert_server_reason;
+use crate::server::unwrap_validation;
+use crate::signing::begin_writer;
 use std::alloc::Global;
 use std::net::SocketAddr;
 use stun_auth::auth::{
@@ -38,15 +38,16 @@ use stun_numbers::refusal::Refusal;
 use stun_types::message::Message;
 use stun_types::prelude::*;
 
-/// The users of a server while it validates or signs.
+/// The users that a server has while it validates or signs a message.
 pub(crate) trait Users {
-    // The server that has them.
+    // The server while it has these users.
     ghost server_with: { Self → ServerSeen → ServerSeen };
 
-    // What a server that had them leaves, of what was there before.
+    // The server that a call leaves. The first argument is the server after the call, which has
+    // these users, and the second is the server before the call.
     ghost server_left: { ServerSeen → ServerSeen → ServerSeen };
 
-    /// Signs a message to an address.
+    /// Signs a message that will be sent to an address.
     fn sign<W: MessageWrite>(
         &mut self,
         server: &mut LongTermServerAuth<Global>,
@@ -70,7 +71,7 @@ pub(crate) trait Users {
         ensures refused { OnErr result (server.new ≡ server.old) }
         ensures users { self.new ≡ self.old };
 
-    /// Validates a message that came from an address.
+    /// Validates a message that arrived from an address.
     fn validate(
         &mut self,
         server: &mut LongTermServerAuth<Global>,
@@ -150,7 +151,7 @@ impl Users for LongTermServerUser<Global> {
     }
 }
 
-/// Validates a message that came from an address.
+/// Validates a message that arrived from an address.
 pub(crate) fn validate_message<U: Users>(
     server: &mut LongTermServerAuth<Global>,
     message: &Message<'_>,
@@ -173,12 +174,13 @@ pub(crate) fn validate_message<U: Users>(
 {
     let mut source = WordSource::new(words);
     match users.validate(server, message, from, now, &mut source) {
-        Ok(validation) => Ok(validated_algorithm(validation)),
-        Err(error) => Err(server_refusal(error.reason())),
+        Ok(validation) => Ok(unwrap_validation(validation)),
+        Err(error) => Err(convert_server_reason(error.reason())),
     }
 }
 
-/// Signs a message that then has at most `N` bytes, or any message if `N` is `LENGTH_LIMIT`.
+/// Signs the message in the first `count` bytes of the buffer. The signed message must have at most
+/// `N` bytes, but may have any length if `N` is `LENGTH_LIMIT`.
 #[inline(never)]
 pub(crate) fn sign_within<const N: usize, U: Users>(
     server: &mut LongTermServerAuth<Global>,
@@ -201,15 +203,15 @@ pub(crate) fn sign_within<const N: usize, U: Users>(
         (is_response (class_in (take count buffer.old)))) server.old) result }
     ensures users { users.new ≡ users.old }
 {
-    // A call that fails leaves the caller's buffer as it was, so the message is signed elsewhere.
-    // On the stack no allocation can fail.
+    // A call that fails leaves the caller's buffer unchanged, so the message is signed in other
+    // memory. This memory is on the stack, where no allocation can fail.
     let mut memory = [0; N];
     let signed = sign_in(server, &buffer[..count], to, is_long, &mut memory, users)?;
     put(buffer, signed);
     Ok(signed.len())
 }
 
-/// Signs the message in memory that is large enough.
+/// Signs a copy of the message in memory that is large enough, and returns the signed message.
 fn sign_in<'m, U: Users>(
     server: &mut LongTermServerAuth<Global>,
     message: &[u8],
@@ -238,7 +240,7 @@ fn sign_in<'m, U: Users>(
     ensures refused { OnErr result (server.new ≡ server.old) }
     ensures users { users.new ≡ users.old }
 {
-    match users.sign(server, writer_of(message, memory), to) {
+    match users.sign(server, begin_writer(message, memory), to) {
         Ok(signed) => Ok(signed.finish()),
         Err(error) => Err(Refusal::of_write(error, is_long)),
     }

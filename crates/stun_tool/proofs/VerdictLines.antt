@@ -1,4 +1,4 @@
--- Which lines are printed: bytes that are no message are refused in three words alone.
+-- Which lines are printed: bytes that are not a message are refused in three words alone.
 use Rattle.std.proofs.Common.{◌≡◌, ℕ, ◌+◌, ◌<◌, lit<, List, length, Bool, true}
 use Rattle.std.proofs.Common.{false, Option, Some, None, refl, sym, subst}
 use Rattle.std.proofs.KnownBytes.{Appends-nil}

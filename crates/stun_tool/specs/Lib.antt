@@ -1,4 +1,4 @@
--- The definitions that the contracts of the program use, in the order to read them.
+-- The definitions that the contracts of the program use, in reading order.
 
 -- what `check` prints
 pub mod Check
@@ -8,5 +8,6 @@ pub mod Serve
 pub mod Verdict
 -- the bytes that the digits of an input spell
 pub mod Input
--- what no clause of a public call uses: codings of models, views of structs, steps of the code
+-- definitions that no clause of a public call uses: encodings of models, views of structs, steps of
+-- the code
 pub mod code

@@ -14,8 +14,9 @@ use stun_cli::status::Status;
 /// password that is the only argument. The bytes of the password are the key (RFC 8489, section
 /// 9.1.1).
 ///
+/// Returns `NotJudged` for any other number of arguments, and then neither reads nor prints.
 /// Returns `Failed` if a read, a write or an allocation fails, or if the input does not end within
-/// 1048576 reads. A beginning of the line may be printed then, but never all of it.
+/// 1048576 reads. At most a beginning of the line is printed then.
 #[tactic(auto, using(crate::proofs::VerdictLines::nothing_printed))]
 pub fn check<R: CountedRead, W: Write, A: Allocator + Copy>(
     alloc: A,

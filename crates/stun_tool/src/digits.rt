@@ -1,4 +1,4 @@
-//! Bytes that are written as hexadecimal digits.
+//! Parses bytes that are written as hexadecimal digits.
 ghost use Rattle.std.specs.Prelude.{◌≡◌, IfOk, option_map};
 ghost use Rattle.stun_tool.specs.Input.{digits_of, bytes_read};
 
@@ -19,7 +19,8 @@ fn digits<A: Allocator>(alloc: A, input: &[u8]) -> Result<Vec<u8, A>, AllocError
 }
 
 /// Parses bytes that are written as hexadecimal digits, two of either case for each byte, with
-/// white space anywhere. Returns `None` if there is another character, or an odd number of digits.
+/// white space anywhere. Returns `None` if the input has any other character, or an odd number of
+/// digits.
 ///
 /// # Errors
 ///

@@ -1,4 +1,5 @@
-//! The program. Each command is a function of its arguments, a reader and a writer.
+//! A program with the commands `check`, `schedule`, `negotiate` and `serve`. Each command is a
+//! function of its arguments, a reader and a writer.
 #![tactic(auto)]
 
 ghost use Rattle.std.specs.Prelude.{◌≡◌, ◌≢◌, ◌≤◌, ◌+◌, ◌↔◌, length, IfSome, IfNone};
@@ -30,7 +31,7 @@ use stun_cli::output::write_text;
 use stun_cli::status::Status;
 use stun_cli::words::words_of;
 
-/// The line that is written for wrong arguments.
+/// The line that is written to standard error for wrong arguments.
 const USAGE: &str = "usage: stun_tool check PASSWORD \
     | schedule TRANSPORT INITIAL_MS MAX_MS RETRANSMITS FINAL_MS [answer MS FROM] \
     | negotiate CLIENT_ALGORITHMS CLIENT_FEATURE SERVER_ALGORITHMS SERVER_FEATURE \

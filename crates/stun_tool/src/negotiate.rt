@@ -17,7 +17,7 @@ use stun_types::message::{IntegrityAlgorithm, LongTermCredentials, TransactionId
 /// The name of the one user.
 const NAME: &str = "user";
 
-/// The user's password, at both sides.
+/// The user's password, on both sides.
 const PASSWORD: &str = "pass";
 
 /// The realm of the server.
@@ -28,23 +28,24 @@ const REALM: &str = "realm";
 pub struct Side {
     /// The algorithm that is added first.
     first: IntegrityAlgorithm,
-    /// The algorithm that is added after it, if one is.
+    /// The algorithm that is added second, if there is one.
     second: Option<IntegrityAlgorithm>,
     /// Whether the user name is sent as a hash.
     feature: Feature,
 }
 
-/// Prints how a new client and a new server with one user agree (RFC 8489, section 9.2). They make
-/// no other calls. Both requests are read at time 0, and all random numbers are 0.
+/// Prints the outcome of the first exchanges between a new client and a new server with one user
+/// (RFC 8489, section 9.2). The two sides make no other calls. The server reads both requests at
+/// time 0, and all random numbers are 0.
 ///
-/// The arguments are first those of the client, and then those of the server:
+/// The arguments are two for the client, and then the same two for the server:
 ///
 /// - the algorithms of the side: `sha1`, `sha256`, or both with a comma between them, in the order
 ///   in which they are added;
 /// - whether a client sends a hash in place of its user name: `auto`, `required` or `disabled`.
 ///
 /// If the sides agree, the line is `validated` and the algorithm, or `already validated` if the
-/// first request is accepted. Otherwise it is `refused` and the reason for which a side gives up.
+/// first request is accepted. Otherwise it is `refused` and the reason why one side gives up.
 ///
 /// Returns `NotJudged` for other arguments, and prints nothing. Returns `Failed` if a write or an
 /// allocation fails, and prints nothing more. It reads nothing.
@@ -101,7 +102,7 @@ fn side_of(algorithms: &str, hashing: &str) -> Option<Side> {
     })
 }
 
-/// Returns the outcome for these two sides.
+/// Runs the exchanges of these two sides, and returns the outcome. Fails if an allocation fails.
 fn outcome_of<A: Allocator + Copy>(
     alloc: A,
     client: Side,
@@ -159,7 +160,7 @@ fn new_server<A: Allocator + Copy>(
     Ok(server)
 }
 
-/// Prints a line for the outcome, and returns the status that goes with it.
+/// Prints a line for the outcome, and returns the status of the command.
 fn print_outcome<W: Write, A: Allocator>(
     alloc: A,
     outcome: Outcome,

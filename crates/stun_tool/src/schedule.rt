@@ -22,7 +22,7 @@ use stun_types::prelude::MessageWrite;
 /// The greatest number of transmissions that the command accepts.
 const MOST_TRANSMISSIONS: u64 = 1000;
 
-/// When a request is sent again and when it times out, and the response that arrives, if one does.
+/// The transport and the timeouts of the request, and the response to it, if one arrives.
 #[derive(Clone, Copy, Debug, PartialEq, Eq)]
 pub struct Settings {
     transport: TransportType,
@@ -33,17 +33,17 @@ pub struct Settings {
     response: Option<Response>,
 }
 
-/// When a response arrives, and from where.
+/// The time at which a response arrives, and the address that it comes from.
 #[derive(Clone, Copy, Debug, PartialEq, Eq)]
 pub struct Response {
     at: Instant,
     from: SocketAddr,
 }
 
-/// Prints when a Binding request is sent, and when it times out (RFC 8489, sections 6.2.1 and
-/// 6.2.2). The request has transaction ID 1, and is sent at time 0 from 10.0.0.1:12345 to
-/// 10.0.0.2:3478. There is a line `sent MS` for each transmission, and a last line `timed out MS`,
-/// in whole milliseconds rounded down.
+/// Prints the times at which a Binding request is sent, and the time at which it times out (RFC
+/// 8489, sections 6.2.1 and 6.2.2). The request has transaction ID 1, and is sent at time 0 from
+/// 10.0.0.1:12345 to 10.0.0.2:3478. There is a line `sent MS` for each transmission, and a last
+/// line `timed out MS`, in whole milliseconds rounded down.
 ///
 /// These are the arguments, with times in milliseconds:
 ///
@@ -54,7 +54,7 @@ pub struct Response {
 /// - the wait after the last transmission.
 ///
 /// They may be followed by `answer`, a time up to `Instant::MAX`, and an IPv4 address with a port.
-/// At that time a success response with transaction ID 1 arrives from there. If it ends the
+/// At that time a success response with transaction ID 1 arrives from that address. If it ends the
 /// request, there is a line `received MS` for it, and nothing after that. Otherwise the line is
 /// `ignored MS`.
 ///
@@ -85,7 +85,7 @@ pub fn schedule<R: CountedRead, W: Write>(
     }
 }
 
-/// Parses the arguments. Returns `None` if they are not those of the command.
+/// Parses the arguments. Returns `None` if the command does not accept them.
 fn settings_of(words: &[String]) -> Option<Settings>
     ensures { length words.now ≢ 5 → length words.now ≢ 8 → result ≡ None }
 {
@@ -176,7 +176,7 @@ fn print_schedule<W: Write, A: Allocator + Copy>(
 }
 
 /// Returns the steps of an agent that sends the request at time 0, and receives the response if the
-/// settings name one.
+/// settings have one.
 fn steps_of<A: Allocator + Copy>(
     alloc: A,
     settings: Settings,
@@ -221,7 +221,7 @@ fn binding_message(alloc: Global, class: MessageClass) -> Result<Vec<u8>, Failur
     }
 }
 
-/// Prints a line with a word and a time in milliseconds.
+/// Prints a line with a word and a time in milliseconds, rounded down.
 fn print_line<W: Write, A: Allocator>(
     alloc: A,
     word: &str,

@@ -1,4 +1,4 @@
-//! The script of `serve`. Each line that is not empty is a call of a server.
+//! Parses the script of `serve`. Each line that is not empty is a call of a server.
 
 use crate::words::{address, algorithm, feature, moment, number};
 use hex::FromHexError;
@@ -11,11 +11,12 @@ use stun_proto::replay::ServerCall;
 pub enum Script {
     /// The calls of its lines.
     Calls(Vec<ServerCall>),
-    /// The number of its first line that is not a call, counted from 1, empty lines too.
+    /// The number of its first line that is not a call, counted from 1. Empty lines are counted
+    /// too.
     WrongLine(usize),
 }
 
-/// Parses a script. Its lines end with a line feed or the end of the input, and empty ones are
+/// Parses a script. A line ends with a line feed or with the end of the input, and empty lines are
 /// skipped.
 ///
 /// # Errors
@@ -37,7 +38,7 @@ pub fn read_script(alloc: Global, script: &[u8]) -> Result<Script, AllocError> {
     Ok(Script::Calls(calls))
 }
 
-/// Parses the call of a line, whose words are separated by single spaces. Returns `None` if the
+/// Parses the call in a line, whose words are separated by single spaces. Returns `None` if the
 /// line is not a call.
 fn read_line(alloc: Global, line: &[u8]) -> Result<Option<ServerCall>, AllocError> {
     let Ok(text) = str::from_utf8(line) else {
@@ -56,7 +57,8 @@ fn read_line(alloc: Global, line: &[u8]) -> Result<Option<ServerCall>, AllocErro
     }
 }
 
-/// Parses the call of a command with these arguments.
+/// Parses the call that `command` names, with these arguments. Returns `None` if there is no such
+/// call, or an argument is wrong.
 fn call_of(
     alloc: Global,
     command: &str,
@@ -176,7 +178,7 @@ fn forget_address(arguments: &[&str]) -> Option<ServerCall> {
     Some(ServerCall::Forget(address(client)?))
 }
 
-/// Parses sixteen random numbers, each of them written as the letter that it becomes in a nonce.
+/// Parses sixteen random numbers, each written as the letter that the number becomes in a nonce.
 fn words_of_letters(letters: &str) -> Option<[u32; 16]> {
     if letters.len() != 16 {
         return None;

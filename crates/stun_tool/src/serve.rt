@@ -16,15 +16,15 @@ use stun_proto::replay;
 use stun_proto::replay::{ServerCall, ServerReply};
 use stun_types::message::StunWriteError;
 
-/// Reads a script of calls whole, makes the calls at a new long-term server, whose realm is the
+/// Reads a whole script of calls, makes the calls on a new long-term server, whose realm is the
 /// only argument, and prints a line for each reply (RFC 8489, section 9.2.4).
 ///
 /// If a line is not a call, it makes no call, prints only `wrong line N` for the first such line,
-/// and returns `Bad`. Refusals by the server are good results.
+/// and returns `Bad`. A refusal by the server is a reply like any other, and the status is `Good`.
 ///
 /// Returns `NotJudged` for other arguments, and prints nothing. Returns `Failed` if a read, a write
 /// or an allocation fails, or if the input does not end within 1048576 reads. After a failed read
-/// nothing is printed, and after another failure nothing more.
+/// nothing is printed. After any other failure nothing more is printed.
 pub fn serve<R: CountedRead, W: Write>(
     alloc: Global,
     words: &[String],
@@ -53,8 +53,8 @@ pub fn serve<R: CountedRead, W: Write>(
     }
 }
 
-/// Prints the replies to a script, or the number of its first wrong line. Returns whether the calls
-/// of the script were made.
+/// Makes the calls of a script and prints the replies, or prints the number of its first wrong
+/// line. Returns whether the calls were made.
 fn print_script<W: Write>(
     alloc: Global,
     realm: &str,
@@ -90,7 +90,7 @@ fn print_wrong_line<W: Write, A: Allocator>(
     Ok(())
 }
 
-/// Makes the calls at a new server, and prints a line for each reply.
+/// Makes the calls on a new server, and prints a line for each reply.
 fn print_replies<W: Write, A: Allocator + Copy>(
     alloc: A,
     realm: &str,
@@ -128,7 +128,7 @@ fn line_of<A: Allocator + Copy>(alloc: A, reply: &ServerReply<A>) -> Result<Stri
     }
 }
 
-/// Returns the name of an error of writing, without the type of an attribute that exists.
+/// Returns the name of a `StunWriteError`. The name of `AttributeExists` does not include the type.
 fn error_name(error: StunWriteError) -> &'static str {
     match error {
         StunWriteError::NotAllowed => "NotAllowed",

@@ -8,8 +8,8 @@ use stun_types::message::IntegrityAlgorithm;
 /// The nanoseconds of a millisecond.
 const NANOS_PER_MILLI: u64 = 1_000_000;
 
-/// Parses a decimal number. Returns `None` for other characters than digits, or if the number does
-/// not fit in 64 bits.
+/// Parses a decimal number. Returns `None` if the word has a character that is not a digit, or if
+/// the number does not fit in 64 bits.
 pub fn number(word: &str) -> Option<u64> {
     if word.bytes().all(|byte| byte.is_ascii_digit()) {
         word.parse::<u64>().ok()
@@ -27,8 +27,7 @@ pub fn algorithm(word: &str) -> Option<IntegrityAlgorithm> {
     }
 }
 
-/// Parses whether a client sends a hash in place of its user name: `auto`, `required` or
-/// `disabled`.
+/// Parses a `Feature`: `auto`, `required` or `disabled`.
 pub fn feature(word: &str) -> Option<Feature> {
     match word {
         "auto" => Some(Feature::Auto),

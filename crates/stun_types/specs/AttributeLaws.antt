@@ -10,18 +10,18 @@ use Rattle.stun_types.specs.declared.attribute.password_algorithm.PasswordAlgori
   PasswordAlgorithmValue,
 }
 
--- a spelled attribute has as many bytes as `attribute_length` says
+-- a written attribute has as many bytes as `attribute_length` says
 abbrev pub TakesWhatIsSpelled : TypedValue → Type 0
 TakesWhatIsSpelled attribute =
     length (spelled_attribute attribute) ≡ attribute_length (length attribute.value)
 
--- an error is read alike whatever its 21 reserved bits are
+-- an error is read as the same error whatever its 21 reserved bits are
 abbrev pub IgnoresReservedBits : ℕ → ℕ → ℕ → List ℕ → Type 0
 IgnoresReservedBits a b c rest =
     error_of (record { kind = ERROR_CODE; value = a ∷ b ∷ c ∷ rest })
     ≡ error_of (record { kind = ERROR_CODE; value = 0 ∷ 0 ∷ (c % 8) ∷ rest })
 
--- an address is read alike whatever its first byte is
+-- an address is read as the same address whatever its first byte is
 abbrev pub IgnoresFirstByte : ℕ → List ℕ → Type 0
 IgnoresFirstByte a rest =
     xored_of (record { kind = XOR_MAPPED_ADDRESS; value = a ∷ rest })
@@ -36,6 +36,6 @@ WritesReservedZeros error =
 abbrev pub WritesFirstZero : XoredAddress → Type 0
 WritesFirstZero address = take 1 (xored_value address) ≡ 0 ∷ []
 
--- bytes that are read as a list of algorithms are those that it is written as
+-- bytes that are read as a list of algorithms are the bytes that the list is written as
 abbrev pub ReadsSpelledEntries : List ℕ → List PasswordAlgorithmValue → Type 0
 ReadsSpelledEntries bytes list = entries bytes ≡ Some list → spelled_entries list ≡ bytes

@@ -16,14 +16,15 @@ pub record CodeAndReason : Type 0 where
   pub code : ℕ
   pub reason : List ℕ
 
--- the reason of a code that was given none
+-- the reason phrase of a code for which none was set
 abbrev pub default_reason : ℕ → List ℕ
 default_reason code =
     if code == 400 then codes "Bad Request"
     else (if code == 401 then codes "Unauthorized"
     else (if code == 438 then codes "Stale Nonce" else []))
 
--- why an error cannot be written, if it cannot: first for its code, then for its reason
+-- why an error cannot be written, if it cannot: first because of its code, then because of its
+-- reason
 abbrev pub error_refusal : CodeAndReason → Option StunWriteError
 error_refusal error =
     if nat_lt error.code 300 || nat_le 700 error.code then Some NotAllowed
@@ -59,7 +60,7 @@ code_in value =
     && nat_le (number_field value) 99
     then Some (100 * class_field value + number_field value) else None
 
--- the error of a code and a reason, if there are both
+-- the error with a code and a reason, if there are both
 abbrev pub error_with : Option ℕ → Option (List ℕ) → Option CodeAndReason
 error_with (Some code) (Some reason) = Some (record { code = code; reason = reason })
 error_with (Some code) None = None

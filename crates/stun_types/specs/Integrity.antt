@@ -28,9 +28,8 @@ deciding bytes =
     option_or (first_of MESSAGE_INTEGRITY_SHA256 (visible bytes))
     (first_of MESSAGE_INTEGRITY (visible bytes))
 
--- what an integrity attribute at a place covers, with a value of so many bytes (sections 14.5 and
--- 14.6). It is the bytes before the attribute, with the length field of a message that ends after
--- it
+-- what an integrity attribute at an offset covers, if its value has this many bytes (sections 14.5
+-- and 14.6): the bytes before the attribute, with the length field of a message that ends after it
 abbrev pub covered_bytes : List ℕ → ℕ → ℕ → List ℕ
 covered_bytes bytes place count =
     with_length (take place bytes) (place + ATTRIBUTE_HEADER_LENGTH + count - HEADER_LENGTH)
@@ -64,7 +63,7 @@ verified_by keys bytes = option_and_then (verified_at keys bytes) (deciding byte
 abbrev pub verified_algorithm : List ℕ → List ℕ → Option IntegrityAlgorithm
 verified_algorithm bytes key = verified_by (λ _. key) bytes
 
--- the fewest bytes of a SHA-256 digest that is cut short (section 14.6)
+-- the smallest number of bytes of a SHA-256 digest that is cut short (section 14.6)
 abbrev pub LEAST_SHA256_LENGTH : ℕ
 LEAST_SHA256_LENGTH = 16
 
@@ -84,7 +83,7 @@ is_integrity attribute =
     ((attribute.kind == MESSAGE_INTEGRITY) || (attribute.kind == MESSAGE_INTEGRITY_SHA256))
     && is_well_formed attribute
 
--- why no digest verifies, by the deciding member
+-- why no digest verifies, given the deciding member
 abbrev pub deciding_refusal : Option Member → ValidateError
 deciding_refusal None = Parse (MissingAttribute (record { 0 = MESSAGE_INTEGRITY }))
 deciding_refusal (Some m) =
@@ -94,7 +93,7 @@ deciding_refusal (Some m) =
 abbrev pub integrity_refusal : List ℕ → ValidateError
 integrity_refusal bytes = deciding_refusal (deciding bytes)
 
--- a call that verifies a message, where this is the algorithm whose digest verifies, if one does
+-- a call that verifies a message, if `verified` is the algorithm whose digest verifies, if one does
 pub record Verifies (message : List ℕ) (verified : Option IntegrityAlgorithm)
     (result : Result IntegrityAlgorithm ValidateError) : Type 0 where
   pub ok : IfOk result (λ algorithm. verified ≡ Some algorithm)

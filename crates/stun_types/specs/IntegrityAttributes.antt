@@ -8,7 +8,7 @@ use Rattle.stun_base.specs.declared.keys.algorithm.IntegrityAlgorithm.TheVariant
 use Rattle.stun_types.specs.Attribute.{TypedValue}
 use Rattle.stun_types.specs.Integrity.{LEAST_SHA256_LENGTH, is_well_formed}
 
--- the digest in an attribute of this type, if the type has its length
+-- the digest in an attribute of this type, if it has the length of the type
 abbrev pub digest_of : ℕ → TypedValue → Option (List ℕ)
 digest_of kind attribute =
     if attribute.kind == kind && is_well_formed attribute then Some attribute.value else None
@@ -24,7 +24,7 @@ pub digest_of-written : (hmac : List ℕ) → length hmac ≡ digest_length Sha1
     → digest_of MESSAGE_INTEGRITY (record { kind = MESSAGE_INTEGRITY; value = hmac }) ≡ Some hmac
 digest_of-written hmac whole = search rules
 
--- a SHA-256 digest that is written is read again, also one that is cut short
+-- a SHA-256 digest that is written is read again, even one that is cut short
 pub digest_of-written_sha256 : (hmac : List ℕ) → IsSha256Digest hmac
     → digest_of MESSAGE_INTEGRITY_SHA256 (record { kind = MESSAGE_INTEGRITY_SHA256; value = hmac })
     ≡ Some hmac

@@ -1,10 +1,10 @@
--- What the contracts of this crate say, in the order to read it.
+-- What the contracts of this crate say, in reading order.
 
 -- the limits of a message and its texts
 pub mod Limits
--- which bytes are a message, and why others are none (RFC 8489, section 5)
+-- which bytes are a message, and why others are not (RFC 8489, section 5)
 pub mod Message
--- the attributes of a message, each with its place (section 14)
+-- the attributes of a message, each with its offset (section 14)
 pub mod Walk
 -- which of them are visible: what an integrity attribute covers (sections 14.5 to 14.7)
 pub mod Visible
@@ -30,9 +30,9 @@ pub mod XorMappedAddress
 pub mod PasswordAlgorithms
 -- MESSAGE-INTEGRITY and MESSAGE-INTEGRITY-SHA256 (sections 14.5 and 14.6)
 pub mod IntegrityAttributes
--- a message with one attribute or digest more, and why it is refused
+-- a message with one more attribute or digest, and why it is refused
 pub mod Writing
--- what the calls of a writer do, where several share their clauses
+-- what the calls of a writer do, if several share their clauses
 pub mod WriterCalls
 -- a writer that grows
 pub mod WriteVec
@@ -40,11 +40,12 @@ pub mod WriteVec
 pub mod WriteMutSlice
 -- laws: what is written is read again
 pub mod AttributeLaws
--- the same for ERROR-CODE
+-- laws: an error that is written is read again
 pub mod ErrorCodeLaws
--- the same for XOR-MAPPED-ADDRESS
+-- laws: an address that is written is read again
 pub mod XorMappedAddressLaws
 -- laws: which attributes are equal
 pub mod Equality
--- what no clause of a public call cites: codings of models, views of structs, steps of the code
+-- definitions that no clause of a public call cites: codings of models, views of structs, steps of
+-- the code
 pub mod code

@@ -1,4 +1,4 @@
--- What is a STUN message (RFC 8489, section 5).
+-- Which bytes are a STUN message (RFC 8489, section 5).
 use Rattle.std.specs.Prelude.{◌≡◌, ℕ, ◌+◌, List, ◌++◌, length, take, drop}
 use Rattle.std.specs.Prelude.{Option, Some, None, nat_lt, ◌==◌, if◌then◌else◌}
 use Rattle.byteorder.specs.Endian.{big_bytes}
@@ -18,7 +18,7 @@ pub record IsMessage (bytes : List ℕ) : Type 0 where
   pub stated : HEADER_LENGTH + length_field bytes ≡ length bytes
   pub filled : HEADER_LENGTH + attributes_length (walk bytes) ≡ length bytes
 
--- why bytes after a right header are no message
+-- why bytes after a valid header are not the rest of a message
 abbrev pub data_refusal : List ℕ → Option StunParseError
 data_refusal bytes =
     if nat_lt (length bytes) (HEADER_LENGTH + length_field bytes) then Some Truncated
@@ -26,11 +26,11 @@ data_refusal bytes =
     else if HEADER_LENGTH + attributes_length (walk bytes) == length bytes then None
     else Some Truncated
 
--- the first of `first`, and where it is none of `second`
+-- the first refusal, or the second if there is no first one
 abbrev pub either_refusal : Option StunParseError → Option StunParseError → Option StunParseError
 either_refusal (Some error) second = Some error
 either_refusal None second = second
 
--- why bytes are no message: what is wrong with the header comes first
+-- why bytes are not a message: what is wrong with the header comes first
 abbrev pub refusal : List ℕ → Option StunParseError
 refusal bytes = either_refusal (header_refusal bytes) (data_refusal bytes)

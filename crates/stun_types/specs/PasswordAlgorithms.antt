@@ -28,12 +28,12 @@ abbrev pub algorithm_of_number : ℕ → Option PasswordAlgorithmValue
 algorithm_of_number number =
     if number == 0x0001 then Some MD5 else (if number == 0x0002 then Some SHA256 else None)
 
--- the digest of message integrity under a key that the algorithm makes (section 18.5.1)
+-- the algorithm of the signatures under a key that this algorithm makes (section 18.5.1)
 abbrev pub integrity_of : PasswordAlgorithmValue → IntegrityAlgorithm
 integrity_of MD5 = Sha1
 integrity_of SHA256 = Sha256
 
--- the algorithm that makes the key of a digest
+-- the algorithm that makes the key of a signature
 abbrev pub password_algorithm_of : IntegrityAlgorithm → PasswordAlgorithmValue
 password_algorithm_of Sha1 = MD5
 password_algorithm_of Sha256 = SHA256
@@ -55,7 +55,7 @@ abbrev pub entry_at_front : List ℕ → Option PasswordAlgorithmValue
 entry_at_front bytes =
     if big_number 2 (drop 2 bytes) == 0 then algorithm_of_number (big_number 2 bytes) else None
 
--- an algorithm in front of others, if all are known
+-- an algorithm before others, if all are known
 abbrev pub in_front_of : Option (List PasswordAlgorithmValue) → Option PasswordAlgorithmValue
     → Option (List PasswordAlgorithmValue)
 in_front_of (Some others) (Some algorithm) = Some (algorithm ∷ others)
@@ -89,7 +89,7 @@ pub password_algorithm_in-written : (algorithm : PasswordAlgorithmValue) → Uni
 password_algorithm_in-written MD5 holds = refl
 password_algorithm_in-written SHA256 holds = refl
 
--- an algorithm in front of a list whose entries are read again
+-- an algorithm before a list whose entries are read again
 in_front : (list : List PasswordAlgorithmValue) (bytes : List ℕ)
     (algorithm : PasswordAlgorithmValue)
     → entries bytes ≡ Some list

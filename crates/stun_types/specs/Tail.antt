@@ -7,29 +7,29 @@ use Rattle.stun_types.specs.Message.{with_length}
 use Rattle.stun_types.specs.Visible.{visible}
 use Rattle.stun_types.specs.Walk.{Member}
 
--- two messages have the same bytes up to the end of the deciding attribute, but for the length
+-- two messages have the same bytes up to the end of the deciding attribute, except for the length
 -- field. Anything may follow it in either
 pub record AgreeUpToIntegrity (bytes others : List ℕ) : Type 0 where
-  -- one attribute decides in both, with the same type and value at the same place:
-  -- MESSAGE-INTEGRITY-SHA256 where it is visible (section 14.6), or else MESSAGE-INTEGRITY (section
+  -- one attribute decides in both, with the same type and value at the same offset:
+  -- MESSAGE-INTEGRITY-SHA256 if it is visible (section 14.6), or else MESSAGE-INTEGRITY (section
   -- 14.5)
   pub decider : Member
   pub decides : deciding bytes ≡ Some decider
   pub decides_other : deciding others ≡ Some decider
-  -- all bytes before it are the same, but for the length field (section 5). The digest has the
-  -- length up to the end of this attribute in its place (sections 14.5 and 14.6)
+  -- all bytes before it are the same, except for the length field (section 5). In place of that
+  -- field, the digest covers the length up to the end of this attribute (sections 14.5 and 14.6)
   pub same_before : with_length (take decider.0 bytes) 0 ≡ with_length (take decider.0 others) 0
 
--- the place after an attribute and its padding (section 14)
+-- the offset after an attribute and its padding (section 14)
 abbrev pub place_behind : Member → ℕ
 place_behind m = m.0 + attribute_length (length m.1.value)
 
--- the other message has the bytes of a message up to the end of its deciding attribute, but for the
--- length field. Anything may follow, unless MESSAGE-INTEGRITY decides: then no visible
+-- the other message has the bytes of a message up to the end of its deciding attribute, except for
+-- the length field. Anything may follow, but if MESSAGE-INTEGRITY decides, no visible
 -- MESSAGE-INTEGRITY-SHA256, which would decide
 pub record IsContinuedAnew (bytes others : List ℕ) (m : Member) : Type 0 where
   pub decides : deciding bytes ≡ Some m
-  -- the header but for its length, and all attributes up to this one with its padding (sections 5
+  -- the header without its length, and all attributes up to this one with its padding (sections 5
   -- and 14)
   pub same_up_to_end : with_length (take (place_behind m) bytes) 0
       ≡ with_length (take (place_behind m) others) 0
@@ -37,7 +37,7 @@ pub record IsContinuedAnew (bytes others : List ℕ) (m : Member) : Type 0 where
   pub none_stronger : (m.1.kind ≡ MESSAGE_INTEGRITY_SHA256)
       ⊎ (first_of MESSAGE_INTEGRITY_SHA256 (visible others) ≡ None)
 
--- attributes besides FINGERPRINT, the only one that may be visible after the one that decides
--- (section 14.7)
+-- attributes other than FINGERPRINT, which alone may be visible after the one that decides (section
+-- 14.7)
 abbrev pub besides_fingerprint : List Member → List Member
 besides_fingerprint members = filter (λ m. not (m.1.kind == FINGERPRINT)) members

@@ -6,11 +6,11 @@ use Rattle.std.proofs.Common.{rules}
 use Rattle.std.proofs.lemmas.Str.{is_utf8-from_IsUtf8}
 use Rattle.stun_types.specs.Attribute.{TypedValue}
 
--- bytes as a text, if they are UTF-8 and at most so many
+-- bytes as a text, if they are UTF-8 and at most this many
 abbrev pub short_text : ℕ → List ℕ → Option (List ℕ)
 short_text most bytes = if is_utf8 bytes && nat_le (length bytes) most then Some bytes else None
 
--- the text of an attribute of this type, if it is UTF-8 of at most so many bytes
+-- the text of an attribute of this type, if it is UTF-8 of at most this many bytes
 abbrev pub text_of : ℕ → ℕ → TypedValue → Option (List ℕ)
 text_of kind most attribute =
     if attribute.kind == kind then short_text most attribute.value else None

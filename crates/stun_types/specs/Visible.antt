@@ -1,5 +1,5 @@
 -- The visible attributes of a message (RFC 8489, sections 14.5 to 14.7). An integrity attribute
--- covers what is before it. After it only the stronger integrity attribute and FINGERPRINT are
+-- covers the bytes before it. After it only the stronger integrity attribute and FINGERPRINT are
 -- visible.
 use Rattle.std.specs.Prelude.{ℕ, Bool, true, false, List, [], ◌∷◌, filter, nat_lt, ◌==◌, ◌||◌}
 use Rattle.std.specs.Prelude.{Option, Some, None, if◌then◌else◌}
@@ -18,15 +18,15 @@ use Rattle.stun_types.specs.declared.message.visibility.Visibility.TheVariants.{
 abbrev pub has_kind : ℕ → List Member → Bool
 has_kind kind members = list_any (λ m. m.1.kind == kind) members
 
--- those of a type
+-- the members of a type
 abbrev pub of_kind : ℕ → List Member → List Member
 of_kind kind members = filter (λ m. m.1.kind == kind) members
 
--- those that are before a place
+-- the members before an offset
 abbrev pub before : ℕ → List Member → List Member
 before place members = filter (λ m. nat_lt m.0 place) members
 
--- what is visible, by which of the three types came before
+-- what is visible, depending on which of the three types came before
 abbrev pub visibility_of : Bool → Bool → Bool → Visibility
 visibility_of integrity integrity_sha256 fingerprint =
     if fingerprint then Nothing
@@ -40,7 +40,7 @@ shows AfterIntegrity kind = (kind == MESSAGE_INTEGRITY_SHA256) || (kind == FINGE
 shows AfterIntegritySha256 kind = kind == FINGERPRINT
 shows Nothing kind = false
 
--- what is visible at a place, by the attributes before it
+-- what is visible at an offset, given the attributes before it
 abbrev pub visibility_at : ℕ → List Member → Visibility
 visibility_at place members =
     visibility_of (has_kind MESSAGE_INTEGRITY (before place members))
@@ -65,14 +65,14 @@ after AfterIntegrity kind =
 after AfterIntegritySha256 kind = visibility_of true true (kind == FINGERPRINT)
 after Nothing kind = Nothing
 
--- of attributes, one after the other, those that are visible if so much is before them
+-- the attributes that are visible among these, if this is visible where they begin
 unfoldable pub visible_after : Visibility → List Member → List Member
 visible_after visibility [] = []
 visible_after visibility (m ∷ members) =
     if shows visibility m.1.kind then m ∷ visible_after (after visibility m.1.kind) members
     else visible_after (after visibility m.1.kind) members
 
--- the type that hides the most after others
+-- the type that hides the most, of those that came before
 abbrev pub hiding_type : Visibility → Option AttributeType
 hiding_type Everything = None
 hiding_type AfterIntegrity = Some (record { 0 = MESSAGE_INTEGRITY })

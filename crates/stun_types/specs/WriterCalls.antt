@@ -14,7 +14,7 @@ use Rattle.stun_types.specs.Writing.{SpellsOneMore, VerifiesAfter, signing_refus
 use Rattle.stun_types.specs.Writing.{with_attribute, with_integrity}
 
 -- a call that begins this message, which has no attributes, in an empty writer
-pub record Begins {W : Type 0} (bytes_of : W → List ℕ) (room_of reserved_of : W → ℕ) (writer : W)
+pub record Begins {W : Type 0} (grants : Type 0) (bytes_of : W → List ℕ) (room_of reserved_of : W → ℕ) (writer : W)
     (message : List ℕ) (result : Result W StunWriteError) : Type 0 where
   pub bytes : IfOk result (λ built. bytes_of built ≡ message)
   pub «open» : IfOk result (λ built. IsOpen (bytes_of built))
@@ -22,21 +22,25 @@ pub record Begins {W : Type 0} (bytes_of : W → List ℕ) (room_of reserved_of 
   pub room : IfOk result (λ built. room_of built + HEADER_LENGTH ≡ room_of writer)
   -- it fails with TooSmall if and only if the header does not fit
   pub too_small : IsErrOf result TooSmall ↔ (room_of writer < HEADER_LENGTH)
-  -- where it fits, only an allocation can fail
+  -- if it fits, only an allocation can fail
   pub otherwise_memory : HEADER_LENGTH ≤ room_of writer → IsOkUnless result OutOfMemory
   -- it succeeds if the bytes are reserved already
   pub succeeds : HEADER_LENGTH ≤ reserved_of writer → IsOk result
+  -- or if it fits and no allocation is refused
+  pub granted : grants → HEADER_LENGTH ≤ room_of writer → IsOk result
 
 -- a call that adds an attribute, unless there is a reason to refuse it
-pub record AddsAttribute {W : Type 0} (bytes_of : W → List ℕ) (room_of reserved_of : W → ℕ)
+pub record AddsAttribute {W : Type 0} (grants : Type 0) (bytes_of : W → List ℕ) (room_of reserved_of : W → ℕ)
     (old new : W) (refusal : Option StunWriteError) (attribute : TypedValue)
     (result : Result (Unit {0}) StunWriteError) : Type 0 where
-  -- it fails with the first reason that holds. Without a reason only an allocation can fail
+  -- it fails with the first reason that applies. Without a reason only an allocation can fail
   pub refused : RefusedBy refusal result
   pub bytes : OnOk result (bytes_of new ≡ with_attribute (bytes_of old) attribute)
   -- it succeeds if the bytes are reserved already and there is no reason
   pub succeeds : refusal ≡ None
       → attribute_length (length attribute.value) ≤ reserved_of old → IsOk result
+  -- or if there is no reason and no allocation is refused
+  pub granted : grants → refusal ≡ None → IsOk result
   -- a reader finds the attributes from before, and this one after them
   pub added : OnOk result (GainsOne (bytes_of old) (bytes_of new) attribute)
   pub «open» : OnOk result (IsOpen (bytes_of old) → IsOpen (bytes_of new))
@@ -50,18 +54,21 @@ pub record AddsAttribute {W : Type 0} (bytes_of : W → List ℕ) (room_of reser
   pub kept : OnErr result (reserved_of old ≤ reserved_of new)
 
 -- a call that signs a message by an algorithm with a key, unless there is a reason to refuse it
-pub record Signs {W : Type 0} (bytes_of : W → List ℕ) (room_of reserved_of : W → ℕ) (old new : W)
+pub record Signs {W : Type 0} (grants : Type 0) (bytes_of : W → List ℕ) (room_of reserved_of : W → ℕ) (old new : W)
     (algorithm : IntegrityAlgorithm) (key : List ℕ)
     (result : Result (Unit {0}) StunWriteError) : Type 0 where
-  -- it fails with the first reason that holds. Without a reason only an allocation can fail
+  -- it fails with the first reason that applies. Without a reason only an allocation can fail
   pub refused : RefusedBy (signing_refusal (bytes_of old) (room_of old) algorithm) result
   -- it succeeds if the bytes are reserved already and there is no reason
   pub succeeds : signing_refusal (bytes_of old) (room_of old) algorithm ≡ None
       → attribute_length (digest_length algorithm) ≤ reserved_of old → IsOk result
+  -- or if there is no reason and no allocation is refused
+  pub granted : grants → signing_refusal (bytes_of old) (room_of old) algorithm ≡ None
+      → IsOk result
   pub bytes : OnOk result (bytes_of new ≡ with_integrity (bytes_of old) algorithm key)
   -- a reader finds the attributes from before, and the integrity attribute after them
   pub added : OnOk result (GainsIntegrity (bytes_of old) (bytes_of new) algorithm key)
-  -- it is the digest that reading compares
+  -- the integrity attribute has the digest that a reader compares
   pub stands : OnOk result (VerifiesAfter (bytes_of old) (bytes_of new) algorithm key)
   pub room : OnOk result (room_of new + attribute_length (digest_length algorithm) ≡ room_of old)
   -- after an error, the bytes and the room are unchanged
@@ -70,15 +77,17 @@ pub record Signs {W : Type 0} (bytes_of : W → List ℕ) (room_of reserved_of :
   pub kept : OnErr result (reserved_of old ≤ reserved_of new)
 
 -- a call that signs a message which nothing refuses: only an allocation can fail
-pub record SignsUnchecked {W E : Type 0} (bytes_of : W → List ℕ) (room_of reserved_of : W → ℕ)
+pub record SignsUnchecked {W E : Type 0} (grants : Type 0) (bytes_of : W → List ℕ) (room_of reserved_of : W → ℕ)
     (old new : W) (algorithm : IntegrityAlgorithm) (key : List ℕ)
     (result : Result (Unit {0}) E) : Type 0 where
   -- it succeeds if the bytes are reserved already
   pub succeeds : attribute_length (digest_length algorithm) ≤ reserved_of old → IsOk result
+  -- or if no allocation is refused
+  pub granted : grants → IsOk result
   pub bytes : OnOk result (bytes_of new ≡ with_integrity (bytes_of old) algorithm key)
   -- a reader finds the attributes from before, and the integrity attribute after them
   pub added : OnOk result (GainsIntegrity (bytes_of old) (bytes_of new) algorithm key)
-  -- it is the digest that reading compares
+  -- the integrity attribute has the digest that a reader compares
   pub stands : OnOk result (VerifiesAfter (bytes_of old) (bytes_of new) algorithm key)
   pub room : OnOk result (room_of new + attribute_length (digest_length algorithm) ≡ room_of old)
   -- after an error, the bytes and the room are unchanged

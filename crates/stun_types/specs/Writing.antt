@@ -22,7 +22,7 @@ use Rattle.stun_types.specs.Visible.{has_kind, visible}
 use Rattle.stun_types.specs.Walk.{walk}
 pub use Rattle.stun_types.specs.Limits.{max_length}
 
--- the message length with one attribute more, whose value has n bytes (RFC 8489, section 5)
+-- the message length with one more attribute, whose value has n bytes (RFC 8489, section 5)
 abbrev pub length_with : List ℕ → ℕ → ℕ
 length_with message n = length message - HEADER_LENGTH + attribute_length n
 
@@ -71,7 +71,7 @@ pub record IsOpen (message : List ℕ) : Type 0 where
   pub no_integrity : has_integrity message ≡ false
   pub no_fingerprint : has_kind FINGERPRINT (walk message) ≡ false
 
--- a message with one attribute more after all that it had, which is visible with them
+-- a message with one more attribute after all that it had, which is visible with them
 pub record HasOneMore (before after : List ℕ) (attribute : TypedValue) : Type 0 where
   pub is_message : IsMessage after
   pub type_is : type_field after ≡ type_field before
@@ -79,20 +79,20 @@ pub record HasOneMore (before after : List ℕ) (attribute : TypedValue) : Type 
   pub walk_is : walk after ≡ walk before ++ (length before, attribute) ∷ []
   pub visible_is : visible after ≡ visible before ++ (length before, attribute) ∷ []
 
--- an attribute whose type has 16 bits, and whose value fits the message: its length is then at most
--- the greatest
+-- an attribute whose type has 16 bits, and whose value fits into the message, so that its length is
+-- at most the greatest one
 pub record IsAddable (message : List ℕ) (attribute : TypedValue) : Type 0 where
   pub kind : attribute.kind < 2 ^ 16
   pub value : length_with message (length attribute.value) ≤ max_length
 
--- why a value of n bytes is refused with so much room, if it is: first for the length field, then
--- for the room
+-- why a value of n bytes is refused with this much room, if it is: first because of the length
+-- field, then because of the room
 abbrev pub size_refusal : List ℕ → ℕ → ℕ → Option StunWriteError
 size_refusal message room n =
     if nat_lt max_length (length_with message n) then Some TooLarge
     else (if nat_lt room (attribute_length n) then Some TooSmall else None)
 
--- why an attribute is refused, the first reason that holds
+-- why an attribute is refused, the first reason that applies
 abbrev pub attribute_refusal : List ℕ → ℕ → ℕ → ℕ → Option StunWriteError
 attribute_refusal message room kind n =
     if is_set_apart kind then Some NotAllowed
@@ -100,43 +100,44 @@ attribute_refusal message room kind n =
     else (if has_kind kind (walk message) then Some (AttributeExists (record { 0 = kind }))
     else size_refusal message room n))
 
--- why an attribute is refused whose type may be in the message already, the first reason that holds
+-- why an attribute is refused whose type may be in the message already, the first reason that
+-- applies
 abbrev pub another_refusal : List ℕ → ℕ → ℕ → ℕ → Option StunWriteError
 another_refusal message room kind n =
     if is_set_apart kind then Some NotAllowed
     else (if has_integrity message then Some MessageIntegrityExists
     else size_refusal message room n)
 
--- why an integrity attribute is refused, the first reason that holds
+-- why an integrity attribute is refused, the first reason that applies
 abbrev pub signing_refusal : List ℕ → ℕ → IntegrityAlgorithm → Option StunWriteError
 signing_refusal message room algorithm =
     if has_integrity message then Some MessageIntegrityExists
     else size_refusal message room (digest_length algorithm)
 
--- the result of a call that may fail: it is the first reason that holds, and without one only an
+-- the result of a call that may fail: it is the first reason that applies, and without one only an
 -- allocation can fail
 abbrev pub RefusedBy : Option StunWriteError → Result (Unit {0}) StunWriteError → Type 0
 RefusedBy refusal result =
     MatchOption refusal (IsOkUnless result OutOfMemory) (λ reason. result ≡ Err reason)
 
--- an open message has one attribute more after the call
+-- an open message has one more attribute after the call
 abbrev pub GainsOne : List ℕ → List ℕ → TypedValue → Type 0
 GainsOne before after attribute = IsOpen before → HasOneMore before after attribute
 
--- an open message has the integrity attribute of an algorithm under a key after the call, and
--- nothing else more
+-- an open message has the integrity attribute of an algorithm under a key after the call, and no
+-- other new attribute
 abbrev pub GainsIntegrity : List ℕ → List ℕ → IntegrityAlgorithm → List ℕ → Type 0
 GainsIntegrity before after algorithm key =
     GainsOne before after (integrity_attribute before algorithm key)
 
--- an open message verifies after the call by this algorithm, under all keys of which this is the
--- one for it
+-- an open message verifies after the call with this algorithm, under all sets of keys whose key for
+-- it is this one
 abbrev pub VerifiesAfter : List ℕ → List ℕ → IntegrityAlgorithm → List ℕ → Type 0
 VerifiesAfter before after algorithm key =
     IsOpen before → (keys : IntegrityAlgorithm → List ℕ) → keys algorithm ≡ key
     → verified_by keys after ≡ Some algorithm
 
--- a spelled message is spelled with one attribute more after the call
+-- a spelled message is spelled with one more attribute after the call
 abbrev pub SpellsOneMore : List ℕ → List ℕ → TypedValue → Type 0
 SpellsOneMore before after attribute =
     (kind id : ℕ) (list : List TypedValue) → before ≡ spelled_message kind id list
@@ -146,7 +147,7 @@ SpellsOneMore before after attribute =
 abbrev pub empty_message : MessageClass → ℕ → ℕ → List ℕ
 empty_message class method id = spelled_message (type_number class method) id []
 
--- a message of a class that answers another, with its method and id and without attributes
+-- a message of a class that answers another, with its method and its ID and without attributes
 abbrev pub empty_answer : MessageClass → List ℕ → List ℕ
 empty_answer class message =
     empty_message class (method_of (type_field message)) (transaction_id_field message)

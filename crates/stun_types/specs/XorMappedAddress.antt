@@ -1,6 +1,6 @@
 -- XOR-MAPPED-ADDRESS (RFC 8489, section 14.2). It has a reserved byte, the family, and the port and
--- the octets of an address, xored with magic cookie and transaction id. The reserved byte is zero
--- when written, and ignored when read.
+-- the octets of an address, XORed with the magic cookie and the transaction ID. The reserved byte
+-- is zero when written, and ignored when read.
 use Rattle.std.specs.Prelude.{◌≡◌, ℕ, ◌<◌, ◌^◌, ◌⊎◌, Bool, List, [], ◌∷◌, ◌++◌}
 use Rattle.std.specs.Prelude.{length, drop, slice_index, bit_xor, nat_le, ◌==◌}
 use Rattle.std.specs.Prelude.{◌&&◌, ◌||◌, if◌then◌else◌, Option, Some, None}
@@ -12,34 +12,34 @@ use Rattle.stun_base.specs.Attributes.{XOR_MAPPED_ADDRESS}
 use Rattle.stun_base.specs.Header.{MAGIC_COOKIE}
 use Rattle.stun_types.specs.Attribute.{TypedValue}
 
--- an address of a message: its family, and its port and octets xored with the key
+-- an address of a message: its family, and its port and octets XORed with the key
 pub record XoredAddress : Type 0 where
   pub family : ℕ
   pub port : ℕ
   pub octets : List ℕ
 
--- a port, xored with the first half of the magic cookie
+-- a port, XORed with the first half of the magic cookie
 abbrev pub xor_port : ℕ → ℕ
 xor_port port = bit_xor port 0x2112
 
--- the key: the magic cookie, then the transaction id
+-- the key: the magic cookie, then the transaction ID
 abbrev pub xor_key : ℕ → List ℕ
 xor_key id = big_bytes 4 MAGIC_COOKIE ++ big_bytes 12 id
 
--- each byte xor the byte of the key at its place
+-- each byte XORed with the byte of the key at its index
 abbrev pub xor_bytes : List ℕ → List ℕ → List ℕ
 xor_bytes [] key = []
 xor_bytes (x ∷ xs) [] = []
 xor_bytes (x ∷ xs) (k ∷ ks) = bit_xor x k ∷ xor_bytes xs ks
 
--- an address and a port, xored
+-- an address and a port, XORed
 abbrev pub xored_address : IpAddr → ℕ → ℕ → XoredAddress
 xored_address (V4 ip) port id =
     record { family = 1; port = xor_port port; octets = xor_bytes (ipv4_octets ip) (xor_key id) }
 xored_address (V6 ip) port id =
     record { family = 2; port = xor_port port; octets = xor_bytes (ipv6_octets ip) (xor_key id) }
 
--- the address that is xored with the key of an id
+-- the address that is XORed with the key of an ID
 abbrev pub IsHidden : ℕ → XoredAddress → IpAddr → Type 0
 IsHidden id hidden (V4 ip) =
     (hidden.family ≡ 1) × (ipv4_octets ip ≡ xor_bytes hidden.octets (xor_key id))
@@ -61,7 +61,7 @@ IsXored address =
     × (((address.family ≡ 1) × (length address.octets ≡ 4))
     ⊎ ((address.family ≡ 2) × (length address.octets ≡ 16)))
 
--- whether an address of a family has so many octets: 4 of family 1 (IPv4), 16 of family 2 (IPv6)
+-- whether an address of a family has this many octets: 4 of family 1 (IPv4), 16 of family 2 (IPv6)
 abbrev pub has_octets : ℕ → ℕ → Bool
 has_octets family count = (family == 1 && (count == 4)) || (family == 2 && (count == 16))
 

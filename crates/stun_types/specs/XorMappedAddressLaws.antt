@@ -1,4 +1,4 @@
--- What is written of a hidden address is read again.
+-- An XORed address that is written is read again.
 use Rattle.std.specs.Prelude.{◌≡◌, ℕ, ◌/◌, ◌%◌, ◌^◌, ◌<◌, ◌⊎◌, List, ◌∷◌, length, true, Some}
 use Rattle.std.proofs.Common.{arith, rules, refl, inl, inr}
 use Rattle.byteorder.specs.Endian.{big_number}
@@ -11,7 +11,7 @@ port-reads_back : (port : ℕ) (rest : List ℕ) → port < 2 ^ 16
     → big_number 2 ((port / 256 % 256) ∷ (port % 256) ∷ rest) ≡ port
 port-reads_back port rest fits = omega arith
 
--- the octets of either family are as many as it has
+-- an address of either family has as many octets as the family
 has_octets-holds : (family count : ℕ) → ((family ≡ 1) × (count ≡ 4)) ⊎ ((family ≡ 2) × (count ≡ 16))
     → has_octets family count ≡ true
 has_octets-holds family count (inl ipv4) = rw (ipv4.0, ipv4.1) refl

@@ -41,19 +41,20 @@ pub use userhash::Userhash;
 pub use username::Username;
 pub use xor_mapped_address::XorMappedAddress;
 
-/// The number of bytes of the header of an attribute, which consists of its type and the length of
-/// its value (RFC 8489, section 14).
+/// The number of bytes of an attribute's header, which consists of the attribute's type and the
+/// length of its value (RFC 8489, section 14).
 pub const ATTRIBUTE_HEADER_LENGTH: usize = 4;
 
-/// Returns the number of zeros that pad a value of this many bytes to a multiple of 4 bytes.
+/// Returns the number of zero bytes that pad a value of `value_length` bytes to a multiple of 4
+/// bytes.
 pub(crate) fn padding_length(value_length: usize) -> usize
     ensures { result ≡ padded_length value_length - value_length }
 {
     (4 - value_length % 4) % 4
 }
 
-/// Returns the number of bytes of an attribute whose value has `value_length` bytes, with its
-/// header and its padding. The result is at most `usize::MAX`.
+/// Returns the number of bytes of an attribute, with its header and its padding, whose value has
+/// `value_length` bytes. The result is at most `usize::MAX`.
 pub fn attribute_length(value_length: usize) -> usize
     ensures { result ≡ min (attribute_length value_length) (2 ^ 64 - 1) }
 {
@@ -62,7 +63,7 @@ pub fn attribute_length(value_length: usize) -> usize
         .saturating_add(ATTRIBUTE_HEADER_LENGTH)
 }
 
-/// An attribute whose value is not parsed: its type and its value, which is borrowed.
+/// An attribute whose value has not been parsed: its type, and its value, which is borrowed.
 #[derive(Debug, Drop)]
 pub struct RawAttribute<'a> {
     kind: AttributeType,
@@ -80,7 +81,7 @@ impl<'a> Model for RawAttribute<'a> {
     ghost invariant = { λ attribute. attribute.kind.0 < 2 ^ 16 };
 }
 
-/// Copies the reference. This does not allocate and never fails.
+/// Copies the reference, not the bytes. This does not allocate and never fails.
 impl<'a> Clone for RawAttribute<'a> {
     ghost is_clone = { λ it copy. copy ≡ it };
 
@@ -94,7 +95,7 @@ impl<'a> Clone for RawAttribute<'a> {
     }
 }
 
-/// Attributes are equal if and only if their types and their values are.
+/// Two attributes are equal if they have the same type and their values have the same bytes.
 impl<'a> PartialEq for RawAttribute<'a> {
     ghost eq = { same_attribute };
 
@@ -111,9 +112,9 @@ impl<'a> Eq for RawAttribute<'a> {
 
 /// An attribute that can be written to a message.
 ///
-/// The four calls must agree with each other: `write_into` appends exactly the attribute whose type
-/// is `get_type` and whose value has `length` bytes. Otherwise what follows the attribute in the
-/// message would be read as something else.
+/// In an implementation the four calls must agree: `write_into` must append exactly the attribute
+/// whose type is `get_type` and whose value has `length` bytes. Otherwise a reader of the message
+/// would misread everything that follows the attribute.
 pub trait Attribute {
     // The type of the attribute.
     ghost kind: { Self → ℕ };
@@ -121,7 +122,7 @@ pub trait Attribute {
     // The bytes of its value.
     ghost value: { Self → List ℕ };
 
-    // What holds of each attribute of this Rust type.
+    // A property of every attribute of this Rust type.
     ghost is_well_formed: { Self → Type 0 };
 
     /// Returns the type of the attribute.
@@ -142,9 +143,9 @@ pub trait Attribute {
         attribute_length(self.length())
     }
 
-    /// Appends the attribute: its type and the length of its value, two bytes each in network
-    /// order, its value, and zeros up to a multiple of 4 bytes. The writer must have these bytes
-    /// reserved.
+    /// Appends the attribute to `writer`: its type and the length of its value, two bytes each in
+    /// network order, its value, and zeros up to a multiple of 4 bytes. The caller must have
+    /// reserved these bytes in the writer.
     fn write_into<W: MessageWrite>(&self, writer: &mut W)
         requires fits { length (value self.now) ≤ max_length }
         requires reserved { attribute_length (length (value self.now)) ≤ W.reserved writer.old }
@@ -156,29 +157,29 @@ pub trait Attribute {
             ≡ W.reserved writer.old };
 }
 
-/// An attribute whose type is fixed.
+/// A Rust type of attributes that all have the same attribute type.
 pub trait AttributeStaticType {
-    /// The type.
+    /// The attribute type.
     const TYPE: AttributeType;
 
-    // The number of the type.
+    // The number of the attribute type.
     ghost static_kind: { ℕ };
 
     /// Returns `TYPE`.
     ///
-    /// Contracts: the clause states the number of the type, because a constant has no clause. An
-    /// impl of a type with a lifetime repeats it.
+    /// Contracts: the clause states the number of the type, because a constant cannot have a
+    /// clause. An impl for a type with a lifetime must define this call itself.
     fn static_type() -> AttributeType
         ensures { result.0 ≡ static_kind };
 }
 
-/// An attribute that can be parsed from its raw form.
+/// An attribute that can be parsed from a [`RawAttribute`].
 pub trait AttributeFromRaw<'a>: Attribute + Sized {
     ghost use Rattle.std.specs.Prelude.{◌≡◌, Option, Some};
     ghost use Rattle.stun_types.specs.Attribute.{TypedValue};
     ghost use Rattle.stun_types.specs.Reading.{attribute_answer};
 
-    // The attribute that a type and a value are, if they are well formed.
+    // The attribute with a type and a value, if the value is well formed.
     ghost reading: { TypedValue → Option Self };
 
     /// Parses the attribute.
@@ -189,7 +190,7 @@ pub trait AttributeFromRaw<'a>: Attribute + Sized {
     fn from_raw(raw: RawAttribute<'a>) -> Result<Self, StunParseError>
         ensures { result ≡ attribute_answer (reading raw.entry) };
 
-    // What is written is read again.
+    // An attribute that is written and then parsed is the same attribute.
     ghost reads_back: { (x : Self) → Self.is_well_formed x
         → reading (record { kind = Self.kind x; value = Self.value x }) ≡ Some x };
 }
@@ -203,13 +204,13 @@ impl<'a> RawAttribute<'a> {
         RawAttribute { kind, value }
     }
 
-    /// Returns the attribute at an offset of a message, visible or not, or `None` if the attribute
-    /// or its padding extends past the end of the bytes.
+    /// Returns the attribute at the offset `place` of a message, visible or not, or `None` if the
+    /// attribute or its padding extends past the end of the bytes.
     ///
-    /// The first attribute of a message has the offset 20, and each other attribute begins where
-    /// the one before it ends, `padded_len` bytes after its offset. At any other offset the bytes
-    /// are read as an attribute too. `Message::iter_attributes` returns only the visible
-    /// attributes.
+    /// The first attribute of a message has the offset 20, and each further attribute begins where
+    /// the one before it ends, `padded_len` bytes after its offset. At any other offset, this call
+    /// reads whatever bytes are there as an attribute. `Message::iter_attributes` returns the
+    /// visible attributes only.
     pub fn at(bytes: &'a [u8], place: usize) -> Option<RawAttribute<'a>>
         ensures none { IfNone result (has_attribute (drop place bytes.now) ≡ false) }
         ensures whole { OnSome result (has_attribute (drop place bytes.now) ≡ true) }

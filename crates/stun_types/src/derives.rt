@@ -1,18 +1,20 @@
-//! What derived impls and constants do: comparisons and limits.
+//! The derived impls and the constants of messages, each behind a function whose contract states
+//! what it does.
 ghost use Rattle.std.specs.Prelude.{◌≡◌, ◌↔◌, IsTrue, ◌<◌};
 ghost use Rattle.std.specs.Prelude.{[], ◌∷◌};
 
 use crate::limits::{LENGTH_LIMIT, MAX_LENGTH, TEXT_LIMIT, USERNAME_LIMIT};
 use crate::message::Message;
 
-/// Messages are equal if and only if their bytes are.
+/// Returns whether two messages are equal: they have the same bytes.
 pub fn is_same_message(one: &Message<'_>, other: &Message<'_>) -> bool
     ensures { IsTrue result ↔ (one.now ≡ other.now) }
 {
     one == other
 }
 
-/// The limits in bytes: of texts, of a user name, of the message length, and of a message.
+/// Returns the limits of this crate, in bytes: of a text, of a USERNAME, of the part of a message
+/// after its header, and of a whole message.
 pub fn limits() -> [usize; 4]
     ensures { result ≡ 763 ∷ 513 ∷ 65532 ∷ 65552 ∷ [] }
 {

@@ -1,4 +1,4 @@
-//! The verification of messages (RFC 8489, sections 14.5, 14.6 and 9.2.4).
+//! The validation of signatures (RFC 8489, sections 14.5, 14.6 and 9.2.4).
 
 ghost use Rattle.byteorder.specs.Endian.{big_bytes};
 ghost use Rattle.std.specs.Prelude.{◌≡◌, ◌++◌, take, ◌+◌, ◌-◌, ◌^◌, ◌<◌, ◌≤◌, List};
@@ -29,10 +29,11 @@ use stun_base::hmac::{SHA1_LENGTH, SHA256_LENGTH, hmac_sha1, hmac_sha256};
 use stun_base::key::IntegrityKey;
 use stun_base::prepared_key::PreparedKey;
 
-/// The fewest bytes of an HMAC-SHA256 that is cut short (RFC 8489, section 14.6).
+/// The smallest number of bytes of a truncated HMAC-SHA256 (RFC 8489, section 14.6).
 const MIN_SHA256_LENGTH: usize = 16;
 
-/// Returns the first visible attribute of a type, with its offset.
+/// Returns the first visible attribute of this type with its offset, or `None` if no attribute of
+/// this type is visible.
 pub(crate) fn first_of<'a>(
     message: &Message<'a>,
     kind: AttributeType,
@@ -45,7 +46,7 @@ pub(crate) fn first_of<'a>(
     Some((place, RawAttribute::at(bytes, place)?))
 }
 
-/// Returns the algorithm of an integrity attribute.
+/// Returns the algorithm that belongs to the type of an integrity attribute.
 fn integrity_algorithm(attribute: &RawAttribute<'_>) -> IntegrityAlgorithm
     ensures { result ≡ integrity_algorithm attribute.now }
 {
@@ -69,8 +70,8 @@ pub fn deciding_algorithm(bytes: &[u8]) -> Option<IntegrityAlgorithm>
     Some(integrity_algorithm(&attribute))
 }
 
-/// Returns `true` if the value of an integrity attribute has a length that its type allows. An
-/// HMAC-SHA256 may be cut short.
+/// Returns `true` if the value of an integrity attribute has a length that the type of the
+/// attribute allows. An HMAC-SHA256 may be truncated.
 pub(crate) fn is_well_formed(attribute: &RawAttribute<'_>) -> bool
     ensures { result ≡ is_well_formed attribute.now }
 {
@@ -83,8 +84,8 @@ pub(crate) fn is_well_formed(attribute: &RawAttribute<'_>) -> bool
     }
 }
 
-/// Returns the attribute whose digest is compared, with its offset. Fails if no key can make the
-/// signature valid.
+/// Returns the attribute whose HMAC must be compared, with its offset. Fails if no key could make
+/// the signature valid: the attribute is missing, is malformed, or has a truncated HMAC.
 fn claimed_digest<'a>(message: &Message<'a>) -> Result<(usize, RawAttribute<'a>), ValidateError>
     ensures deciding { IfOk result (λ m. deciding message.now ≡ Some m) }
     ensures whole { IfOk result (λ m. length m.1.value ≡ digest_length (integrity_algorithm m.1)) }
@@ -103,7 +104,8 @@ fn claimed_digest<'a>(message: &Message<'a>) -> Result<(usize, RawAttribute<'a>)
     Ok((place, attribute))
 }
 
-/// Fails if the value of an integrity attribute is not a whole digest.
+/// Fails if the value of an integrity attribute does not have the length of a whole HMAC: with
+/// `IntegrityFailed` if it is a truncated HMAC-SHA256, and otherwise with `InvalidAttributeData`.
 fn check_whole(attribute: &RawAttribute<'_>) -> Result<(), ValidateError>
     ensures whole { OnOk result (length attribute.now.value
         ≡ digest_length (integrity_algorithm attribute.now)) }
@@ -124,8 +126,8 @@ fn check_whole(attribute: &RawAttribute<'_>) -> Result<(), ValidateError>
     Ok(())
 }
 
-/// Returns the length field that the digest of an attribute at this offset covers: that of a
-/// message which ends after the attribute.
+/// Returns the message length that the HMAC in an attribute at this offset covers: the length of a
+/// message that ends after this attribute.
 fn covered_length(place: usize, value_length: usize) -> u16
     requires behind_header { header_length ≤ place }
     requires fits { place + attribute_header_length + value_length < header_length + 2 ^ 16 }
@@ -134,8 +136,8 @@ fn covered_length(place: usize, value_length: usize) -> u16
     (place + ATTRIBUTE_HEADER_LENGTH + value_length - HEADER_LENGTH) as u16
 }
 
-/// Returns the first four bytes that the digest of an attribute at this offset covers: the type of
-/// the message, and the length field that `covered_length` returns.
+/// Returns the first four of the bytes that an HMAC at this offset covers: the type of the message,
+/// and the message length that `covered_length` returns.
 fn covered_start(message: &[u8], place: usize, value_length: usize) -> [u8; 4]
     requires behind_header { header_length ≤ place }
     requires within { place + attribute_header_length + value_length ≤ length message.now }
@@ -148,7 +150,7 @@ fn covered_start(message: &[u8], place: usize, value_length: usize) -> [u8; 4]
     [message[0], message[1], length[0], length[1]]
 }
 
-/// Returns `true` if the value of the integrity attribute at this offset is the digest of the bytes
+/// Returns `true` if the value of the integrity attribute at this offset is the HMAC of the bytes
 /// that it covers. The message is not copied.
 fn is_digest(message: &[u8], key: &[u8], place: usize, attribute: &RawAttribute<'_>) -> bool
     requires behind_header { header_length ≤ place }
@@ -168,7 +170,7 @@ fn is_digest(message: &[u8], key: &[u8], place: usize, attribute: &RawAttribute<
     }
 }
 
-/// Like `is_digest`, with a prepared key.
+/// Like `is_digest`, but with a prepared key.
 fn is_prepared_digest<A: Allocator>(
     message: &[u8],
     key: &PreparedKey<A>,
@@ -193,8 +195,8 @@ fn is_prepared_digest<A: Allocator>(
 }
 
 impl RawAttribute<'_> {
-    /// Returns `true` for a MESSAGE-INTEGRITY or MESSAGE-INTEGRITY-SHA256 whose value has a length
-    /// that its type allows (RFC 8489, sections 14.5 and 14.6).
+    /// Returns `true` if this is a MESSAGE-INTEGRITY or a MESSAGE-INTEGRITY-SHA256 and its value
+    /// has a length that its type allows (RFC 8489, sections 14.5 and 14.6).
     pub fn is_integrity(&self) -> bool
         ensures { result ≡ is_integrity self.now }
     {
@@ -207,12 +209,12 @@ impl RawAttribute<'_> {
 
 impl<'a> Message<'a> {
     /// Returns the attribute that decides whether the message is signed, with its offset: the
-    /// position of its first byte in the message. It is the first visible MESSAGE-INTEGRITY-SHA256,
-    /// or the first visible MESSAGE-INTEGRITY if there is none (RFC 8489, sections 14.5 and 14.6).
-    /// Its value may have any length.
+    /// position of its first byte in the message. It is the first visible MESSAGE-INTEGRITY-SHA256
+    /// or, without one, the first visible MESSAGE-INTEGRITY (RFC 8489, sections 14.5 and 14.6). Its
+    /// value may have any length. Returns `None` if neither is visible.
     ///
-    /// Pass the result to `validate_integrity_at` or `validate_integrity_prepared`, to verify the
-    /// message with several keys. This does not allocate.
+    /// To validate the message with several keys, pass the result to `validate_integrity_at` or
+    /// `validate_integrity_prepared`. This does not allocate.
     pub fn deciding_attribute(&self) -> Option<(usize, RawAttribute<'a>)>
         ensures { result ≡ deciding self.now }
     {
@@ -221,22 +223,22 @@ impl<'a> Message<'a> {
         Some((place, RawAttribute::at(bytes, place)?))
     }
 
-    /// Verifies the signature of the message with these credentials, and returns the algorithm that
-    /// it was signed with.
+    /// Validates the signature of the message with these credentials, and returns the algorithm of
+    /// the signature.
     ///
-    /// If MESSAGE-INTEGRITY-SHA256 is visible, only that attribute is checked. Otherwise
-    /// MESSAGE-INTEGRITY is checked. The key is the password, or the long-term key for the
-    /// algorithm of that attribute, which is derived only if a digest is compared. This does not
-    /// allocate.
+    /// If MESSAGE-INTEGRITY-SHA256 is visible, only that attribute is checked, and otherwise
+    /// MESSAGE-INTEGRITY. The key is the password, or the long-term key for the algorithm of the
+    /// checked attribute. A long-term key is derived only if the attribute has a whole HMAC to
+    /// compare. This does not allocate.
     ///
     /// # Errors
     ///
     /// The first of these that applies:
     ///
-    /// - `Parse(MissingAttribute)`, of MESSAGE-INTEGRITY: neither attribute is visible.
+    /// - `Parse(MissingAttribute)` with the type of MESSAGE-INTEGRITY: neither attribute is
+    ///   visible.
     /// - `Parse(InvalidAttributeData)`: the attribute to check has a length that is not allowed.
-    /// - `IntegrityFailed`: the signature is invalid. An HMAC-SHA256 that is cut short counts as
-    ///   invalid.
+    /// - `IntegrityFailed`: the signature is invalid. A truncated HMAC-SHA256 counts as invalid.
     pub fn validate_integrity<A: Allocator>(
         &self,
         credentials: &MessageIntegrityCredentials<A>,
@@ -252,11 +254,11 @@ impl<'a> Message<'a> {
         Ok(algorithm)
     }
 
-    /// Like `validate_integrity`, with a key. Digests are compared without an early exit
+    /// Like `validate_integrity`, but with a key. HMACs are compared without an early exit
     /// (`stun_base::compare`).
     ///
-    /// The returned algorithm is that of the signature, however the key was made: it is `Sha1` for
-    /// a message whose HMAC-SHA1 is valid under the key.
+    /// The result is the algorithm of the signature, which need not be the algorithm that the key
+    /// was derived for: it is `Sha1` for every message whose HMAC-SHA1 is valid under the key.
     ///
     /// # Errors
     ///
@@ -270,8 +272,8 @@ impl<'a> Message<'a> {
         self.validate_integrity_with_key_bytes(key.as_bytes())
     }
 
-    /// Like `validate_integrity_with_key`, with the bytes of a key, which may have any length. This
-    /// does not allocate.
+    /// Like `validate_integrity_with_key`, but with the bytes of a key, which may have any length.
+    /// This does not allocate.
     ///
     /// # Errors
     ///
@@ -289,8 +291,8 @@ impl<'a> Message<'a> {
         Ok(integrity_algorithm(&attribute))
     }
 
-    /// Like `validate_integrity_with_key`, with a prepared key. If the key was prepared for the
-    /// algorithm of the signature, the digest hashes two blocks fewer. This does not allocate.
+    /// Like `validate_integrity_with_key`, but with a prepared key. If the key was prepared for the
+    /// algorithm of the signature, the HMAC hashes two blocks fewer. This does not allocate.
     ///
     /// # Errors
     ///
@@ -308,15 +310,15 @@ impl<'a> Message<'a> {
         Ok(integrity_algorithm(&attribute))
     }
 
-    /// Like `validate_integrity_with_key`, for a deciding attribute that is known already. The
-    /// attributes are not searched again, so that one search is enough for many keys.
+    /// Like `validate_integrity_with_key`, but with the deciding attribute as an argument. The
+    /// message is not searched for it, so one search is enough for any number of keys.
     ///
     /// `place` and `attribute` must be the offset and the attribute that `deciding_attribute`
     /// returned for this message. This does not allocate.
     ///
     /// # Errors
     ///
-    /// The errors of `validate_integrity`, in the same order, but for `Parse(MissingAttribute)`.
+    /// The errors of `validate_integrity`, in the same order, except `Parse(MissingAttribute)`.
     pub fn validate_integrity_at<A: Allocator>(
         &self,
         place: usize,
@@ -333,14 +335,14 @@ impl<'a> Message<'a> {
         Ok(integrity_algorithm(attribute))
     }
 
-    /// Like `validate_integrity_at`, with a prepared key.
+    /// Like `validate_integrity_at`, but with a prepared key.
     ///
     /// `place` and `attribute` must be the offset and the attribute that `deciding_attribute`
     /// returned for this message. This does not allocate.
     ///
     /// # Errors
     ///
-    /// The errors of `validate_integrity`, in the same order, but for `Parse(MissingAttribute)`.
+    /// The errors of `validate_integrity`, in the same order, except `Parse(MissingAttribute)`.
     pub fn validate_integrity_prepared<A: Allocator>(
         &self,
         place: usize,

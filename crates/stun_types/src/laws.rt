@@ -1,4 +1,4 @@
-//! Laws of messages, which the crates above use.
+//! Laws of messages, on which other crates rely.
 //!
 //! Each law is a function whose contract is the law. The function does nothing, or makes one call.
 ghost use Rattle.std.specs.Prelude.{◌≡◌, ℕ, false, Some, ◌≤◌, ◌<◌, ◌^◌};
@@ -23,8 +23,8 @@ ghost use Rattle.stun_types.specs.Writing.{length_with, with_attribute, with_int
 use crate::message::Visibility;
 use stun_base::algorithm::IntegrityAlgorithm;
 
-/// Every message consists of a header and its attributes, spelled one after the other. A reader
-/// finds these attributes and no others, and every list of attributes has a message.
+/// Every message is a header followed by its attributes in their encoding. A reader finds exactly
+/// these attributes, and for every list of attributes there is a message that has them.
 pub fn message_is_spelled_attributes()
     ensures found { (bytes : List ℕ)
         → ((i : ℕ) → slice_index bytes i < 2 ^ 8) → SpellsWhatIsFound bytes }
@@ -34,16 +34,16 @@ pub fn message_is_spelled_attributes()
         → FindsWhatIsWritten message_type transaction_id attributes }
 {}
 
-/// A walk finds the visible attributes of a message by `Visibility` alone: if it begins with
-/// `Everything` at the first attribute, and goes on from each attribute with `after`, the visible
-/// attributes are those that `shows` accepts.
+/// `Visibility` alone decides which attributes of a message are visible. A walk begins with
+/// `Everything` at the first attribute, and calls `after` for each attribute that it passes. The
+/// visible attributes are those for which `shows` returns `true`.
 pub fn a_walk_finds_what_is_visible()
     ensures { (bytes : List ℕ) → visible_after Visibility.Everything (walk bytes)
         ≡ visible bytes }
 {}
 
 /// At most one MESSAGE-INTEGRITY, one MESSAGE-INTEGRITY-SHA256 and one FINGERPRINT are visible in a
-/// message, so that the first visible one is also the last.
+/// message, so for each of these types the first visible attribute is also the last.
 pub fn each_hiding_attribute_counts_once()
     ensures integrity { (bytes : List ℕ) → length (of_kind MESSAGE_INTEGRITY (visible bytes)) ≤ 1 }
     ensures integrity_sha256 { (bytes : List ℕ)
@@ -51,9 +51,10 @@ pub fn each_hiding_attribute_counts_once()
     ensures fingerprint { (bytes : List ℕ) → length (of_kind FINGERPRINT (visible bytes)) ≤ 1 }
 {}
 
-/// A message that a builder started is open and has no attributes. After an attribute was added to
-/// an open message, a reader finds the attributes from before, and the new one after them. The
-/// message is open again unless the new one is an integrity attribute or FINGERPRINT.
+/// A message that a builder has started has no attributes. It is open, so attributes can be added
+/// to it. After an attribute has been added to an open message, a reader finds the attributes that
+/// the message had before, followed by the new one. The message is then still open, unless the new
+/// attribute is an integrity attribute or FINGERPRINT.
 pub fn writing_adds_one_attribute()
     ensures begun { (message_type transaction_id : ℕ) → message_type < 2 ^ 14
         → IsOpen (spelled_message message_type transaction_id [])
@@ -71,8 +72,8 @@ pub fn writing_adds_one_attribute()
         ≡ spelled_message message_type transaction_id (attributes ++ attribute ∷ []) }
 {}
 
-/// The signature of a message that was signed is valid, and the only new attribute of the message
-/// is its integrity attribute.
+/// After a message has been signed, its signature is valid, and its integrity attribute is its only
+/// new attribute.
 pub fn signed_message_stands()
     ensures stands { (message : List ℕ) (algorithm : IntegrityAlgorithm) (key : List ℕ)
         → IsOpen message → length_with message (digest_length algorithm) ≤ max_length
@@ -87,9 +88,10 @@ pub fn signed_message_stands()
         (integrity_attribute message algorithm key) }
 {}
 
-/// The bytes after the deciding attribute do not change the verdict, nor does the length field: two
-/// messages that have the same deciding attribute at the same offset, and before it the same bytes
-/// except for the length field, have the same verdict.
+/// Neither the length field nor the bytes after the deciding attribute affect whether a signature
+/// is valid. Under the same keys, two messages are validated with the same result if they have the
+/// same deciding attribute at the same offset, and the same bytes before it except for the length
+/// field.
 pub fn tail_does_not_count()
     ensures { (keys : IntegrityAlgorithm → List ℕ) (bytes others : List ℕ) (m : Member)
         → deciding bytes ≡ Some m → deciding others ≡ Some m
@@ -97,10 +99,11 @@ pub fn tail_does_not_count()
         → verified_by keys bytes ≡ verified_by keys others }
 {}
 
-/// What follows the deciding attribute is hidden, except FINGERPRINT. Two messages that agree up to
-/// the end of that attribute have the same type, the same transaction ID, the same verdict, and the
-/// same visible attributes apart from FINGERPRINT. They agree in this way whatever follows, unless
-/// a stronger integrity attribute follows.
+/// Every attribute after the deciding attribute is hidden, except FINGERPRINT. Two messages that
+/// agree up to the end of the deciding attribute have the same type, the same transaction ID, the
+/// same result of validation, and the same visible attributes except FINGERPRINT. This is so
+/// whatever follows the deciding attribute in each of them, unless a stronger integrity attribute
+/// follows.
 pub fn what_follows_integrity_is_hidden()
     ensures header { (bytes others : List ℕ) → AgreeUpToIntegrity bytes others
         → (type_field bytes ≡ type_field others)

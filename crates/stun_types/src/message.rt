@@ -1,4 +1,4 @@
-//! Messages: parsing and inspecting them, and starting new ones in a writer.
+//! Messages: parses and inspects them, and starts new ones in a writer.
 
 ghost use Rattle.std.specs.Prelude.{◌≡◌, ◌^◌, ◌<◌, ◌↔◌, ◌≤◌, length, [], IsTrue, IsOk, IfOk};
 ghost use Rattle.std.specs.Prelude.{OnOk, IfErr, MatchOption, Some, None, ⊤};
@@ -42,7 +42,7 @@ pub use stun_base::message_type::{BINDING, MessageClass, MessageType, Method};
 pub use stun_base::prepared_key::PreparedKey;
 pub use stun_base::transaction_id::TransactionId;
 
-/// A parsed STUN message. It borrows its bytes.
+/// A STUN message that was parsed. It borrows its bytes.
 ///
 /// Contracts: the value is the list of its bytes.
 #[derive(Debug, Drop)]
@@ -62,7 +62,7 @@ impl<'a> Model for Message<'a> {
     ghost invariant = { λ message. IsRead message.header message.bytes.now };
 }
 
-/// Copies the reference. This does not allocate and never fails.
+/// Copies the reference, not the bytes. This does not allocate and never fails.
 impl<'a> Clone for Message<'a> {
     ghost is_clone = { λ it copy. copy ≡ it };
 
@@ -76,7 +76,7 @@ impl<'a> Clone for Message<'a> {
     }
 }
 
-/// Messages are equal if and only if their bytes are.
+/// Two messages are equal if they have the same bytes.
 impl<'a> PartialEq for Message<'a> {
     ghost eq = { same_text };
 
@@ -94,7 +94,7 @@ impl<'a> Eq for Message<'a> {
 impl<'a> Message<'a> {
     /// Parses a message (RFC 8489, sections 5 and 14).
     ///
-    /// The bytes must be exactly one message. The values of the attributes are not parsed yet. This
+    /// The bytes must be exactly one message. The values of its attributes are not parsed yet. This
     /// does not allocate.
     ///
     /// # Errors
@@ -102,8 +102,7 @@ impl<'a> Message<'a> {
     /// The first of these that applies:
     ///
     /// - `Truncated`: there are fewer than 20 bytes.
-    /// - `NotStun`: they do not start with a STUN header, as `MessageHeader::from_bytes` defines
-    ///   it.
+    /// - `NotStun`: the bytes do not start with a STUN header (see `MessageHeader::from_bytes`).
     /// - `Truncated`: there are fewer bytes than the header states.
     /// - `TooLarge`: there are more bytes than the header states.
     /// - `Truncated`: an attribute or its padding extends past the end of the message.
@@ -145,7 +144,7 @@ impl<'a> Message<'a> {
         mut writer: W,
     ) -> Result<W, StunWriteError>
         requires { W.bytes writer ≡ [] }
-        ensures { Begins W.bytes W.room W.reserved writer
+        ensures { Begins W.grants W.bytes W.room W.reserved writer
             (spelled_message message_type id []) result }
     {
         writer.reserve(HEADER_LENGTH)?;
@@ -164,7 +163,7 @@ impl<'a> Message<'a> {
         writer: W,
     ) -> Result<W, StunWriteError>
         requires { W.bytes writer ≡ [] }
-        ensures { Begins W.bytes W.room W.reserved writer
+        ensures { Begins W.grants W.bytes W.room W.reserved writer
             (empty_message MessageClass.Request method id) result }
     {
         Message::builder(
@@ -185,7 +184,7 @@ impl<'a> Message<'a> {
         writer: W,
     ) -> Result<W, StunWriteError>
         requires { W.bytes writer ≡ [] }
-        ensures { Begins W.bytes W.room W.reserved writer
+        ensures { Begins W.grants W.bytes W.room W.reserved writer
             (empty_message MessageClass.Indication method id) result }
     {
         Message::builder(
@@ -206,7 +205,7 @@ impl<'a> Message<'a> {
         writer: W,
     ) -> Result<W, StunWriteError>
         requires { W.bytes writer ≡ [] }
-        ensures { Begins W.bytes W.room W.reserved writer
+        ensures { Begins W.grants W.bytes W.room W.reserved writer
             (empty_answer MessageClass.Success message.now) result }
     {
         Message::builder(
@@ -227,7 +226,7 @@ impl<'a> Message<'a> {
         writer: W,
     ) -> Result<W, StunWriteError>
         requires { W.bytes writer ≡ [] }
-        ensures { Begins W.bytes W.room W.reserved writer
+        ensures { Begins W.grants W.bytes W.room W.reserved writer
             (empty_answer MessageClass.Error message.now) result }
     {
         Message::builder(
@@ -303,15 +302,15 @@ impl<'a> Message<'a> {
 
     /// Parses the first visible attribute of type `A`.
     ///
-    /// Do not use this call to find out who signed a message. If a type occurs more than once, this
-    /// call returns the first visible one, while the calls that validate a message use the last. So
-    /// the USERNAME that it returns may not be the user who was validated. Ask the authenticator
-    /// that validated the message.
+    /// Do not use this call to find out who signed a message. If a message has several attributes
+    /// of one type, this call returns the first visible one, but the authenticators use the last
+    /// visible one. So the USERNAME that this call returns may not name the user who was validated.
+    /// Ask the authenticator that validated the message for the user.
     ///
     /// # Errors
     ///
     /// - `MissingAttribute`: no attribute of this type is visible.
-    /// - `InvalidAttributeData`: the first one is malformed.
+    /// - `InvalidAttributeData`: the first visible attribute of this type is malformed.
     pub fn attribute<A: AttributeFromRaw<'a> + AttributeStaticType>(
         &self,
     ) -> Result<A, StunParseError>
@@ -326,7 +325,7 @@ impl<'a> Message<'a> {
     }
 }
 
-/// Returns the header of a message without attributes.
+/// Returns the header of a message that has no attributes yet.
 fn header_of(message_type: MessageType, id: TransactionId) -> [u8; HEADER_LENGTH]
     ensures bytes { result ≡ spelled_message message_type id [] }
     ensures fits { message_type < 2 ^ 14 }

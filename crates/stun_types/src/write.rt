@@ -16,39 +16,44 @@ mod vec;
 pub use mut_slice::MessageWriteMutSlice;
 pub use vec::MessageWriteVec;
 
-/// A writer that a message is built in.
+/// A writer in which a message is built.
 ///
-/// Only bytes that were reserved are appended, so `reserve` is the only call that can fail.
+/// Bytes can be appended only if they were reserved before, so `reserve` is the only call that can
+/// fail.
 pub trait MessageWrite: Drop {
-    /// What `finish` returns. It contains the bytes of the message.
+    /// The type that `finish` returns. It contains the bytes of the message.
     type Output: OwnedBytes;
 
-    // The bytes written so far.
+    // The bytes that were written so far.
     ghost bytes: { Self → List ℕ };
 
-    // How many more bytes fit.
+    // A statement under which no allocation of the writer fails.
+    ghost grants: { Type 0 };
+
+    // The number of bytes that can still be written.
     ghost room: { Self → ℕ };
 
-    // How many more bytes can be appended without a reservation.
+    // The number of bytes that can be appended without another call of `reserve`.
     ghost reserved: { Self → ℕ };
 
-    /// Returns the bytes written so far.
+    /// Returns the bytes that were written so far.
     fn data(&self) -> &[u8]
         ensures { result.now ≡ bytes self.now };
 
-    /// Returns how many more bytes fit.
+    /// Returns the number of bytes that can still be written.
     fn room(&self) -> usize
         ensures value { result ≡ room self.now }
         ensures reserved { reserved self.now ≤ room self.now };
 
-    /// Reserves `additional` bytes. This never fails for bytes that are reserved already, and what
-    /// was reserved stays reserved. The bytes and the room are unchanged.
+    /// Reserves `additional` bytes: after this call, at least that many bytes can be appended. If
+    /// they are reserved already, the call succeeds. Whether it succeeds or fails, bytes that were
+    /// reserved stay reserved, and the bytes and the room of the writer are unchanged.
     ///
     /// # Errors
     ///
     /// The first of these that applies:
     ///
-    /// - `TooSmall`: the bytes do not fit.
+    /// - `TooSmall`: the writer has room for fewer than `additional` bytes.
     /// - `OutOfMemory`: an allocation failed.
     fn reserve(&mut self, additional: usize) -> Result<(), StunWriteError>
         ensures bytes { bytes self.new ≡ bytes self.old }
@@ -58,11 +63,14 @@ pub trait MessageWrite: Drop {
         ensures otherwise_memory { additional ≤ room self.old
             → IsOkUnless result StunWriteError.OutOfMemory }
 
-        // It succeeds if so many are reserved already.
+        // If the writer has the room, the call fails only if an allocation fails.
+        ensures granted { grants → additional ≤ room self.old → IsOk result }
+
+        // If the bytes are reserved already, the call succeeds.
         ensures reserved { additional ≤ reserved self.old → IsOk result }
         ensures kept { reserved self.old ≤ reserved self.new };
 
-    /// Appends bytes, which must be reserved.
+    /// Appends bytes, which the caller must have reserved.
     fn append(&mut self, tail: &[u8])
         requires { length tail.now ≤ reserved self.old }
         ensures bytes { bytes self.new ≡ bytes self.old ++ tail.now }
@@ -76,7 +84,7 @@ pub trait MessageWrite: Drop {
         ensures room { room self.new ≡ room self.old }
         ensures reserved { reserved self.new ≡ reserved self.old };
 
-    /// Ends the writing, and returns the message.
+    /// Finishes the message, and returns it.
     fn finish(self) -> Self::Output
         ensures { Self.Output.contents result ≡ bytes self };
 }

@@ -36,7 +36,7 @@ fn request(client: &mut LongTermClientAuth) -> Vec<u8> {
     client.sign_outgoing_message(page).unwrap().finish()
 }
 
-/// A server without `endpoint`.
+/// A server that does not use `endpoint`.
 struct Loop {
     auth: LongTermServerAuth,
     places: Places,

@@ -1,35 +1,37 @@
-//! A bound on the addresses that a server keeps, and on those of one network. Who comes to a full
-//! table has the place of the address that was silent for longest, so nobody is shut out.
+//! A table that limits how many addresses a server stores, in total and of each network. If the
+//! table is full, a new address replaces the address that was silent for longest, preferably one
+//! that was never validated. So nobody is shut out.
 
 use std::collections::{BTreeMap, HashMap};
 use std::net::{IpAddr, Ipv6Addr, SocketAddr};
 
-/// A network is an IPv4 address, or a /64 of IPv6. It has one of so many shares of the places, at
-/// most: where it has them all, who comes from it has the place of an address of its own.
+/// A network is an IPv4 address or an IPv6 /64. It has at most one of this many equal shares of the
+/// places. If it has used up its share, a new address of the network replaces another address of
+/// the network.
 pub const SHARES: usize = 16;
 
-/// Who was never validated makes room first.
+/// Whether an address was validated (`Client`) or not (`Stranger`). Strangers are replaced first.
 #[derive(Clone, Copy, PartialEq, Eq, PartialOrd, Ord)]
 enum Kind {
     Stranger,
     Client,
 }
 
-/// Addresses of which one makes room for another: those of a network, or all.
+/// The addresses among which a new address replaces another: those of a network, or all (`None`).
 type Crowd = Option<IpAddr>;
 
 pub struct Places {
     number: usize,
     turn: u64,
-    /// Who has a place, and the turn at which it was heard last.
+    /// The addresses that have a place, with the turn at which each was last heard.
     places: HashMap<SocketAddr, (Kind, u64)>,
-    /// The same in each crowd, strangers first and each kind by age.
+    /// The addresses of each crowd: strangers first, and each kind in the order of their turns.
     order: BTreeMap<(Crowd, Kind, u64), SocketAddr>,
-    /// How many strangers and clients a crowd has, where it has any.
+    /// The numbers of strangers and of clients in each crowd that has any.
     numbers: HashMap<Crowd, [usize; 2]>,
 }
 
-/// The crowds of an address: all, and its network.
+/// Returns the crowds of an address: all addresses, and those of its network.
 fn crowds_of(at: SocketAddr) -> [Crowd; 2] {
     let network = match at.ip() {
         IpAddr::V6(six) => Ipv6Addr::from_bits(six.to_bits() >> 64 << 64).into(),
@@ -39,7 +41,7 @@ fn crowds_of(at: SocketAddr) -> [Crowd; 2] {
 }
 
 impl Places {
-    /// Room for so many addresses, `SHARES` at least.
+    /// Creates a table for this many addresses, which must be at least `SHARES`.
     pub fn new(number: usize) -> Places {
         Places {
             number,
@@ -58,7 +60,8 @@ impl Places {
         self.numbers.get(&crowd).copied().unwrap_or([0, 0])
     }
 
-    /// The first of a crowd from a kind on, where there is one.
+    /// Returns the address of a crowd that was silent for longest, among those of this kind or, if
+    /// there are none, of the kinds after it.
     fn oldest(&self, crowd: Crowd, kind: Kind) -> Option<SocketAddr> {
         let (place, at) = self.order.range((crowd, kind, 0)..).next()?;
         (place.0 == crowd).then_some(*at)
@@ -77,7 +80,7 @@ impl Places {
         Some(kind)
     }
 
-    /// Gives a place, as the youngest of a kind.
+    /// Gives an address a place, as the one of its kind that was heard last.
     fn join(&mut self, at: SocketAddr, kind: Kind) {
         self.turn += 1;
         self.places.insert(at, (kind, self.turn));
@@ -87,9 +90,9 @@ impl Places {
         }
     }
 
-    /// Gives an address a place, unless it has one. Answers which other address lost its own for
-    /// it. That is one that was never validated, where there is one, and of these the one that was
-    /// silent for longest.
+    /// Gives an address a place, unless it has one already. Returns the address that lost its place
+    /// for it, if there is one: the stranger that was silent for longest or, if there are no
+    /// strangers, the client that was.
     pub fn take(&mut self, from: SocketAddr) -> Option<SocketAddr> {
         if let Some(kind) = self.leave(from) {
             self.join(from, kind);
@@ -109,9 +112,9 @@ impl Places {
         gone
     }
 
-    /// Tells that an address was validated. Of all places, and of a network's, three quarters are
-    /// kept so for who was. Beyond it, who of these was silent for longest counts as if it never
-    /// was.
+    /// Records that an address was validated. Clients have at most three quarters of all places,
+    /// and of the places of their network. If there are more clients, the one that was silent for
+    /// longest becomes a stranger.
     pub fn keep(&mut self, at: SocketAddr) {
         let is_stranger = |(kind, _): &(Kind, u64)| *kind == Kind::Stranger;
         if !self.places.get(&at).is_some_and(is_stranger) {

@@ -1,4 +1,5 @@
-//! What a caller in C keeps: a pointer to a value on the heap, and before it a kind or a flag.
+//! The handles that a caller in C owns: a kind or a flag, followed by a pointer to a value on the
+//! heap.
 
 use crate::calls::stun_handles::kind;
 use crate::kit::alloc::Global;
@@ -7,7 +8,7 @@ use alloc::boxed;
 use core::mem;
 use core::ptr;
 
-/// All zero where it is empty, and else what `put` wrote.
+/// A handle: all zero if it is empty, and otherwise what `put` wrote.
 #[repr(C)]
 pub struct Handle<T> {
     is_full: bool,
@@ -23,7 +24,8 @@ impl<T> Handle<T> {
     /// Takes the value out, if there is one, and leaves the handle empty.
     pub fn take(&mut self, _alloc: Global) -> Option<Box<T>> {
         let Handle { is_full, at } = mem::replace(self, Handle::EMPTY);
-        // SAFETY: a full handle has what `put` wrote, and no call leaves two that do.
+        // SAFETY: a full handle has the pointer that `put` wrote, and no call leaves two handles
+        // with the same pointer.
         let taken = || unsafe { boxed::Box::from_raw(ptr::slice_from_raw_parts_mut(at, 1)) };
         is_full.then(|| Box::from_std(taken()))
     }
@@ -51,13 +53,13 @@ pub mod state {
     use core::mem;
     use core::ptr;
 
-    /// A server, and of how many addresses something may be kept.
+    /// A server, and the limit on the number of addresses that have a record.
     pub struct Server {
         pub server: LongTermServerAuth,
         pub most_addresses: usize,
     }
 
-    /// A value of the heap: an agent, a server, a client, or a prepared user.
+    /// A value on the heap: an agent, a server, a client, or a prepared user.
     #[allow(clippy::large_enum_variant, reason = "a handle keeps it on the heap")]
     pub enum Kept {
         Agent(StunAgent),
@@ -114,8 +116,8 @@ pub mod state {
         unreachable!("a call takes a value of the kind that it borrows")
     }
 
-    /// All zero where it is empty, and else what `put` wrote. Memory that no call wrote to is a handle
-    /// without a value, unless it begins with one of the kinds.
+    /// A handle: all zero if it is empty, and otherwise what `put` wrote. Memory that no call wrote
+    /// to counts as a handle without a value, unless it begins with the number of a kind.
     #[repr(C)]
     pub struct StateHandle {
         pub kind: u32,
@@ -123,15 +125,16 @@ pub mod state {
     }
 
     impl StateHandle {
-        /// Takes the value out, if there is one of this kind, and leaves the handle empty. A handle
-        /// without one is left as it is.
+        /// Takes the value out, if it is of this kind, and leaves the handle empty. A handle
+        /// without such a value does not change.
         pub fn take(&mut self, _alloc: Global, kind: u32) -> Option<Box<Kept>> {
             if self.kind != kind {
                 return None;
             }
             self.kind = EMPTY;
             let at = mem::replace(&mut self.at, ptr::null_mut());
-            // SAFETY: a handle of a kind has what `put` wrote, and no call leaves two that do.
+            // SAFETY: a handle with a kind has the pointer that `put` wrote, and no call leaves two
+            // handles with the same pointer.
             let taken = unsafe { boxed::Box::from_raw(ptr::slice_from_raw_parts_mut(at, 1)) };
             Some(Box::from_std(taken))
         }
@@ -142,7 +145,8 @@ pub mod state {
             self.at = boxed::Box::into_raw(value.into_std()).cast();
         }
 
-        /// Moves a value to the heap and puts it into an empty handle.
+        /// Moves a value to the heap and puts it into an empty handle. Returns 0, or the code of
+        /// the error if an allocation fails.
         pub fn fill(&mut self, alloc: Global, value: Kept) -> i64 {
             match Box::new(alloc, value) {
                 Ok(value) => {
@@ -156,7 +160,8 @@ pub mod state {
 }
 
 pub mod endpoint {
-    //! The handle of a server, a table of users or a client, of the endpoint, or of an agent of ICE.
+    //! The handle of a server, a table of users or a client of `include/stunp_endpoint.h`, or of an
+    //! ICE agent.
 
     use crate::exported::stun_client_calls::endpoint::ClientEndpoint;
     use crate::exported::stun_endpoint::open::OpenServer;
@@ -165,7 +170,7 @@ pub mod endpoint {
     use crate::exported::stun_endpoint::users::Users;
     use crate::exported::stun_ice::checker::Checker;
 
-    /// A value of the heap: a server, a table of users, an agent of ICE, or a client.
+    /// A value on the heap: a server, a table of users, an ICE agent, or a client.
     #[allow(clippy::large_enum_variant, reason = "a handle keeps it on the heap, and there are few")]
     pub enum Kept {
         Server(Server),
@@ -177,6 +182,6 @@ pub mod endpoint {
         Client(ClientEndpoint),
     }
 
-    /// What a caller keeps of any.
+    /// The handle of a value of one of these types.
     pub type EndpointHandle = super::Handle<Kept>;
 }

@@ -1,11 +1,11 @@
-//! STUN for programs in C, over the exported sources: what `include/stunp.h`,
-//! `include/stunp_state.h` and `include/stunp_endpoint.h` declare, and nothing else.
+//! STUN for programs in C, on top of the exported sources: the functions that `include/stunp.h`,
+//! `include/stunp_state.h` and `include/stunp_endpoint.h` declare, and no others.
 //!
-//! `make lib` makes `libstunp.a` and `libstunp.so` of it. They need `core`, and of the system what
-//! `memory.rs` and `panic.rs` name, and `memcpy`, `memmove`, `memset` and `memcmp`. What is unsafe
-//! stands in five files. In `border.rs` and `passed.rs` a slice comes as a pointer and a length. In
-//! `handle.rs` a handle keeps a pointer. `memory.rs` asks the program for memory, or malloc.
-//! `panic.rs` ends the program.
+//! `make lib` builds `libstunp.a` and `libstunp.so` from this crate. They need `core`, the
+//! functions of the system that `memory.rs` and `panic.rs` name, and `memcpy`, `memmove`, `memset`
+//! and `memcmp`. Five files have unsafe code. `border.rs` and `passed.rs` receive a slice as a
+//! pointer and a length, `handle.rs` stores a pointer in a handle, `memory.rs` calls the allocator
+//! of the program or malloc, and `panic.rs` aborts the program.
 #![no_std]
 
 extern crate alloc;
@@ -19,7 +19,7 @@ mod handle;
 #[path = "../../src/kit/mod.rs"]
 mod kit;
 mod memory;
-// (a test has that of std)
+// In a test, `std` has a panic handler of its own.
 #[cfg(not(test))]
 mod panic;
 mod passed;

@@ -1,15 +1,16 @@
-//! Memory by the functions that the program passes (`stunp_set_memory`), or else by the three that
-//! it has (`include/stunp_state.h`), or else by malloc.
+//! Allocates with the functions that the program passes (`stunp_set_memory`), or else with the
+//! three functions that the program defines (`include/stunp_state.h`), or else with malloc.
 //!
-//! The library refers to the three weakly. So a program links without them, and where it has them
-//! they are found, whether the program is linked before or after the library, and beside the shared
-//! library too. If only some of the three are there, nothing is allocated: by malloc the program
-//! would not notice that its functions are not called.
+//! The library refers to the three functions weakly, so a program can be linked without them. If
+//! the program defines them, they are found whether it is linked before or after the library, and
+//! with the shared library too. If it defines only some of the three, every allocation fails,
+//! because nobody would notice that its functions are not called if the library used malloc
+//! instead.
 //!
-//! What allocates is chosen once, before the first block, so that no block is given back to another
-//! allocator than it came from.
+//! The allocator is chosen once, before the first block, so that each block is freed by the
+//! allocator that it came from.
 //!
-//! Where there is no operating system there is no malloc, and the program must have the three.
+//! Without an operating system there is no malloc, and the program must define the three functions.
 
 use alloc::alloc::{GlobalAlloc, Layout};
 use core::ffi::c_void;
@@ -41,8 +42,8 @@ struct Functions {
     dealloc: Option<unsafe extern "C" fn(*mut c_void)>,
 }
 
-// No reference that Rust makes is weak, so the assembler makes the table. The linker or the loader
-// writes the address of each function to it, or null.
+// Rust cannot make weak references, so the assembler makes the table. The linker or the loader
+// writes the address of each function into it, or null.
 #[cfg(target_pointer_width = "64")]
 macro_rules! word {
     ($name:literal) => {
@@ -76,7 +77,7 @@ unsafe extern "C" {
     static functions_of_program: Functions;
 }
 
-// Without an operating system the three are referred to as any function is.
+// Without an operating system the three functions are referred to like any other function.
 #[cfg(target_os = "none")]
 unsafe extern "C" {
     fn rattle_alloc(length: usize, alignment: usize) -> Allocation;
@@ -92,7 +93,7 @@ static functions_of_program: Functions = Functions {
     dealloc: Some(rattle_dealloc),
 };
 
-// Other systems have no weak references of this form: there the library has malloc.
+// Other systems have no weak references of this form, so the library uses malloc there.
 #[cfg(not(any(all(unix, not(target_vendor = "apple")), target_os = "none")))]
 #[allow(non_upper_case_globals)]
 static functions_of_program: Functions = Functions {
@@ -110,7 +111,7 @@ unsafe extern "C" {
 
 #[cfg(target_os = "none")]
 mod no_malloc {
-    //! In the place of malloc, where the program has the three functions always.
+    //! Takes the place of malloc on systems where the program always has the three functions.
 
     use core::ffi::c_void;
     use core::ptr::null_mut;
@@ -128,11 +129,11 @@ mod no_malloc {
 #[cfg(target_os = "none")]
 use no_malloc::{free, malloc, realloc};
 
-/// The alignment that malloc keeps. The library asks for 16 at most, which is more than that on some
-/// targets of 32 bits.
+/// The alignment that malloc guarantees. The library asks for an alignment of at most 16, which is
+/// more than malloc guarantees on some 32-bit targets.
 const MALLOC_ALIGNMENT: usize = 2 * size_of::<usize>();
 
-/// A block of the C library.
+/// Allocates a block from the C library.
 unsafe fn of_malloc(layout: Layout) -> *mut u8 {
     #[cfg(all(unix, target_pointer_width = "32"))]
     if layout.align() > MALLOC_ALIGNMENT {
@@ -150,16 +151,16 @@ unsafe fn of_malloc(layout: Layout) -> *mut u8 {
     unsafe { malloc(layout.size()) }.cast()
 }
 
-/// The same block with another length, or a block that is moved.
+/// Changes the length of a block, which may move.
 unsafe fn again_of_malloc(at: *mut u8, layout: Layout, length: usize) -> *mut u8 {
     if layout.align() <= MALLOC_ALIGNMENT {
-        // SAFETY: the block came of malloc, and the length is not 0.
+        // SAFETY: the block came from malloc, and the length is not 0.
         return unsafe { realloc(at.cast(), length) }.cast();
     }
     let Ok(wanted) = Layout::from_size_align(length, layout.align()) else {
         return ptr::null_mut();
     };
-    // SAFETY: as the callers of `realloc` say; the blocks do not overlap.
+    // SAFETY: the block came from malloc. The blocks are long enough and do not overlap.
     unsafe {
         let to = of_malloc(wanted);
         if !to.is_null() {
@@ -170,7 +171,7 @@ unsafe fn again_of_malloc(at: *mut u8, layout: Layout, length: usize) -> *mut u8
     }
 }
 
-/// Nothing has been allocated, and nothing was passed.
+/// Nothing has been allocated, and no functions were passed.
 const UNDECIDED: u8 = 0;
 /// The three functions of the program.
 const OF_PROGRAM: u8 = 1;
@@ -178,10 +179,10 @@ const OF_PROGRAM: u8 = 1;
 const OF_LIBC: u8 = 2;
 /// The functions that were passed.
 const PASSED: u8 = 3;
-/// Nothing: the program has only some of the three.
+/// No allocator, because the program has only some of the three functions.
 const NOTHING: u8 = 4;
 
-/// What allocates.
+/// The allocator that was chosen.
 static CHOSEN: AtomicU8 = AtomicU8::new(UNDECIDED);
 
 /// The functions that were passed, in the order of `stunp_set_memory`.
@@ -193,12 +194,12 @@ type Allocate = unsafe extern "C" fn(usize) -> *mut c_void;
 type Resize = unsafe extern "C" fn(*mut c_void, usize) -> *mut c_void;
 type Release = unsafe extern "C" fn(*mut c_void);
 
-/// The alignment that the functions which are passed must keep.
+/// The alignment that the functions which are passed must guarantee.
 const PASSED_ALIGNMENT: usize = 16;
 
-/// Sets the functions that allocate, in place of malloc, realloc and free. Returns 0, or the number
-/// of an error of `include/stunp.h`: STUNP_BAD_ARGUMENT if one is null, STUNP_ALREADY_IN_PROGRESS
-/// if what allocates has been chosen.
+/// Sets the functions that allocate, in place of malloc, realloc and free. Returns 0, or an error
+/// code of `include/stunp.h`: STUNP_BAD_ARGUMENT if a function is null, STUNP_ALREADY_IN_PROGRESS
+/// if the allocator has been chosen already.
 #[unsafe(no_mangle)]
 pub extern "C" fn stunp_set_memory(
     allocate: Option<Allocate>,
@@ -221,12 +222,12 @@ pub extern "C" fn stunp_set_memory(
 /// The functions of the program, each of which may be missing.
 #[allow(unused_unsafe)]
 fn functions() -> &'static Functions {
-    // SAFETY: nothing writes the table after the program has begun.
+    // SAFETY: nothing writes to the table after the program has started.
     unsafe { &functions_of_program }
 }
 
-/// What allocates, which the first block decides. Threads that come here at the same time find the
-/// same.
+/// Returns the allocator, which is chosen when the first block is allocated. Threads that call this
+/// at the same time get the same result.
 fn chosen() -> u8 {
     let chosen = CHOSEN.load(Ordering::Acquire);
     if chosen != UNDECIDED {
@@ -246,32 +247,32 @@ fn chosen() -> u8 {
     found
 }
 
-/// A block of the functions that were passed, or null, with the block given back, where it is not
-/// aligned.
+/// Returns a block that the passed functions have allocated, if it is aligned. Otherwise frees the
+/// block and returns null.
 unsafe fn aligned(at: *mut c_void) -> *mut u8 {
     if at.addr() % PASSED_ALIGNMENT == 0 {
         return at.cast();
     }
-    // SAFETY: the block came of these functions, and nothing uses it.
+    // SAFETY: the block came from these functions, and nothing uses it.
     unsafe { free_of_passed(at) };
     ptr::null_mut()
 }
 
 unsafe fn alloc_of_passed(layout: Layout) -> *mut u8 {
-    // SAFETY: `stunp_set_memory` stored such a function. The length is not 0.
+    // SAFETY: `stunp_set_memory` stored a function of this type. The length is not 0.
     unsafe {
         let allocate: Allocate = mem::transmute(ALLOCATE.load(Ordering::Relaxed));
         aligned(allocate(layout.size()))
     }
 }
 
-/// The same block with another length, or a block that is moved.
+/// Changes the length of a block, which may move.
 unsafe fn realloc_of_passed(at: *mut u8, layout: Layout, length: usize) -> *mut u8 {
     let Ok(wanted) = Layout::from_size_align(length, layout.align()) else {
         return ptr::null_mut();
     };
-    // SAFETY: `stunp_set_memory` stored such a function. The block came of these, and the length is
-    // not 0. Two blocks do not overlap.
+    // SAFETY: `stunp_set_memory` stored a function of this type. The block came from these
+    // functions, and the length is not 0. Two blocks do not overlap.
     unsafe {
         let resize: Resize = mem::transmute(RESIZE.load(Ordering::Relaxed));
         if layout.align() <= MALLOC_ALIGNMENT {
@@ -287,7 +288,8 @@ unsafe fn realloc_of_passed(at: *mut u8, layout: Layout, length: usize) -> *mut 
 }
 
 unsafe fn free_of_passed(at: *mut c_void) {
-    // SAFETY: `stunp_set_memory` stored such a function, and the block came of these.
+    // SAFETY: `stunp_set_memory` stored a function of this type, and the block came from these
+    // functions.
     unsafe {
         let release: Release = mem::transmute(RELEASE.load(Ordering::Relaxed));
         release(at);
@@ -296,10 +298,10 @@ unsafe fn free_of_passed(at: *mut c_void) {
 
 struct Memory;
 
-// SAFETY: a block is as long and as aligned as was asked, until it is given back. The headers ask
-// that of the program's functions, and malloc keeps it. Each block goes back to where it came from,
-// since `chosen` returns the same from the first block on. No layout that is asked for has a length
-// of 0.
+// SAFETY: a block has the length and the alignment that were requested, until it is freed. The
+// headers require this of the program's functions, and malloc guarantees it. Each block is freed by
+// the allocator that it came from, because `chosen` returns the same allocator from the first block
+// on. No requested layout has a length of 0.
 unsafe impl GlobalAlloc for Memory {
     unsafe fn alloc(&self, layout: Layout) -> *mut u8 {
         match (chosen(), functions().alloc) {
@@ -316,13 +318,13 @@ unsafe impl GlobalAlloc for Memory {
     unsafe fn realloc(&self, at: *mut u8, layout: Layout, length: usize) -> *mut u8 {
         let kept = layout.size().min(length);
         match (chosen(), functions().realloc) {
-            // SAFETY: the block came of `alloc` or of this function.
+            // SAFETY: the block came from `alloc` or from this function.
             (OF_PROGRAM, Some(again)) => {
                 unsafe { again(at.cast(), kept, length, layout.align()) }.pointer()
             }
-            // SAFETY: the same.
+            // SAFETY: as above.
             (OF_LIBC, _) => unsafe { again_of_malloc(at, layout, length) },
-            // SAFETY: the same.
+            // SAFETY: as above.
             (PASSED, _) => unsafe { realloc_of_passed(at, layout, length) },
             _ => ptr::null_mut(),
         }
@@ -330,11 +332,11 @@ unsafe impl GlobalAlloc for Memory {
 
     unsafe fn dealloc(&self, at: *mut u8, _layout: Layout) {
         match (chosen(), functions().dealloc) {
-            // SAFETY: the block came of `alloc` or of `realloc`.
+            // SAFETY: the block came from `alloc` or from `realloc`.
             (OF_PROGRAM, Some(dealloc)) => unsafe { dealloc(at.cast()) },
-            // SAFETY: the same.
+            // SAFETY: as above.
             (PASSED, _) => unsafe { free_of_passed(at.cast()) },
-            // SAFETY: the same.
+            // SAFETY: as above.
             _ => unsafe { free(at.cast()) },
         }
     }

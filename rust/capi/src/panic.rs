@@ -1,4 +1,4 @@
-//! What happens where Rust would panic: the program ends. The sources are proved not to.
+//! Aborts the program where Rust would panic. The sources are proved not to panic.
 
 use core::panic::PanicInfo;
 
@@ -8,10 +8,11 @@ unsafe extern "C" {
 
 #[panic_handler]
 fn on_panic(_: &PanicInfo<'_>) -> ! {
-    // SAFETY: the C library has it, or a program without one defines it.
+    // SAFETY: the C library has `abort`, or a program without a C library defines it.
     unsafe { abort() }
 }
 
-/// What unwinding would call. Nothing unwinds, but the `core` of some targets names it.
+/// The function that unwinding would call. Nothing unwinds, but the `core` of some targets refers
+/// to it.
 #[unsafe(no_mangle)]
 extern "C" fn rust_eh_personality() {}

@@ -1,31 +1,32 @@
-//! What a caller in C passes as a pointer and a length: one whose length is 0 may be null.
+//! Slices that a caller in C passes as a pointer and a length. The pointer may be null if the
+//! length is 0.
 
 use core::slice;
 
-/// What is read.
+/// Returns the slice that a call reads.
 ///
 /// # Safety
 ///
-/// Where the length is not 0, so many values are at the pointer, and nothing writes them before the
-/// call ends.
+/// If the length is not 0, that many values are at the pointer, and nothing writes to them before
+/// the call ends.
 pub unsafe fn read<'a, T>(at: *const T, length: usize) -> &'a [T] {
     if length == 0 {
         return &[];
     }
-    // SAFETY: as the caller says.
+    // SAFETY: the caller guarantees this.
     unsafe { slice::from_raw_parts(at, length) }
 }
 
-/// What is written.
+/// Returns the slice that a call writes.
 ///
 /// # Safety
 ///
-/// Where the length is not 0, so many values are at the pointer, and nothing else reads or writes
+/// If the length is not 0, that many values are at the pointer, and nothing else reads or writes
 /// them before the call ends.
 pub unsafe fn written<'a, T>(at: *mut T, length: usize) -> &'a mut [T] {
     if length == 0 {
         return &mut [];
     }
-    // SAFETY: as the caller says.
+    // SAFETY: the caller guarantees this.
     unsafe { slice::from_raw_parts_mut(at, length) }
 }

@@ -1,4 +1,4 @@
-//! What stands for the process that programs and tests are handed.
+//! The process that is passed to programs and tests.
 
 use crate::kit::alloc::{AllocError, AllocFailed, Allocator, Global};
 use crate::kit::prelude::{String, Vec};
@@ -39,7 +39,7 @@ impl AllocGlobal for HostRuntime {
     }
 }
 
-/// The right to stop the process, which everyone has here.
+/// The permission to stop the process, which every process has here.
 pub trait Abort {}
 impl Abort for HostRuntime {}
 impl<T: Abort> Abort for &T {}
@@ -87,7 +87,7 @@ pub mod io {
 pub mod fs {
     use super::io;
 
-    /// A file that is read.
+    /// Opens a file for reading.
     pub fn open(_files: &impl super::Files, name: &str) -> io::Result<std::fs::File> {
         std::fs::File::open(name)
     }
@@ -96,7 +96,7 @@ pub mod fs {
 pub mod env {
     use super::{Env, Global, String, Vec, io};
 
-    /// The words of the command, the program's name first.
+    /// Returns the arguments of the command line, beginning with the name of the program.
     pub fn args(_rt: &impl Env) -> io::Result<std::vec::IntoIter<String>> {
         let mut words = Vec::new(Global);
         for word in std::env::args_os() {
@@ -124,7 +124,7 @@ pub mod hex {
         }
     }
 
-    /// The bytes that digits spell.
+    /// Decodes hexadecimal digits.
     pub fn decode<A: Allocator>(alloc: A, digits: &[u8]) -> Result<Vec<u8, A>, FromHexError> {
         if digits.len() % 2 != 0 {
             return Err(FromHexError::OddLength);
@@ -146,7 +146,7 @@ pub mod hex {
         Ok(bytes)
     }
 
-    /// The digits of bytes, in small letters.
+    /// Returns bytes as hexadecimal digits, in lower case.
     pub fn encode<A: Allocator>(alloc: A, bytes: &[u8]) -> Result<String<A>, AllocError> {
         let mut digits = String::new(alloc);
         for byte in bytes {
@@ -156,7 +156,7 @@ pub mod hex {
     }
 }
 
-/// `format!` into memory of an allocator.
+/// Like `format!`, but allocates the text with an allocator.
 macro_rules! format_in {
     ($alloc:expr; $($words:tt)*) => {{
         let mut text = $crate::kit::prelude::String::new($alloc);
@@ -165,7 +165,7 @@ macro_rules! format_in {
 }
 pub(crate) use format_in;
 
-/// Items that are collected into memory of an allocator.
+/// Collects items into memory of an allocator.
 pub trait CollectIn: Iterator + Sized {
     fn collect_in<A: Allocator>(self, alloc: A) -> Result<Vec<Self::Item, A>, AllocError> {
         let mut items = Vec::new(alloc);
@@ -178,7 +178,7 @@ pub trait CollectIn: Iterator + Sized {
 
 impl<I: Iterator> CollectIn for I {}
 
-/// A text that is made in memory of an allocator.
+/// Converts values to text in memory of an allocator.
 pub trait ToStringIn: Display {
     fn to_string_in<A: Allocator>(&self, alloc: A) -> Result<String<A>, AllocError> {
         format_in!(alloc; "{self}")
@@ -242,7 +242,7 @@ pub fn run<V: Verdict>(test: impl FnOnce(HostRuntime) -> V) {
     test(HostRuntime).check();
 }
 
-/// A heap of so many bytes, which it gives in blocks of sixteen.
+/// A heap with a limited number of bytes, which it allocates in blocks of 16.
 #[derive(Debug, PartialEq, Eq)]
 pub struct LocalHeap {
     size: usize,

@@ -1,10 +1,10 @@
 //! Programs and tests over the same files as the crate: the programs that are exported with it, the
 //! player of transcripts, and tests of the exported calls.
 #![forbid(unsafe_code)]
-// The sources of programs and tests may have what nobody calls or reads. They may import traits
-// that Rust finds without, and take a process that a macro is no longer handed.
+// The exported programs and tests may have unused functions and values. They may import traits that
+// Rust finds without an import, and take a process that their macros no longer use.
 #![allow(dead_code, unused_imports, unused_variables)]
-// The crate's own files are for Rust 1.85, which has no such call.
+// The crate supports Rust 1.85, which does not have `is_multiple_of`.
 #![allow(clippy::manual_is_multiple_of)]
 
 extern crate alloc;

@@ -1,16 +1,16 @@
-//! An allocator for tests, which refuses one allocation of the test's choice, and counts what is
-//! allocated and given back.
+//! An allocator for tests, which refuses one allocation that the test chooses, and counts the
+//! blocks that are allocated and freed.
 
 use crate::host::Fail;
 use crate::kit::alloc::{AllocError, Allocator};
 use std::cell::Cell;
 
-/// A run of a test makes fewer allocations than this.
+/// An upper bound on the allocations of a run of a test.
 const MOST_ALLOCATIONS: u64 = 400;
 
 /// Grants every allocation, except for the one that it should refuse.
 ///
-/// A collection takes it as `&heap`, so that all collections of a test share its counts.
+/// Collections take it as `&heap`, so all collections of a test share its counts.
 #[derive(Default)]
 pub struct RefusingAllocator {
     /// The number of allocations up to and including the one to refuse, or 0 if none should be
@@ -48,20 +48,20 @@ impl RefusingAllocator {
         self.allocations.get()
     }
 
-    /// Returns how many blocks were given back.
+    /// Returns how many blocks were freed.
     pub fn deallocations(&self) -> u64 {
         self.deallocations.get()
     }
 
-    /// Returns how many blocks were allocated and not given back.
+    /// Returns how many blocks were allocated and not freed.
     pub fn live(&self) -> u64 {
         self.allocations() - self.deallocations()
     }
 
-    /// Makes a run for each number from 1 on, until a run returns that no allocation was refused.
-    /// In the first run one must be refused.
+    /// Makes a run for each number from 1 on, until no allocation of a run was refused. In the
+    /// first run, an allocation must be refused.
     ///
-    /// A run refuses the allocation with its number, and gives back what it allocates.
+    /// A run refuses the allocation with its number, and frees what it allocates.
     pub fn each_refusal(&self, mut run: impl FnMut(u64) -> Result<bool, Fail>) -> Result<(), Fail> {
         let live = self.live();
         for nth in 1..MOST_ALLOCATIONS {

@@ -1,11 +1,11 @@
-//! What the clients share: the arguments of a command line and, for `udp_client.rs` and
+//! The code that the clients share: the arguments of a command line and, for `udp_client.rs` and
 //! `turn_client.rs`, a client on a UDP socket that waits for the response to each request.
 //! `many.rs` has many requests outstanding instead.
 #![allow(dead_code, reason = "each program uses some of it")]
 
 use seatcrane_stun::Instant;
 use seatcrane_stun::endpoint::{Body, Client, ClientBuilder, Clock, Input, Output, Response};
-use seatcrane_stun::endpoint::{RequestError, RequestId, random_seed};
+use seatcrane_stun::endpoint::{RequestError, RequestId, RequestOptions, random_seed};
 use seatcrane_stun::types::attribute::AttributeType;
 use seatcrane_stun::types::message::Method;
 use std::error::Error;
@@ -22,24 +22,27 @@ const OLDER: [AttributeType; 3] = [
     AttributeType(0x0010),
 ];
 
-/// The arguments of a command line. What follows `--` is not an option.
+/// The arguments of a command line. Arguments after `--` are not options.
 pub struct Arguments {
     pub left: Vec<String>,
     pub file: Option<String>,
     pub has_sha256: bool,
+    pub has_address: bool,
     pub within: Duration,
 }
 
-/// Reads the arguments: `--within SECONDS`, and those of these options that a program has. Returns
-/// `None` if they are wrong.
+/// Reads the arguments: `--within SECONDS`, and the options that the program has, which are
+/// `options`. Returns `None` if the arguments are wrong.
 pub fn arguments(within: f64, options: &[&str]) -> Option<Arguments> {
     let mut words = std::env::args().skip(1);
-    let (mut left, mut file, mut has_sha256, mut within) = (Vec::new(), None, false, within);
+    let (mut left, mut file, mut within) = (Vec::new(), None, within);
+    let (mut has_sha256, mut has_address) = (false, false);
     while let Some(word) = words.next() {
         match word.as_str() {
             "--within" => within = words.next()?.parse().ok()?,
             "--" => left.extend(words.by_ref()),
             "--sha256" if options.contains(&"--sha256") => has_sha256 = true,
+            "--address" if options.contains(&"--address") => has_address = true,
             "--user" if options.contains(&"--user") => file = Some(words.next()?),
             _ if word.starts_with('-') => return None,
             _ => left.push(word),
@@ -50,12 +53,13 @@ pub fn arguments(within: f64, options: &[&str]) -> Option<Arguments> {
         left,
         file,
         has_sha256,
+        has_address,
         within,
     })
 }
 
-/// Runs a program with these arguments, if they are right. Prints why it failed, and returns its
-/// status.
+/// Runs a program with these arguments, or prints its usage if the arguments are wrong. Prints why
+/// the program failed, and returns its status.
 pub fn run(
     usage: &str,
     arguments: Option<Arguments>,
@@ -92,8 +96,8 @@ pub fn find(host: &str, port: &str) -> Result<SocketAddr, Box<dyn Error>> {
 impl Asker {
     /// Opens a socket to a server. Requests that have no response `within` this time fail.
     ///
-    /// The socket is connected, so that it hears if the port is closed. It keeps the address that
-    /// it has now, so open another one after this machine has moved to another network.
+    /// The socket is connected, so that it reports if the port is closed. Its address does not
+    /// change, so open another one after this machine has moved to another network.
     pub fn new(
         server: SocketAddr,
         settings: ClientBuilder,
@@ -111,14 +115,26 @@ impl Asker {
         })
     }
 
-    /// Sends a request until its response arrives, and returns that. Data from the server that
-    /// arrives meanwhile is lost.
+    /// Sends a request until its response arrives, and returns the response. Data from the server
+    /// that arrives meanwhile is lost.
     ///
     /// # Errors
     ///
-    /// Texts that begin with `no answer`, which says what was dropped, `refused` or `failed`.
+    /// The error is a text that begins with `no answer`, `refused` or `failed`. A text that begins
+    /// with `no answer` also says which responses were dropped.
     pub fn ask(&mut self, method: Method, body: Body) -> Result<Response, Box<dyn Error>> {
-        let request = self.client.request(method, body, self.clock.now())?;
+        self.ask_with(method, body, &RequestOptions::new())
+    }
+
+    /// Sends a request like [`Asker::ask`], but with these options.
+    pub fn ask_with(
+        &mut self,
+        method: Method,
+        body: Body,
+        options: &RequestOptions,
+    ) -> Result<Response, Box<dyn Error>> {
+        let now = self.clock.now();
+        let request = self.client.request_with(method, body, options, now)?;
         loop {
             match self.client.poll(self.clock.now()) {
                 Output::Transmit { bytes, .. } => drop(self.socket.send(bytes)),
@@ -169,12 +185,13 @@ impl Asker {
         self.now() >= self.give_up
     }
 
-    /// Extends the time for requests, such as for a last one.
+    /// Extends the time for requests, for example for a last request.
     pub fn extend(&mut self, more: Duration) {
         self.give_up = self.give_up.max(self.now()) + more;
     }
 
-    /// What was dropped while the client waited: often an error that the server did not sign.
+    /// Cancels a request, and returns the text `no answer` with the responses that were dropped
+    /// while the client waited. Often these are errors that the server did not sign.
     fn no_answer(&mut self, request: RequestId) -> String {
         let drops = self
             .client

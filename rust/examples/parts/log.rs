@@ -7,7 +7,8 @@ use std::time::{SystemTime, UNIX_EPOCH};
 const NAME: &str = env!("CARGO_BIN_NAME");
 static IS_SERVING: AtomicBool = AtomicBool::new(false);
 
-/// Has complaints begin with the time from now on. Those before are about how a server was started.
+/// Makes error messages begin with the time from now on. Earlier messages are about how the server
+/// was started.
 pub fn serve() {
     IS_SERVING.store(true, Relaxed);
 }
@@ -37,7 +38,7 @@ impl fmt::Display for Now {
     }
 }
 
-/// Returns the year, the month and the day that is so many days after 1970-01-01.
+/// Returns the year, the month and the day that is this many days after 1970-01-01.
 fn date(mut days: u64) -> (u64, u64, u64) {
     let is_leap = |year: u64| year % 4 == 0 && (year % 100 != 0 || year % 400 == 0);
     let mut year = 1970;

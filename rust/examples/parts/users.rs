@@ -12,8 +12,8 @@ use std::io::{self, Read};
 const LONGEST: usize = 2048;
 const LONGEST_NAME: usize = 513;
 
-/// Builds a table of these users and of those of a file. A name that occurs again replaces the one
-/// before.
+/// Builds a table of these users and of those in a file. If a name occurs again, the later user
+/// replaces the earlier one.
 pub fn table(
     server: &Server,
     pairs: &[(String, String)],
@@ -36,11 +36,11 @@ pub fn table(
         Ok(_) => fill(users, path, &bytes),
         Err(error) => Err(format!("{path}: {error}")),
     };
-    bytes.fill(0); // passwords do not stay in memory that is given back
+    bytes.fill(0); // no passwords stay in freed memory
     filled
 }
 
-/// Adds the user of each line. Each bad line is reported by its number.
+/// Adds the user of each line. Reports the number of each bad line.
 fn fill(mut users: Users, path: &str, bytes: &[u8]) -> Result<Users, String> {
     let mut bad = 0;
     for (number, line) in (1..).zip(bytes.split(|byte| *byte == b'\n')) {
@@ -56,7 +56,7 @@ fn fill(mut users: Users, path: &str, bytes: &[u8]) -> Result<Users, String> {
                 bad += 1;
             }
             Err(error) => {
-                drop(users); // there is memory for the text then
+                drop(users); // so that there is memory for the text
                 return Err(format!("{path}, line {number}: {error}"));
             }
         }
@@ -98,7 +98,7 @@ fn owned(text: &str) -> Result<String, UserError> {
     Ok(copy)
 }
 
-/// Returns the keys of `0xKEY [0xKEY]`.
+/// Returns the keys in `0xKEY [0xKEY]`.
 fn stored_keys(text: &str) -> Option<StoredKeys> {
     let mut keys = StoredKeys::new();
     for word in text.split([' ', '\t']) {

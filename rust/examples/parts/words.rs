@@ -1,4 +1,4 @@
-//! How a program begins and ends: its arguments, what it prints of itself, and its status.
+//! The arguments of a program, its help and version, and its status.
 
 use std::env::{self, Args};
 use std::error::Error;
@@ -8,9 +8,9 @@ use std::process::ExitCode;
 /// The arguments of a command line, one after the other.
 pub type Words = Skip<Args>;
 
-/// Runs a program with the settings that its arguments ask for. Prints its help or its version if
-/// the first argument is for that, its usage if the arguments are wrong, and why it failed. The
-/// program returns whether it did what it is for.
+/// Runs a program with the settings in its arguments. Prints its help or its version if the first
+/// argument asks for that, its usage if the arguments are wrong, and why it failed. The program
+/// returns whether it succeeded.
 pub fn run<S>(
     usage: &str,
     help: &str,

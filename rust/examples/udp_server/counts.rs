@@ -8,7 +8,7 @@ use std::net::SocketAddr;
 use std::sync::atomic::{AtomicU64, Ordering::Relaxed};
 
 const CODES: [(u16, &str); 4] = [(400, "400"), (401, "401"), (420, "420"), (438, "438")];
-/// The reasons for which a server of these settings drops a datagram.
+/// The reasons for which a server with these settings drops a datagram.
 const REASONS: [DropReason; 5] = [
     DropReason::NotStun,
     DropReason::Malformed,
@@ -19,8 +19,8 @@ const REASONS: [DropReason; 5] = [
 const LONGEST_FILE: usize = 4096;
 
 pub enum Outcome {
-    /// A success, or an error with this code, to send to this address. If it must leave from
-    /// another socket than the one that the datagram arrived at, it has the number of that socket.
+    /// A success, or an error with this code, to send to this address. If it must leave from a
+    /// socket other than the one at which the datagram arrived, it has the number of that socket.
     Answer(u16, Vec<u8>, SocketAddr, Option<usize>),
     Dropped(DropReason),
     /// An accepted message that is not a Binding request.
@@ -53,7 +53,7 @@ pub struct Counts {
     not_binding: AtomicU64,
 }
 
-/// Counters of one kind: they have one name, and differ in the value of a label.
+/// Counters of the same kind, which have the same name and differ in the value of a label.
 struct Kind(&'static str, &'static str, &'static str);
 
 impl Counts {
@@ -99,18 +99,20 @@ impl Counts {
         show(&kind, "", self.not_binding.load(Relaxed))
     }
 
-    /// Writes the counters to a new file and renames that to `file`, so that whoever reads `file`
-    /// never sees a part.
+    /// Writes the counters to a new file and renames it to `file`, so that a reader of `file` never
+    /// sees an incomplete file. If the new file exists already, it is removed first, so that a link
+    /// is not followed.
     pub fn write(&self, file: &str, new: &str) -> io::Result<()> {
         let mut text = Cursor::new([0; LONGEST_FILE]);
         write!(text, "{}", Metrics(self))?;
         let length = text.position() as usize;
-        File::create(new)?.write_all(&text.get_ref()[..length])?;
+        let _ = fs::remove_file(new);
+        File::create_new(new)?.write_all(&text.get_ref()[..length])?;
         fs::rename(new, file)
     }
 }
 
-/// A line of `NAME=VALUE`.
+/// Writes the counters in one line, as `NAME=VALUE`.
 impl fmt::Display for Counts {
     fn fmt(&self, f: &mut fmt::Formatter<'_>) -> fmt::Result {
         let mut between = "";

@@ -1,9 +1,9 @@
-//! NAT behavior discovery (RFC 5780): a server at two addresses and two ports answers a request from
-//! whichever of these four it asks for. No NAT may be in front of them.
+//! NAT behavior discovery (RFC 5780): a server with two addresses and two ports answers a request
+//! from whichever of the four the request asks for. No NAT may be in front of them.
 //!
-//! Somebody who forges the source of a request can have its response sent to any port of that host.
-//! So PADDING in a response is only as long as that of the request, where RFC 5780 has the length of
-//! an MTU.
+//! An attacker who forges the source of a request can have its response sent to any port of that
+//! host. So PADDING in a response is only as long as PADDING in the request, and not as long as an
+//! MTU, which RFC 5780 specifies.
 
 use seatcrane_stun::endpoint::Reply;
 use seatcrane_stun::extra::attribute::{
@@ -13,18 +13,20 @@ use seatcrane_stun::types::attribute::AttributeType;
 use seatcrane_stun::types::message::{Message, StunWriteError};
 use std::net::SocketAddr;
 
-/// The attributes that the server understands beside those of STUN.
+/// The attributes that the server understands in addition to those of STUN.
 pub const ATTRIBUTES: [AttributeType; 3] = [
     AttributeType::CHANGE_REQUEST,
     AttributeType::RESPONSE_PORT,
     AttributeType::PADDING,
 ];
 
-/// A response: its code, its bytes, where it goes to, and the number of the socket that sends it.
+/// A response: its code, its bytes, the address to which it is sent, and the number of the socket
+/// that sends it.
 pub type Response = (u16, Vec<u8>, SocketAddr, usize);
 
-/// Responds to a Binding request that came to the socket `at` (sections 6.1 and 7). `sockets` are the
-/// addresses of the four: the lower bit of a number is the port, and the higher one the IP address.
+/// Responds to a Binding request that came to the socket `at` (sections 6.1 and 7). `sockets` has
+/// the addresses of the four sockets. The lower bit of the number of a socket says which port the
+/// socket has, and the higher bit says which IP address.
 pub fn respond(
     sockets: &[SocketAddr],
     request: &Message<'_>,

@@ -1,10 +1,10 @@
-//! The TCP connections of a listener, of which a bounded number is open at a time.
+//! The TCP connections of a listener. At most [`MOST`] of them are open at a time.
 
 use std::net::{Shutdown, TcpStream};
 use std::sync::{Arc, Mutex, MutexGuard, PoisonError};
 use std::time::Instant;
 
-/// The most connections at a time.
+/// The maximum number of open connections.
 pub const MOST: usize = 64;
 
 /// How many threads serve a listener: one for each connection, and some that wait for the next.
@@ -17,12 +17,12 @@ pub struct Open {
 }
 
 impl Open {
-    /// Returns when the last whole message arrived, or the connection began.
+    /// Returns when the last complete message arrived, or the connection began.
     pub fn since(&self) -> Instant {
         *locked(&self.since)
     }
 
-    /// Notes that a whole message has arrived.
+    /// Notes that a complete message has arrived.
     pub fn note_message(&self) {
         *locked(&self.since) = Instant::now();
     }
@@ -33,8 +33,8 @@ impl Open {
 pub struct Streams(Mutex<Vec<Arc<Open>>>);
 
 impl Streams {
-    /// Adds a connection. If there are too many, the one that has been silent for longest ends; its
-    /// thread notices that at once, and is free for the next connection.
+    /// Adds a connection. If there are too many, the connection that has been silent for longest
+    /// ends. Its thread notices that at once, and is then free for the next connection.
     pub fn add(&self, stream: TcpStream) -> Arc<Open> {
         let mut all = locked(&self.0);
         if all.len() >= MOST {

@@ -5,14 +5,14 @@ use alloc::vec::Vec;
 use core::net::SocketAddr;
 use core::ops::Range;
 
-/// The responses to a batch of datagrams, one after another in one buffer. Keep it between batches,
-/// so that its memory is used again.
+/// The responses to a batch of datagrams, one after another in one buffer. Reuse it for the next
+/// batch, so that its memory is used again.
 ///
 /// [`Server::receive_many`] has an example.
 #[derive(Clone, Debug, Default)]
 pub struct Answers {
     bytes: Vec<u8>,
-    /// The response that was written last, whose memory is for the next one.
+    /// The response that was written last. The next response reuses its memory.
     page: Vec<u8>,
 }
 
@@ -31,7 +31,7 @@ impl Answers {
 }
 
 impl Answer<Range<usize>> {
-    /// Returns where the response is in [`Answers::bytes`].
+    /// Returns the range of the response in [`Answers::bytes`].
     #[must_use]
     pub fn range(&self) -> Range<usize> {
         self.bytes.clone()
@@ -39,20 +39,21 @@ impl Answer<Range<usize>> {
 }
 
 impl Server {
-    /// Judges the datagrams of a batch, each like [`receive`](Self::receive), and writes the responses
-    /// one after another into one buffer, in place of what it has. It is for a socket that delivers
-    /// several datagrams at once (`recvmmsg`, UDP GRO) and takes several (`sendmmsg`).
+    /// Judges the datagrams of a batch, each like [`receive`](Self::receive), and writes the
+    /// responses one after another into one buffer, replacing its contents. Use it with a socket
+    /// that receives several datagrams at once (`recvmmsg`, UDP GRO) and sends several at once
+    /// (`sendmmsg`).
     ///
-    /// The iterator judges a datagram when it is asked for the next result. The k-th result is that of
-    /// `receive` for the k-th datagram at this time, and no other datagram of the batch changes it,
-    /// so their order does not matter either. Where memory ends, that datagram alone is
-    /// [dropped](super::DropReason::OutOfMemory). Once the buffer has grown to the size of a batch, a
-    /// response takes the one allocation that it takes in [`receive_into`](Self::receive_into), for
-    /// its nonce.
+    /// The iterator judges a datagram when you ask it for the next result. The k-th result is what
+    /// `receive` would return for the k-th datagram at the time `now`. No other datagram of the
+    /// batch changes this result, so the order of the datagrams does not matter. If an allocation
+    /// fails, only the datagram that needed it is [dropped](super::DropReason::OutOfMemory). Once
+    /// the buffer has grown to the size of a batch, a response needs one allocation, for its nonce,
+    /// as it does in [`receive_into`](Self::receive_into).
     ///
-    /// It saves you a buffer for each response that has not been sent yet. If you send each response
-    /// before you judge the next datagram, call `receive_into`: a batch does the same work for each
-    /// datagram, and then copies the response once more.
+    /// With a batch you need no separate buffer for each response that has not been sent yet. If
+    /// you send each response before you judge the next datagram, call `receive_into`: a batch does
+    /// the same work for each datagram, and then copies the response once more.
     ///
     /// # Examples
     ///

@@ -16,8 +16,8 @@ use core::net::SocketAddr;
 
 pub use crate::exported::stun_client_endpoint::body::{BODY_LIMIT, BodyError};
 
-/// The attributes of a request, in the order in which they were added. They are stored, because a
-/// request that is challenged is written again under another transaction ID.
+/// The attributes of a request, in the order in which they were added. The client stores them,
+/// because it writes a request again, under another transaction ID, when the server challenges it.
 ///
 /// # Examples
 ///
@@ -30,7 +30,7 @@ pub use crate::exported::stun_client_endpoint::body::{BODY_LIMIT, BodyError};
 ///     .add(&RequestedTransport::new(RequestedTransport::UDP))?
 ///     .add(&Lifetime::new(600))?;
 ///
-/// // CreatePermission for two peers: types may repeat.
+/// // CreatePermission for two peers: several attributes may have the same type.
 /// let (one, other) =
 ///     ("192.0.2.7:0".parse().unwrap(), "[2001:db8::7]:0".parse().unwrap());
 /// let peers =
@@ -71,24 +71,24 @@ impl Body {
         Body::default()
     }
 
-    /// Adds an attribute. Types may repeat.
+    /// Adds an attribute. Several attributes may have the same type.
     ///
     /// # Errors
     ///
-    /// The error has the body as it was: [`AddError::into_body`]. Its reason is the first of these
-    /// that applies:
+    /// The error contains the unchanged body ([`AddError::into_body`]). Its reason is the first of
+    /// these that applies:
     ///
-    /// - [`BodyError::NotAllowed`]: the client writes this type itself, its value depends on the
-    ///   transaction ID (for XOR-PEER-ADDRESS call
-    ///   [`add_xor_peer_address`](Self::add_xor_peer_address)), or it is ERROR-CODE, which no request
-    ///   has.
+    /// - [`BodyError::NotAllowed`]: the client itself writes attributes of this type, or the value
+    ///   depends on the transaction ID (for XOR-PEER-ADDRESS call
+    ///   [`add_xor_peer_address`](Self::add_xor_peer_address)), or the attribute is ERROR-CODE,
+    ///   which no request has.
     /// - [`BodyError::TooLarge`]: the attributes would have more than [`BODY_LIMIT`] bytes.
     /// - [`BodyError::OutOfMemory`]: an allocation failed.
     ///
     /// # Panics
     ///
-    /// If [`Attribute::write_into`] of an attribute type of your own appends something else than
-    /// the attribute that `get_type` and `length` describe.
+    /// Panics if [`Attribute::write_into`] of an attribute type of your own appends anything other
+    /// than the attribute that `get_type` and `length` describe.
     #[allow(clippy::should_implement_trait)] // `Add` is for numbers.
     pub fn add<A: Attribute>(mut self, attribute: &A) -> Result<Body, AddError> {
         match self.try_add(attribute) {
@@ -105,8 +105,8 @@ impl Body {
         if !self.core.has_room(length) {
             return Err(BodyError::TooLarge);
         }
-        // An attribute that is allowed and not too long fits an empty message, and most of them fit
-        // a small one, which needs no memory.
+        // An attribute that is allowed and not too long fits into an empty message. Most attributes
+        // fit into a small buffer, which needs no allocation.
         let mut small = [0; SMALL];
         if length <= SMALL - BEFORE - PADDING {
             let page = scratch(MessageWriteMutSlice::new(&mut small), attribute)?;
@@ -117,15 +117,15 @@ impl Body {
         }
     }
 
-    /// Adds XOR-PEER-ADDRESS with this address (RFC 8656, section 18.3). An IPv4 address is written as
-    /// IPv4 in either spelling, `a.b.c.d` and `::ffff:a.b.c.d`.
+    /// Adds XOR-PEER-ADDRESS with this address (RFC 8656, section 18.3). An address
+    /// `::ffff:a.b.c.d` is written as the IPv4 address `a.b.c.d`.
     ///
     /// # Errors
     ///
-    /// The error has the body as it was: [`AddError::into_body`]. Its reason is one of these:
+    /// The error contains the unchanged body ([`AddError::into_body`]). Its reason is one of these:
     ///
-    /// - [`BodyError::TooLarge`]: the attributes would have more than [`BODY_LIMIT`] bytes, where each
-    ///   XOR-PEER-ADDRESS counts as 24.
+    /// - [`BodyError::TooLarge`]: the attributes would have more than [`BODY_LIMIT`] bytes,
+    ///   counting 24 for each XOR-PEER-ADDRESS.
     /// - [`BodyError::OutOfMemory`]: an allocation failed.
     pub fn add_xor_peer_address(mut self, peer: SocketAddr) -> Result<Body, AddError> {
         match self.core.add_xor_peer_address(canonical(peer)) {
@@ -135,8 +135,8 @@ impl Body {
     }
 }
 
-/// Why an attribute was not added, with the body to which it was not. It becomes a [`BodyError`] by
-/// `?`.
+/// Why an attribute was not added, with the body that was passed to the call. `?` converts it into
+/// a [`BodyError`].
 ///
 /// # Examples
 ///
@@ -165,7 +165,7 @@ impl AddError {
         self.reason
     }
 
-    /// Returns the body as it was.
+    /// Returns the body, unchanged.
     pub fn into_body(self) -> Body {
         self.body
     }
@@ -188,13 +188,13 @@ impl From<AddError> for BodyError {
 /// The length of a message in which most attributes fit.
 const SMALL: usize = 128;
 
-/// How many bytes are before the value of the first attribute of a message.
+/// The number of bytes before the value of the first attribute of a message.
 const BEFORE: usize = 24;
 
-/// The most bytes that follow the value of an attribute.
+/// The largest number of padding bytes after the value of an attribute.
 const PADDING: usize = 3;
 
-/// Writes an attribute into an empty message.
+/// Writes an attribute into a message that has no other attribute.
 fn scratch<W: MessageWrite, A: Attribute>(page: W, attribute: &A) -> Result<W, BodyError> {
     let id = TransactionId::from([0; 12]);
     let mut page = Message::builder_request_with_id(BINDING, id, page);

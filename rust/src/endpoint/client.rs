@@ -4,8 +4,10 @@ use super::Body;
 use super::client_outcomes::{Drops, Input, Output, RequestId, StartError, result_of};
 use super::client_settings::ClientBuilder;
 use super::indications::Indications;
+use super::request_options::RequestOptions;
 use crate::Instant;
 use crate::copies::granted;
+use crate::exported::stun_agent::agent::RequestRto;
 use crate::exported::stun_client::credentials::Credentials;
 use crate::exported::stun_client_calls::endpoint::ClientEndpoint;
 use crate::exported::stun_client_calls::told::Polled;
@@ -30,54 +32,60 @@ use core::net::SocketAddr;
 /// [`Output::Ended`]. Take every `now` from one clock that never goes back, such as
 /// [`Clock`](super::Clock).
 ///
-/// Each request ends in the end, at the latest at the first [`poll`](Self::poll) after its time is
-/// over. If nothing answers, that is after its plan, 39.5 seconds by default. If the server challenges
-/// it, another message is sent, with a plan of its own. This happens only within the first plan of the
-/// request, after which nothing is sent. So a request ends after at most two plans, 79 seconds by
-/// default. [`Retransmission`](super::Retransmission) sets the plan.
+/// Each request ends at the latest at the first [`poll`](Self::poll) after its time is over. If no
+/// response arrives, this is at the end of its plan, after 39.5 seconds by default. If the server
+/// challenges the request, another message is sent, with a plan of its own. This happens only
+/// within the first plan of the request; after that plan nothing more is sent for the request. So a
+/// request ends after at most two plans, 79 seconds by default.
+/// [`Retransmission`](super::Retransmission) sets the plan.
 ///
-/// If an allocation fails, [`request`](Client::request) returns an error, and a datagram is dropped
-/// with [`DropReason::OutOfMemory`](super::DropReason::OutOfMemory), or an earlier message of its
-/// request is forgotten. `poll` and `cancel` do not allocate. Only [`build`](ClientBuilder::build)
-/// aborts the program then.
+/// If an allocation fails, [`request`](Client::request) returns an error, and
+/// [`receive`](Client::receive) drops the datagram with
+/// [`DropReason::OutOfMemory`](super::DropReason::OutOfMemory) or forgets an earlier message of the
+/// request. `poll` and `cancel` do not allocate. Only [`build`](ClientBuilder::build) aborts the
+/// program if an allocation fails.
 ///
 /// # Challenges, and what an attacker can forge
 ///
-/// With long-term credentials a request has a message for each challenge that it answers, and at most
-/// one unsigned message, each with a transaction ID of its own. One of them is the current message,
-/// which is sent until the request ends or another message takes its place:
+/// With long-term credentials, a request has a message for each challenge that it answers, and at
+/// most one unsigned message, each with its own transaction ID. One of these is the current
+/// message, which is sent until the request ends or another message takes its place:
 ///
-/// - A response that is signed with the key of the message which it answers ends the request,
-///   whichever of its messages that is, unless it is a challenge (401 or 438). Everything else that
-///   answers another message than the current one is dropped.
-/// - A challenge is answered by the message for it, which is written if there is none. One that is
-///   weaker than what a success has confirmed is dropped. The challenge that the message is signed for
-///   already is a refusal: the first one is dropped, and one that arrives after the message was sent
-///   again ends the request. (Over a stream nothing is sent again, and the first one ends it.)
-/// - Servers do not sign the errors 400, 437 and 441 by which they refuse a message that is signed for
-///   a forged challenge. The client does not believe these errors, but goes back to another message of
-///   the request, at most three times.
-/// - After six other messages ([`challenges`](ClientBuilder::challenges)) the next challenge ends the
-///   request, and so does the third 401 for the same realm with another nonce.
+/// - A response to any message of the request ends the request if it is signed with the key of that
+///   message, unless the response is a challenge (401 or 438). All other responses to a message
+///   that is not the current one are dropped.
+/// - A challenge is answered with the message that is signed for it. If there is no such message
+///   yet, it is written. A challenge is dropped if it is weaker than a challenge that a success has
+///   confirmed. If the challenge that the message is signed for arrives once more, it is a refusal:
+///   the first refusal is dropped, and a refusal that arrives after the message was sent again ends
+///   the request. (Over a stream no message is sent again, so the first refusal ends the request.)
+/// - Servers do not sign the errors 400, 437 and 441 with which they refuse a message that is
+///   signed for a forged challenge. The client does not believe these errors. It makes another
+///   message of the request the current one instead, at most three times.
+/// - After the current message has been replaced six times
+///   ([`challenges`](ClientBuilder::challenges)), the next challenge ends the request. The third
+///   401 for the same realm with another nonce also ends it.
 ///
 /// So over UDP a single forged datagram ends no request, unless the server itself has brought the
 /// request to one of these limits, or you accept unsigned responses
-/// ([`accept_unsigned`](ClientBuilder::accept_unsigned)). An attacker who sends several can end a
-/// request with [`RequestError::Unauthorized`](super::RequestError::Unauthorized), and one who keeps
-/// the server's answers from arriving lets it time out.
+/// ([`accept_unsigned`](ClientBuilder::accept_unsigned)). An attacker who sends several forged
+/// datagrams can end a request with
+/// [`RequestError::Unauthorized`](super::RequestError::Unauthorized), and an attacker who keeps the
+/// server's answers from arriving can make the request time out.
 ///
-/// The algorithm is chosen by the challenge that is answered, and by the list of the challenge before
-/// only if a 438 has none and is signed. So forged challenges cannot make a server accept a request of
-/// this client with a weaker algorithm than the strongest that both support, provided that the server's
-/// nonces and lists match its current settings, as those of [`Server`](super::Server) do.
+/// The client chooses the algorithm from the list of the challenge that it answers. Only if the
+/// challenge is a 438 that is signed and has no list does it use the list of the challenge before.
+/// So forged challenges cannot make a server accept a request of this client with a weaker
+/// algorithm than the strongest that both support, provided that the server's nonces and lists
+/// match its current settings, as those of [`Server`](super::Server) do.
 ///
-/// # Servers that sign no Binding response
+/// # Servers that do not sign Binding responses
 ///
 /// Many TURN servers, such as coturn, answer a Binding request without asking for credentials, and
 /// sign neither that response nor a 300. A client with long-term credentials drops both as
 /// [`DropReason::NotVerified`](super::DropReason::NotVerified), and the request times out. So ask
-/// for your address by a second client without credentials. Both may use one socket: pass each
-/// datagram to one client, and to the other if the first returns [`Input::NotOurs`].
+/// for your address with a request of the same client that is not signed
+/// ([`request_with`](Self::request_with), [`RequestOptions::unsigned`]).
 ///
 /// # Examples
 ///
@@ -128,11 +136,11 @@ use core::net::SocketAddr;
 pub struct Client {
     core: ClientEndpoint<Global>,
     indications: Indications,
-    #[cfg(feature = "tracing")]
     server: SocketAddr,
+    timeouts: RequestRto,
 }
 
-/// It shows how many requests are outstanding, and no credentials.
+/// Shows how many requests are outstanding, and no credentials.
 impl fmt::Debug for Client {
     fn fmt(&self, f: &mut fmt::Formatter<'_>) -> fmt::Result {
         let mut shown = f.debug_struct("Client");
@@ -149,6 +157,7 @@ impl Client {
         indications: Indications,
         seed: &[u8; 32],
     ) -> Client {
+        let timeouts = settings.timeouts;
         let core = ClientEndpoint::new(
             Global,
             transport,
@@ -161,24 +170,24 @@ impl Client {
         Client {
             core: granted(core),
             indications,
-            #[cfg(feature = "tracing")]
             server,
+            timeouts,
         }
     }
 
-    /// Begins the settings of a client of this server.
+    /// Returns a builder for a client of this server.
     pub fn builder(server: SocketAddr) -> ClientBuilder {
         ClientBuilder::new(server)
     }
 
-    /// Starts a request. [`poll`](Self::poll) returns its bytes. The method is a [`Method`], such as
-    /// [`BINDING`](crate::types::message::BINDING), or a
+    /// Starts a request. [`poll`](Self::poll) returns its bytes. The method is a [`Method`], such
+    /// as [`BINDING`](crate::types::message::BINDING), or a
     /// [`TurnMethod`](crate::extra::turn::TurnMethod).
     ///
     /// # Errors
     ///
-    /// The first of these that applies, but `OutOfMemory` may come before `TooLarge`. Nothing has
-    /// changed then.
+    /// Returns the first of these errors that applies, except that `OutOfMemory` may come before
+    /// `TooLarge`. A call that fails changes nothing.
     ///
     /// - [`StartError::NoId`]: the seed has no transaction ID left.
     /// - [`StartError::TooLarge`]: the message would be too long.
@@ -193,14 +202,57 @@ impl Client {
         Ok(RequestId(number))
     }
 
-    /// Returns the bytes of an indication. Send them to the server, once: nobody answers it. Its
-    /// transaction ID is derived from the seed, as those of requests are. It has SOFTWARE and
-    /// FINGERPRINT if the client is built with them. It is signed with short-term credentials, and
-    /// not with long-term ones, which no indication can have (RFC 8489, section 9.2).
+    /// Starts a request like [`request`](Self::request), but with options: it can be unsigned, have
+    /// a plan of its own, or be answered from an address other than the server's.
     ///
     /// # Errors
     ///
-    /// The first of these that applies:
+    /// Returns the first of these errors that applies, except that `OutOfMemory` may come before
+    /// `TooLarge`. A call that fails changes nothing.
+    ///
+    /// - [`StartError::NoId`]: the seed has no transaction ID left.
+    /// - [`StartError::TooLarge`]: the message would be too long.
+    /// - [`StartError::OutOfMemory`]: an allocation failed.
+    ///
+    /// # Examples
+    ///
+    /// A Binding request that keeps a NAT binding alive, and ends after 3.5 s without an answer:
+    ///
+    /// ```
+    /// use seatcrane_stun::Instant;
+    /// use seatcrane_stun::endpoint::{Body, Client, RequestId, RequestOptions};
+    /// use seatcrane_stun::endpoint::{Retransmission, StartError};
+    /// use seatcrane_stun::types::message::BINDING;
+    /// use std::time::Duration;
+    ///
+    /// fn keep_alive(client: &mut Client, now: Instant) -> Result<RequestId, StartError> {
+    ///     let ms = Duration::from_millis;
+    ///     let plan = Retransmission::new(ms(500), Duration::MAX, 3, ms(2000));
+    ///     let options = RequestOptions::new().unsigned().retransmission(plan);
+    ///     client.request_with(BINDING, Body::new(), &options, now)
+    /// }
+    /// ```
+    pub fn request_with(
+        &mut self,
+        method: impl Into<Method>,
+        body: Body,
+        options: &RequestOptions,
+        now: Instant,
+    ) -> Result<RequestId, StartError> {
+        let options = options.core(self.server, self.timeouts);
+        let number = self.core.request_with(method.into(), body.core, options, now)?;
+        Ok(RequestId(number))
+    }
+
+    /// Returns the bytes of an indication. Send them to the server once, because an indication is
+    /// not answered. Its transaction ID is derived from the seed, like the transaction IDs of
+    /// requests. It has SOFTWARE and FINGERPRINT if the client is built with them. It is signed if
+    /// the client has short-term credentials. Long-term credentials cannot sign an indication (RFC
+    /// 8489, section 9.2).
+    ///
+    /// # Errors
+    ///
+    /// Returns the first of these errors that applies:
     ///
     /// - [`StartError::TooLarge`]: the message would be too long.
     /// - [`StartError::OutOfMemory`]: an allocation failed.
@@ -234,9 +286,11 @@ impl Client {
         Ok(self.indications.write(method.into(), body)?)
     }
 
-    /// Reads a datagram that came from this address. If the result is [`Input::NotOurs`], offer the
-    /// datagram to the next client on the socket. If it is [`Input::Consumed`], `poll` returns what
-    /// comes of it.
+    /// Processes a datagram that came from the address `from`. A response is used only if it comes
+    /// from the address that answers the request, which is the server's unless the
+    /// [`RequestOptions`] name another address. If the result is [`Input::NotOurs`], offer the
+    /// datagram to the next client on the socket. If it is [`Input::Consumed`], call `poll`, which
+    /// returns what follows from it.
     pub fn receive<'a>(&mut self, bytes: &'a [u8], from: SocketAddr, now: Instant) -> Input<'a> {
         let input = match self.core.receive(bytes, from, now) {
             Received::Consumed => Input::Consumed,
@@ -248,14 +302,13 @@ impl Client {
         input
     }
 
-    /// Returns the next thing to do. Call it until it returns [`Output::Wait`]: after each `request`,
-    /// `receive` and `cancel`, and when the wait is over.
+    /// Returns the next thing to do. Call it until it returns [`Output::Wait`]: after each
+    /// `request`, `receive` and `cancel`, and when the wait is over.
     ///
-    /// First come the bytes that it has not returned yet, then those that are due to be sent again,
-    /// then the requests that have ended, and then a request whose timers are over. Among several
-    /// requests whose bytes were not returned yet, and among several that have ended, the one that was
-    /// started first comes first. A request whose bytes are due after its first plan ends in their
-    /// place.
+    /// It first returns new messages, then messages that are due to be sent again, then requests
+    /// that have ended, and last a request whose time is over. Among several new messages, and
+    /// among several requests that have ended, the one whose request was started first comes first.
+    /// If a message is due after the first plan of its request, the request ends instead.
     pub fn poll(&mut self, now: Instant) -> Output<'_> {
         #[cfg(feature = "tracing")]
         let sent_before = self.stats().bytes_sent();
@@ -263,7 +316,7 @@ impl Client {
             Polled::Transmit(number) => {
                 #[cfg(feature = "tracing")]
                 self.record_sent(number, sent_before);
-                // An outstanding request has bytes.
+                // `poll` names only outstanding requests, and these have bytes.
                 let bytes = self.core.bytes_of(number).unwrap_or_default();
                 let (request, id) = (RequestId(number), id_of(bytes));
                 Output::Transmit { bytes, request, id }
@@ -278,20 +331,22 @@ impl Client {
         }
     }
 
-    /// Ends a request with [`RequestError::Cancelled`](super::RequestError::Cancelled), which `poll`
-    /// then returns. Returns `false` if it has ended already.
+    /// Ends a request with [`RequestError::Cancelled`](super::RequestError::Cancelled), which
+    /// `poll` then returns. Returns `false` if the request has ended already.
     pub fn cancel(&mut self, request: RequestId) -> bool {
         self.core.cancel(request.0)
     }
 
-    /// Returns the transaction ID of the current message of a request, while it is outstanding. It
-    /// changes when another message takes its place, for a challenge for example.
+    /// Returns the transaction ID of the current message of a request, or `None` if the request is
+    /// not outstanding. The ID changes when another message becomes the current one, for example
+    /// because of a challenge.
     pub fn transaction_id(&self, request: RequestId) -> Option<TransactionId> {
         self.core.transaction_id(request.0).map(TransactionId)
     }
 
-    /// Returns the outstanding request that has a message with this transaction ID, the current one or
-    /// an earlier one. A response with this ID is for that request.
+    /// Returns the outstanding request that has a message with this transaction ID, the current one
+    /// or an earlier one, or `None` if there is no such request. A response with this ID is for
+    /// that request.
     ///
     /// # Examples
     ///
@@ -311,7 +366,8 @@ impl Client {
         self.core.request_of(id.0).map(RequestId)
     }
 
-    /// Returns what was dropped for a request, while it is outstanding.
+    /// Returns how many responses to a request were dropped, and why the last one was, or `None` if
+    /// the request is not outstanding.
     pub fn dropped(&self, request: RequestId) -> Option<Drops> {
         self.core.dropped(request.0).map(Drops::from)
     }
@@ -321,13 +377,15 @@ impl Client {
         self.core.outstanding()
     }
 
-    /// Returns what was sent and received, in numbers.
+    /// Returns the counters of the messages and bytes that were sent and received.
     #[expect(clippy::missing_panics_doc, reason = "`build` has them kept")]
     pub fn stats(&self) -> &StunAgentStats {
         self.core.stats().expect("the client was built with them")
     }
 
-    /// Records that the bytes of a request are returned: again, if the agent has counted them now.
+    /// Records the event of a message that `poll` returns. If `poll` has increased the agent's
+    /// count of sent bytes, the message is a retransmission, because a first transmission is
+    /// counted earlier, when the message is written.
     #[cfg(feature = "tracing")]
     fn record_sent(&self, number: u64, sent_before: u64) {
         let (request, to) = (RequestId(number), self.server);

@@ -1,4 +1,4 @@
-//! What a client returns.
+//! The results that a client returns.
 
 use super::DropReason;
 use crate::Instant;
@@ -15,8 +15,9 @@ use crate::transaction::TransactionId;
 use alloc::vec::Vec;
 use core::fmt;
 use core::net::SocketAddr;
+use core::time::Duration;
 
-/// Identifies a request, also after it is sent again under another transaction ID.
+/// Identifies a request, even after it is sent again under another transaction ID.
 ///
 /// # Examples
 ///
@@ -54,6 +55,7 @@ pub struct RequestId(pub(super) u64);
 pub struct Response {
     bytes: Vec<u8>,
     signed_by: Option<IntegrityAlgorithm>,
+    round_trip: Option<Duration>,
 }
 
 impl fmt::Debug for Response {
@@ -71,10 +73,37 @@ impl Response {
         Message::from_bytes(&self.bytes).expect("it was read before")
     }
 
-    /// Returns the algorithm of its signature, or `None` if nobody signed it.
+    /// Returns the algorithm of the signature that the client verified, or `None` if it accepted
+    /// the response without verifying a signature.
     #[must_use]
     pub fn signed_by(&self) -> Option<IntegrityAlgorithm> {
         self.signed_by
+    }
+
+    /// Returns the round-trip time of the message that this response answers. It begins with the
+    /// `poll` that returned the message, and ends with the `receive` of the response. A request
+    /// that was challenged has several messages, so this is not the time that the whole request
+    /// took.
+    ///
+    /// It is `None` if `poll` has returned the message more than once, because it is then unknown
+    /// which transmission the server has answered (RFC 6298, section 3). It is also `None` if the
+    /// client has sent another message of the request after this message, or has made this message
+    /// the current one again.
+    ///
+    /// # Examples
+    ///
+    /// ```
+    /// use seatcrane_stun::endpoint::Response;
+    /// use std::time::Duration;
+    ///
+    /// /// The longest of the round trips that are known.
+    /// fn slowest(responses: &[Response]) -> Option<Duration> {
+    ///     responses.iter().filter_map(Response::round_trip).max()
+    /// }
+    /// ```
+    #[must_use]
+    pub fn round_trip(&self) -> Option<Duration> {
+        self.round_trip
     }
 
     /// Returns the bytes of the message.
@@ -125,10 +154,18 @@ impl ErrorResponse {
         self.response.message()
     }
 
-    /// Returns the algorithm of its signature, or `None` if nobody signed it.
+    /// Returns the algorithm of the signature that the client verified, or `None` if it accepted
+    /// the response without verifying a signature.
     #[must_use]
     pub fn signed_by(&self) -> Option<IntegrityAlgorithm> {
         self.response.signed_by
+    }
+
+    /// Returns the round-trip time of the message that this response answers, or `None` if it is
+    /// not known (see [`Response::round_trip`]).
+    #[must_use]
+    pub fn round_trip(&self) -> Option<Duration> {
+        self.response.round_trip
     }
 
     /// Returns the bytes of the message.
@@ -176,14 +213,16 @@ impl PartialEq for Redirect {
 impl Eq for Redirect {}
 
 impl Redirect {
-    /// Returns the address of the other server.
+    /// Returns the address of the other server, or `None` if the response has no well-formed
+    /// ALTERNATE-SERVER.
     #[must_use]
     pub fn server(&self) -> Option<SocketAddr> {
         let found = self.response.message().attribute::<AlternateServer>();
         Some(found.ok()?.addr())
     }
 
-    /// Returns the domain that the certificate of the other server must have, for TLS.
+    /// Returns the domain that the certificate of the other server must have, for TLS, or `None` if
+    /// the response has no well-formed ALTERNATE-DOMAIN.
     #[must_use]
     pub fn domain(&self) -> Option<&str> {
         let found = self.response.message().attribute::<AlternateDomain>();
@@ -196,10 +235,18 @@ impl Redirect {
         self.response.message()
     }
 
-    /// Returns the algorithm of the signature, or `None` if nobody signed the response.
+    /// Returns the algorithm of the signature that the client verified, or `None` if it accepted
+    /// the response without verifying a signature.
     #[must_use]
     pub fn signed_by(&self) -> Option<IntegrityAlgorithm> {
         self.response.signed_by
+    }
+
+    /// Returns the round-trip time of the message that this response answers, or `None` if it is
+    /// not known (see [`Response::round_trip`]).
+    #[must_use]
+    pub fn round_trip(&self) -> Option<Duration> {
+        self.response.round_trip
     }
 
     /// Returns the bytes of the message.
@@ -209,8 +256,8 @@ impl Redirect {
     }
 }
 
-/// What was dropped for one request. Show it to people, but never act on it, because anybody can
-/// send it.
+/// How many responses were dropped for one request, and why the last one was. Use it only for
+/// diagnostics, because anybody can send such responses.
 ///
 /// # Examples
 ///
@@ -237,13 +284,13 @@ impl Drops {
         self.count
     }
 
-    /// Returns why the last of them was.
+    /// Returns why the last of these responses was dropped, or `None` if no response was dropped.
     #[must_use]
     pub fn last(&self) -> Option<DropReason> {
         self.last
     }
 
-    /// Returns the error code of the last of them, if it had one.
+    /// Returns the error code of the last of these responses, or `None` if it had no code.
     #[must_use]
     pub fn code(&self) -> Option<u16> {
         self.code
@@ -298,14 +345,14 @@ impl fmt::Display for Drops {
 pub enum RequestError {
     /// The server answered with an error.
     Refused(ErrorResponse),
-    /// The server names another one (300). Make another client, if you trust it.
+    /// The server names another server (300). Make another client for it, if you trust it.
     Redirected(Redirect),
     /// No acceptable response arrived in time.
     TimedOut(Drops),
-    /// The server refuses the credentials, or challenges too often: the user name or the password is
-    /// wrong, or somebody forges challenges.
+    /// The server refuses the credentials, or challenges too often: the user name or the password
+    /// is wrong, or an attacker forges challenges.
     Unauthorized,
-    /// The response has an attribute that must be understood and is not.
+    /// The response has an attribute of this type, which must be understood but is not.
     NotUnderstood(AttributeType),
     /// The response is an error without a code.
     MalformedResponse,
@@ -313,7 +360,7 @@ pub enum RequestError {
     Cancelled,
 }
 
-/// Why a request was not started, or an indication not written.
+/// Why a request was not started, or an indication was not written.
 ///
 /// # Examples
 ///
@@ -421,7 +468,8 @@ pub(super) fn result_of(ended: End<Global>) -> Result<Response, RequestError> {
         ended::RequestEnd::Cancelled => return Err(RequestError::Cancelled),
     };
     let bytes = ended.response.into_std();
-    let response = Response { bytes, signed_by };
+    let round_trip = ended.round_trip;
+    let response = Response { bytes, signed_by, round_trip };
     Err(match outcome {
         Outcome::Success => return Ok(response),
         Outcome::Refused(code) => RequestError::Refused(ErrorResponse { response, code }),
@@ -431,7 +479,7 @@ pub(super) fn result_of(ended: End<Global>) -> Result<Response, RequestError> {
     })
 }
 
-/// What to do next.
+/// The next thing to do.
 ///
 /// # Examples
 ///
@@ -465,18 +513,19 @@ pub enum Output<'c> {
     Transmit {
         /// The message.
         bytes: &'c [u8],
-        /// The request that it is a message of.
+        /// The request to which the message belongs.
         request: RequestId,
-        /// Its transaction ID. A request has several messages if it is challenged.
+        /// The transaction ID of the message. A request that is challenged has several messages.
         id: TransactionId,
     },
     /// This request ended, with this result.
     Ended(RequestId, Result<Response, RequestError>),
-    /// Wait until a datagram arrives, or until this time; `None`: no request is outstanding.
+    /// Wait until a datagram arrives, or until this time. The time is `None` if no request is
+    /// outstanding.
     Wait(Option<Instant>),
 }
 
-/// What a datagram was.
+/// The outcome of a datagram at a client.
 ///
 /// # Examples
 ///
@@ -503,16 +552,22 @@ pub enum Output<'c> {
 #[derive(Debug)]
 #[non_exhaustive]
 pub enum Input<'a> {
-    /// A response to a request of this client. `poll` returns what comes of it.
+    /// A response to a request of this client. `poll` returns what follows from it.
     Consumed,
-    /// An indication from the server. Neither signature, FINGERPRINT nor unknown attributes are
-    /// checked: drop it if [`extra::has_unknown`](crate::extra::has_unknown) says so of the types that
-    /// you understand, such as [`types::TURN`](crate::endpoint::types::TURN).
+    /// An indication from the server. The client has checked neither its signature nor its
+    /// FINGERPRINT, and has not looked for unknown attributes. So pass it to
+    /// [`extra::has_unknown`](crate::extra::has_unknown) with the types that you understand, such
+    /// as [`types::TURN`](crate::endpoint::types::TURN), and drop it if the result is `true`.
     Indication(Message<'a>),
-    /// Not for this client: no STUN message (such as ChannelData or media), a message from another
-    /// address, a request, or a response to no outstanding request. Offer it to the next client on
-    /// the socket.
+    /// The datagram is not for this client, so offer it to the next client on the socket. It is one
+    /// of these:
+    ///
+    /// - Bytes that are not a STUN message, such as ChannelData or media.
+    /// - A request, or a response that answers no outstanding request.
+    /// - A message that does not come from the server's address. (If the
+    ///   [`RequestOptions`](super::RequestOptions) of a request name another address, its response
+    ///   must come from that address instead.)
     NotOurs,
-    /// A response to a request of this client that was dropped. The request goes on.
+    /// A response to a request of this client. The response was dropped, and the request continues.
     Dropped(DropReason),
 }

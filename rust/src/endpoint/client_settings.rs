@@ -59,7 +59,8 @@ impl Credentials {
     }
 
     /// Creates short-term credentials: each request is signed with this password and algorithm, and
-    /// only responses that are signed in the same way are accepted (RFC 8489, section 9.1).
+    /// only responses that are signed with this password and algorithm are accepted (RFC 8489,
+    /// section 9.1).
     pub fn short_term(
         name: impl Into<String>,
         password: impl Into<String>,
@@ -69,8 +70,8 @@ impl Credentials {
         Credentials(Kind::Short(name.into(), password, algorithm))
     }
 
-    /// Creates long-term credentials: requests are signed once the server asks for it (RFC 8489,
-    /// section 9.2).
+    /// Creates long-term credentials: requests are signed after the server has challenged the
+    /// client (RFC 8489, section 9.2).
     pub fn long_term(name: impl Into<String>, password: impl Into<String>) -> Credentials {
         Credentials(Kind::Long(LongTermCredentials::new(
             name.into(),
@@ -78,7 +79,7 @@ impl Credentials {
         )))
     }
 
-    /// The credentials as the core has them.
+    /// Converts the credentials to those of the core.
     fn core(
         self,
         preferences: Preferences,
@@ -103,13 +104,14 @@ impl Credentials {
     }
 }
 
-/// When a request is sent, and how long the client waits for its response (RFC 8489, section
-/// 6.2.1): the plan of a message, 39.5 seconds by default.
+/// The plan of a message: when it is sent, and how long the client waits for its response (RFC
+/// 8489, section 6.2.1). A plan takes 39.5 seconds by default.
 ///
-/// A message that is sent for a challenge has a plan of its own, but after its first plan a request
-/// answers no challenge ([`LateChallenge`](super::DropReason::LateChallenge)), and nothing is sent of
-/// it. So each request ends within two plans, 79 seconds by default, at the first
-/// [`poll`](super::Client::poll) from then on.
+/// A message that answers a challenge has a plan of its own. But after the plan of the first
+/// message, the client answers no more challenges of the request
+/// ([`LateChallenge`](super::DropReason::LateChallenge)), and sends none of its messages again. So
+/// each request ends at the latest at the first [`poll`](super::Client::poll) after two plans, 79
+/// seconds by default.
 ///
 /// # Examples
 ///
@@ -134,15 +136,17 @@ pub struct Retransmission {
 impl Retransmission {
     /// Returns a plan.
     ///
-    /// - `first`: the time between the first and the second transmission (RTO, at least 500 ms by RFC
-    ///   8489). The time after each further transmission is twice the one before.
-    /// - `most`: the longest of these times. `Duration::MAX` means no bound.
-    /// - `sends`: how often a message is sent in all, the first time included (Rc). 0 counts as 1.
-    /// - `last`: the time from the last transmission to the end of the request (Rm times RTO). `first`
-    ///   does not change it.
+    /// - `first`: the time between the first and the second transmission (RTO, at least 500 ms by
+    ///   RFC 8489). The time after each further transmission is twice the time before.
+    /// - `most`: an upper bound on these times. `Duration::MAX` means no bound.
+    /// - `sends`: how often a message is sent in total, the first time included (Rc). 0 counts as
+    ///   1.
+    /// - `last`: the time from the last transmission to the end of the request (Rm times RTO). It
+    ///   does not depend on `first`.
     ///
-    /// The default is 500 ms, no bound, 7 transmissions and 8 s (RFC 8489, section 6.2.1): the message
-    /// is sent after 0, 0.5, 1.5, 3.5, 7.5, 15.5 and 31.5 s, and the request ends after 39.5 s.
+    /// The default is 500 ms, no bound, 7 transmissions and 8 s (RFC 8489, section 6.2.1): the
+    /// message is sent after 0, 0.5, 1.5, 3.5, 7.5, 15.5 and 31.5 s, and the request ends after
+    /// 39.5 s.
     pub fn new(first: Duration, most: Duration, sends: u32, last: Duration) -> Retransmission {
         Retransmission {
             first,
@@ -156,10 +160,20 @@ impl Retransmission {
     pub(super) fn parts(self) -> (Duration, Duration, u32, Duration) {
         (self.first, self.most, self.sends, self.last)
     }
+
+    /// Converts the plan to that of the core.
+    pub(super) fn timeouts(self) -> RequestRto {
+        RequestRto {
+            initial: self.first,
+            max: self.most,
+            retransmits: self.sends,
+            last_retransmit: self.last,
+        }
+    }
 }
 
 impl Default for Retransmission {
-    /// 500 ms, no longest wait, 7 transmissions, and 8 s.
+    /// Returns the plan of 500 ms, no bound, 7 transmissions and 8 s.
     fn default() -> Retransmission {
         let [first, last] = [500, 8000].map(Duration::from_millis);
         Retransmission::new(first, Duration::MAX, 7, last)
@@ -185,7 +199,7 @@ impl Default for Retransmission {
 #[non_exhaustive]
 pub enum Transport {
     /// Datagrams, which may be lost: a request is sent as often as the builder's `retransmission`
-    /// says, and up to seven times unless you call that.
+    /// says, up to seven times by default.
     #[default]
     Datagram,
     /// A stream: a request is sent once, and the client waits as long as it would for datagrams
@@ -193,7 +207,7 @@ pub enum Transport {
     Stream,
 }
 
-/// Builds a [`Client`]. All calls but [`build`](Self::build) are optional.
+/// Builds a [`Client`]. All calls except [`build`](Self::build) are optional.
 ///
 /// # Examples
 ///
@@ -295,21 +309,21 @@ impl ClientBuilder {
         self
     }
 
-    /// Sets what carries the messages: datagrams, unless you call this.
+    /// Sets what carries the messages: datagrams by default.
     pub fn transport(mut self, transport: Transport) -> ClientBuilder {
         self.transport = transport;
         self
     }
 
-    /// Sets the algorithms that long-term credentials may be used with: both, unless you call this.
+    /// Sets the algorithms that long-term credentials may use. By default they may use both.
     pub fn algorithms(mut self, list: &[IntegrityAlgorithm]) -> ClientBuilder {
         self.preferences.hmac_sha1 = list.contains(&IntegrityAlgorithm::Sha1);
         self.preferences.hmac_sha256 = list.contains(&IntegrityAlgorithm::Sha256);
         self
     }
 
-    /// Sets whether a hash is sent in place of the user name: if the server allows it, unless you
-    /// call this.
+    /// Sets whether a hash is sent in place of the user name. By default the hash is sent if the
+    /// server allows hashes.
     pub fn anonymous_username(mut self, feature: Feature) -> ClientBuilder {
         self.preferences.anonymous_username = feature;
         self
@@ -321,34 +335,35 @@ impl ClientBuilder {
         self
     }
 
-    /// Sets how often another message of a request may take the place of the one that is sent: 6,
-    /// unless you call this. The next challenge ends the request with
-    /// [`RequestError::Unauthorized`](super::RequestError::Unauthorized). A restart of the server, a new
-    /// address and the end of a nonce take one each, and so do forged challenges and unsigned errors 400,
-    /// 437 and 441.
+    /// Sets how often another message of a request may take the place of the current one: 6 times
+    /// by default. After that, the next challenge ends the request with
+    /// [`RequestError::Unauthorized`](super::RequestError::Unauthorized). A restart of the server,
+    /// a new address, an expired nonce, a forged challenge, and an unsigned error 400, 437 or 441
+    /// each count as one time.
     ///
-    /// A wrong password ends a request earlier: at the second refusal with the nonce that the request
-    /// is signed for, and at the third 401 for the same realm that has another one.
+    /// A wrong password ends a request earlier: when the server refuses the request for the second
+    /// time with the nonce that the request is signed for, or sends the third 401 for the same
+    /// realm with another nonce.
     pub fn challenges(mut self, most: u32) -> ClientBuilder {
         self.challenges = most;
         self
     }
 
-    /// Sets whether unsigned responses are accepted to requests that the client sent unsigned: they
-    /// are not, unless you call this. Only long-term credentials use this: without credentials
-    /// unsigned responses are always accepted, and with short-term ones never.
+    /// Sets whether the client accepts unsigned responses to requests that it sent unsigned. By
+    /// default it does not. Only long-term credentials use this setting: without credentials
+    /// unsigned responses are always accepted, and with short-term credentials never.
     ///
     /// A request is unsigned until it is challenged, and new requests are unsigned again after a
-    /// challenged request timed out. A signed request gives way to an unsigned message for an unsigned
-    /// error 400, 437 or 441. So an attacker who can read and forge messages can then also forge the
-    /// response.
+    /// challenged request timed out. After an unsigned error 400, 437 or 441, the client may send
+    /// an unsigned message in place of a signed one. While the message of a request is unsigned, an
+    /// attacker who can read and forge messages can also forge its response.
     pub fn accept_unsigned(mut self, accepts: bool) -> ClientBuilder {
         self.accepts_unsigned = accepts;
         self
     }
 
-    /// Adds types of attributes that you understand in responses, beside all that this crate can
-    /// read.
+    /// Adds types of attributes that you understand in responses, in addition to those that this
+    /// crate can read.
     pub fn understands(mut self, types: &[AttributeType]) -> ClientBuilder {
         self.understood.extend_from_slice(types);
         self
@@ -360,16 +375,17 @@ impl ClientBuilder {
         self
     }
 
-    /// Sets whether each request has FINGERPRINT: it has none, unless you call this.
+    /// Sets whether each request has FINGERPRINT. By default it has none.
     pub fn fingerprint(mut self, has_one: bool) -> ClientBuilder {
         self.has_fingerprint = has_one;
         self
     }
 
-    /// Sets whether responses without FINGERPRINT are dropped (RFC 8489, section 7.3). Unless you call
-    /// this, a response may have none; one whose FINGERPRINT is wrong, is not the last attribute or
-    /// does not have 4 bytes is dropped always. Call it if your protocol requires FINGERPRINT, because responses of
-    /// other servers are then dropped until their requests time out.
+    /// Sets whether responses without FINGERPRINT are dropped (RFC 8489, section 7.3). Unless you
+    /// call this, a response may lack FINGERPRINT. A response whose FINGERPRINT is wrong, is not
+    /// the last attribute or does not have 4 bytes is always dropped. Call it only if your protocol
+    /// requires FINGERPRINT, because the client then drops all responses of a server that sends
+    /// none, and the requests time out.
     pub fn require_fingerprint(mut self, required: bool) -> ClientBuilder {
         self.requires_fingerprint = required;
         self
@@ -378,12 +394,12 @@ impl ClientBuilder {
     /// Builds the client.
     ///
     /// `seed` must be 32 unpredictable bytes that are used for this client alone, because the
-    /// transaction IDs are derived from it. An attacker who can guess them can forge responses to
-    /// requests that nobody signs.
+    /// transaction IDs are derived from the seed. An attacker who can guess these IDs can forge
+    /// responses to unsigned requests.
     ///
     /// # Errors
     ///
-    /// The first of these that applies:
+    /// Returns the first of these errors that applies:
     ///
     /// - [`ClientBuildError::NameTooLong`]: the user name has more than 513 bytes.
     /// - [`ClientBuildError::SoftwareTooLong`]: the text of SOFTWARE has more than 763 bytes.
@@ -398,7 +414,7 @@ impl ClientBuilder {
         if let Some(why) = settings_refusal(name, software, &self.preferences) {
             return Err(why.into());
         }
-        let timeouts = self.timeouts();
+        let timeouts = self.plan.timeouts();
         let indications = self.indications(seed);
         let credentials = self
             .credentials
@@ -421,7 +437,7 @@ impl ClientBuilder {
         ))
     }
 
-    /// Returns what each indication has.
+    /// Returns the settings with which the client writes its indications.
     fn indications(&self, seed: [u8; 32]) -> Indications {
         Indications {
             seed,
@@ -436,22 +452,6 @@ impl ClientBuilder {
             },
         }
     }
-
-    /// Returns when a request is sent again, and when it ends.
-    fn timeouts(&self) -> RequestRto {
-        let Retransmission {
-            first,
-            most,
-            sends,
-            last,
-        } = self.plan;
-        RequestRto {
-            initial: first,
-            max: most,
-            retransmits: sends,
-            last_retransmit: last,
-        }
-    }
 }
 
 impl Transport {
@@ -463,7 +463,7 @@ impl Transport {
     }
 }
 
-/// The types that must be understood (below 0x8000) and that this crate can read.
+/// Returns the types that must be understood (below 0x8000) and that this crate can read.
 fn understood() -> Vec<AttributeType> {
     let further = TYPES.iter().filter(|kind| kind.comprehension_required());
     let further = further.filter(|kind| !STUN.contains(kind));

@@ -34,8 +34,8 @@ impl Clock {
         Instant::from_std(self.0)
     }
 
-    /// Converts a time of the standard library, which you have read already, to one of this clock. A
-    /// time before the clock was started becomes [`Instant::ZERO`].
+    /// Converts a time that you have already read from the standard library's clock to a time of
+    /// this clock. A time before the clock was started becomes [`Instant::ZERO`].
     ///
     /// # Examples
     ///
@@ -51,15 +51,15 @@ impl Clock {
         Instant::ZERO + time.saturating_duration_since(self.0)
     }
 
-    /// Converts a time of this clock to one of the standard library, such as for a timer.
+    /// Converts a time of this clock to a time of the standard library, for example for a timer.
     #[must_use]
     pub fn to_std(&self, at: Instant) -> std::time::Instant {
         at.to_std(self.0)
     }
 
-    /// Returns how long it is until this time, at least a millisecond, as
-    /// [`UdpSocket::set_read_timeout`](std::net::UdpSocket::set_read_timeout) needs it. Without a
-    /// time it returns `None`, which means to wait without limit.
+    /// Returns the duration until this time, but at least a millisecond, as
+    /// [`UdpSocket::set_read_timeout`](std::net::UdpSocket::set_read_timeout) requires. If `until`
+    /// is `None`, the result is `None`, which means to wait without limit.
     #[must_use]
     pub fn timeout(&self, until: Option<Instant>) -> Option<Duration> {
         let left = until?.saturating_duration_since(self.now());

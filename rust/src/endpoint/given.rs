@@ -1,12 +1,13 @@
-//! What a table of users was given, by name: the core returns neither names nor keys.
+//! The secrets with which users were added to a table, by name, because the core returns neither
+//! names nor keys.
 
 use crate::copies::granted;
 use crate::kit::alloc::{AllocError, Global};
 use crate::kit::collections::BTreeMap;
 use crate::kit::prelude::String as KitString;
 
-/// The secret of each user, in the order of the names. It has the names that the core has, if each
-/// call that changes one goes through [`add`](Self::add) and [`remove`](Self::remove).
+/// The secret of each user, in the order of the names. The names are the same as in the core, as
+/// long as each change of a user goes through [`add`](Self::add) and [`remove`](Self::remove).
 pub(super) struct Given<S>(BTreeMap<KitString, S>);
 
 impl<S> Given<S> {
@@ -50,7 +51,7 @@ impl<S> Given<S> {
         added
     }
 
-    /// Removes a user, and returns whether there was one of that name.
+    /// Removes a user, and returns whether there was a user of that name.
     pub(super) fn remove(&mut self, name: &str) -> bool {
         self.0.remove(name).is_some()
     }

@@ -2,10 +2,10 @@
 //! 7.3).
 //!
 //! A [`Checker`] has the credentials of one agent, those of its peer once they are known, the
-//! tie-breaker and the role. It writes checks, judges those of the peer and writes their answers,
-//! and judges the answers to its own. [`Checks`] is a `Checker` with the timers of its checks.
-//! Candidates, pairs, their order and pacing are yours. For them there are [`priority`],
-//! [`pair_priority`], [`Candidate`] with its line in SDP, and [`Consent`].
+//! tie-breaker and the role. It writes checks, judges and answers the checks of the peer, and
+//! judges the answers to its own checks. [`Checks`] is a `Checker` with the timers of its checks.
+//! Candidates, pairs, their order and pacing are up to you; [`priority`], [`pair_priority`],
+//! [`Candidate`] with its line in SDP, and [`Consent`] help you with them.
 //!
 //! `docs/ICE.md` of the repository is a guide to writing an agent, step by step, with restarts and
 //! consent. The example `ice_agent` of this crate (`examples/ice_agent`) is a whole agent for one
@@ -13,7 +13,7 @@
 //!
 //! # Examples
 //!
-//! Two agents, a check of one at the other, and its answer:
+//! Two agents, of which one sends a check and the other answers it:
 //!
 //! ```
 //! use seatcrane_stun::endpoint::ice::{Checker, Judged, Outcome, Received, Role};
@@ -51,10 +51,11 @@
 //!
 //! # Checks that arrive before the answer
 //!
-//! The agent that makes an offer often receives checks before the answer to the offer, because they
-//! take a shorter way. It has to answer them at once (RFC 8445, section 7.3), and can: an answer
-//! depends on its own credentials alone. [`Checker::offer`] creates such an agent, and
-//! [`Checker::set_remote`] gives it the credentials of the peer when the answer has arrived:
+//! The agent that makes an offer often receives checks before the answer to the offer, because the
+//! checks travel directly, and the answer does not. It has to answer them at once (RFC 8445,
+//! section 7.3), and it can do so, because an answer depends only on its own credentials.
+//! [`Checker::offer`] creates such an agent, and [`Checker::set_remote`] gives it the credentials
+//! of the peer when the answer has arrived:
 //!
 //! ```
 //! use seatcrane_stun::endpoint::ice::{
@@ -90,17 +91,18 @@
 //! # Restarts
 //!
 //! A restart is a new session with new credentials (RFC 8445, section 9): create a new `Checker`,
-//! and keep the old one until a pair of the new session is selected. Both receive on the same
-//! sockets. A check belongs to the one whose name begins its USERNAME, and the other would answer
-//! it 401: pass a datagram to the new `Checker` first, and to the old one if it returns
-//! [`Judged::Refused`]`(`[`Refusal::Unauthenticated`]`)`. Send only the answer of the old one then. A
-//! response belongs to the `Checker` that wrote the check: with [`Checks`], to the one that does not
-//! drop it as [`DropReason::NotAsked`]. Roles and the tie-breaker stay: begin
-//! the new one with [`Checker::role`] and [`Checker::tie_breaker`] of the old.
+//! and use the old one until a pair of the new session is selected. Both receive on the same
+//! sockets. A check belongs to the `Checker` whose username fragment begins the USERNAME, and the
+//! other `Checker` would answer it with a 401. So pass a datagram to the new `Checker` first, and
+//! to the old one if the new one returns [`Judged::Refused`]`(`[`Refusal::Unauthenticated`]`)`;
+//! then send only the answer of the old one. A response belongs to the `Checker` that wrote the
+//! check. If you use [`Checks`], it belongs to the `Checks` that does not drop it as
+//! [`DropReason::NotAsked`]. The role and the tie-breaker stay the same: create the new `Checker`
+//! with [`Checker::role`] and [`Checker::tie_breaker`] of the old one.
 //!
 //! # In a program
 //!
-//! [`Checks`] sends each check again until it ends, and ends each exactly once:
+//! [`Checks`] sends each check again until it ends, and reports exactly once how it ended:
 //!
 //! ```no_run
 //! use seatcrane_stun::Instant;
@@ -151,9 +153,10 @@
 //! }
 //! ```
 //!
-//! A program with timers of its own uses a `Checker`: it stores each check with its pair, sends it
-//! again until it ends, and passes each datagram to [`Checker::receive`] with the stored check that
-//! has its transaction ID, if that check was sent from the address that the datagram arrived at.
+//! A program with timers of its own uses a `Checker`. It stores each check with its pair, and sends
+//! it again until it ends. It passes each datagram to [`Checker::receive`], together with the
+//! stored check that has the transaction ID of the datagram, if that check was sent from the
+//! address that the datagram arrived at.
 
 use super::server::lent;
 use crate::copies::copy;
@@ -183,13 +186,12 @@ pub use candidate::{Candidate, CandidateError, CandidateKind, pair_priority, pri
 pub use checks::{Checks, ChecksInput, ChecksOutput, EndedCheck, NewCheck, NewCheckError};
 pub use consent::{Consent, ConsentStep};
 
-/// USE-CANDIDATE, ICE-CONTROLLED and ICE-CONTROLLING, by which a check says what the agent is asked
-/// to say.
+/// USE-CANDIDATE, ICE-CONTROLLED and ICE-CONTROLLING, which the agent itself writes into a check.
 const OWN: [AttributeType; 3] =
     [AttributeType(0x0025), AttributeType(0x8029), AttributeType(0x802a)];
 
-/// The username fragment and the password of one side (RFC 8445, section 5.3). It is also made of a
-/// pair of them, in this order.
+/// The username fragment and the password of one side (RFC 8445, section 5.3). A tuple of the
+/// fragment and the password, in this order, converts into it.
 ///
 /// # Examples
 ///
@@ -220,7 +222,7 @@ impl<'a> IceCredentials<'a> {
     }
 }
 
-/// It shows the fragment, and not the password.
+/// Shows the fragment, and not the password.
 impl fmt::Debug for IceCredentials<'_> {
     fn fmt(&self, f: &mut fmt::Formatter<'_>) -> fmt::Result {
         let mut shown = f.debug_struct("IceCredentials");
@@ -242,7 +244,7 @@ impl<'a> From<(&'a str, &'a str)> for IceCredentials<'a> {
 /// The [module](self) has an example.
 pub struct Checker(checker::Checker<Global>);
 
-/// It shows the role, and no password.
+/// Shows the role, and no password.
 impl fmt::Debug for Checker {
     fn fmt(&self, f: &mut fmt::Formatter<'_>) -> fmt::Result {
         let mut shown = f.debug_struct("Checker");
@@ -252,12 +254,12 @@ impl fmt::Debug for Checker {
 
 impl Checker {
     /// Creates an agent. `local` and `remote` are the username fragment and the password of each
-    /// side, the tie-breaker is a random number, and `role` is the one to begin with. If the
-    /// credentials of the peer are not known yet, use [`offer`](Self::offer).
+    /// side, `tie_breaker` is a random number, and `role` is the role in which the agent begins. If
+    /// the credentials of the peer are not known yet, use [`offer`](Self::offer).
     ///
     /// # Errors
     ///
-    /// The first of these that applies:
+    /// Returns the first of these errors that applies:
     ///
     /// - [`BuildError::NameLength`]: a username fragment has fewer than 4 or more than 256 bytes.
     /// - [`BuildError::ColonInName`]: a username fragment has a colon.
@@ -279,7 +281,7 @@ impl Checker {
     ///
     /// # Errors
     ///
-    /// The first of these that applies:
+    /// Returns the first of these errors that applies:
     ///
     /// - [`BuildError::NameLength`]: the username fragment has fewer than 4 or more than 256 bytes.
     /// - [`BuildError::ColonInName`]: the username fragment has a colon.
@@ -294,11 +296,12 @@ impl Checker {
     }
 
     /// Sets the credentials of the peer, in place of those that were set before. Answers to checks
-    /// that were written with those are then dropped: cancel such checks if they are outstanding.
+    /// that were written with the earlier credentials are then dropped: cancel these checks if they
+    /// are outstanding.
     ///
     /// # Errors
     ///
-    /// The first of these that applies. The agent is then unchanged.
+    /// Returns the first of these errors that applies. The agent is then unchanged.
     ///
     /// - [`BuildError::NameLength`]: the username fragment has fewer than 4 or more than 256 bytes.
     /// - [`BuildError::ColonInName`]: the username fragment has a colon.
@@ -324,11 +327,11 @@ impl Checker {
         self.0.role()
     }
 
-    /// Sets the role. For an agent that learns from the answer to its offer that its peer is lite,
-    /// and so has to control (RFC 8445, section 6.1.1), and for one that cannot send the answer with
-    /// which it has switched its role, and so takes the switch back. A conflict needs no call: the
-    /// agent switches by itself. A check that is outstanding still says the role in which it was
-    /// written.
+    /// Sets the role. Call it if the answer to an offer says that the peer is lite, because this
+    /// agent then must have the controlling role (RFC 8445, section 6.1.1). Call it also to undo a
+    /// switch of roles, if you cannot send the answer to the check that made the agent switch. Do
+    /// not call it for a role conflict, because the agent switches by itself. An outstanding check
+    /// still states the role in which it was written.
     pub fn set_role(&mut self, role: Role) {
         self.0.set_role(role);
     }
@@ -339,23 +342,23 @@ impl Checker {
         self.0.tie_breaker()
     }
 
-    /// Sets another tie-breaker. After [`Outcome::RoleConflict`] an agent must have a new random
-    /// one before its next check (RFC 8445, section 16.1).
+    /// Replaces the tie-breaker. After [`Outcome::RoleConflict`] an agent must have a new random
+    /// tie-breaker before its next check (RFC 8445, section 16.1).
     pub fn set_tie_breaker(&mut self, tie_breaker: u64) {
         self.0.set_tie_breaker(tie_breaker);
     }
 
-    /// Writes a check to an address, which you send, and send again until its answer arrives (RFC
+    /// Writes a check. Send it to the address `to`, and send it again until its answer arrives (RFC
     /// 8445, section 7.2.4).
     ///
-    /// The transaction ID must be random and new. `priority` is the one that a peer-reflexive
-    /// candidate would have that the peer learns from this check (section 7.1.1). The check
-    /// nominates its pair if `nominate` is true and this agent controls.
+    /// The transaction ID must be random and new. If the peer learns a new peer-reflexive candidate
+    /// from this check, the candidate has the priority `priority` (section 7.1.1). The check
+    /// nominates its pair if `nominate` is true and this agent has the controlling role.
     ///
     /// # Errors
     ///
-    /// - [`CheckError::NoRemote`]: the credentials of the peer, which sign a check, are not known
-    ///   yet. Call [`set_remote`](Self::set_remote) when the answer arrives.
+    /// - [`CheckError::NoRemote`]: the credentials of the peer, with which a check is signed, are
+    ///   not known yet. Call [`set_remote`](Self::set_remote) when the answer arrives.
     /// - [`CheckError::OutOfMemory`]: an allocation failed.
     pub fn check(
         &self,
@@ -369,18 +372,18 @@ impl Checker {
         Ok(check)
     }
 
-    /// Writes a check like [`check`](Self::check), with further attributes before its signature. The
-    /// peer refuses the check with a 420 if it does not know the type of one that is below 0x8000.
+    /// Writes a check like [`check`](Self::check), with further attributes before its signature.
+    /// The peer refuses the check with a 420 if it does not know a type below 0x8000.
     ///
     /// # Errors
     ///
-    /// The first of these that applies:
+    /// Returns the first of these errors that applies:
     ///
     /// - [`NewCheckError::NoRemote`]: the credentials of the peer are not known yet.
-    /// - [`NewCheckError::Attribute`]: one of the attributes cannot be added. It has a type that the
-    ///   check has already; it is USE-CANDIDATE, ICE-CONTROLLED or ICE-CONTROLLING, which say what the
-    ///   agent is asked to say; it signs the check, or is FINGERPRINT; or the check does not fit into a
-    ///   message.
+    /// - [`NewCheckError::Attribute`]: one of the attributes cannot be added, because the check has
+    ///   an attribute of this type already, or would not fit into a message. Integrity attributes
+    ///   and FINGERPRINT cannot be added either, nor can USE-CANDIDATE, ICE-CONTROLLED and
+    ///   ICE-CONTROLLING, which the arguments and the role of the agent decide.
     /// - [`NewCheckError::OutOfMemory`]: an allocation failed.
     ///
     /// # Examples
@@ -427,7 +430,7 @@ impl Checker {
 
     /// Writes a Binding indication with FINGERPRINT, which keeps the path of a selected pair open
     /// (RFC 8445, section 11). It is not signed, and the peer does not answer it. An agent that
-    /// asks for [`Consent`] needs none, because its checks keep the path open.
+    /// asks for [`Consent`] needs no keepalive, because its checks keep the path open.
     ///
     /// # Examples
     ///
@@ -443,29 +446,29 @@ impl Checker {
     #[must_use]
     pub fn keepalive(id: TransactionId) -> Vec<u8> {
         let page = Message::builder_indication_with_id(BINDING, id, MessageWriteVec::new());
-        // It fits: a header and one attribute.
+        // The message fits, because it has only a header and one attribute.
         finish_with_fingerprint(page).unwrap_or_default()
     }
 
     /// Judges a datagram, and writes the answer if it is a check.
     ///
-    /// `from` is the address that it came from, and `check` is the check of this agent whose
-    /// transaction ID the datagram has, if it has one of those that you have stored. An IPv4
-    /// address is the same in both spellings, `a.b.c.d` and `::ffff:a.b.c.d`.
+    /// `from` is the address that the datagram came from. `check` is the stored check that has the
+    /// transaction ID of the datagram, or `None` if you have no such check. The two forms of an
+    /// IPv4 address, `a.b.c.d` and `::ffff:a.b.c.d`, count as the same address.
     ///
     /// - Bytes that are not a message, messages without a valid FINGERPRINT, and methods other than
     ///   Binding are dropped.
     /// - A check is accepted if its USERNAME begins with the name of this agent and a colon, and it
-    ///   is signed with the password of this agent. It must have no attribute that must be
-    ///   understood and is not, and it must have PRIORITY. If it says that the peer has the role of
-    ///   this agent, the agent with the larger tie-breaker becomes controlling, and this one if
-    ///   they are equal (RFC 8445, section 7.3.1.1): either this agent switches its role, or its
-    ///   answer is a 487. The answer is the same whether or not the credentials of the peer are
-    ///   known.
+    ///   is signed with the password of this agent. It must have PRIORITY, and no attribute that
+    ///   must be understood but is not. If it states that the peer has the same role as this agent,
+    ///   the agent with the larger tie-breaker gets the controlling role (RFC 8445, section
+    ///   7.3.1.1). If the tie-breakers are equal, this agent gets it. For this, either this agent
+    ///   switches its role, or its answer is a 487. The answer is the same whether or not the
+    ///   credentials of the peer are known.
     /// - A response is dropped if it does not answer `check`, or is not signed by the peer.
-    ///   Otherwise it ends the check. After a 487 this agent has the other role than the one that
-    ///   the check was sent in (section 7.2.5.1).
-    /// - An indication with an attribute that must be understood and is not is dropped.
+    ///   Otherwise it ends the check. After a 487 this agent has the opposite of the role in which
+    ///   the check was sent (section 7.2.5.1).
+    /// - An indication is dropped if it has an attribute that must be understood but is not.
     pub fn receive<'a>(
         &mut self,
         bytes: &'a [u8],
@@ -481,8 +484,9 @@ impl Checker {
     }
 
     /// Judges a datagram like [`receive`](Self::receive), and writes the answer to a check into a
-    /// buffer that you keep between datagrams, in place of what it has. The buffer is empty
-    /// afterwards if there is no answer. A check is then judged and answered without an allocation.
+    /// buffer that you keep between datagrams, replacing its contents. The buffer is empty
+    /// afterwards if there is no answer. Once the buffer is large enough, a check is judged and
+    /// answered without an allocation.
     ///
     /// # Examples
     ///
@@ -519,7 +523,7 @@ impl Checker {
         received
     }
 
-    /// What the core returns, with the bytes of the answer.
+    /// Converts an outcome of the core to the type of this module, with the bytes of the answer.
     fn of_core<'a, B>(
         &self,
         received: Result<received::ReceivedInto<'a>, AllocError>,
@@ -542,8 +546,8 @@ impl Checker {
     }
 }
 
-/// A check: the bytes to send, and what is needed to judge the answer. Store it until its answer
-/// arrives or it times out. [`Checker::check`] makes it.
+/// A check: the bytes to send, and the values that are needed to judge the answer. Store it until
+/// its answer arrives or it times out. [`Checker::check`] makes it.
 ///
 /// # Examples
 ///
@@ -563,7 +567,7 @@ impl Checker {
 ///     checks.insert(check.id(), check);
 /// }
 /// ```
-#[must_use = "a check is to be sent, and stored until its answer arrives"]
+#[must_use = "send the check, and store it until its answer arrives"]
 pub struct Check(check::Check<Global>);
 
 impl Clone for Check {
@@ -596,7 +600,7 @@ impl Check {
         self.0.to()
     }
 
-    /// Returns the role that the check says its sender has.
+    /// Returns the role that the check states for its sender.
     #[must_use]
     pub fn role(&self) -> Role {
         self.0.role()
@@ -646,13 +650,13 @@ pub enum Received<'a, B = Vec<u8>> {
     Check {
         /// The check, for its other attributes.
         message: Message<'a>,
-        /// The username fragment of the peer: what follows that of this agent and a colon in
-        /// USERNAME. Each check that is accepted has one. If one offer has several answers, it says
-        /// which of them the check belongs to.
+        /// The username fragment of the peer. In USERNAME it comes after the fragment of this agent
+        /// and a colon. Each accepted check has one. If an offer has several answers, this fragment
+        /// says to which of the answers the check belongs.
         fragment: Option<&'a [u8]>,
         /// The bytes to send.
         answer: B,
-        /// What the check comes to.
+        /// The outcome of the check.
         judged: Judged,
     },
     /// The answer to a check of yours, which ends it.
@@ -660,7 +664,8 @@ pub enum Received<'a, B = Vec<u8>> {
     /// A Binding indication, as peers send to keep a path open (RFC 8445, section 11). It is not
     /// signed, and needs no answer.
     Indication(Message<'a>),
-    /// The datagram is dropped, for this reason. A check of yours that it may belong to goes on.
+    /// The datagram is dropped, for this reason. If it belongs to a check of yours, that check
+    /// continues.
     Dropped(DropReason),
 }
 
@@ -686,14 +691,16 @@ pub enum Received<'a, B = Vec<u8>> {
 pub enum Outcome {
     /// The check succeeded, and the pair is valid.
     Valid {
-        /// The address that the peer saw the check come from. If it is none of your candidates, it
-        /// is a new peer-reflexive one (RFC 8445, section 7.2.5.3.1).
+        /// The address from which the peer saw the check arrive. If it is not one of your
+        /// candidates, it is a new peer-reflexive candidate (RFC 8445, section 7.2.5.3.1).
         mapped: SocketAddr,
     },
-    /// The peer has the role that the check was sent in, and does not switch. This agent has the
-    /// other role now. Set a new tie-breaker, and send a new check (RFC 8445, section 7.2.5.1).
+    /// The peer has the role in which this agent sent the check, and does not switch. This agent
+    /// now has the opposite role. Set a new tie-breaker, and send a new check (RFC 8445, section
+    /// 7.2.5.1).
     RoleConflict {
-        /// Whether this agent has switched its role because of the answer, and not before.
+        /// Whether this agent has switched its role because of this answer. If not, it already had
+        /// the opposite role.
         switched: bool,
     },
     /// The check failed.
@@ -712,7 +719,7 @@ impl From<received::Outcome> for Outcome {
     }
 }
 
-/// Says how the check ended, for a log.
+/// Writes the outcome of the check, for a log.
 impl fmt::Display for Outcome {
     fn fmt(&self, f: &mut fmt::Formatter<'_>) -> fmt::Result {
         match self {
@@ -723,7 +730,7 @@ impl fmt::Display for Outcome {
     }
 }
 
-/// The code of the answer and its reason phrase, as `401 Unauthenticated`.
+/// Writes the code of the answer and its reason phrase, such as `401 Unauthenticated`.
 impl fmt::Display for Refusal {
     fn fmt(&self, f: &mut fmt::Formatter<'_>) -> fmt::Result {
         let phrase = match self {
@@ -735,7 +742,7 @@ impl fmt::Display for Refusal {
     }
 }
 
-/// Says what the check came to, for a log.
+/// Writes the outcome of the check, for a log.
 impl fmt::Display for Judged {
     fn fmt(&self, f: &mut fmt::Formatter<'_>) -> fmt::Result {
         match self {
@@ -771,10 +778,10 @@ impl fmt::Display for Judged {
 pub enum Failure {
     /// The answer is an error with this code.
     Error(u16),
-    /// The answer did not come from the address that the check was sent to, or, with [`Checks`], did
-    /// not arrive at the address that it was sent from (RFC 8445, section 7.2.5.2.1).
+    /// The answer did not come from the address that the check was sent to, or, with [`Checks`],
+    /// did not arrive at the address that the check was sent from (RFC 8445, section 7.2.5.2.1).
     OtherPath,
-    /// The answer has an attribute of this type, which must be understood and is not.
+    /// The answer has an attribute of this type, which must be understood but is not.
     NotUnderstood(AttributeType),
     /// The answer has no well-formed XOR-MAPPED-ADDRESS, or no well-formed ERROR-CODE if it is an
     /// error.
@@ -823,37 +830,40 @@ impl fmt::Display for Failure {
 #[derive(Clone, Copy, Debug, PartialEq, Eq, Hash)]
 #[non_exhaustive]
 pub enum DropReason {
-    /// It does not begin with the header of a STUN message.
+    /// The datagram does not begin with the header of a STUN message.
     NotStun,
-    /// Its length or its attributes are not what its header says.
+    /// The datagram begins with the header of a STUN message, but does not have the length that the
+    /// header states, or its attributes do not fill that length exactly.
     Malformed,
-    /// It has no FINGERPRINT, or a wrong one: it is damaged, or belongs to another protocol.
+    /// The datagram has no FINGERPRINT, or a wrong one, so it is damaged or belongs to another
+    /// protocol.
     WrongFingerprint,
-    /// It has another method than Binding.
+    /// The method of the message is not Binding.
     OtherMethod,
-    /// It is an indication with an attribute that must be understood and is not.
+    /// The datagram is an indication with an attribute that must be understood but is not.
     UnknownAttribute,
-    /// It is a response, and not to the check that was passed, or to no check of these [`Checks`].
+    /// The datagram is a response, but does not answer the check that was passed or, with
+    /// [`Checks`], any outstanding check.
     NotAsked,
-    /// It is a response whose signature is missing or invalid, or arrives before the credentials of
-    /// the peer are known. A refusal by 400 or 401 is not signed, so such a check ends by its
-    /// timeout.
+    /// The datagram is a response whose signature is missing or invalid, or a response that arrives
+    /// before the credentials of the peer are known. A 400 or 401 is not signed, so a check that
+    /// the peer refuses with one of these times out.
     WrongSignature,
-    /// An allocation failed. Whoever sent the check sends it again.
+    /// An allocation failed. The peer sends its check again.
     OutOfMemory,
 }
 
 impl DropReason {
-    /// How many reasons there are.
+    /// The number of reasons.
     pub const COUNT: usize = 8;
 
-    /// Returns a number below [`COUNT`](Self::COUNT), for counters of yours.
+    /// Returns an index below [`COUNT`](Self::COUNT), for an array of counters.
     #[must_use]
     pub fn index(self) -> usize {
         self as usize
     }
 
-    /// Returns the name of the reason, as in the source.
+    /// Returns the name of this variant, such as `Malformed`.
     #[must_use]
     pub fn name(self) -> &'static str {
         match self {

@@ -15,11 +15,11 @@ use crate::transaction::TransactionId;
 use alloc::string::String;
 use alloc::vec::Vec;
 
-/// What the IDs of indications are derived from beside the seed and their number. Those of requests
-/// are derived by HMAC-SHA1.
+/// The transaction ID of an indication is derived from this text, the seed and the number of the
+/// indication. The IDs of requests are derived with HMAC-SHA1 instead.
 const LABEL: &[u8] = b"indication";
 
-/// What each indication has beside its body, and which of them is the next.
+/// The settings with which a client writes its indications, and the number of the next indication.
 pub(super) struct Indications {
     pub seed: [u8; 32],
     pub next: u64,
@@ -59,7 +59,7 @@ impl Indications {
         }
     }
 
-    /// Returns the ID of the next indication.
+    /// Returns the transaction ID of the next indication.
     fn next_id(&mut self) -> TransactionId {
         let digest = hmac_sha256(&self.seed, &[LABEL, &self.next.to_be_bytes()]);
         self.next = self.next.wrapping_add(1);

@@ -1,4 +1,4 @@
-//! Servers without a realm: one without credentials, and one with short-term credentials.
+//! Servers without a realm: a server without credentials, and a server with short-term credentials.
 
 use super::given::{Given, text_of};
 use super::server::{Request, answer_of, is_of_other_method, lent, request_of, shared};
@@ -19,8 +19,9 @@ use alloc::vec::Vec;
 use core::fmt;
 use core::net::SocketAddr;
 
-/// What a server understands, and what it adds to its responses: no further attributes, no SOFTWARE,
-/// requests with any method, and Binding requests for you, unless you change them.
+/// The settings of a server without a realm. By default the server understands only the attributes
+/// of STUN, adds no SOFTWARE, accepts requests with any method, and returns Binding requests to
+/// you.
 ///
 /// # Examples
 ///
@@ -42,22 +43,22 @@ pub struct ResponseSettings {
 }
 
 impl ResponseSettings {
-    /// Returns the settings.
+    /// Returns the default settings.
     pub fn new() -> ResponseSettings {
         ResponseSettings::default()
     }
 
-    /// Adds types of attributes that you understand, beside those of STUN. [`types`](super::types)
-    /// has lists.
+    /// Adds types of attributes that you understand, in addition to those of STUN.
+    /// [`types`](super::types) has lists.
     pub fn understands(mut self, types: &[AttributeType]) -> ResponseSettings {
         let further = types.iter().filter(|kind| !STUN.contains(kind));
         self.understood.extend(further);
         self
     }
 
-    /// Removes types from those that you understand: a request with one of them gets a 420. Call it
-    /// after [`understands`](Self::understands), to leave a type out of a list of
-    /// [`types`](super::types). The types of STUN itself are always understood.
+    /// Removes types from those that you understand, so that a request with an attribute of one of
+    /// these types gets a 420. Call it after [`understands`](Self::understands), to leave a type
+    /// out of a list of [`types`](super::types). The types of STUN itself are always understood.
     pub fn does_not_understand(mut self, types: &[AttributeType]) -> ResponseSettings {
         self.understood.retain(|kind| !types.contains(kind));
         self
@@ -69,24 +70,24 @@ impl ResponseSettings {
         self
     }
 
-    /// Sets whether the server responds to each accepted Binding request by itself: it does not,
-    /// unless you call this.
+    /// Sets whether the server itself responds to each accepted Binding request. By default it does
+    /// not.
     pub fn answer_binding(mut self, answers: bool) -> ResponseSettings {
         self.answers_binding = answers;
         self
     }
 
     /// Sets whether messages without FINGERPRINT are dropped (RFC 8489, section 7.3), as a protocol
-    /// may require. Unless you call this, a message may have none; one whose FINGERPRINT is wrong, is
-    /// not the last attribute or does not have 4 bytes is dropped always.
+    /// may require. Unless you call this, a message may lack FINGERPRINT. A message whose
+    /// FINGERPRINT is wrong, is not the last attribute or does not have 4 bytes is always dropped.
     pub fn require_fingerprint(mut self, required: bool) -> ResponseSettings {
         self.requires_fingerprint = required;
         self
     }
 
-    /// Sets the methods that you serve: requests and indications with any other are dropped, before
-    /// anything else of them is judged (RFC 8489, section 6.3). Unless you call this, a server takes
-    /// all methods, and you refuse by hand those that you do not have. Name
+    /// Sets the methods that you serve: requests and indications with any other method are dropped
+    /// before they are judged any further (RFC 8489, section 6.3). Unless you call this, a server
+    /// accepts all methods, and you have to refuse those that you do not serve. Name
     /// [`BINDING`](crate::types::message::BINDING) too if you serve it.
     ///
     /// # Examples
@@ -111,7 +112,7 @@ impl ResponseSettings {
         self
     }
 
-    /// The settings as the core has them.
+    /// Converts the settings to those of the core.
     pub(super) fn core(self) -> Result<responder::ResponseSettings<Global>, BuildError> {
         let mut understood = KitVec::new(Global);
         understood
@@ -126,12 +127,13 @@ impl ResponseSettings {
     }
 }
 
-/// A STUN server without credentials: it answers everybody, and signs nothing. It stores nothing
-/// about its clients, so a flood of datagrams uses no memory, and threads share it without a lock.
+/// A STUN server without credentials, which answers everybody and signs nothing. It stores nothing
+/// about its clients, so a flood of datagrams uses no memory, and threads can share it without a
+/// lock.
 ///
 /// # Examples
 ///
-/// A server that tells everybody the address that it sees:
+/// A server that answers everybody with the address that it sees:
 ///
 /// ```no_run
 /// use seatcrane_stun::endpoint::{OpenReceived, OpenServer, ResponseSettings};
@@ -170,7 +172,7 @@ impl OpenServer {
     ///
     /// # Errors
     ///
-    /// The first of these that applies:
+    /// Returns the first of these errors that applies:
     ///
     /// - [`BuildError::SoftwareTooLong`]: the text of SOFTWARE has more than 763 bytes.
     /// - [`BuildError::OutOfMemory`]: an allocation failed.
@@ -180,17 +182,19 @@ impl OpenServer {
         Ok(OpenServer { core, methods })
     }
 
-    /// Judges a datagram, and writes the response if it gets one at once.
+    /// Judges a datagram, and writes the response if the server itself responds.
     ///
-    /// `from` is the address that it came from. An IPv4 address is the same in both spellings,
-    /// `a.b.c.d` and `::ffff:a.b.c.d`.
+    /// `from` is the address that the datagram came from. The two forms of an IPv4 address,
+    /// `a.b.c.d` and `::ffff:a.b.c.d`, count as the same address.
     ///
-    /// - Bytes that are not a message, messages with a wrong FINGERPRINT, and requests and indications
-    ///   with a method that you do not serve ([`methods`](ResponseSettings::methods)) are dropped.
-    /// - A request gets a 420 if it has an attribute that is not understood, and the answer to
-    ///   Binding if the server is to give it. All others are for you. Signatures are not looked at.
+    /// - Bytes that are not a message, messages with a wrong FINGERPRINT, and requests and
+    ///   indications with a method that you do not serve ([`methods`](ResponseSettings::methods))
+    ///   are dropped.
+    /// - A request gets a 420 if it has an attribute that is not understood, and a success if it is
+    ///   a Binding request and you called `answer_binding`. All other requests are returned to you.
+    ///   Signatures are not checked.
     /// - An indication with an attribute that is not understood is dropped. Other indications, and
-    ///   responses, are for you.
+    ///   responses, are returned to you.
     pub fn receive<'a>(&self, bytes: &'a [u8], from: SocketAddr) -> OpenReceived<'a> {
         let mut buffer = KitVec::new(Global);
         let received = self.judged(bytes, from, &mut buffer);
@@ -199,7 +203,7 @@ impl OpenServer {
         received
     }
 
-    /// What a datagram comes to, with the bytes of a response in the buffer.
+    /// Judges a datagram, and writes a response into the buffer.
     fn judged<'a>(
         &self,
         bytes: &'a [u8],
@@ -213,9 +217,10 @@ impl OpenServer {
         Ok(self.core.receive_into(bytes, from, buffer)?)
     }
 
-    /// Judges a datagram like [`receive`](Self::receive), and writes the response into a buffer that
-    /// you keep between datagrams, in place of what it has. The buffer is empty afterwards if there
-    /// is no response. A Binding request is then answered without an allocation.
+    /// Judges a datagram like [`receive`](Self::receive), and writes the response into a buffer
+    /// that you keep between datagrams, replacing its contents. The buffer is empty afterwards if
+    /// there is no response. Once the buffer is large enough, a Binding request is answered without
+    /// an allocation.
     ///
     /// # Examples
     ///
@@ -247,7 +252,7 @@ impl OpenServer {
     }
 }
 
-/// What the core returns, with the bytes of the response.
+/// Converts an outcome of the core to the type of this module, with the bytes of the response.
 fn open_of_core<B>(
     received: Result<buffered::OpenReceivedInto<'_, Global>, DropReason>,
     bytes: B,
@@ -273,8 +278,8 @@ fn open_of_core<B>(
     }
 }
 
-/// What a datagram comes to at an [`OpenServer`]. The bytes of a response are a `Vec`, or a slice of
-/// the buffer that was passed to [`receive_into`](OpenServer::receive_into).
+/// The outcome of a datagram at an [`OpenServer`]. The bytes of a response are a `Vec`, or a slice
+/// of the buffer that was passed to [`receive_into`](OpenServer::receive_into).
 ///
 /// # Examples
 ///
@@ -339,15 +344,15 @@ impl<'a> OpenRequest<'a> {
         self.message.method()
     }
 
-    /// Returns the address that the request came from, an IPv4 address as IPv4 in either spelling,
-    /// `a.b.c.d` and `::ffff:a.b.c.d`. The response goes to [`Reply::to`], which is the address that
-    /// you passed to `receive`: a socket of IPv6 needs it in that spelling.
+    /// Returns the address that the request came from. An IPv4 address is returned as `a.b.c.d`,
+    /// even if it came as `::ffff:a.b.c.d`. Send the response to [`Reply::to`], which has the form
+    /// that you passed to `receive`, because an IPv6 socket needs `::ffff:a.b.c.d`.
     #[must_use]
     pub fn from(&self) -> SocketAddr {
         canonical(self.reply.to())
     }
 
-    /// Returns the means to respond, without a signature. Clone it to respond later.
+    /// Returns the [`Reply`] to the request. The reply is not signed. Clone it to respond later.
     #[must_use]
     pub fn reply(&self) -> &Reply {
         &self.reply
@@ -355,8 +360,9 @@ impl<'a> OpenRequest<'a> {
 }
 
 /// A STUN server with short-term credentials (RFC 8489, section 9.1): each request and each
-/// indication has the name of a user and is signed with the user's password. It stores nothing about
-/// its clients, so a flood of datagrams uses no memory, and threads share it without a lock.
+/// indication has the name of a user and is signed with the user's password. It stores nothing
+/// about its clients, so a flood of datagrams uses no memory, and threads can share it without a
+/// lock.
 ///
 /// # Examples
 ///
@@ -407,7 +413,7 @@ impl ShortTermServer {
     ///
     /// # Errors
     ///
-    /// The first of these that applies:
+    /// Returns the first of these errors that applies:
     ///
     /// - [`BuildError::SoftwareTooLong`]: the text of SOFTWARE has more than 763 bytes.
     /// - [`BuildError::OutOfMemory`]: an allocation failed.
@@ -417,22 +423,27 @@ impl ShortTermServer {
         Ok(ShortTermServer { core, methods })
     }
 
-    /// Judges a datagram, and writes the response if it gets one at once.
+    /// Judges a datagram, and writes the response if the server itself responds.
     ///
-    /// `from` is the address that it came from. An IPv4 address is the same in both spellings,
-    /// `a.b.c.d` and `::ffff:a.b.c.d`.
+    /// `from` is the address that the datagram came from. The two forms of an IPv4 address,
+    /// `a.b.c.d` and `::ffff:a.b.c.d`, count as the same address.
     ///
-    /// - Bytes that are not a message, messages with a wrong FINGERPRINT, and requests and indications
-    ///   with a method that you do not serve ([`methods`](ResponseSettings::methods)) are dropped.
-    /// - A request gets a 400 if it has no MESSAGE-INTEGRITY and no MESSAGE-INTEGRITY-SHA256, or no
-    ///   USERNAME before it; a 401 if USERNAME is not the name of one of `users`, or the signature
-    ///   is not made with the user's password; a 420, which is signed, if it has an attribute that
-    ///   is not understood; and the answer to Binding, if the server is to give it. All others are
-    ///   for you. A 400 and a 401 are not signed (RFC 8489, section 9.1.3). Other responses have the
-    ///   integrity attribute that the request has.
-    /// - An indication is dropped if a request like it would get a 400 or a 401
+    /// - Bytes that are not a message, messages with a wrong FINGERPRINT, and requests and
+    ///   indications with a method that you do not serve ([`methods`](ResponseSettings::methods))
+    ///   are dropped.
+    /// - A request gets the response of the first of these lines that applies:
+    ///   - 400: it has neither MESSAGE-INTEGRITY nor MESSAGE-INTEGRITY-SHA256, or no USERNAME
+    ///     before the integrity attribute.
+    ///   - 401: USERNAME is not the name of one of `users`, or the signature is not made with the
+    ///     user's password.
+    ///   - 420, which is signed: it has an attribute that is not understood.
+    ///   - Success: it is a Binding request, and you called `answer_binding`.
+    ///
+    ///   All other requests are returned to you. A 400 and a 401 are not signed (RFC 8489, section
+    ///   9.1.3). Other responses have the integrity attribute that the request has.
+    /// - An indication is dropped if a request with the same attributes would get a 400 or a 401
     ///   ([`NotSigned`](ShortTermReceived::NotSigned)), or if it has an attribute that is not
-    ///   understood. Other indications, and responses, are for you.
+    ///   understood. Other indications, and responses, are returned to you.
     pub fn receive<'a>(
         &self,
         bytes: &'a [u8],
@@ -446,7 +457,7 @@ impl ShortTermServer {
         received
     }
 
-    /// What a datagram comes to, with the bytes of a response in the buffer.
+    /// Judges a datagram, and writes a response into the buffer.
     fn judged<'a>(
         &self,
         bytes: &'a [u8],
@@ -461,9 +472,9 @@ impl ShortTermServer {
         Ok(self.core.receive_into(bytes, from, &users.core, buffer)?)
     }
 
-    /// Judges a datagram like [`receive`](Self::receive), and writes the response into a buffer that
-    /// you keep between datagrams, in place of what it has. The buffer is empty afterwards if there
-    /// is no response.
+    /// Judges a datagram like [`receive`](Self::receive), and writes the response into a buffer
+    /// that you keep between datagrams, replacing its contents. The buffer is empty afterwards if
+    /// there is no response.
     pub fn receive_into<'a, 'b>(
         &self,
         bytes: &'a [u8],
@@ -478,7 +489,7 @@ impl ShortTermServer {
     }
 }
 
-/// What the core returns, with the bytes of the response.
+/// Converts an outcome of the core to the type of this module, with the bytes of the response.
 fn signed_of_core<B>(
     received: Result<buffered::ShortTermReceivedInto<'_, Global>, DropReason>,
     bytes: B,
@@ -503,8 +514,8 @@ fn signed_of_core<B>(
     }
 }
 
-/// What a datagram comes to at a [`ShortTermServer`]. The bytes of a response are a `Vec`, or a slice
-/// of the buffer that was passed to [`receive_into`](ShortTermServer::receive_into).
+/// The outcome of a datagram at a [`ShortTermServer`]. The bytes of a response are a `Vec`, or a
+/// slice of the buffer that was passed to [`receive_into`](ShortTermServer::receive_into).
 ///
 /// # Examples
 ///
@@ -533,8 +544,8 @@ pub enum ShortTermReceived<'a, B = Vec<u8>> {
     Indication(ShortTermIndication<'a>),
     /// A response, for a client on the same socket.
     Response(Message<'a>),
-    /// The datagram is dropped: it is an indication that no user has signed. A request like it would
-    /// be refused in this way.
+    /// The datagram is dropped, because it is an indication that no user has signed. A request with
+    /// the same attributes would get this refusal.
     NotSigned(Refusal),
     /// The datagram is dropped, for this reason.
     Dropped(DropReason),
@@ -582,7 +593,8 @@ impl<'a> ShortTermIndication<'a> {
 
 /// The users of a [`ShortTermServer`], by name. A look-up takes logarithmic time.
 ///
-/// To change the users of a server that runs, change a clone, and exchange the two.
+/// To change the users of a server that runs, change a clone of the table, and then use the clone
+/// in its place.
 ///
 /// # Examples
 ///
@@ -600,7 +612,7 @@ pub struct ShortTermUsers {
     passwords: Given<ShortTermCredentials>,
 }
 
-/// It shows how many users there are, and no names.
+/// Shows how many users there are, and no names.
 impl fmt::Debug for ShortTermUsers {
     fn fmt(&self, f: &mut fmt::Formatter<'_>) -> fmt::Result {
         let mut shown = f.debug_struct("ShortTermUsers");
@@ -636,8 +648,8 @@ impl ShortTermUsers {
         }
     }
 
-    /// Adds a user with this password. A user of that name gets this password in place of the one
-    /// before.
+    /// Adds a user with a password. If the table already has a user of that name, this password
+    /// replaces the old one.
     ///
     /// # Errors
     ///
@@ -653,8 +665,8 @@ impl ShortTermUsers {
         Ok(self.passwords.add(&name, credentials, add)?)
     }
 
-    /// Removes a user, so that messages of that name are refused from now on. Returns `false` if
-    /// there was no user of that name.
+    /// Removes a user, so that messages that name this user are refused from now on. Returns
+    /// `false` if there was no user of that name.
     pub fn remove(&mut self, name: &str) -> bool {
         self.core.remove(name);
         self.passwords.remove(name)

@@ -36,11 +36,12 @@ use core::net::SocketAddr;
 /// The settings of a server with long-term credentials (RFC 8489, section 9.2): both algorithms,
 /// hashed names, and nonces of one hour, unless you change them.
 ///
-/// `secret` is 32 random bytes, and whoever has it can make nonces that are accepted. Servers that
-/// share it, and have the same algorithms, `user_hashes` and nonce lifetime, accept each other's
-/// nonces, except that a server refuses a nonce of a period that has not begun on its own clock. If
-/// clocks differ by less than a nonce lifetime, a client then gets a 438 and continues with the
-/// nonce in it. A server that starts again with the same secret serves its old clients at once.
+/// `secret` is 32 random bytes, and anybody who has it can make nonces that are accepted. Servers
+/// accept each other's nonces if they have the same secret, algorithms, `user_hashes` and nonce
+/// lifetime, except that a server refuses a nonce of a period that has not begun on its own clock.
+/// If the clocks differ by less than a nonce lifetime, the client then gets a 438, and continues
+/// with the nonce in it. A server that starts again with the same secret serves its old clients at
+/// once.
 ///
 /// # Examples
 ///
@@ -68,7 +69,7 @@ pub struct LongTerm {
     open_binding: bool,
 }
 
-/// It shows the realm, and no secret.
+/// Shows the realm, and no secret.
 impl fmt::Debug for LongTerm {
     fn fmt(&self, f: &mut fmt::Formatter<'_>) -> fmt::Result {
         let mut shown = f.debug_struct("LongTerm");
@@ -77,7 +78,7 @@ impl fmt::Debug for LongTerm {
 }
 
 impl LongTerm {
-    /// Returns the settings of a realm with this secret.
+    /// Returns the settings of a server for this realm, with this secret.
     pub fn new(realm: impl Into<String>, secret: [u8; 32]) -> LongTerm {
         LongTerm {
             realm: realm.into(),
@@ -90,8 +91,8 @@ impl LongTerm {
         }
     }
 
-    /// Sets a secret whose nonces are accepted too, but never sent. When you change the secret, set
-    /// this to the one before, and remove it two nonce lifetimes later.
+    /// Sets a second secret, whose nonces are accepted too, but never sent. When you change the
+    /// secret, pass the old secret to this call, and remove the call two nonce lifetimes later.
     pub fn previous_secret(mut self, secret: [u8; 32]) -> LongTerm {
         self.previous = Some(secret);
         self
@@ -99,8 +100,8 @@ impl LongTerm {
 
     /// Sets the supported algorithms.
     ///
-    /// Nonces depend on them. So when you change them, each client gets one 401 or 438 with the new
-    /// list and nonce, and then signs by it; the secret may stay as it is.
+    /// Nonces depend on the algorithms. So when you change them, each client gets one 401 or 438
+    /// with the new list and nonce, and then signs with these; you need not change the secret.
     pub fn algorithms(mut self, algorithms: &[IntegrityAlgorithm]) -> LongTerm {
         self.algorithms = (
             algorithms.contains(&IntegrityAlgorithm::Sha1),
@@ -110,22 +111,24 @@ impl LongTerm {
     }
 
     /// Sets whether clients may send a hash in place of a name (RFC 8489, section 14.4). Nonces
-    /// depend on this, as on the algorithms.
+    /// depend on this setting, so a change of it has the same effect as a change of the
+    /// [`algorithms`](Self::algorithms).
     pub fn user_hashes(mut self, allowed: bool) -> LongTerm {
         self.user_hashes = allowed;
         self
     }
 
-    /// Sets for how many seconds a nonce is sent. It is accepted for one to two times as long.
+    /// Sets the nonce lifetime: the number of seconds for which a nonce is sent. After it is sent,
+    /// a nonce is accepted for one to two lifetimes.
     pub fn nonce_lifetime(mut self, seconds: u64) -> LongTerm {
         self.nonce_lifetime = seconds;
         self
     }
 
-    /// Sets whether the server answers Binding requests without a signature, as TURN servers do: it
-    /// challenges them, unless you call this. The answer is the one of an
-    /// [`OpenServer`](super::OpenServer) that answers Binding, and is not signed. A Binding request
-    /// with a signature is judged like any other.
+    /// Sets whether the server answers Binding requests without a signature, as TURN servers do.
+    /// Unless you call this, it challenges them. The response is not signed, and is the same as
+    /// that of an [`OpenServer`](super::OpenServer) that answers Binding requests. A Binding
+    /// request with a signature is judged like any other.
     ///
     /// # Examples
     ///
@@ -153,7 +156,8 @@ impl LongTerm {
     }
 }
 
-/// Builds a [`Server`] step by step. [`Server::new`] builds one of the same settings at once.
+/// Builds a [`Server`] step by step. [`Server::new`] builds a server with the same settings in one
+/// call.
 ///
 /// # Examples
 ///
@@ -177,16 +181,16 @@ pub struct ServerBuilder {
 }
 
 impl ServerBuilder {
-    /// Adds types of attributes that you understand, beside those of STUN. [`types`](super::types)
-    /// has lists.
+    /// Adds types of attributes that you understand, in addition to those of STUN.
+    /// [`types`](super::types) has lists.
     pub fn understands(mut self, types: &[AttributeType]) -> ServerBuilder {
         self.settings = self.settings.understands(types);
         self
     }
 
-    /// Removes types from those that you understand: a request with one of them gets a 420. Call it
-    /// after [`understands`](Self::understands), to leave a type out of a list of
-    /// [`types`](super::types). The types of STUN itself are always understood.
+    /// Removes types from those that you understand, so that a request with an attribute of one of
+    /// these types gets a 420. Call it after [`understands`](Self::understands), to leave a type
+    /// out of a list of [`types`](super::types). The types of STUN itself are always understood.
     ///
     /// # Examples
     ///
@@ -214,23 +218,23 @@ impl ServerBuilder {
         self
     }
 
-    /// Sets whether the server responds to each accepted Binding request by itself: it does not,
-    /// unless you call this.
+    /// Sets whether the server itself responds to each accepted Binding request. Unless you call
+    /// this, it does not.
     pub fn answer_binding(mut self, answers: bool) -> ServerBuilder {
         self.settings = self.settings.answer_binding(answers);
         self
     }
 
     /// Sets whether messages without FINGERPRINT are dropped (RFC 8489, section 7.3), as a protocol
-    /// may require. Unless you call this, a message may have none; one whose FINGERPRINT is wrong, is
-    /// not the last attribute or does not have 4 bytes is dropped always.
+    /// may require. Unless you call this, a message may lack FINGERPRINT. A message whose
+    /// FINGERPRINT is wrong, is not the last attribute or does not have 4 bytes is always dropped.
     pub fn require_fingerprint(mut self, required: bool) -> ServerBuilder {
         self.settings = self.settings.require_fingerprint(required);
         self
     }
 
-    /// Sets the methods that you serve, like [`ResponseSettings::methods`]: requests and indications
-    /// with any other are dropped.
+    /// Sets the methods that you serve, like [`ResponseSettings::methods`]: requests and
+    /// indications with any other method are dropped.
     pub fn methods(mut self, methods: &[Method]) -> ServerBuilder {
         self.settings = self.settings.methods(methods);
         self
@@ -247,7 +251,7 @@ impl ServerBuilder {
     ///
     /// # Errors
     ///
-    /// Those of [`Server::new`].
+    /// Returns the errors of [`Server::new`].
     pub fn build(self) -> Result<Server, BuildError> {
         Server::new(self.long_term, self.settings)
     }
@@ -255,22 +259,22 @@ impl ServerBuilder {
 
 /// A STUN server with long-term credentials. It stores nothing about its clients.
 ///
-/// What a datagram comes to depends on the datagram, its source address, the time, the settings and
-/// the users, and on no earlier datagram. So a flood of datagrams uses no memory, and every thread
-/// and machine with the same settings can answer every client. Share the server as `Arc<Server>`.
-/// To change settings, build another server with the same secret and swap the `Arc`; to load users
-/// anew, swap an `Arc<Users>`.
+/// The outcome of a datagram depends only on the datagram, its source address, the time, the
+/// settings and the users, and not on earlier datagrams. So a flood of datagrams uses no memory,
+/// and every thread and machine with the same settings can answer every client. Share the server as
+/// `Arc<Server>`. To change settings, build another server with the same secret and swap the `Arc`;
+/// to reload the users, swap an `Arc<Users>`.
 ///
 /// The [module](super) has an example.
 pub struct Server {
     core: server::Server<Global>,
     realm: String,
-    /// What answers Binding requests without a signature.
+    /// The server that answers Binding requests without a signature.
     open: Option<open::OpenServer<Global>>,
     methods: Option<Vec<Method>>,
 }
 
-/// It shows the realm, and no secret.
+/// Shows the realm, and no secret.
 impl fmt::Debug for Server {
     fn fmt(&self, f: &mut fmt::Formatter<'_>) -> fmt::Result {
         let mut shown = f.debug_struct("Server");
@@ -279,7 +283,7 @@ impl fmt::Debug for Server {
 }
 
 impl Server {
-    /// Begins the settings of a server.
+    /// Returns a builder for a server with these settings.
     pub fn builder(long_term: LongTerm) -> ServerBuilder {
         ServerBuilder {
             long_term,
@@ -287,11 +291,12 @@ impl Server {
         }
     }
 
-    /// Builds a server, of the settings that a server without credentials has too.
+    /// Builds a server with these settings of long-term credentials, and with the settings that
+    /// servers of all kinds have.
     ///
     /// # Errors
     ///
-    /// The first of these that applies:
+    /// Returns the first of these errors that applies:
     ///
     /// - [`BuildError::RealmTooLong`]: the realm has more than 763 bytes.
     /// - [`BuildError::SoftwareTooLong`]: the text of SOFTWARE has more than 763 bytes.
@@ -345,34 +350,36 @@ impl Server {
         &self.realm
     }
 
-    /// Returns the nonce that is current for an address at a time.
+    /// Returns the nonce that the server sends to this address at this time.
     pub fn nonce_for(&self, from: SocketAddr, now: UnixTime) -> String {
         String::from(granted(self.core.nonce_for(from, now)).as_str())
     }
 
-    /// Judges a datagram, and writes the response if it gets one at once.
+    /// Judges a datagram, and writes the response if the server itself responds.
     ///
-    /// `from` is the address that it came from. An IPv4 address is the same in both spellings,
-    /// `a.b.c.d` and `::ffff:a.b.c.d`.
+    /// `from` is the address that the datagram came from. The two forms of an IPv4 address,
+    /// `a.b.c.d` and `::ffff:a.b.c.d`, count as the same address.
     ///
-    /// - Bytes that are not a message, messages with a wrong FINGERPRINT, and requests and indications
-    ///   with a method that you do not serve ([`methods`](ServerBuilder::methods)) are dropped.
-    /// - A request gets the answer of the first line that applies (RFC 8489, sections 6.3.1 and
-    ///   9.2.4):
-    ///   - Success or 420, which are not signed: it is a Binding request without a signature, and you
-    ///     called [`open_binding`](ServerBuilder::open_binding).
+    /// - Bytes that are not a message, messages with a wrong FINGERPRINT, and requests and
+    ///   indications with a method that you do not serve ([`methods`](ServerBuilder::methods)) are
+    ///   dropped.
+    /// - A request gets the response of the first of these lines that applies (RFC 8489, sections
+    ///   6.3.1 and 9.2.4):
+    ///   - Success or 420, which are not signed: it is a Binding request without a signature, and
+    ///     you called [`open_binding`](ServerBuilder::open_binding).
     ///   - 401: it is not signed.
-    ///   - 400: it has no REALM, NONCE or user name, or it has the current nonce and other algorithms
-    ///     than were offered with it.
-    ///   - 438: its nonce is not accepted; 401 if that nonce has other security bits than the
-    ///     server's.
+    ///   - 400: it has no REALM, NONCE or user name, or it has the current nonce and other
+    ///     algorithms than were offered with it.
+    ///   - 438: its nonce is not accepted, or it has an earlier nonce that is still accepted, but
+    ///     wrong algorithms or credentials. The code is 401 instead if the nonce has other security
+    ///     bits than the server's nonces, and the algorithms of the request agree with these bits.
     ///   - 401: it is not signed by one of `users`.
     ///   - 420, which is signed: it has an attribute that is not understood.
     ///   - Success: it is a Binding request, and you called `answer_binding`.
     ///
     ///   Every other request is returned as [`Received::Request`].
     /// - An indication with an attribute that is not understood is dropped. Other indications, and
-    ///   responses, are for you.
+    ///   responses, are returned to you.
     pub fn receive<'a>(
         &self,
         bytes: &'a [u8],
@@ -389,8 +396,8 @@ impl Server {
         received
     }
 
-    /// Judges a datagram by this call of the core, unless it is dropped for its method, or answered
-    /// without credentials.
+    /// Judges a datagram with this call of the core, unless the datagram is dropped because of its
+    /// method, or answered without credentials.
     fn judged<'a>(
         &self,
         bytes: &'a [u8],
@@ -406,7 +413,7 @@ impl Server {
             return match open.receive_into(bytes, from, buffer) {
                 Ok(buffered::OpenReceivedInto::Answer(answer)) => Ok(CoreReceived::Answer(answer)),
                 Ok(buffered::OpenReceivedInto::Dropped(why)) => Err(why.into()),
-                // The server answers each Binding request, and this is one.
+                // Not reached: this is a Binding request, and the open server answers all of them.
                 Ok(_) => Err(DropReason::Malformed),
                 Err(error) => Err(error.into()),
             };
@@ -419,8 +426,8 @@ impl Server {
         is_of_other_method(self.methods.as_deref(), bytes)
     }
 
-    /// Returns what answers a datagram without credentials, if it is a Binding request without a
-    /// signature and everybody may make one.
+    /// Returns the server that answers a datagram without credentials, if the datagram is a Binding
+    /// request without a signature and the settings allow such requests.
     fn open_for(&self, bytes: &[u8]) -> Option<&open::OpenServer<Global>> {
         let open = self.open.as_ref()?;
         let message = Message::from_bytes(bytes).ok()?;
@@ -433,9 +440,10 @@ impl Server {
         self.lacks_method_of(bytes) || self.open_for(bytes).is_some()
     }
 
-    /// Judges a datagram like [`receive`](Self::receive), and writes the response into a buffer that
-    /// you keep between datagrams, in place of what it has. The buffer is empty afterwards if there
-    /// is no response. A Binding request is then answered with one allocation, for its nonce.
+    /// Judges a datagram like [`receive`](Self::receive), and writes the response into a buffer
+    /// that you keep between datagrams, replacing its contents. The buffer is empty afterwards if
+    /// there is no response. Once the buffer is large enough, a Binding request is answered with
+    /// one allocation, for its nonce.
     ///
     /// # Examples
     ///
@@ -481,17 +489,17 @@ impl Server {
         User(Arc::new(granted(self.core.user(credentials.0))))
     }
 
-    /// Like [`user`](Self::user), with keys that are stored in place of the password. They must
-    /// have been made for this server's realm.
+    /// Like [`user`](Self::user), but takes stored keys instead of a password. The keys must have
+    /// been made for this server's realm, because they depend on it.
     pub fn user_with_keys(&self, name: impl Into<String>, keys: StoredKeys) -> User {
         let user = self.core.user_with_keys(text(name.into()), keys);
         User(Arc::new(granted(user)))
     }
 
-    /// Judges a datagram like [`receive`](Self::receive), by the one user that you looked up, or by
-    /// nobody if there is no such user.
+    /// Judges a datagram like [`receive`](Self::receive), with the one user that you looked up, or
+    /// with `None` if there is no such user.
     ///
-    /// If `user` has another name than the one in the request, as after a look-up that ignores
+    /// If the name of `user` differs from the name in the request, as after a look-up that ignores
     /// case, the client gets a 401.
     pub fn receive_for<'a>(
         &'a self,
@@ -511,7 +519,7 @@ impl Server {
     }
 
     /// Judges a datagram like [`receive_for`](Self::receive_for), and writes the response into a
-    /// buffer that you keep between datagrams, in place of what it has. The buffer is empty
+    /// buffer that you keep between datagrams, replacing its contents. The buffer is empty
     /// afterwards if there is no response.
     pub fn receive_for_into<'a, 'b>(
         &'a self,
@@ -532,9 +540,9 @@ impl Server {
         received
     }
 
-    /// Judges a datagram like [`receive`](Self::receive), and also returns why it is refused, to count
-    /// or to log it. The cause is what [`cause`](Self::cause) returns, and the datagram is judged once
-    /// for both.
+    /// Judges a datagram like [`receive`](Self::receive), and also returns why it is refused, so
+    /// that you can count or log the cause. The cause is what [`cause`](Self::cause) returns, but
+    /// the datagram is judged only once.
     ///
     /// # Examples
     ///
@@ -571,8 +579,8 @@ impl Server {
         (received, cause)
     }
 
-    /// Judges a datagram like [`receive_for`](Self::receive_for), and also returns why it is refused,
-    /// like [`receive_with_cause`](Self::receive_with_cause).
+    /// Judges a datagram like [`receive_for`](Self::receive_for), and also returns why it is
+    /// refused, like [`receive_with_cause`](Self::receive_with_cause).
     pub fn receive_for_with_cause<'a>(
         &'a self,
         bytes: &'a [u8],
@@ -592,15 +600,15 @@ impl Server {
         (received, cause)
     }
 
-    /// Returns why [`receive`](Self::receive) refuses a datagram, to count or to log it. Pass what you
-    /// passed to `receive`, with the same time and the same users.
+    /// Returns why [`receive`](Self::receive) refuses a datagram, so that you can count or log the
+    /// cause. Pass the arguments of `receive`, with the same time and the same users.
     ///
-    /// Returns `None` if `receive` does not refuse the datagram: it is dropped, is not a request, or
-    /// is accepted. It also returns `None` if an allocation failed.
+    /// Returns `None` if `receive` does not refuse the datagram: it is dropped, is not a request,
+    /// or is accepted. It also returns `None` if an allocation failed.
     ///
-    /// It judges the request again, so call it only for an answer that refuses, or call
-    /// [`receive_with_cause`](Self::receive_with_cause) in place of `receive`. The client never learns
-    /// the cause, but only its [code](Cause::code).
+    /// It judges the request again, so call it only for an answer that refuses the request, or call
+    /// [`receive_with_cause`](Self::receive_with_cause) in place of `receive`. The client learns
+    /// only the [code](Cause::code), and not the cause.
     ///
     /// # Examples
     ///
@@ -644,8 +652,8 @@ impl Server {
     /// Returns why [`receive_for`](Self::receive_for) refuses a datagram, like
     /// [`cause`](Self::cause).
     ///
-    /// It is also why [`resume`](Self::resume) refuses the request of a look-up: pass the bytes of
-    /// that request, and the time at which it [arrived](Lookup::arrived).
+    /// [`resume`](Self::resume) refuses the request of a look-up for the same reason: pass the
+    /// bytes of that request, and the time at which it [arrived](Lookup::arrived).
     #[must_use]
     pub fn cause_for(
         &self,
@@ -661,12 +669,12 @@ impl Server {
         self.core.cause_for(bytes, from, now, user).ok().flatten()
     }
 
-    /// Judges a datagram as far as that is possible without its user, for a server that looks its
-    /// users up in a database.
+    /// Judges a datagram as far as that is possible without its user, for a server whose users are
+    /// in a database.
     ///
-    /// A request is looked up only if it carries a nonce that is accepted for its source at this
-    /// time, is signed, and names a user. So whoever invents a nonce, or forges a source address
-    /// without having seen a nonce of it, causes no look-up.
+    /// A request waits for a look-up only if it is signed, names a user, and carries a nonce that
+    /// is accepted for its source at this time. So an attacker who invents a nonce, or forges a
+    /// source address without having seen a nonce that was sent to it, causes no look-up.
     ///
     /// # Examples
     ///
@@ -701,9 +709,9 @@ impl Server {
         self.of_identified(identified, bytes, from, now, buffer.into_std())
     }
 
-    /// Judges a datagram like [`identify`](Self::identify), and writes the response into a buffer that
-    /// you keep between datagrams, in place of what it has. The buffer is empty afterwards if there
-    /// is no response, as while a request waits for its user.
+    /// Judges a datagram like [`identify`](Self::identify), and writes the response into a buffer
+    /// that you keep between datagrams, replacing its contents. The buffer is empty afterwards if
+    /// there is no response, for example because the request waits for its user.
     ///
     /// # Examples
     ///
@@ -741,7 +749,8 @@ impl Server {
         self.of_identified(identified, bytes, from, now, buffer.as_slice())
     }
 
-    /// What a datagram comes to without its user, with the bytes of a response in the buffer.
+    /// Judges a datagram as far as that is possible without its user, and writes a response into
+    /// the buffer.
     fn identified<'a>(
         &'a self,
         bytes: &'a [u8],
@@ -765,7 +774,7 @@ impl Server {
         }
     }
 
-    /// What the core returns, as this module says it.
+    /// Converts such an outcome to the types of this module.
     #[cfg_attr(not(feature = "tracing"), allow(unused_variables, clippy::unused_self))]
     fn of_identified<'a, B>(
         &'a self,
@@ -792,11 +801,11 @@ impl Server {
         }
     }
 
-    /// Judges the request of a look-up by the user that you found, or by nobody if there is no such
-    /// user. The result is that of [`receive_for`](Self::receive_for) at the time at which the
-    /// request arrived, so a slow database does not turn it into a 438.
+    /// Judges the request of a look-up with the user that you found, or with `None` if there is no
+    /// such user. The result is what [`receive_for`](Self::receive_for) returns at the time at
+    /// which the request arrived, so a slow database does not turn it into a 438.
     ///
-    /// If `user` has another name than the one in the request, as after a look-up that ignores
+    /// If the name of `user` differs from the name in the request, as after a look-up that ignores
     /// case, the client gets a 401.
     ///
     /// `lookup` is a [`Lookup`], or a reference to an [`OwnedLookup`], which does not borrow the
@@ -816,9 +825,9 @@ impl Server {
         received
     }
 
-    /// Judges the request of a look-up like [`resume`](Self::resume), and writes the response into a
-    /// buffer that you keep between datagrams, in place of what it has. The buffer is empty afterwards
-    /// if there is no response. [`identify_into`](Self::identify_into) has an example.
+    /// Judges the request of a look-up like [`resume`](Self::resume), and writes the response into
+    /// a buffer that you keep between datagrams, replacing its contents. The buffer is empty
+    /// afterwards if there is no response. [`identify_into`](Self::identify_into) has an example.
     pub fn resume_into<'a, 'b>(
         &'a self,
         lookup: impl Into<Lookup<'a>>,
@@ -834,12 +843,13 @@ impl Server {
         received
     }
 
-    /// Judges the request of a look-up like [`resume`](Self::resume), by the one of these users whom
-    /// it names: for a server that has a table beside users that it looks up elsewhere.
+    /// Judges the request of a look-up like [`resume`](Self::resume), with the user of this table
+    /// whom it names. Use this call if your server looks up some users in a table, and others
+    /// elsewhere.
     ///
     /// # Examples
     ///
-    /// Users of limited time, and if the request names none of them, those of a table:
+    /// A server of time-limited users that looks for any other user in a table:
     ///
     /// ```
     /// use seatcrane_stun::endpoint::Received;
@@ -889,8 +899,8 @@ impl Server {
     }
 
     /// Judges the request of a look-up like [`resume_among`](Self::resume_among), and writes the
-    /// response into a buffer that you keep between datagrams, in place of what it has. The buffer is
-    /// empty afterwards if there is no response.
+    /// response into a buffer that you keep between datagrams, replacing its contents. The buffer
+    /// is empty afterwards if there is no response.
     pub fn resume_among_into<'a, 'b>(
         &'a self,
         lookup: impl Into<Lookup<'a>>,
@@ -908,7 +918,8 @@ impl Server {
         received
     }
 
-    /// What the request of a look-up comes to by this call of the core, and what is recorded of it.
+    /// Judges the request of a look-up with this call of the core. Also returns what to record
+    /// about the request.
     #[allow(clippy::unused_self, reason = "the call is of this server")]
     fn resumed<'a>(
         &'a self,
@@ -934,7 +945,7 @@ struct LookedUp<'a> {
 }
 
 impl LookedUp<'_> {
-    /// Records what the request came to; `cause` returns why it was refused.
+    /// Records the outcome of the request; `cause` returns why it was refused.
     #[cfg_attr(not(feature = "tracing"), allow(unused_variables, clippy::unused_self))]
     fn record<B>(
         &self,
@@ -946,13 +957,15 @@ impl LookedUp<'_> {
     }
 }
 
-/// What the core returns, with the bytes of a response in a buffer.
+/// An outcome that the core returns, with the bytes of a response in a buffer.
 type CoreReceived<'a> = buffered::ReceivedInto<'a, Global>;
 
-/// That, or why the datagram is dropped before the core judges it, or for want of memory.
+/// An outcome that the core returns, or why a datagram is dropped: for a reason that is found
+/// before the core judges the datagram, or because memory ran out.
 type Judged<'a> = Result<CoreReceived<'a>, DropReason>;
 
-/// What the core says of a datagram without its user, with the bytes of a response in a buffer.
+/// The outcome of a datagram that the core has judged as far as possible without its user, with the
+/// bytes of a response in a buffer.
 enum Known<'a> {
     Done(Judged<'a>),
     Lookup(lookup::Lookup<'a>),
@@ -964,8 +977,8 @@ impl From<AllocError> for DropReason {
     }
 }
 
-/// Returns `true` if a datagram is a request or an indication with a method that is not in the list,
-/// if there is one.
+/// Returns `true` if there is a list of methods, and a datagram is a request or an indication with
+/// a method that is not in it.
 pub(super) fn is_of_other_method(methods: Option<&[Method]>, bytes: &[u8]) -> bool {
     let (Some(methods), Ok(header)) = (methods, MessageHeader::from_bytes(bytes)) else {
         return false;
@@ -974,8 +987,8 @@ pub(super) fn is_of_other_method(methods: Option<&[Method]>, bytes: &[u8]) -> bo
     !kind.is_response() && !methods.contains(&kind.method())
 }
 
-/// What a datagram comes to without its user, or that it needs the user. The bytes of a response are
-/// a `Vec`, or a slice of the buffer that was passed to [`identify_into`](Server::identify_into).
+/// The outcome of a datagram as far as it is known without the user. The bytes of a response are a
+/// `Vec`, or a slice of the buffer that was passed to [`identify_into`](Server::identify_into).
 ///
 /// # Examples
 ///
@@ -996,13 +1009,14 @@ pub(super) fn is_of_other_method(methods: Option<&[Method]>, bytes: &[u8]) -> bo
 #[must_use = "it may be a response to send, or a request that waits for its user"]
 #[derive(Debug)]
 pub enum Identified<'a, B = Vec<u8>> {
-    /// What the datagram comes to, whoever the user is.
+    /// The outcome of the datagram, which does not depend on the user.
     Done(Received<'a, B>),
     /// The request waits for its user. Look that user up, and pass both to [`Server::resume`].
     Lookup(Lookup<'a>),
 }
 
-/// A request that carries a nonce which the server accepts for its source, and waits for its user.
+/// A request that waits until you have looked up its user. It carries a nonce that the server
+/// accepts for its source.
 ///
 /// A client that sends its request again causes another look-up; merge them by
 /// [`transaction_id`](Self::transaction_id).
@@ -1029,8 +1043,8 @@ pub struct Lookup<'a> {
 }
 
 impl<'a> Lookup<'a> {
-    /// Returns whom the request names. The signature is not checked yet, so anybody with a nonce can
-    /// name anybody.
+    /// Returns the user whom the request names. The signature is not checked yet, so anybody who
+    /// has a nonce can name any user.
     #[must_use]
     pub fn user_id(&self) -> NamedUser<'a> {
         self.lookup.user_id()
@@ -1042,7 +1056,8 @@ impl<'a> Lookup<'a> {
         TransactionId(self.lookup.transaction_id())
     }
 
-    /// Returns the address that the request came from, an IPv4 address as IPv4 in either spelling.
+    /// Returns the address that the request came from. An IPv4 address is returned as `a.b.c.d`,
+    /// even if it came as `::ffff:a.b.c.d`.
     #[must_use]
     pub fn from(&self) -> SocketAddr {
         canonical(self.lookup.from())
@@ -1060,8 +1075,8 @@ impl<'a> Lookup<'a> {
         &self.message
     }
 
-    /// Copies the request, so that the look-up can outlive the datagram, as in a task that waits for
-    /// a database. Pass a reference to the result to [`Server::resume`].
+    /// Copies the request, so that the look-up can outlive the datagram, for example in a task that
+    /// waits for a database. Pass a reference to the result to [`Server::resume`].
     pub fn into_owned(self) -> OwnedLookup {
         OwnedLookup {
             bytes: self.message.as_bytes().to_vec(),
@@ -1080,7 +1095,7 @@ impl<'a> Lookup<'a> {
 ///
 /// # Examples
 ///
-/// A thread for each look-up, while the buffer takes the next datagram:
+/// Each look-up runs in a thread of its own, while the buffer receives the next datagram:
 ///
 /// ```
 /// use seatcrane_stun::endpoint::{Lookup, Received, Server, User};
@@ -1127,8 +1142,8 @@ impl fmt::Debug for OwnedLookup {
 }
 
 impl OwnedLookup {
-    /// Returns whom the request names. The signature is not checked yet, so anybody with a nonce can
-    /// name anybody.
+    /// Returns the user whom the request names. The signature is not checked yet, so anybody who
+    /// has a nonce can name any user.
     #[must_use]
     pub fn user_id(&self) -> NamedUser<'_> {
         match &self.user {
@@ -1143,7 +1158,8 @@ impl OwnedLookup {
         self.as_lookup().transaction_id()
     }
 
-    /// Returns the address that the request came from, an IPv4 address as IPv4 in either spelling.
+    /// Returns the address that the request came from. An IPv4 address is returned as `a.b.c.d`,
+    /// even if it came as `::ffff:a.b.c.d`.
     #[must_use]
     pub fn from(&self) -> SocketAddr {
         canonical(self.from)
@@ -1161,7 +1177,7 @@ impl OwnedLookup {
         &self.bytes
     }
 
-    /// Returns the look-up, which borrows the copy of its request.
+    /// Returns a look-up that borrows the copy of the request.
     #[expect(clippy::missing_panics_doc, reason = "the bytes were read before")]
     pub fn as_lookup(&self) -> Lookup<'_> {
         let message = Message::from_bytes(&self.bytes).expect("it was read before");
@@ -1174,14 +1190,14 @@ impl OwnedLookup {
     }
 }
 
-/// Like [`OwnedLookup::as_lookup`].
+/// Returns the look-up, like [`OwnedLookup::as_lookup`].
 impl<'a> From<&'a OwnedLookup> for Lookup<'a> {
     fn from(owned: &'a OwnedLookup) -> Lookup<'a> {
         owned.as_lookup()
     }
 }
 
-/// Calls the core with a buffer of the caller.
+/// Passes a buffer of the caller to a call of the core.
 pub(crate) fn lent<R>(buffer: &mut Vec<u8>, call: impl FnOnce(&mut KitVec<u8>) -> R) -> R {
     let mut core = KitVec::from_std(core::mem::take(buffer));
     let result = call(&mut core);
@@ -1189,7 +1205,7 @@ pub(crate) fn lent<R>(buffer: &mut Vec<u8>, call: impl FnOnce(&mut KitVec<u8>) -
     result
 }
 
-/// What the core returns, with the bytes of the response.
+/// Converts an outcome of the core to the type of this module, with the bytes of the response.
 fn of_core<B>(received: Judged<'_>, bytes: B) -> Received<'_, B> {
     match received {
         Ok(CoreReceived::Answer(answer)) => Received::Answer(answer_of(answer, bytes)),
@@ -1204,7 +1220,7 @@ fn of_core<B>(received: Judged<'_>, bytes: B) -> Received<'_, B> {
     }
 }
 
-/// A response of the core, as this module says it.
+/// Converts a response of the core to the type of this module.
 pub(super) fn answer_of<B>(answer: buffered::BufferedAnswer, bytes: B) -> Answer<B> {
     Answer {
         to: answer.to,
@@ -1213,8 +1229,8 @@ pub(super) fn answer_of<B>(answer: buffered::BufferedAnswer, bytes: B) -> Answer
     }
 }
 
-/// An accepted request of the core, as this module says it, or `None` if there is no memory for its
-/// reply.
+/// Converts an accepted request of the core to the type of this module, or returns `None` if there
+/// is no memory for its reply.
 pub(super) fn request_of(request: received::Request<'_, Global>) -> Option<Request<'_>> {
     let message = Message(copy(request.message()));
     let (user, algorithm) = (request.user(), request.algorithm());
@@ -1229,8 +1245,9 @@ pub(super) fn request_of(request: received::Request<'_, Global>) -> Option<Reque
 
 /// Returns a value to share, or `None` if there is no memory for it.
 ///
-/// `Arc::new` ends the program then, and has no other form. So as much memory is taken and given
-/// back before. Another thread may get that memory in between, though.
+/// `Arc::new` aborts the program if there is no memory, and stable Rust has no call like it that
+/// returns an error. So this call first allocates as much memory and frees it. Another thread may
+/// still take that memory in between.
 pub(super) fn shared<T>(value: T) -> Option<Arc<T>> {
     let mut room: Vec<([usize; 2], T)> = Vec::new();
     room.try_reserve_exact(1).ok()?;
@@ -1301,9 +1318,9 @@ impl From<AllocError> for UserError {
 
 /// The users of a realm, by name. [`Server::users`] makes an empty table.
 ///
-/// To change the users of a server that runs, change a clone, and exchange the two. A clone needs no
-/// passwords, because it prepares the derived keys again: that takes half as long as adding the
-/// users did.
+/// To change the users of a server that runs, change a clone of the table, and then use the clone
+/// in its place. Cloning needs no passwords. It prepares the derived keys again, which takes half
+/// as long as adding the users did.
 ///
 /// # Examples
 ///
@@ -1338,7 +1355,7 @@ pub struct Users {
     keys: Given<StoredKeys>,
 }
 
-/// It shows how many users there are, and no names.
+/// Shows how many users there are, and no names.
 impl fmt::Debug for Users {
     fn fmt(&self, f: &mut fmt::Formatter<'_>) -> fmt::Result {
         let mut shown = f.debug_struct("Users");
@@ -1371,8 +1388,8 @@ impl Clone for Users {
 }
 
 impl Users {
-    /// Adds a user, and derives a key for each algorithm of the server. A user of that name gets
-    /// this password in place of what it had before.
+    /// Adds a user with a password, and derives a key for each algorithm of the server. If the
+    /// table already has a user of that name, this password replaces the user's password or keys.
     ///
     /// # Errors
     ///
@@ -1399,8 +1416,8 @@ impl Users {
         keys
     }
 
-    /// Like [`add`](Self::add), with keys that are stored in place of the password. They must have
-    /// been made for this server's realm.
+    /// Like [`add`](Self::add), but takes stored keys instead of a password. The keys must have
+    /// been made for this server's realm, because they depend on it.
     ///
     /// # Errors
     ///
@@ -1423,7 +1440,7 @@ impl Users {
     /// );
     /// let keys = StoredKeys::new().with_sha256(key.as_bytes().try_into().ok());
     /// let mut users = server.users();
-    /// users.add_with_keys("alice", keys)?; // she cannot sign by HMAC-SHA1
+    /// users.add_with_keys("alice", keys)?; // she cannot sign with HMAC-SHA1
     ///
     /// # Ok(())
     /// # }
@@ -1460,8 +1477,9 @@ impl Users {
         self.keys.contains(name)
     }
 
-    /// Returns the user whom a request names, in logarithmic time: what [`Lookup::user_id`] returns,
-    /// for [`Server::resume`], or a name, for [`Server::receive_for`]. It prepares the user's keys, so
+    /// Returns the user whom a request names, or `None` if the table has no such user, in
+    /// logarithmic time. Pass what [`Lookup::user_id`] returns if you then call [`Server::resume`],
+    /// or a name if you then call [`Server::receive_for`]. This call prepares the user's keys, so
     /// [`Server::resume_among`] is cheaper for a look-up in this table.
     ///
     /// # Examples
@@ -1510,7 +1528,7 @@ impl Users {
     }
 }
 
-/// What a datagram comes to. The bytes of a response are a `Vec`, a slice of the buffer that was
+/// The outcome of a datagram. The bytes of a response are a `Vec`, a slice of the buffer that was
 /// passed to [`receive_into`](Server::receive_into), or in a batch a range of its
 /// [`Answers`](super::Answers).
 ///
@@ -1550,7 +1568,8 @@ pub enum Received<'a, B = Vec<u8>> {
 }
 
 impl<'a, B> Received<'a, B> {
-    /// The same with the bytes of a response elsewhere. Without memory for them it is dropped.
+    /// Puts the bytes of a response into another buffer. If there is no memory for them, the
+    /// datagram is dropped.
     pub(super) fn moved<C>(self, to: impl FnOnce(B) -> Option<C>) -> Received<'a, C> {
         match self {
             Received::Answer(answer) => match to(answer.bytes) {
@@ -1570,7 +1589,8 @@ impl<'a, B> Received<'a, B> {
 }
 
 /// A response to send. Its bytes are a `Vec`, a slice of the buffer that was passed to
-/// [`receive_into`](Server::receive_into), or in a batch a range of its [`Answers`](super::Answers).
+/// [`receive_into`](Server::receive_into), or in a batch a range of its
+/// [`Answers`](super::Answers).
 ///
 /// # Examples
 ///
@@ -1585,7 +1605,7 @@ impl<'a, B> Received<'a, B> {
 ///     socket.send_to(answer.bytes(), answer.to()).map(drop)
 /// }
 /// ```
-#[must_use = "the response is to be sent"]
+#[must_use = "send the response"]
 #[derive(Clone, Debug)]
 pub struct Answer<B = Vec<u8>> {
     to: SocketAddr,
@@ -1594,7 +1614,7 @@ pub struct Answer<B = Vec<u8>> {
 }
 
 impl<B> Answer<B> {
-    /// Returns the address to send the response to: `from` as it was passed to
+    /// Returns the address to send the response to, which is the `from` that was passed to
     /// [`receive`](Server::receive).
     pub fn to(&self) -> SocketAddr {
         self.to
@@ -1657,15 +1677,16 @@ impl<'a> Request<'a> {
         self.message.method()
     }
 
-    /// Returns the address that the request came from, an IPv4 address as IPv4 in either spelling,
-    /// `a.b.c.d` and `::ffff:a.b.c.d`. The response goes to [`Reply::to`], which is the address that
-    /// you passed to `receive`: a socket of IPv6 needs it in that spelling.
+    /// Returns the address that the request came from. An IPv4 address is returned as `a.b.c.d`,
+    /// even if it came as `::ffff:a.b.c.d`. Send the response to [`Reply::to`], which has the form
+    /// that you passed to `receive`, because an IPv6 socket needs `::ffff:a.b.c.d`.
     #[must_use]
     pub fn from(&self) -> SocketAddr {
         canonical(self.reply.to())
     }
 
-    /// Returns the name of the user who sent the request, also if the request has a hash of it.
+    /// Returns the name of the user who sent the request, even if the request has only a hash of
+    /// the name.
     #[must_use]
     pub fn user(&self) -> &'a str {
         self.user
@@ -1677,20 +1698,20 @@ impl<'a> Request<'a> {
         self.algorithm
     }
 
-    /// Returns the means to respond. Clone it to respond later.
+    /// Returns the [`Reply`] to the request. Clone it to respond later.
     #[must_use]
     pub fn reply(&self) -> &Reply {
         &self.reply
     }
 }
 
-/// The means to respond to one accepted request, now or later, on any thread, without the server.
-/// It contains a key, which `Debug` leaves out.
+/// A handle with which you respond to one accepted request, now or later, on any thread, without
+/// the server. It contains a key, which `Debug` does not show.
 ///
-/// The response has the method and the transaction ID of the request, is signed with the key of the
-/// user who sent it, errors included (a reply of an [`OpenServer`](super::OpenServer) is not signed),
-/// and ends with FINGERPRINT if the request did. Respond to each
-/// request at least once, because the client sends it again until then.
+/// The response has the method and the transaction ID of the request, and ends with FINGERPRINT if
+/// the request did. It is signed with the key of the user who sent the request, even if it is an
+/// error (a reply of an [`OpenServer`](super::OpenServer) is not signed). Respond to each request
+/// at least once, because the client sends it again until then.
 ///
 /// # Examples
 ///
@@ -1745,9 +1766,9 @@ impl Reply {
         self.success_in(&mut Vec::new(), Vec::new())
     }
 
-    /// Begins a success response in a buffer that you keep between responses, in place of what it has.
-    /// A response that it has the capacity for is written without an allocation, apart from what
-    /// you add to it.
+    /// Begins a success response in a buffer that you keep between responses, replacing its
+    /// contents. If the buffer has the capacity for the response, only the attributes that you add
+    /// may allocate.
     ///
     /// # Examples
     ///
@@ -1787,7 +1808,7 @@ impl Reply {
     }
 
     /// Begins an error response like [`error`](Self::error), in a buffer that you keep between
-    /// responses, in place of what it has.
+    /// responses, replacing its contents.
     pub fn error_into<'b>(
         &self,
         code: u16,
@@ -1837,7 +1858,8 @@ impl Reply {
     }
 
     /// Begins a 420 with UNKNOWN-ATTRIBUTES, for types that you do not understand in requests of
-    /// some methods, or at some times. Those that you never understand the server refuses itself.
+    /// some methods, or at some times. The server itself refuses requests with types that you never
+    /// understand, because you did not pass them to [`ServerBuilder::understands`].
     ///
     /// # Examples
     ///
@@ -1886,14 +1908,15 @@ impl<B> ReplyWriter<B> {
     ///
     /// # Panics
     ///
-    /// If [`Attribute::write_into`] of an attribute type of your own appends something else than
-    /// the attribute that `get_type` and `length` describe.
+    /// Panics if [`Attribute::write_into`] of an attribute type of your own appends anything other
+    /// than the attribute that `get_type` and `length` describe.
     #[allow(clippy::should_implement_trait)] // `Add` is for numbers.
     pub fn add<A: Attribute>(self, attribute: &A) -> ReplyWriter<B> {
         self.added(attribute, |page| Proved::add_attribute(page, attribute))
     }
 
-    /// Like [`add`](Self::add), but also if the response has an attribute of this type already.
+    /// Like [`add`](Self::add), but adds the attribute even if the response already has an
+    /// attribute of this type.
     ///
     /// Use it for the types that may repeat, such as XOR-PEER-ADDRESS (RFC 8656, section 9.1). A
     /// reader sees only the first attribute of any other type (RFC 8489, section 14).
@@ -1921,14 +1944,14 @@ impl<B> ReplyWriter<B> {
     ///
     /// # Panics
     ///
-    /// As [`add`](Self::add) does.
+    /// Panics in the same case as [`add`](Self::add).
     pub fn add_another<A: Attribute>(self, attribute: &A) -> ReplyWriter<B> {
         self.added(attribute, |page| {
             Proved::add_another_attribute(page, attribute)
         })
     }
 
-    /// Adds an attribute by this call, unless one failed before.
+    /// Adds an attribute with this call, unless an earlier attribute could not be added.
     fn added<A: Attribute>(mut self, attribute: &A, add: impl Fn(&mut Page) -> Added) -> Self {
         if let Ok(page) = &mut self.page {
             let before = page.data().len();
@@ -1940,29 +1963,30 @@ impl<B> ReplyWriter<B> {
         self
     }
 
-    /// Adds XOR-MAPPED-ADDRESS with this address. An IPv4 address is written as IPv4 in either
-    /// spelling, `a.b.c.d` and `::ffff:a.b.c.d`.
+    /// Adds XOR-MAPPED-ADDRESS with this address. An address `::ffff:a.b.c.d` is written as the
+    /// IPv4 address `a.b.c.d`.
     pub fn add_xor_mapped_address(self, address: SocketAddr) -> ReplyWriter<B> {
         let id = self.reply.0.transaction_id();
         self.add(&XorMappedAddress::new(canonical(address), id))
     }
 
-    /// Adds XOR-RELAYED-ADDRESS with this address, also if the response has one already: a server
-    /// that allocates for two families returns two (RFC 8656, section 7.2). An IPv4 address is
-    /// written as IPv4 in either spelling.
+    /// Adds XOR-RELAYED-ADDRESS with this address, even if the response already has such an
+    /// attribute: a TURN server that allocates an address of each family returns both (RFC 8656,
+    /// section 7.2). An address `::ffff:a.b.c.d` is written as the IPv4 address `a.b.c.d`.
     pub fn add_xor_relayed_address(self, address: SocketAddr) -> ReplyWriter<B> {
         let id = self.reply.0.transaction_id();
         self.add_another(&further::XorRelayedAddress::new(canonical(address), id))
     }
 
-    /// Adds XOR-PEER-ADDRESS with this address, also if the response has one already (RFC 8656,
-    /// section 18.3). An IPv4 address is written as IPv4 in either spelling.
+    /// Adds XOR-PEER-ADDRESS with this address, even if the response already has such an attribute
+    /// (RFC 8656, section 18.3). An address `::ffff:a.b.c.d` is written as the IPv4 address
+    /// `a.b.c.d`.
     pub fn add_xor_peer_address(self, address: SocketAddr) -> ReplyWriter<B> {
         let id = self.reply.0.transaction_id();
         self.add_another(&further::XorPeerAddress::new(canonical(address), id))
     }
 
-    /// The bytes of the response.
+    /// Returns the bytes of the response, or the first error.
     fn bytes(reply: &Reply, page: Result<Page, StunWriteError>) -> Result<Vec<u8>, StunWriteError> {
         Ok(reply.0.finish_over(page?)?.into_std())
     }
@@ -1973,8 +1997,9 @@ impl ReplyWriter {
     ///
     /// # Errors
     ///
-    /// The error of the first attribute that could not be added, SOFTWARE and the signature
-    /// included: those of [`MessageWriteExt::add_attribute`].
+    /// If an attribute could not be added, the call fails with the error of the first such
+    /// attribute. Otherwise it fails if it cannot add SOFTWARE, the signature or FINGERPRINT. The
+    /// error is always one of those of [`MessageWriteExt::add_attribute`].
     ///
     /// [`MessageWriteExt::add_attribute`]: crate::types::prelude::MessageWriteExt::add_attribute
     pub fn finish(self) -> Result<Vec<u8>, StunWriteError> {
@@ -1983,13 +2008,14 @@ impl ReplyWriter {
 }
 
 impl<'b> ReplyWriter<&'b mut Vec<u8>> {
-    /// Ends the response, and returns the bytes to send to [`Reply::to`], which are those of the
-    /// buffer.
+    /// Ends the response, and returns the bytes to send to [`Reply::to`], which are in the buffer.
     ///
     /// # Errors
     ///
-    /// The error of the first attribute that could not be added, SOFTWARE and the signature
-    /// included: those of [`MessageWriteExt::add_attribute`]. The buffer is then empty.
+    /// If an attribute could not be added, the call fails with the error of the first such
+    /// attribute. Otherwise it fails if it cannot add SOFTWARE, the signature or FINGERPRINT. The
+    /// error is always one of those of [`MessageWriteExt::add_attribute`], and the buffer is then
+    /// empty.
     ///
     /// [`MessageWriteExt::add_attribute`]: crate::types::prelude::MessageWriteExt::add_attribute
     pub fn finish(self) -> Result<&'b [u8], StunWriteError> {

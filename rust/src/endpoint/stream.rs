@@ -4,8 +4,8 @@ use crate::exported::stun_extra::framing::{Frame, next_frame, next_turn_frame};
 use alloc::vec::Vec;
 use core::fmt;
 
-/// Cuts the bytes of a stream, such as a TCP connection, into messages (RFC 8489, section 6.2.2), or
-/// into messages and [`ChannelData`](crate::extra::turn::ChannelData) (RFC 8656, section 12.5).
+/// Cuts the bytes of a stream, such as a TCP connection, into messages (RFC 8489, section 6.2.2),
+/// or into messages and [`ChannelData`](crate::extra::turn::ChannelData) (RFC 8656, section 12.5).
 ///
 /// # Examples
 ///
@@ -26,20 +26,20 @@ use core::fmt;
 #[derive(Clone)]
 pub struct FrameBuffer {
     bytes: Vec<u8>,
-    /// How many bytes at the front were returned.
+    /// The number of bytes at the front that [`pop`](FrameBuffer::pop) has returned.
     popped: usize,
     longest: usize,
     has_channels: bool,
 }
 
-/// Like [`FrameBuffer::new`].
+/// Returns an empty buffer, like [`FrameBuffer::new`].
 impl Default for FrameBuffer {
     fn default() -> FrameBuffer {
         FrameBuffer::new()
     }
 }
 
-/// It shows how many bytes wait, and none of them.
+/// Shows the number of bytes in the buffer that were not returned yet, and none of the bytes.
 impl fmt::Debug for FrameBuffer {
     fn fmt(&self, f: &mut fmt::Formatter<'_>) -> fmt::Result {
         f.debug_struct("FrameBuffer")
@@ -63,7 +63,8 @@ impl fmt::Debug for FrameBuffer {
 #[derive(Clone, Copy, Debug, PartialEq, Eq, Hash)]
 #[non_exhaustive]
 pub enum StreamError {
-    /// The stream carries something else than STUN, or than TURN.
+    /// The stream carries something other than STUN (or, if [`FrameBuffer::for_turn`] made the
+    /// buffer, something other than STUN and ChannelData).
     NotStun,
     /// A message is longer than [`FrameBuffer::longest`] allows.
     TooLong,
@@ -93,8 +94,8 @@ impl FrameBuffer {
     }
 
     /// Returns an empty buffer for a stream of TURN, which also carries ChannelData.
-    /// [`pop`](Self::pop) returns it with its header and its padding, so its first byte is from 0x40
-    /// to 0x7F.
+    /// [`pop`](Self::pop) returns ChannelData with its header and its padding, so you recognize it
+    /// by its first byte, which is from 0x40 to 0x7F.
     ///
     /// # Examples
     ///
@@ -120,19 +121,20 @@ impl FrameBuffer {
         }
     }
 
-    /// Sets the longest message, in bytes with its header: any length, unless you call this, and then
-    /// a peer can make the buffer store 65,552 bytes beside what one [`push`](Self::push) adds. A
-    /// longer message fails as soon as its header is there.
+    /// Sets the length of the longest message that is allowed, in bytes and including its header.
+    /// By default any length is allowed, so a peer can make the buffer store 65,552 bytes in
+    /// addition to those that one [`push`](Self::push) adds. If a message is longer,
+    /// [`pop`](Self::pop) fails as soon as its header has arrived.
     #[must_use]
     pub fn longest(mut self, bytes: usize) -> FrameBuffer {
         self.longest = bytes;
         self
     }
 
-    /// Appends bytes that were read. Call [`pop`](Self::pop) until it returns `None` before the next
-    /// call of this, because a buffer that nobody empties grows.
+    /// Appends bytes that were read. Call [`pop`](Self::pop) until it returns `None` before you
+    /// call `push` again, because otherwise the buffer grows.
     pub fn push(&mut self, bytes: &[u8]) {
-        // The rest is moved only if that is the smaller half, so a byte is moved once in the mean.
+        // The rest is moved only if it is the smaller half, so each byte is moved once on average.
         if self.popped >= self.bytes.len() - self.popped {
             self.bytes.drain(..self.popped);
             self.popped = 0;
@@ -140,20 +142,21 @@ impl FrameBuffer {
         self.bytes.extend_from_slice(bytes);
     }
 
-    /// Returns how many bytes wait for the rest of their message, or for [`pop`](Self::pop).
+    /// Returns the number of bytes in the buffer that [`pop`](Self::pop) has not returned yet.
     #[must_use]
     pub fn waiting(&self) -> usize {
         self.bytes.len() - self.popped
     }
 
-    /// Removes the first message, and returns it, or `None` if it is not whole yet. Call it until it
-    /// returns `None`.
+    /// Removes the first message and returns it, or returns `None` if the message is not complete
+    /// yet. Call it until it returns `None`.
     ///
     /// # Errors
     ///
-    /// All further calls fail too.
+    /// After one of these errors, all further calls fail too.
     ///
-    /// - [`StreamError::NotStun`]: no message begins where one should.
+    /// - [`StreamError::NotStun`]: the bytes after the last message are not the beginning of a
+    ///   message.
     /// - [`StreamError::TooLong`]: the message is longer than [`longest`](Self::longest) allows.
     pub fn pop(&mut self) -> Result<Option<&[u8]>, StreamError> {
         let begin = self.popped;

@@ -12,14 +12,15 @@ use alloc::string::{String, ToString};
 use alloc::vec::Vec;
 use core::fmt;
 
-/// Users of limited time, as TURN servers for browsers have them: a name is `EXPIRY:USER`, where
-/// EXPIRY is in seconds since the beginning of 1970, and the password is the base64 of HMAC-SHA1 of
-/// the name under a secret. The service that hands names out and the servers that accept them share
-/// the secret, and neither stores a user. No RFC has this form, but coturn and many services do.
+/// Users whose names are valid for a limited time, as on TURN servers for browsers. A name is
+/// `EXPIRY:USER`, where EXPIRY is in seconds since the beginning of 1970. The password is the
+/// base64 of HMAC-SHA1 of the name under a secret. The service that issues names and the servers
+/// that accept them share the secret, and neither stores a user. No RFC describes this form, but
+/// coturn and many services use it.
 ///
-/// A hash of a name cannot be looked up, so switch
-/// [`user_hashes`](super::LongTerm::user_hashes) off. Everybody who is handed out two names is two
-/// users to the server, so count by [`user_in`](Self::user_in).
+/// The server cannot find a user by the hash of such a name, so switch off
+/// [`user_hashes`](super::LongTerm::user_hashes). If somebody has two names, the server sees two
+/// users, so count users by [`user_in`](Self::user_in).
 ///
 /// # Examples
 ///
@@ -73,22 +74,23 @@ impl fmt::Debug for TimeLimitedUsers {
 }
 
 impl TimeLimitedUsers {
-    /// Returns the users of a secret. Whoever has it can make valid names, and whoever has a name
-    /// with its password can try secrets, so it must be long and random.
+    /// Returns the users whose passwords are made with this secret. Anybody who has the secret can
+    /// make valid names, and anybody who has a name with its password can try secrets on it, so the
+    /// secret must be long and random.
     pub fn new(secret: impl Into<Vec<u8>>) -> TimeLimitedUsers {
         TimeLimitedUsers {
             secret: secret.into(),
         }
     }
 
-    /// Returns the name and the password of a user until this time.
+    /// Returns a name and a password for a user, which are valid until this time.
     #[must_use]
     pub fn credentials(&self, user: &str, until: UnixTime) -> LongTermCredentials {
         self.signed(alloc::format!("{}:{user}", until.as_secs()))
     }
 
     /// Returns the name and the password of the user whom a request names, or `None` if the request
-    /// has a hash of the name, if the name does not begin with a time, or if that time has come.
+    /// has a hash of the name, if the name does not begin with a time, or if that time has passed.
     #[must_use]
     pub fn find(&self, user: NamedUser<'_>, now: UnixTime) -> Option<LongTermCredentials> {
         let NamedUser::ByName(name) = user else {
@@ -98,7 +100,8 @@ impl TimeLimitedUsers {
         (until > now).then(|| self.signed(name.to_string()))
     }
 
-    /// Returns the time until which a name is valid, or `None` if it does not begin with one.
+    /// Returns the time until which a name is valid, or `None` if the name does not begin with a
+    /// time.
     #[must_use]
     pub fn expiry_in(name: &str) -> Option<UnixTime> {
         let (seconds, _) = name.split_once(':').unwrap_or((name, ""));
@@ -107,7 +110,8 @@ impl TimeLimitedUsers {
         Some(UnixTime::from_secs(seconds))
     }
 
-    /// Returns the user in a name: what follows the first colon, or all of it if it has none.
+    /// Returns the user in a name, which is the part after the first colon, or the whole name if it
+    /// has no colon.
     #[must_use]
     pub fn user_in(name: &str) -> &str {
         name.split_once(':').map_or(name, |(_, user)| user)

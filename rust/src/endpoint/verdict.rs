@@ -1,4 +1,4 @@
-//! Events that record what datagrams come to, if the feature `tracing` is on.
+//! Events that record the outcomes of datagrams, if the feature `tracing` is on.
 
 use super::{
     Answer, Cause, Input, OpenReceived, Received, RequestError, RequestId, Response,
@@ -8,8 +8,8 @@ use crate::message::Message;
 use crate::trace::{event, id_in};
 use core::net::SocketAddr;
 
-/// What a datagram comes to. `code` is that of the error response, sent or received, and `reason`
-/// is the name of why the datagram is refused or dropped.
+/// The outcome of a datagram. `code` is the code of the error response that was sent or received,
+/// and `reason` is the name of the reason why the datagram is refused or dropped.
 pub(crate) struct Verdict {
     kind: &'static str,
     code: Option<u16>,
@@ -53,7 +53,8 @@ impl Verdict {
 
 /// The result of a call that judges datagrams.
 pub(crate) trait Judged {
-    /// Returns what the datagram came to. `cause` returns why a server with causes refused it.
+    /// Returns the outcome of the datagram. `cause` is called to find out why a server with
+    /// long-term credentials refused it.
     fn verdict(&self, bytes: &[u8], cause: impl FnOnce() -> Option<Cause>) -> Verdict;
 }
 
@@ -94,7 +95,7 @@ impl<B> Judged for ShortTermReceived<'_, B> {
     }
 }
 
-/// The code is that of an accepted error response, such as a challenge.
+/// The code of the outcome is the code of the error response, such as a challenge.
 impl Judged for Input<'_> {
     fn verdict(&self, bytes: &[u8], _: impl FnOnce() -> Option<Cause>) -> Verdict {
         let code = || Message::from_bytes(bytes).ok()?.error_code().ok();
@@ -138,7 +139,7 @@ fn refused(refusal: ice::Refusal) -> &'static str {
     }
 }
 
-/// Returns what the answer to a check comes to.
+/// Returns the outcome of the answer to a check.
 fn ended(outcome: ice::Outcome) -> Verdict {
     let (code, reason) = match outcome {
         ice::Outcome::Valid { .. } => return Verdict::new("valid"),
@@ -155,8 +156,8 @@ fn ended(outcome: ice::Outcome) -> Verdict {
     }
 }
 
-/// Records what a datagram came to. The cause is only found out if somebody listens, because the
-/// server judges the request again for it.
+/// Records the outcome of a datagram. The cause is determined only if the event has a subscriber,
+/// because the server judges the request again to find it.
 pub(crate) fn record(
     bytes: &[u8],
     from: SocketAddr,
@@ -169,12 +170,12 @@ pub(crate) fn record(
     }
 }
 
-/// Records that a request waits for its user.
+/// Records the event of a request that waits for its user.
 pub(crate) fn record_look_up(bytes: &[u8], from: SocketAddr) {
     event!(id = id_in(bytes), %from, verdict = "look-up", "received");
 }
 
-/// Records how a request ended.
+/// Records the event of a request that has ended, with its result.
 pub(crate) fn record_end(request: RequestId, result: &Result<Response, RequestError>) {
     match result {
         Ok(_) => {

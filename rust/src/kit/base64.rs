@@ -12,13 +12,18 @@ pub struct Standard;
 /// The alphabet of RFC 4648, section 4, with padding.
 pub const STANDARD: Standard = Standard;
 
-/// The text is not base64 in groups of four characters, or its bytes do not fit.
+/// The error if a text is not base64 in groups of four characters, or if its bytes do not fit into
+/// the slice.
 #[derive(Clone, Copy, Debug, PartialEq, Eq)]
 pub struct NotDecoded;
 
+/// The error if the characters do not fit into the slice.
+#[derive(Clone, Copy, Debug, PartialEq, Eq)]
+pub struct NoRoom;
+
 impl Standard {
-    /// Decodes a text into `bytes`, and returns how many bytes that gave. Only whole groups of four
-    /// characters without padding are decoded, because the sources need no others.
+    /// Decodes a text into `bytes`, and returns the number of decoded bytes. Only whole groups of
+    /// four characters without padding are decoded, because the sources need no others.
     pub fn decode_slice(self, letters: &[u8], bytes: &mut [u8]) -> Result<usize, NotDecoded> {
         let length = letters.len() / 4 * 3;
         if letters.len() % 4 != 0 || length > bytes.len() {
@@ -42,21 +47,35 @@ impl Standard {
         text: &mut String<A>,
     ) -> Result<(), AllocError> {
         for group in bytes.chunks(3) {
-            let mut whole = [0; 4];
-            whole[1..=group.len()].copy_from_slice(group);
-            let bits = u32::from_be_bytes(whole);
-            for place in 0..4 {
-                let six = bits >> (18 - 6 * place) & 63;
-                let letter = if place <= group.len() {
-                    LETTERS[six as usize]
-                } else {
-                    b'='
-                };
+            for letter in letters_of(group) {
                 text.push(char::from(letter))?;
             }
         }
         Ok(())
     }
+
+    /// Writes the base64 of `bytes` at the start of `letters`, with padding, and returns its
+    /// length.
+    pub fn encode_slice(self, bytes: &[u8], letters: &mut [u8]) -> Result<usize, NoRoom> {
+        let length = bytes.len().div_ceil(3) * 4;
+        let room = letters.get_mut(..length).ok_or(NoRoom)?;
+        for (group, four) in bytes.chunks(3).zip(room.chunks_exact_mut(4)) {
+            four.copy_from_slice(&letters_of(group));
+        }
+        Ok(length)
+    }
+}
+
+/// Returns the four characters of a group of one to three bytes.
+fn letters_of(group: &[u8]) -> [u8; 4] {
+    let mut whole = [0; 4];
+    whole[1..=group.len()].copy_from_slice(group);
+    let bits = u32::from_be_bytes(whole);
+    let mut letters = [b'='; 4];
+    for (letter, place) in letters.iter_mut().zip(0..=group.len()) {
+        *letter = LETTERS[(bits >> (18 - 6 * place) & 63) as usize];
+    }
+    letters
 }
 
 /// Why letters were not decoded into memory of an allocator.

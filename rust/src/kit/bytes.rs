@@ -12,13 +12,13 @@ pub trait ByteOrder {
     /// Reads a number of 64 bits from the front of a slice.
     fn read_u64(bytes: &[u8]) -> u64;
 
-    /// Reads a number of `length` bytes from the front of a slice, at most 16.
+    /// Reads a number of `length` bytes from the front of a slice. `length` must be at most 16.
     fn read_uint128(bytes: &[u8], length: usize) -> u128;
 
     /// Writes a number of 16 bits to the front of a slice.
     fn write_u16(bytes: &mut [u8], number: u16);
 
-    /// Writes a number of `length` bytes to the front of a slice, at most 16.
+    /// Writes a number of `length` bytes to the front of a slice. `length` must be at most 16.
     fn write_uint128(bytes: &mut [u8], number: u128, length: usize);
 }
 
@@ -28,7 +28,7 @@ pub enum BigEndian {}
 /// The lowest byte first.
 pub enum LittleEndian {}
 
-/// The first `N` bytes of a slice.
+/// Returns the first `N` bytes of a slice.
 fn first<const N: usize>(bytes: &[u8]) -> [u8; N] {
     *bytes
         .first_chunk()

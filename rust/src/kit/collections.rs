@@ -1,4 +1,4 @@
 //! Collections whose growth can fail.
 
 pub use super::heap::BinaryHeap;
-pub use super::map::{BTreeMap, BTreeSet};
+pub use super::map::{BTreeMap, BTreeSet, Key};

@@ -19,7 +19,7 @@ impl<T: Ord, A: Allocator> BinaryHeap<T, A> {
         }
     }
 
-    /// Reserves capacity for this number of further items.
+    /// Reserves capacity for at least `additional` more items.
     pub fn reserve(&mut self, additional: usize) -> Result<(), AllocError> {
         let (len, before) = (self.items.len(), self.items.capacity());
         let least = len.checked_add(additional).ok_or(AllocError)?;

@@ -1,9 +1,10 @@
 //! Ordered maps and sets whose growth can fail.
 //!
-//! The standard `BTreeMap` aborts the program if an allocation fails. So this is a B-tree of its
-//! own, which allocates memory before any entry moves. Its nodes have no entries, but their rows in
-//! a list, and the first bits of their keys. So one tree is enough for maps of all types, and most
-//! keys are compared without a look at them.
+//! The standard `BTreeMap` aborts the program if an allocation fails. So this module has a B-tree
+//! of its own, which allocates memory before any entry moves. The entries are in a list, and the
+//! row of an entry is its number in this list. A node of the tree has only the rows of entries and
+//! the first bits of their keys. So one tree is enough for maps of all types, and most comparisons
+//! do not look at the keys themselves.
 
 mod entries;
 mod key;
@@ -18,7 +19,7 @@ use core::borrow::Borrow;
 use core::ops::{Bound, RangeBounds, RangeFrom};
 use core::{fmt, mem};
 use entries::Entries;
-use key::Key;
+pub use key::Key;
 use node::{Sought, Spot};
 use rows::Rows;
 use tree::Tree;
@@ -55,7 +56,7 @@ impl<K: Key, V, A: Allocator> BTreeMap<K, V, A> {
     where
         K: Borrow<Q>,
     {
-        if let Some((_, value)) = self.recent(key) {
+        if let Some((_, (_, value))) = self.recent(key) {
             return Some(value);
         }
         let order = |row| Ord::cmp(self.rows.get(row).0.borrow(), key);
@@ -63,13 +64,15 @@ impl<K: Key, V, A: Allocator> BTreeMap<K, V, A> {
         Some(&self.rows.get(row).1)
     }
 
-    /// Returns the recent entry, if it has this key.
-    fn recent<Q: Key + ?Sized>(&self, key: &Q) -> Option<&(K, V)>
+    /// Returns the recent row and its entry, or `None` if the entry does not have this key. The row
+    /// is read only once, because another thread may change the recent row at any time.
+    fn recent<Q: Key + ?Sized>(&self, key: &Q) -> Option<(usize, &(K, V))>
     where
         K: Borrow<Q>,
     {
-        let recent = self.rows.find(self.tree.recent())?;
-        (recent.0.borrow() == key).then_some(recent)
+        let row = self.tree.recent();
+        let entry = self.rows.find(row)?;
+        (entry.0.borrow() == key).then_some((row, entry))
     }
 
     /// Returns the entry with the least key.
@@ -82,8 +85,8 @@ impl<K: Key, V, A: Allocator> BTreeMap<K, V, A> {
     where
         K: Borrow<Q>,
     {
-        let row = if self.recent(key).is_some() {
-            self.tree.recent()
+        let row = if let Some((row, _)) = self.recent(key) {
+            row
         } else {
             let order = |row| Ord::cmp(self.rows.get(row).0.borrow(), key);
             self.tree.visit(&Sought::new(key, &order))?
@@ -114,8 +117,8 @@ impl<K: Key, V, A: Allocator> BTreeMap<K, V, A> {
         }
     }
 
-    /// Returns the row of a key, if the map has it. If not, inserts the key in the tree with the
-    /// next row, for which there is memory.
+    /// Returns the row of a key that the map has. For a new key, allocates memory for the next row
+    /// if necessary, inserts the key in the tree with this row, and returns `None`.
     fn enter(&mut self, key: &K) -> Result<Option<usize>, AllocError> {
         let order = |row| self.rows.get(row).0.cmp(key);
         let sought = Sought::new(key, &order);
@@ -166,8 +169,8 @@ impl<K: Key, V, A: Allocator> BTreeMap<K, V, A> {
         self.rows.swap_remove(row, &self.alloc)
     }
 
-    /// Retains only the entries for which `condition` returns `true`. It is called in the order of
-    /// the keys. This does not allocate.
+    /// Retains only the entries for which `condition` returns `true`. The function is called in the
+    /// order of the keys. This does not allocate.
     pub fn retain(&mut self, mut condition: impl FnMut(&K, &mut V) -> bool) {
         let (rows, mut len) = (&mut self.rows, 0);
         let mut is_kept = |row| {
@@ -206,8 +209,9 @@ impl<K: Key, V, A: Allocator> BTreeMap<K, V, A> {
     pub fn range<R: RangeBounds<K>>(&self, range: R) -> impl Iterator<Item = (&K, &V)> {
         let has_end = !matches!(range.end_bound(), Bound::Unbounded);
         let entries = Entries::new(&self.tree, &self.rows, self.seek(range.start_bound()));
-        // The entries begin at the start of the range. So a range without an end is not needed
-        // again, and moving it into the iterator would take longer than a step of a walk.
+        // The iterator begins at the start of the range, and needs only the end from now on. A
+        // range without an end is dropped, because moving it into the iterator would take longer
+        // than one step.
         let range = has_end.then_some(range);
         entries.take_while(move |(key, _)| match range.as_ref().map(R::end_bound) {
             Some(Bound::Included(end)) => *key <= end,
@@ -221,8 +225,9 @@ impl<K: Key, V, A: Allocator> BTreeMap<K, V, A> {
         let (Bound::Included(key) | Bound::Excluded(key)) = start else {
             return self.tree.seek(Bound::Unbounded).0;
         };
-        if matches!(start, Bound::Excluded(_)) && self.recent(key).is_some() {
-            let next = self.tree.next_recent(self.tree.recent());
+        if matches!(start, Bound::Excluded(_)) {
+            let recent = self.recent(key);
+            let next = recent.and_then(|(row, _)| self.tree.next_recent(row));
             if next.is_some() {
                 return next;
             }

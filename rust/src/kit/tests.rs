@@ -1,4 +1,5 @@
-//! Each collection beside the standard one, with memory refused; the rest by known values.
+//! Each collection is compared with the standard one while memory is refused. The other modules are
+//! tested with known values.
 
 extern crate std;
 
@@ -30,12 +31,12 @@ impl Sparse {
         }
     }
 
-    /// Counts an allocation that is not made, for a game without any.
+    /// Counts an allocation although none is made, for a game that does not allocate.
     pub(super) fn ask(&self) {
         self.asked.set(self.asked.get() + 1);
     }
 
-    /// How many bytes are granted now.
+    /// Returns how many bytes are granted now.
     pub(super) fn bytes(&self) -> usize {
         let granted = self.granted.borrow();
         granted
@@ -81,7 +82,7 @@ impl Dice {
 
 const EVERY: [u64; 4] = [0, 2, 3, 7];
 
-/// Plays so many turns for each rate of refusals, and asserts that all memory comes back.
+/// Plays this many turns for each rate of refusals, and asserts that all memory is freed.
 pub(super) fn play(turns: u64, mut game: impl FnMut(&Sparse, &mut Dice, u64)) {
     for every in EVERY {
         let heap = Sparse::new(every);
@@ -142,7 +143,7 @@ fn a_map_is_as_the_standard_one() {
     }
 }
 
-/// Nodes that are nearly empty are merged, so that a map which shrinks gives back memory.
+/// Nodes that are nearly empty are merged, so that a map which shrinks frees memory.
 #[test]
 fn a_map_that_shrinks_gives_back_memory() {
     let heap = Sparse::new(0);
@@ -164,7 +165,7 @@ fn a_map_that_shrinks_gives_back_memory() {
     );
 }
 
-/// A value is replaced without memory, also in a tree whose nodes are full.
+/// Replacing a value does not allocate, even in a tree whose nodes are full.
 #[test]
 fn a_key_that_is_there_takes_no_memory() {
     let heap = Sparse::new(0);
@@ -179,7 +180,7 @@ fn a_key_that_is_there_takes_no_memory() {
     }
 }
 
-/// A node may lose all entries while the next one is full. Then the keys behind it are still found.
+/// A node may lose all entries while the next one is full. The keys after it are still found then.
 #[test]
 fn a_map_stands_with_an_empty_node() {
     let mut map = BTreeMap::new(Global);
@@ -248,7 +249,7 @@ fn a_map_of_runs_is_as_the_standard_one() {
             assert_eq!(ours.remove_entry(&key), other.remove_entry(&key));
         }
         assert!(ours.is_empty() && ours.iter().next().is_none());
-        let left = 32 * size_of::<[u64; 4]>(); // where sizes have 64 bits, and less elsewhere
+        let left = 32 * size_of::<[u64; 4]>(); // with sizes of 64 bits, and less with shorter ones
         assert!(heap.bytes() <= left, "that of one node and of one block");
     });
 }
@@ -315,7 +316,7 @@ fn a_set_is_as_the_standard_one() {
     });
 }
 
-/// Nothing, or a number and what comes after it.
+/// A number, and the row that comes after it, if there is one.
 struct Row<'a>(u32, Option<Box<Row<'a>, &'a Sparse>>);
 
 #[test]
@@ -409,7 +410,7 @@ fn a_text_is_as_the_standard_one() {
             };
             if result.is_err() {
                 assert!(heap.every > 0);
-                // What `write!` formats comes in pieces, of which the first may be there.
+                // `write!` formats in pieces, and the first of them may have been appended.
                 assert!(ours.as_str().starts_with(&other));
                 other.clear();
                 other.push_str(&ours);
@@ -432,8 +433,8 @@ fn a_text_is_as_the_standard_one() {
     });
 }
 
-/// Of what is UTF-8 a text is made, of whatever length; of what is none, at any place, the bytes
-/// come back.
+/// Bytes of any length become a text if they are UTF-8. If they are not UTF-8, wherever that is,
+/// they are returned.
 #[test]
 fn bytes_that_are_no_text_come_back() {
     for length in [0, 1, 2, 15, 16, 17, 31, 32, 33, 63, 64, 65, 100, 763] {
@@ -473,7 +474,8 @@ fn a_block_is_tested_at_each_place() {
     }
 }
 
-/// What the process cannot give is refused, and then the allocator is told.
+/// If the process cannot make an allocation that the allocator granted, the call fails and returns
+/// the grant to the allocator.
 #[test]
 fn what_the_process_refuses_is_given_back() {
     let heap = Sparse::new(0);
@@ -499,7 +501,7 @@ fn short_rows_take_so_many_items() {
     assert_eq!(AsSlice::as_slice(&[4u8, 5]), [4, 5]);
 }
 
-/// RFC 4648, section 10.
+/// The examples of RFC 4648, section 10.
 #[test]
 fn base64_is_that_of_the_rfc() {
     let letters = [
@@ -511,6 +513,10 @@ fn base64_is_that_of_the_rfc() {
             .encode_string(&b"foobar"[..length], &mut text)
             .unwrap();
         assert_eq!(text.as_str(), letters);
+        let mut slice = [0; 8];
+        let written = base64::STANDARD.encode_slice(&b"foobar"[..length], &mut slice);
+        assert_eq!(written, Ok(letters.len()));
+        assert_eq!(&slice[..letters.len()], letters.as_bytes());
         let mut bytes = [0; 6];
         let read = base64::STANDARD.decode_slice(letters.as_bytes(), &mut bytes);
         assert_eq!(
@@ -562,7 +568,8 @@ fn digest<H: Digest + TryClone>(pieces: &[&[u8]]) -> H::Bytes {
     copy.finalize()
 }
 
-/// By the state after the first block of a text, from which another text was hashed before.
+/// Returns the digest of a text, continued from the state after its first block. Another text has
+/// been hashed from that state before.
 fn begun_digest<B: From<H> + TryClone, H: Digest + From<B>>(text: &[u8], end: usize) -> H::Bytes {
     let mut hasher = H::new();
     hasher.update(&text[..64]);
@@ -586,7 +593,7 @@ fn hashers_start_after_a_block() {
     }
 }
 
-/// RFC 1321, section A.5; FIPS 180-4, as NIST's examples have them.
+/// The examples of RFC 1321, section A.5, and those that NIST publishes for FIPS 180-4.
 #[test]
 fn digests_are_those_of_the_standards() {
     let abc: &[&[u8]] = &[b"a", b"bc"];

@@ -52,7 +52,7 @@ impl Conversation {
         self.client.sign_outgoing_message(request).unwrap().finish()
     }
 
-    /// What the server says of a request, and its answer.
+    /// Returns the server's verdict on a request, and its answer.
     pub fn answer(
         &mut self,
         request: &[u8],

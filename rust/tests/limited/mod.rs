@@ -1,5 +1,5 @@
-//! An allocator that ends: of the system's memory each thread may have a number of blocks more than
-//! it has.
+//! An allocator that runs out of memory: each thread may allocate only a given number of further
+//! blocks.
 #![allow(dead_code)]
 
 use std::alloc::{GlobalAlloc, Layout, System};
@@ -11,7 +11,7 @@ thread_local! {
     static LEFT: Cell<usize> = const { Cell::new(usize::MAX) };
 }
 
-/// Takes a block of what is left, if there is one.
+/// Counts one more block, and returns `true` if the thread may still allocate it.
 fn take() -> bool {
     LEFT.with(|left| match left.get() {
         0 => false,
@@ -23,7 +23,7 @@ fn take() -> bool {
     })
 }
 
-// SAFETY: all is passed on to the system, or refused.
+// SAFETY: each call is passed on to the system's allocator, or refused.
 unsafe impl GlobalAlloc for Limited {
     unsafe fn alloc(&self, layout: Layout) -> *mut u8 {
         match take() {
@@ -48,7 +48,7 @@ unsafe impl GlobalAlloc for Limited {
 #[global_allocator]
 static MEMORY: Limited = Limited;
 
-/// Makes a call with so few blocks.
+/// Makes a call that may allocate at most this many blocks.
 pub fn within<T>(blocks: usize, call: impl FnOnce() -> T) -> T {
     LEFT.with(|left| left.set(blocks));
     let result = call();

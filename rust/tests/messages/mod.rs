@@ -1,4 +1,4 @@
-//! Requests of a client, and the answers to them.
+//! Requests of a client, and the responses to them.
 use seatcrane_stun::types::attribute::XorMappedAddress;
 use seatcrane_stun::types::message::*;
 use seatcrane_stun::types::prelude::*;
@@ -16,7 +16,7 @@ pub fn request(number: u8) -> MessageWriteVec {
     Message::builder_request_with_id(BINDING, id(number), MessageWriteVec::new())
 }
 
-/// The answer to a request that came from an address.
+/// Writes the success response to a request that came from an address.
 pub fn success<W: MessageWrite>(request: &Message<'_>, from: SocketAddr, writer: W) -> W {
     let mut response = Message::builder_success(request, writer);
     let address = XorMappedAddress::new(from, request.transaction_id());

@@ -1,4 +1,4 @@
-//! A client and a server, both over the endpoint.
+//! A client and a server, both as one value of `endpoint`.
 #![allow(dead_code)]
 
 use seatcrane_stun::Instant;
@@ -12,7 +12,7 @@ pub const SHA256: IntegrityAlgorithm = IntegrityAlgorithm::Sha256;
 pub const BOTH: [IntegrityAlgorithm; 2] = [SHA1, SHA256];
 pub const SERVER: &str = "192.0.2.1:3478";
 
-/// Numbers that depend on a seed (splitmix64).
+/// Pseudo-random numbers from a seed (splitmix64).
 pub struct Rng(pub u64);
 
 impl Rng {
@@ -29,7 +29,8 @@ impl Rng {
     }
 }
 
-/// How many times a test is to repeat what it does: the number in the environment, or this one.
+/// Returns how many times a test should run: the number in this environment variable, or
+/// `unless_set`.
 pub fn times(name: &str, unless_set: u64) -> u64 {
     std::env::var(name).map_or(unless_set, |text| text.parse().expect("a number"))
 }
@@ -42,12 +43,12 @@ pub fn ms(milliseconds: u64) -> Instant {
     Instant::ZERO + Duration::from_millis(milliseconds)
 }
 
-/// The wall clock of the server when the client's clock has this time.
+/// Returns the wall-clock time of the server when the client's clock shows this time.
 pub fn wall(now: Instant) -> UnixTime {
     UnixTime::from_secs(1_700_000_400 + now.duration_since(Instant::ZERO).as_secs())
 }
 
-/// A server of one user, whose nonces are sent for 600 s.
+/// A server with one user, whose nonces are sent for 600 s.
 pub struct Service {
     pub server: Server,
     pub users: Users,
@@ -95,7 +96,8 @@ pub fn binding(client: &mut Client, now: Instant) -> RequestId {
 
 pub type Ended = (RequestId, Result<Response, RequestError>);
 
-/// Answers what the client sends until it waits. Returns the codes, and what ended.
+/// Answers the client's requests until it waits. Returns the codes of the answers, and the requests
+/// that ended.
 pub fn exchange(
     client: &mut Client,
     service: &Service,
@@ -116,7 +118,7 @@ pub fn exchange(
     }
 }
 
-/// The algorithm of the success that the only request ended with.
+/// Returns the algorithm of the success with which the only request ended.
 pub fn signed_by(ended: &[Ended]) -> Option<IntegrityAlgorithm> {
     match ended {
         [(_, Ok(response))] => response.signed_by(),

@@ -1,4 +1,4 @@
-//! A subscriber that notes each event of the crate as a line.
+//! A subscriber that records each event of the crate as a line.
 
 use std::fmt::{Debug, Write};
 use std::sync::{Arc, Mutex};
@@ -6,7 +6,7 @@ use tracing::field::{Field, Visit};
 use tracing::span::{Attributes, Id, Record};
 use tracing::{Event, Metadata, Subscriber};
 
-/// Notes each event as a line.
+/// Records each event as a line.
 #[derive(Clone, Default)]
 pub struct Lines(pub Arc<Mutex<Vec<String>>>);
 

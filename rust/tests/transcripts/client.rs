@@ -1,4 +1,4 @@
-//! `endpoint client ..`: a client as one value.
+//! Plays `endpoint client ..`: a client as one value.
 
 use crate::look_ups::{algorithm, algorithms, understood};
 use crate::messages::{address_in, attributes, in_words};
@@ -10,17 +10,22 @@ use seatcrane_stun::auth::Feature;
 use seatcrane_stun::endpoint::*;
 use seatcrane_stun::types::attribute::{AttributeType, RawAttribute};
 use seatcrane_stun::types::message::{IntegrityAlgorithm, Method};
+use std::time::Duration;
 
 const PEER: u16 = 0x0012;
 /// The ID of the message whose attributes make a body.
 const CARRIER_ID: [u8; 12] = *b"\0\0\0\0\0\0\0\0\0\0\0\x01";
 
-/// The requests have numbers in the order in which they were made, the first one 1.
+/// A client and its requests, which are numbered from 1 in the order in which they were made.
 #[derive(Default)]
 pub struct ClientStage {
     builder: Option<ClientBuilder>,
     client: Option<Client>,
     requests: Vec<RequestId>,
+    /// The options of the next request.
+    options: RequestOptions,
+    /// The round-trip time of the response that was returned last.
+    round_trip: Option<Duration>,
 }
 
 impl ClientStage {
@@ -31,6 +36,14 @@ impl ClientStage {
             ("request", [method, words @ ..]) => self.request(around, method, words),
             ("hears", words) => self.hear(around, words),
             ("polls", []) => self.poll(around),
+            ("options", words) => {
+                self.options = with_option(self.options, words)?;
+                Some(String::new())
+            }
+            ("round-trip", []) => {
+                let known = self.round_trip.map(|trip| span_text(trip.as_nanos()));
+                Some(known.unwrap_or_else(|| "none".to_string()))
+            }
             ("cancel", [word]) => {
                 let request = self.numbered(word)?;
                 let is_cancelled = self.client.as_mut()?.cancel(request);
@@ -65,7 +78,7 @@ impl ClientStage {
         Some(String::new())
     }
 
-    /// `request METHOD ATTRIBUTE ..`: its number.
+    /// Plays `request METHOD ATTRIBUTE ..`: starts a request, and returns its number.
     fn request(&mut self, around: &Around<'_>, method: &str, words: &[&str]) -> Option<String> {
         let method = u16::from_str_radix(method.strip_prefix("0x")?, 16).ok()?;
         let carrier = around.carrier(words)?;
@@ -81,10 +94,12 @@ impl ClientStage {
             };
         }
         let method = Method::new(method)?;
-        match self.client.as_mut()?.request(method, body, at(around)) {
+        let client = self.client.as_mut()?;
+        match client.request_with(method, body, &self.options, at(around)) {
             Ok(request) => self.requests.push(request),
             Err(why) => return Some(format!("{why:?}")),
         }
+        self.options = RequestOptions::new();
         Some(format!("request {}", self.requests.len()))
     }
 
@@ -105,15 +120,13 @@ impl ClientStage {
             Output::Transmit { bytes, .. } => format!("sends {}", in_words(bytes)),
             Output::Ended(request, result) => {
                 let place = self.requests.iter().position(|one| *one == request)?;
+                self.round_trip = round_trip_of(&result);
                 format!("{} {}", place + 1, of_result(result))
             }
             Output::Wait(None) => "wait".to_string(),
             Output::Wait(Some(until)) => {
                 let nanos = until.duration_since(Instant::ZERO).as_nanos();
-                match nanos % 1_000_000 {
-                    0 => format!("wait {}ms", nanos / 1_000_000),
-                    _ => format!("wait {nanos}ns"),
-                }
+                format!("wait {}", span_text(nanos))
             }
             _ => return None,
         })
@@ -122,6 +135,43 @@ impl ClientStage {
 
 fn at(around: &Around<'_>) -> Instant {
     Instant::ZERO + around.now
+}
+
+fn span_text(nanos: u128) -> String {
+    match nanos % 1_000_000 {
+        0 => format!("{}ms", nanos / 1_000_000),
+        _ => format!("{nanos}ns"),
+    }
+}
+
+fn plan([first, most, sends, last]: [&str; 4]) -> Option<Retransmission> {
+    let sends = u32::try_from(number(sends)?).ok()?;
+    Some(Retransmission::new(
+        span(first)?,
+        span(most)?,
+        sends,
+        span(last)?,
+    ))
+}
+
+fn with_option(options: RequestOptions, words: &[&str]) -> Option<RequestOptions> {
+    Some(match words {
+        ["unsigned"] => options.unsigned(),
+        ["retransmission", first, most, sends, last] => {
+            options.retransmission(plan([first, most, sends, last])?)
+        }
+        ["from", word] => options.answered_from(address(word)?),
+        _ => return None,
+    })
+}
+
+fn round_trip_of(result: &Result<Response, RequestError>) -> Option<Duration> {
+    match result {
+        Ok(response) => response.round_trip(),
+        Err(RequestError::Refused(error)) => error.round_trip(),
+        Err(RequestError::Redirected(to)) => to.round_trip(),
+        Err(_) => None,
+    }
 }
 
 fn set(builder: ClientBuilder, name: &str, words: &[&str]) -> Option<ClientBuilder> {
@@ -142,9 +192,7 @@ fn set(builder: ClientBuilder, name: &str, words: &[&str]) -> Option<ClientBuild
         }),
         ("stream", []) => builder.transport(Transport::Stream),
         ("retransmission", [first, most, sends, last]) => {
-            let sends = u32::try_from(number(sends)?).ok()?;
-            let plan = Retransmission::new(span(first)?, span(most)?, sends, span(last)?);
-            builder.retransmission(plan)
+            builder.retransmission(plan([first, most, sends, last])?)
         }
         ("challenges", [word]) => builder.challenges(u32::try_from(number(word)?).ok()?),
         ("accepts-unsigned", []) => builder.accept_unsigned(true),

@@ -1,4 +1,4 @@
-//! Digests of messages, apart from the library.
+//! Digests of messages, computed without the library.
 
 use md5::{Digest, Md5};
 use sha1::Sha1;
@@ -30,7 +30,7 @@ pub enum Algorithm {
 }
 
 impl Algorithm {
-    /// The type of the attribute and the length of its value.
+    /// Returns the type of the attribute and the length of its value.
     pub fn attribute(self) -> (u16, usize) {
         match self {
             Algorithm::Sha1 => (0x0008, 20),
@@ -45,7 +45,7 @@ impl Algorithm {
         }
     }
 
-    /// The key of a user of a realm (RFC 8489, section 9.2.2).
+    /// Returns the key of a user of a realm (RFC 8489, section 9.2.2).
     pub fn key(self, user: &str, realm: &str, password: &str) -> Vec<u8> {
         let text = format!("{user}:{realm}:{password}");
         match self {
@@ -55,7 +55,7 @@ impl Algorithm {
     }
 }
 
-/// The value of FINGERPRINT (RFC 8489, section 14.7).
+/// Returns the value of FINGERPRINT (RFC 8489, section 14.7).
 pub fn fingerprint(bytes: &[u8]) -> u32 {
     let mut rest = u32::MAX;
     for byte in bytes {

@@ -1,4 +1,4 @@
-//! `endpoint ice ..`: an agent of ICE.
+//! Plays `endpoint ice ..`: an ICE agent.
 
 use crate::messages::{attributes, in_words};
 use crate::servers::{is_of, unless};
@@ -64,13 +64,13 @@ impl IceStage {
         }
     }
 
-    /// Where the last stored check with an ID is.
+    /// Returns the index of the last stored check with this ID.
     fn place(&self, id: [u8; 12]) -> Option<usize> {
         let id = TransactionId::from(id);
         self.checks.iter().rposition(|check| check.id() == id)
     }
 
-    /// `new NAME PASSWORD PEER-NAME PEER-PASSWORD TIE-BREAKER ROLE`
+    /// Plays `new NAME PASSWORD PEER-NAME PEER-PASSWORD TIE-BREAKER ROLE`.
     fn build(&mut self, words: &[&str]) -> Option<String> {
         let [name, password, peer_name, peer_password, tie_breaker, word] = words else {
             return None;
@@ -94,7 +94,7 @@ impl IceStage {
         Some(String::new())
     }
 
-    /// `offer NAME PASSWORD TIE-BREAKER ROLE`
+    /// Plays `offer NAME PASSWORD TIE-BREAKER ROLE`.
     fn offer(&mut self, words: &[&str]) -> Option<String> {
         let [name, password, tie_breaker, word] = words else {
             return None;
@@ -112,7 +112,7 @@ impl IceStage {
         Some(String::new())
     }
 
-    /// `peer NAME PASSWORD`
+    /// Plays `peer NAME PASSWORD`.
     fn set_remote(&mut self, words: &[&str]) -> Option<String> {
         let [name, password] = words else {
             return None;
@@ -130,7 +130,7 @@ impl IceStage {
         }
     }
 
-    /// `check ID ADDRESS PRIORITY [nominates]`
+    /// Plays `check ID ADDRESS PRIORITY [nominates]`.
     fn check(&mut self, words: &[&str]) -> Option<String> {
         let [word, to, priority, words @ ..] = words else {
             return None;
@@ -149,7 +149,7 @@ impl IceStage {
         Some(self.store(check, id, to))
     }
 
-    /// `check-with ID ADDRESS PRIORITY [nominates] ATTRIBUTE ..`
+    /// Plays `check-with ID ADDRESS PRIORITY [nominates] ATTRIBUTE ..`.
     fn check_with(&mut self, around: &Around<'_>, words: &[&str]) -> Option<String> {
         let [word, to, priority, words @ ..] = words else {
             return None;
@@ -177,7 +177,7 @@ impl IceStage {
         }
     }
 
-    /// Stores a check of this agent, and answers it.
+    /// Stores a check of this agent, and returns its text.
     fn store(&mut self, check: Check, id: TransactionId, to: SocketAddr) -> String {
         let (role, nominates) = (role_name(check.role()), check.nominates());
         let nominates = if nominates { " nominates" } else { "" };
@@ -187,7 +187,7 @@ impl IceStage {
         format!("{role}{nominates}: {words}{}", unless(is_so))
     }
 
-    /// What a datagram comes to, with one of the stored checks.
+    /// Returns the outcome of a datagram, judged with one of the stored checks.
     fn hear(&mut self, around: &Around<'_>, bytes: &[u8], place: Option<usize>) -> Option<String> {
         let checker = self.checker.as_mut()?;
         let check = place.map(|place| &self.checks[place]);

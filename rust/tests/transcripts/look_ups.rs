@@ -1,4 +1,4 @@
-//! `endpoint server ..`: a server that looks its users up.
+//! Plays `endpoint server ..`: a server that looks its users up.
 
 use crate::servers::*;
 use crate::stage::{Around, until_enough};
@@ -10,7 +10,8 @@ use seatcrane_stun::types::attribute::AttributeType;
 use seatcrane_stun::types::message::{IntegrityAlgorithm, LongTermCredentials};
 use std::net::SocketAddr;
 
-/// Servers, users and messages go on until the process ends, because look-ups borrow them.
+/// The servers, users and messages of a paragraph. They live until the process ends, because
+/// look-ups borrow them.
 #[derive(Default)]
 pub struct LookupStage {
     settings: Option<Settings>,
@@ -124,7 +125,7 @@ impl LookupStage {
         Some(String::new())
     }
 
-    /// `looks-up NAME PASSWORD`, or `looks-up none`.
+    /// Plays `looks-up NAME PASSWORD`, or `looks-up none`.
     fn look_up(&mut self, words: &[&str]) -> Option<String> {
         self.user = match words {
             ["none"] => None,
@@ -137,7 +138,7 @@ impl LookupStage {
         Some(String::new())
     }
 
-    /// `looks-up-keys NAME KEY KEY`: by the keys for HMAC-SHA1 and HMAC-SHA256, or `-`.
+    /// Plays `looks-up-keys NAME KEY KEY`, with the keys for HMAC-SHA1 and HMAC-SHA256, or `-`.
     fn look_up_keys(&mut self, words: &[&str]) -> Option<String> {
         let [name, sha1, sha256] = words else {
             return None;
@@ -173,7 +174,8 @@ impl LookupStage {
         }
     }
 
-    /// Resumes the request that waits: first look-ups of the same datagram, with too little memory.
+    /// Resumes the request that waits. Before that, resumes look-ups of the same datagram with too
+    /// little memory.
     fn resume(&mut self) -> Option<String> {
         let (lookup, bytes, from) = self.waiting.take()?;
         let (server, user) = (self.server?, self.user);
@@ -209,7 +211,7 @@ impl LookupStage {
     }
 }
 
-/// `sha1,sha256`, or `-` for none.
+/// Parses `sha1,sha256`, or `-` for no algorithm.
 pub fn algorithms(word: &str) -> Option<Vec<IntegrityAlgorithm>> {
     let names = word.split(',').filter(|name| *name != "-");
     names.map(algorithm).collect()

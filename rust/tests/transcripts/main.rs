@@ -1,9 +1,9 @@
-//! Plays the transcripts of endpoints, the files of the folder `data`: look-ups of a server with
-//! long-term credentials, servers without a realm, checks of ICE and clients. Their grammar and the
-//! source of their answers are described in docs/maintainers/TRANSCRIPTS.md.
+//! Plays the transcripts of endpoints, which are the files of the folder `data`: look-ups of a
+//! server with long-term credentials, servers without a realm, checks of ICE, and clients.
+//! docs/maintainers/TRANSCRIPTS.md describes their grammar and the source of their answers.
 //!
-//! Each call that can fail for lack of memory is first made with too few blocks of it, and must say
-//! so and change nothing.
+//! Each call that can run out of memory is first made with too few blocks, and must then report it
+//! and change nothing.
 
 mod client;
 mod digests;
@@ -21,7 +21,7 @@ use stage::Stage;
 use std::collections::HashMap;
 use std::path::Path;
 
-/// A call, and the answer that is written behind it.
+/// Returns the call of a line, and the answer that is written after it.
 fn parts(line: &str) -> (&str, &str) {
     let (call, answer) = line.split_once("->").unwrap_or((line, ""));
     (call.trim(), answer.trim())
@@ -31,7 +31,7 @@ fn is_call(line: &str) -> bool {
     !line.is_empty() && !line.starts_with(['#', '@']) && !line.ends_with(':')
 }
 
-/// Plays the calls of a paragraph that others begin with, whatever they answer.
+/// Plays the calls of a paragraph with which other paragraphs begin, whatever their answers are.
 fn repeat(stage: &mut Stage<'_>, paragraph: &str) {
     for line in paragraph.lines().filter(|line| is_call(line)) {
         stage.answer(parts(line).0);

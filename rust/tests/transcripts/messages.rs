@@ -1,4 +1,4 @@
-//! Messages that words spell, byte by byte and without the library, and the words of messages.
+//! Converts words to messages and messages to words, byte by byte and without the library.
 
 use super::digests::{Algorithm, fingerprint};
 use super::words::*;
@@ -19,7 +19,7 @@ const CLASSES: [(&str, u16); 4] = [
     ("error", 0x0111),
 ];
 
-/// A message in the making.
+/// A message that is being built.
 pub struct Spelling {
     kind: u16,
     id: [u8; 12],
@@ -27,7 +27,7 @@ pub struct Spelling {
 }
 
 impl Spelling {
-    /// A Binding message of a class, with ID 1.
+    /// Begins a Binding message of a class, with transaction ID 1.
     pub fn new(class: &str) -> Option<Spelling> {
         let (_, kind) = CLASSES.iter().find(|(name, _)| *name == class)?;
         let (kind, attributes) = (*kind, Vec::new());
@@ -39,7 +39,7 @@ impl Spelling {
         })
     }
 
-    /// The message that these bytes are.
+    /// Parses a message.
     pub fn of(bytes: &[u8]) -> Option<Spelling> {
         Some(Spelling {
             kind: u16::from_be_bytes(bytes.get(..2)?.try_into().ok()?),
@@ -48,7 +48,8 @@ impl Spelling {
         })
     }
 
-    /// The message so far, with a length that counts so many bytes more, if 16 bits are enough.
+    /// Returns the message so far, with a length that includes this many further bytes, if 16 bits
+    /// are enough for it.
     fn with_more(&self, more: usize) -> Option<Vec<u8>> {
         let length = u16::try_from(self.attributes.len() + more).ok()?;
         let header = [self.kind.to_be_bytes(), length.to_be_bytes()].concat();
@@ -137,7 +138,7 @@ fn algorithms(word: &str) -> Option<Vec<u8>> {
     Some(list)
 }
 
-/// The value of XOR-MAPPED-ADDRESS (RFC 8489, section 14.2).
+/// Returns the value of XOR-MAPPED-ADDRESS (RFC 8489, section 14.2).
 fn xored(address: SocketAddr, id: &[u8; 12]) -> Vec<u8> {
     let (family, octets) = match address.ip() {
         IpAddr::V4(ip) => (1, ip.octets().to_vec()),
@@ -152,7 +153,7 @@ fn masked(octets: &[u8], id: &[u8; 12]) -> Vec<u8> {
     octets.iter().zip(mask).map(|(a, b)| a ^ b).collect()
 }
 
-/// The address in such a value.
+/// Returns the address in a value of XOR-MAPPED-ADDRESS.
 pub fn address_in(value: &[u8], id: &[u8; 12]) -> Option<SocketAddr> {
     let port = u16::from_be_bytes(value.get(2..4)?.try_into().ok()?) ^ 0x2112;
     let octets = masked(&value[4..], id);
@@ -163,8 +164,8 @@ pub fn address_in(value: &[u8], id: &[u8; 12]) -> Option<SocketAddr> {
     Some(SocketAddr::new(ip, port))
 }
 
-/// The type, the value and the bytes with padding of each attribute, hidden ones too, up to one
-/// that is cut off.
+/// Returns the type, the value, and the bytes with padding of each attribute, visible or not, up to
+/// an attribute that is cut off.
 pub fn attributes(message: &[u8]) -> Vec<(u16, &[u8], &[u8])> {
     let (mut rest, mut found) = (&message[20..], Vec::new());
     while let [a, b, c, d, ..] = *rest {
@@ -178,13 +179,13 @@ pub fn attributes(message: &[u8]) -> Vec<(u16, &[u8], &[u8])> {
     found
 }
 
-/// What surrounds the words of a message: meanings of names in the file, and stored messages.
+/// The context of the words of a message: the meanings of names in the file, and stored messages.
 pub trait Known {
     fn meaning(&self, name: &str) -> Option<Vec<&str>>;
     fn stored(&self, name: &str) -> Option<Vec<u8>>;
 }
 
-/// The message that words spell.
+/// Returns the message that words describe.
 pub fn message(words: &[&str], known: &impl Known) -> Option<Vec<u8>> {
     let (first, words) = words.split_first()?;
     if *first == "bytes" {
@@ -210,7 +211,7 @@ fn add_words(spelling: &mut Spelling, words: &[&str], known: &impl Known) -> Opt
     Some(())
 }
 
-/// A stored message with changes.
+/// Returns a stored message with changes.
 fn changed(mut bytes: Vec<u8>, words: &[&str], known: &impl Known) -> Option<Vec<u8>> {
     match words.split_first() {
         None => Some(bytes),
@@ -244,7 +245,7 @@ fn changed(mut bytes: Vec<u8>, words: &[&str], known: &impl Known) -> Option<Vec
     }
 }
 
-/// A message in the words that spell it.
+/// Returns the words that describe a message.
 pub fn in_words(message: &[u8]) -> String {
     let kind = u16::from_be_bytes([message[0], message[1]]);
     let id: [u8; 12] = message[8..20].try_into().unwrap();

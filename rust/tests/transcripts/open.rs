@@ -1,4 +1,4 @@
-//! `endpoint open ..` and `endpoint short-term ..`: servers without a realm.
+//! Plays `endpoint open ..` and `endpoint short-term ..`: servers without a realm.
 
 use crate::look_ups::understood;
 use crate::servers::*;
@@ -8,7 +8,7 @@ use seatcrane_stun::endpoint::*;
 use seatcrane_stun::extra::canonical;
 use seatcrane_stun::types::message::ShortTermCredentials;
 
-/// Sets what a line says. The settings have no call that takes one back.
+/// Changes the setting that a line names. No call undoes a setting.
 fn set(settings: &mut ResponseSettings, name: &str, word: &str) -> Option<String> {
     let old = std::mem::take(settings);
     *settings = match name {
@@ -21,7 +21,7 @@ fn set(settings: &mut ResponseSettings, name: &str, word: &str) -> Option<String
     Some(String::new())
 }
 
-/// Nothing, or why there is no server.
+/// Stores a server, and returns an empty text, or the reason why it was not built.
 fn built<T>(server: &mut Option<T>, made: Result<T, BuildError>) -> Option<String> {
     match made {
         Ok(made) => *server = Some(made),

@@ -1,4 +1,4 @@
-//! What servers answer, in words.
+//! The text of what servers return.
 
 use crate::messages::{attributes, in_words};
 use crate::stage::{Around, until_enough};
@@ -9,12 +9,12 @@ use seatcrane_stun::types::attribute::{AttributeType, RawAttribute};
 use seatcrane_stun::types::message::{Message, StunWriteError};
 use std::net::SocketAddr;
 
-/// `otherwise`, if something is not as it must be.
+/// Returns `otherwise` if a condition does not hold.
 pub fn unless(is_so: bool) -> &'static str {
     if is_so { "" } else { " otherwise" }
 }
 
-/// `CODE REFUSAL: MESSAGE`, or `answer: MESSAGE`.
+/// Returns `CODE REFUSAL: MESSAGE`, or `answer: MESSAGE`.
 pub fn of_answer(answer: &Answer, from: SocketAddr) -> String {
     let front = match answer.refusal() {
         Some(refusal) => format!("{} {refusal:?}", refusal.code()),
@@ -24,7 +24,7 @@ pub fn of_answer(answer: &Answer, from: SocketAddr) -> String {
     format!("{front}: {}{is_to_sender}", in_words(answer.bytes()))
 }
 
-/// `request USER ALGORITHM`
+/// Returns `request USER ALGORITHM`.
 pub fn of_request(request: &Request<'_>, bytes: &[u8], from: SocketAddr) -> String {
     let (user, algorithm) = (request.user(), request.algorithm());
     let is_so = is_of(request.message(), bytes)
@@ -38,7 +38,7 @@ pub fn is_of(message: &Message<'_>, bytes: &[u8]) -> bool {
     message.as_bytes() == bytes
 }
 
-/// `success ATTRIBUTE ..` or `CODE PHRASE ATTRIBUTE ..`: the response.
+/// Plays `success ATTRIBUTE ..` or `CODE PHRASE ATTRIBUTE ..`: returns the response.
 pub fn respond(around: &Around<'_>, reply: &Reply, words: &[&str]) -> Option<String> {
     let (error, words) = match words {
         ["success", words @ ..] => (None, words),

@@ -1,4 +1,4 @@
-//! What a paragraph is played on.
+//! The state on which a paragraph is played.
 
 use crate::client::ClientStage;
 use crate::ice::IceStage;
@@ -11,7 +11,8 @@ use std::collections::HashMap;
 use std::net::SocketAddr;
 use std::time::Duration;
 
-/// What surrounds a call: its time, where its message comes from, and the words of messages.
+/// The context of a call: its time, the address that its message comes from, and the words of
+/// messages.
 pub struct Around<'a> {
     pub now: Duration,
     pub from: SocketAddr,
@@ -34,7 +35,7 @@ impl Around<'_> {
         message(words, self)
     }
 
-    /// A request with these attributes.
+    /// Returns a request with these attributes.
     pub fn carrier(&self, words: &[&str]) -> Option<Vec<u8>> {
         self.message(&[&["request"], words].concat())
     }
@@ -66,7 +67,7 @@ impl<'a> Stage<'a> {
         }
     }
 
-    /// Makes a call. A line that is not understood is answered `?`.
+    /// Makes a call, and returns its answer, or `?` if the line is not understood.
     pub fn answer(&mut self, call: &str) -> String {
         let words: Vec<&str> = call.split_whitespace().collect();
         self.call(&words).unwrap_or_else(|| "?".to_string())
@@ -97,8 +98,8 @@ impl<'a> Stage<'a> {
     }
 }
 
-/// Makes a call with so few blocks of memory that it fails, then with one more, and so on until it
-/// does not. Returns that result.
+/// Makes a call with so few blocks of memory that it fails, then with one block more, and so on
+/// until it succeeds. Returns the last result.
 pub fn until_enough<T>(mut call: impl FnMut() -> T, is_out_of_memory: impl Fn(&T) -> bool) -> T {
     for blocks in 0..100 {
         let result = within(blocks, &mut call);

@@ -1,4 +1,4 @@
-//! Single words of transcripts. `None` is a word that is not understood.
+//! Parses and writes single words of transcripts. The result is `None` if a word is not understood.
 
 use std::net::SocketAddr;
 use std::time::Duration;
@@ -22,7 +22,7 @@ pub fn number(word: &str) -> Option<u64> {
     word.replace('_', "").parse().ok()
 }
 
-/// `7ns`, `7ms`, `7s`, a number of nanoseconds, or `max`.
+/// Parses `7ns`, `7ms`, `7s`, a number of nanoseconds, or `max`.
 pub fn span(word: &str) -> Option<Duration> {
     if word == "max" {
         return Some(Duration::MAX);
@@ -47,14 +47,14 @@ pub fn hex(bytes: &[u8]) -> String {
     bytes.iter().map(|byte| format!("{byte:02x}")).collect()
 }
 
-/// A secret with this first byte, which zeros follow.
+/// Returns a secret with this first byte, followed by zeros.
 pub fn drawn(byte: u8) -> [u8; 32] {
     let mut secret = [0; 32];
     secret[0] = byte;
     secret
 }
 
-/// 32 bytes, or the first of them, which zeros follow.
+/// Parses 32 bytes, or the first of them, followed by zeros.
 pub fn secret(word: &str) -> Option<[u8; 32]> {
     match unhex(word)?.as_slice() {
         [byte] => Some(drawn(*byte)),
@@ -62,7 +62,7 @@ pub fn secret(word: &str) -> Option<[u8; 32]> {
     }
 }
 
-/// `WORD`, `WORD*NUMBER` or `-`.
+/// Parses `WORD`, `WORD*NUMBER` or `-`.
 pub fn text(word: &str) -> String {
     match word.split_once('*') {
         Some((part, count)) => match count.parse() {
@@ -95,7 +95,7 @@ pub fn attribute_type(word: &str) -> Option<u16> {
     }
 }
 
-/// The name of a type, if it is shown by its name.
+/// Returns the name of a type, if the type is shown by its name.
 pub fn type_name(kind: u16) -> Option<&'static str> {
     let named = TYPES.iter().find(|(_, number)| *number == kind);
     named
@@ -103,7 +103,7 @@ pub fn type_name(kind: u16) -> Option<&'static str> {
         .filter(|name| !["PASSWORD-ALGORITHM", "USERHASH"].contains(name))
 }
 
-/// Types with commas.
+/// Parses types with commas between them.
 pub fn types(word: &str) -> Option<Vec<u16>> {
     word.split(',').map(attribute_type).collect()
 }
@@ -112,7 +112,7 @@ pub fn address(word: &str) -> Option<SocketAddr> {
     word.parse().ok()
 }
 
-/// A number, or `0x` and digits.
+/// Parses a number, or `0x` and digits.
 pub fn id(word: &str) -> Option<[u8; 12]> {
     match word.strip_prefix("0x") {
         Some(digits) => unhex(digits)?.try_into().ok(),

@@ -1,4 +1,4 @@
-/* A struct that gets its first state again.
+/* A struct that is set to its initial state again.
  *
  * harmless: 1 0 */
 #include "stunp_endpoint.h"

@@ -1,6 +1,6 @@
-/* A copy of a handle, of which one is freed and the other is used.
+/* A handle is copied. One copy is freed, and the other is used.
  *
- * named: stunp_endpoint_server: A copy of a handle is the same handle */
+ * named: stunp_endpoint_server: A copy of a handle refers to the same object */
 #include "stunp_endpoint.h"
 
 void frees(stunp_endpoint_server *server);

@@ -1,7 +1,7 @@
 /* A writer and a body that outlive their buffers.
  *
- * named: stunp_writer: do not return one from the function whose variable the buffer is
- * named: stunp_body: do not return one from the function whose variable the buffer is */
+ * named: stunp_writer: if the buffer is a local variable, do not return the writer from that function
+ * named: stunp_body: if the buffer is a local variable, do not return the body from that function */
 #include "stunp_endpoint.h"
 
 stunp_writer begun(const uint8_t id[12]);

@@ -1,5 +1,5 @@
-/* A client that looks at the event's kind and length and not at what the call returns: the request
- * does not fit.
+/* A client that looks at the event's kind and length, but not at what the call returns. The
+ * request does not fit.
  *
  * harmless: sends 0 bytes */
 #include "stunp_endpoint.h"

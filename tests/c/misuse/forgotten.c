@@ -1,5 +1,5 @@
-/* A secret and a seed that nobody filled, a secret that is its own predecessor, nonces that live
- * for ever, and a password that the database has not.
+/* A secret and a seed that nobody filled in, a secret that is its own predecessor, nonces that
+ * never expire, and a password that is missing from the database.
  *
  * harmless: 5 of 5 refused */
 #include "stunp_endpoint.h"

@@ -1,5 +1,5 @@
-/* Two of the three functions of an allocator: nothing is allocated, where malloc would go
- * unnoticed.
+/* Only two of the three functions of an allocator are passed. Nothing is allocated, because the
+ * use of malloc instead would go unnoticed.
  *
  * harmless: an allocation failed
  * named: stunp_set_memory: one of the three is null */

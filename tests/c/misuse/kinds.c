@@ -1,4 +1,4 @@
-/* The kind of an event that is compared with one of a datagram, and one that is left out.
+/* The kind of an event is compared with a kind of a datagram, and a switch leaves out a kind.
  *
  * warned: enum-compare
  * warned: switch */

@@ -1,5 +1,5 @@
-/* A server that looks at the result's kind and length and not at what the call returns: the answer
- * does not fit, and the datagram before was answered.
+/* A server that looks at the result's kind and length, but not at what the call returns. The
+ * datagram before was answered, and the answer to this one does not fit.
  *
  * harmless: sends 40 bytes, sends 0 bytes */
 #include "stunp_endpoint.h"

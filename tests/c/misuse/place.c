@@ -1,4 +1,4 @@
-/* What stunp_find returns is where the value is, and what the calls that read a value take.
+/* stunp_find returns the offset of the value, which the calls that read a value take.
  *
  * harmless: test test 7 */
 #include "stunp.h"

@@ -1,4 +1,4 @@
-/* The address of a text in its place, and a password where a key is wanted.
+/* The address of a pointer to a text in place of the pointer, and a password in place of a key.
  *
  * warned: incompatible-pointer-types
  * warned: pointer-sign */

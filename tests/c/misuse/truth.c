@@ -1,8 +1,8 @@
-/* Results in conditions, where an error counts as true. Each call names what has no errors, which
- * is false here.
+/* Results in conditions, where an error counts as true. The comment on each call names another call
+ * that returns no errors, and that returns false here.
  *
  * harmless: 0 of 4
- * named: stunp_verify: An error counts as true in a condition and as a bool: call stunp_is_signed
+ * named: stunp_verify: In a condition, an error would count as true: call stunp_is_signed there
  * named: stunp_ice_checker_is_controlling: call stunp_ice_checker_controls there
  * named: stunp_endpoint_client_cancel: call stunp_endpoint_client_try_cancel there
  * named: stunp_check_fingerprint: call stunp_has_right_fingerprint */

@@ -3,7 +3,7 @@
 //
 // clang: dangling
 // harmless: nothing
-// named: view: points to a text that is gone
+// named: view: points to a text that no longer exists
 #define NDEBUG
 #include "stunp.hpp"
 #include <cstdio>

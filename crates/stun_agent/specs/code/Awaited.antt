@@ -1,4 +1,4 @@
--- What requests await, by what is to happen then.
+-- What requests await, by what happens then.
 use Rattle.std.specs.Prelude.{ℕ, Bool, true, false, ◌||◌, nat_le, if◌then◌else◌, [], ◌∷◌}
 use Rattle.std.specs.Prelude.{Option, Some, None}
 use Rattle.std.specs.Option.{option_map_or}
@@ -6,8 +6,8 @@ use Rattle.stun_base.specs.declared.wire.transport.TransportType.{TransportType}
 use Rattle.stun_agent.specs.Transactions.{Transaction, Transactions, awaited_moment, has_slots}
 use Rattle.stun_agent.specs.Transactions.{is_cancelled, sooner}
 
--- the earliest moments that some transactions await, by what is to happen then: one with timeouts
--- left is to be sent again, another is to end, and a canceled one is to end at once
+-- the earliest times that some transactions await, by what happens then: one with timeouts left is
+-- sent again, another ends, and a canceled one ends at once
 pub record Awaited : Type 0 where
   pub slot : Option ℕ
   pub end : Option ℕ
@@ -17,11 +17,11 @@ pub record Awaited : Type 0 where
 abbrev pub nothing : Awaited
 nothing = record { slot = None; end = None; cancelled = false }
 
--- one that is sent again at a moment, or would be if it were not silent
+-- one that is sent again at a time, or would be if it were not silent
 abbrev pub slot_at : ℕ → Awaited
 slot_at moment = record { slot = Some moment; end = None; cancelled = false }
 
--- one that ends at a moment
+-- one that ends at a time
 abbrev pub end_at : ℕ → Awaited
 end_at moment = record { slot = None; end = Some moment; cancelled = false }
 
@@ -41,7 +41,7 @@ abbrev pub lesser : Option ℕ → Option ℕ → Option ℕ
 lesser one None = one
 lesser one (Some other) = sooner one other
 
--- what these and those await
+-- what the transactions of both await
 abbrev pub joined : Awaited → Awaited → Awaited
 joined these those = record {
   slot = lesser these.slot those.slot;
@@ -54,7 +54,7 @@ abbrev pub awaited_of : TransportType → Transactions → Awaited
 awaited_of transport [] = nothing
 awaited_of transport (e ∷ es) = joined (awaited_by transport e.1) (awaited_of transport es)
 
--- a moment that has come
+-- a time that has come
 abbrev pub has_come : ℕ → Option ℕ → Bool
 has_come now moment = option_map_or (λ m. nat_le m now) moment false
 
@@ -66,6 +66,6 @@ some_due now awaited = has_come now awaited.slot
 abbrev pub some_over : ℕ → Awaited → Bool
 some_over now awaited = awaited.cancelled || has_come now awaited.end
 
--- the earliest moment of one that is not canceled
+-- the earliest time of one that is not canceled
 abbrev pub first_awaited : Awaited → Option ℕ
 first_awaited awaited = lesser awaited.slot awaited.end

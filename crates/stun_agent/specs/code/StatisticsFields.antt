@@ -41,7 +41,8 @@ fields_of statistics =
       rtt_total = statistics.rtt_total;
     }
 
--- what the fields can hold, and an average up to 2^65, so that it fits a span of time
+-- the fields can hold these statistics, and their average is up to 2^65, so that it fits into a
+-- span of time
 pub record FitsFields (statistics : Statistics) : Type 0 where
   pub requests_sent : statistics.requests_sent ≤ last_count
   pub requests_received : statistics.requests_received ≤ last_count

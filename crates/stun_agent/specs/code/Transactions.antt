@@ -1,4 +1,4 @@
--- What the map of outstanding requests holds, and how one of them is changed.
+-- The contents of the map of outstanding requests, and how one of them is changed.
 use Rattle.std.specs.Prelude.{ℕ, Bool, true, nat_le, List, Option}
 use Rattle.std.specs.Option.{option_map_or}
 use Rattle.std.specs.declared.net.socket_addr.SocketAddr.{SocketAddr}
@@ -11,7 +11,7 @@ use Rattle.stun_agent.specs.Timing.{settings_of}
 use Rattle.stun_agent.specs.Transactions.{Transaction, Transactions, repeats}
 use Rattle.stun_agent.specs.Transactions.{without_retransmissions, with_cancellation, with_settings}
 
--- a request under its id, with the datum of its owner
+-- a request under its ID, with the datum of its owner
 pub record LeafSeen (D : Type 0) : Type 0 where
   pub entry : ℕ × Transaction
   pub datum : D
@@ -26,16 +26,16 @@ pub record Outstanding (D : Type 0) : Type 0 where
 abbrev pub contents : Transaction → List ℕ × SocketAddr
 contents t = (t.bytes, t.to)
 
--- the bytes of the one that is sent, if there is one, fit into a room, if that is limited
+-- the bytes of the request that is sent, if there is one, fit into a room, if that is limited
 abbrev pub has_room : Option ℕ → Option (ℕ × ℕ) → Bool
 has_room room sent =
     option_map_or (λ most. option_map_or (λ s. nat_le s.1 most) sent true) room true
 
--- what is returned of one that ends: its id, and whether it was still sent again
+-- what is returned for a request that ends: its ID, and whether it was still sent again
 abbrev pub id_and_repeats : ℕ × Transaction → ℕ × Bool
 id_and_repeats e = (e.0, repeats e.1.sending)
 
--- what a change of its user makes of a transaction
+-- a transaction after a change by its user
 abbrev pub changed_transaction : Change → Transaction → Transaction
 changed_transaction Silence t = without_retransmissions t
 changed_transaction Cancel t = with_cancellation t

@@ -1,4 +1,4 @@
--- Transactions in a tree: which it holds, in which order, and what its links tell.
+-- Transactions in a tree: which it holds, in which order, and what its links state.
 use Rattle.std.specs.Prelude.{ℕ, max, ◌≡◌, ◌+◌, ◌-◌, ◌*◌, ◌/◌, ◌^◌, ◌<◌, ◌≤◌, [], ◌∷◌, ◌++◌}
 use Rattle.std.specs.Prelude.{Option, Some, None}
 use Rattle.stun_base.specs.declared.wire.transport.TransportType.{TransportType}
@@ -23,7 +23,7 @@ abbrev pub fork_items : {A D : Type 0} → Fork A D → Transactions
 fork_items fork =
     items fork.first ++ (items fork.second ++ (items fork.third ++ items fork.fourth))
 
--- the data of the owner below a link, in the order of the ids
+-- the data of the owner below a link, in the order of the IDs
 abbrev pub attached : {A D : Type 0} → Link A D → Attached D
 attached Empty = []
 attached (Leaf awaited leaf) = (leaf.value.entry.0, leaf.value.datum) ∷ []
@@ -35,24 +35,24 @@ fork_attached fork =
     ++ (attached fork.second ++ (attached fork.third ++ attached fork.fourth))
 
 -- ---- its order
--- the part of all ids in which an id is, below which so many levels of forks have room: all its
--- bits but two a level
+-- the part of all IDs that contains an ID, below which there is room for this many levels of forks:
+-- all its bits but two for each level
 abbrev pub part_of : ℕ → ℕ → ℕ
 part_of levels id = id / 2 ^ (2 * levels)
 
--- an id in this part, which is that of the request
+-- an ID in this part, which is that of the request
 pub record IsPlaced (levels part : ℕ) (e : ℕ × Transaction) : Type 0 where
   pub inside : part_of levels e.0 ≡ part
   pub named : IsNamed e
 
--- the two bits of an id that tell a quarter of a part
+-- the two bits of an ID that stand for a quarter of a part
 abbrev pub two_bits : Quarter → ℕ
 two_bits First = 0
 two_bits Second = 1
 two_bits Third = 2
 two_bits Fourth = 3
 
--- so many levels of forks have room below a link, if that is a fork
+-- there is room for this many levels of forks below a link, if that is a fork
 pub record IsDeep (levels : ℕ) : Type 0 where
   pub some : 0 < levels
   pub most : levels ≤ most_levels
@@ -73,7 +73,7 @@ IsOrderedFork levels part fork =
     × IsOrdered (levels - 1) (4 * part + 3) fork.fourth
 
 -- ---- its depth
--- how many forks are one below another at most
+-- the largest number of forks that are below one another
 abbrev pub depth : {A D : Type 0} → Link A D → ℕ
 depth Empty = 0
 depth (Leaf awaited leaf) = 0
@@ -84,13 +84,13 @@ fork_depth fork =
     max (depth fork.first) (max (depth fork.second) (max (depth fork.third) (depth fork.fourth)))
 
 -- ---- its times
--- what a link tells of those below it
+-- what a link states of the requests below it
 abbrev pub told : {A D : Type 0} → Link A D → Awaited
 told Empty = nothing
 told (Leaf awaited leaf) = awaited
 told (Fork' awaited p a b c d) = awaited
 
--- each link tells what those below it await
+-- each link states what the requests below it await
 abbrev pub IsTimed : {A D : Type 0} → TransportType → Link A D → Type 0
 IsTimed transport Empty = Unit {0}
 IsTimed transport (Leaf awaited leaf) = awaited ≡ awaited_by transport leaf.value.entry.1
@@ -103,36 +103,36 @@ IsTimedFork transport fork =
     IsTimed transport fork.first × IsTimed transport fork.second × IsTimed transport fork.third
     × IsTimed transport fork.fourth
 
--- a tree of all ids
+-- a tree of all IDs
 pub record IsTree {A D : Type 0} (transport : TransportType) (root : Link A D) : Type 0 where
   pub ordered : IsOrdered most_levels 0 root
   pub timed : IsTimed transport root
 
 -- ---- one link
--- it leads to one transaction
+-- the link leads to one transaction
 abbrev pub IsLeaf : {A D : Type 0} → Link A D → Type 0
 IsLeaf Empty = ⊥
 IsLeaf (Leaf awaited leaf) = Unit {0}
 IsLeaf (Fork' awaited p a b c d) = ⊥
 
--- it leads to a fork
+-- the link leads to a fork
 abbrev pub IsFork : {A D : Type 0} → Link A D → Type 0
 IsFork Empty = ⊥
 IsFork (Leaf awaited leaf) = ⊥
 IsFork (Fork' awaited p a b c d) = Unit {0}
 
--- it leads to one transaction, or to none
+-- the link leads to one transaction, or to none
 abbrev pub IsLone : {A D : Type 0} → Link A D → Type 0
 IsLone Empty = Unit {0}
 IsLone (Leaf awaited leaf) = Unit {0}
 IsLone (Fork' awaited p a b c d) = ⊥
 
--- the first of some transactions, if there is any
+-- the first of some transactions, if there are any
 abbrev pub first_request : Transactions → Option Transaction
 first_request [] = None
 first_request (e ∷ es) = Some e.1
 
--- the first of some data, if there is any
+-- the first of some data, if there are any
 abbrev pub first_datum : {D : Type 0} → Attached D → Option D
 first_datum [] = None
 first_datum (e ∷ es) = Some e.1

@@ -19,7 +19,7 @@ use stun_base::transport::TransportType;
 /// By default the agent may send to any address, uses the timeouts of `RequestRto::default()`, and
 /// keeps no statistics.
 ///
-/// Contracts: they see the agent that the builder builds.
+/// Contracts: the value is the agent that `build` returns.
 #[derive(Drop)]
 #[derive_where(Debug)]
 pub struct StunAgentBuilder<A: Allocator = Global> {

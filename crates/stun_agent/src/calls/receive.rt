@@ -9,13 +9,14 @@ ghost use Rattle.stun_agent.specs.Peers.{is_peer};
 use crate::agent::StunAgent;
 use crate::calls::uncounted::Uncounted;
 use crate::stats::counting;
-use std::alloc::{AllocError, Allocator};
+use std::alloc::AllocError;
 use std::net::SocketAddr;
 use stun_base::instant::Instant;
+use stun_base::memory::Memory;
 use stun_base::message_type::MessageClass;
 use stun_types::message::Message;
 
-impl<A: Allocator + Copy> StunAgent<A> {
+impl<A: Memory> StunAgent<A> {
     /// Returns `true` if the agent has accepted a message from this address, or if `validated_peer`
     /// was called for it, and the address has not been forgotten since.
     pub fn is_validated_peer(&self, addr: SocketAddr) -> bool
@@ -33,8 +34,11 @@ impl<A: Allocator + Copy> StunAgent<A> {
         ensures ok { OnOk result (self.new ≡ with_validated addr self.old) }
         ensures err { OnErr result (self.new ≡ self.old) }
         ensures there { IsTrue (is_peer addr self.old.peers) → IsOk result × (self.new ≡ self.old) }
+        ensures granted { A.grants → IsOk result }
     {
-        self.peers.insert(addr)?;
+        // For the proof alone: the addresses are in order.
+        let _stored = self.peers.len();
+        A::add(&mut self.peers, addr)?;
         Ok(())
     }
 
@@ -74,9 +78,9 @@ impl<A: Allocator + Copy> StunAgent<A> {
     ///
     /// # Security
     ///
-    /// Ask the authenticator first. The agent does not verify the signature, so an attacker who can
-    /// send from the server's address and knows the transaction ID, which is sent in the clear,
-    /// could end your request with a forged response.
+    /// Call the authenticator before this call. The agent does not verify the signature, so an
+    /// attacker who can send from the server's address and knows the transaction ID, which is sent
+    /// in the clear, could end your request with a forged response.
     pub fn handle_stun_message(
         &mut self,
         msg: &Message<'_>,
@@ -87,15 +91,17 @@ impl<A: Allocator + Copy> StunAgent<A> {
         ensures err { OnErr result (self.new ≡ self.old) }
         ensures no_memory { IsTrue (is_peer from self.old.peers || not
             (takes_message msg.now from self.old)) → IsOk result }
+        ensures granted { A.grants → IsOk result }
     {
         self.receive(msg, from, None)
     }
 
     /// Like `handle_stun_message`, but also measures the round-trip time.
     ///
-    /// A round trip is measured only if the response arrives before the first retransmission of its
-    /// request, sent or suppressed. After that it is unclear which transmission was answered. Over
-    /// TCP there are no retransmissions, so every round trip is measured.
+    /// A round trip is measured only if the response arrives before `poll_transmit` has returned
+    /// the first retransmission of its request, or would have returned it if you had not stopped
+    /// the retransmissions. After that it is unclear which transmission was answered. Over TCP
+    /// there are no retransmissions, so every round trip is measured.
     pub fn handle_stun_message_with_time(
         &mut self,
         msg: &Message<'_>,
@@ -107,11 +113,13 @@ impl<A: Allocator + Copy> StunAgent<A> {
         ensures err { OnErr result (self.new ≡ self.old) }
         ensures no_memory { IsTrue (is_peer from self.old.peers || not
             (takes_message msg.now from self.old)) → IsOk result }
+        ensures granted { A.grants → IsOk result }
     {
         self.receive(msg, from, Some(now))
     }
 
-    /// Processes a message. A response measures a round trip if the time is known.
+    /// Processes a message. If `moment` is the current time, the call also measures the round trip
+    /// of a response. If it is `None`, no round trip is measured.
     fn receive(
         &mut self,
         msg: &Message<'_>,
@@ -123,6 +131,7 @@ impl<A: Allocator + Copy> StunAgent<A> {
         ensures err { OnErr result (self.new ≡ self.old) }
         ensures no_memory { IsTrue (is_peer from self.old.peers || not
             (takes_message msg.now from self.old)) → IsOk result }
+        ensures granted { A.grants → IsOk result }
     {
         let count = msg.as_bytes().len();
         match msg.class() {
@@ -155,6 +164,7 @@ impl<A: Allocator + Copy> StunAgent<A> {
         ensures err { OnErr result (self.new ≡ self.old) }
         ensures no_memory { IsTrue (is_peer from self.old.peers || not
             (is_some (answered_request msg.now from self.old))) → IsOk result }
+        ensures granted { A.grants → IsOk result }
     {
         let id = msg.transaction_id();
         let round_trip = match self.outstanding.get(id, Uncounted::new()) {

@@ -30,8 +30,8 @@ pub struct StunRequest<'a, A: Allocator = Global> {
 
 /// A mutable handle to an outstanding request, returned by `StunAgent::mut_request_transaction`.
 ///
-/// If the request ends while you hold the handle, the calls that change it have no effect. The peer
-/// address and the algorithm can still be read.
+/// If the request ends while you have the handle, the calls that change the request have no effect.
+/// The peer address and the algorithm can still be read.
 #[derive(Drop)]
 #[derive_where(Debug)]
 pub struct StunRequestMut<'a, A: Allocator = Global> {
@@ -57,8 +57,8 @@ impl<A: Allocator + Copy> StunAgent<A> {
         })
     }
 
-    /// Returns a handle with which to cancel the outstanding request with this transaction ID, or
-    /// to change its timeouts, if there is such a request. Does not allocate.
+    /// Returns a handle to the outstanding request with this transaction ID, if there is one. Use
+    /// it to cancel the request, or to change its timeouts. Does not allocate.
     pub fn mut_request_transaction(&mut self, id: TransactionId) -> Option<StunRequestMut<'_, A>>
         ensures* lends { sem 𝓛 (rests A.row A.Allocator self.entry result) }
         ensures request { option_map (λ r. (r.peer_address, r.integrity)) result
@@ -76,8 +76,8 @@ impl<A: Allocator + Copy> StunAgent<A> {
         })
     }
 
-    /// Returns the address that a request was sent to, and the algorithm of its integrity
-    /// attribute.
+    /// Returns the address that the request with this transaction ID was sent to, and the algorithm
+    /// of its integrity attribute. Returns `None` if no such request is outstanding.
     fn peer_of(&self, id: TransactionId) -> Option<(SocketAddr, Option<IntegrityAlgorithm>)>
         ensures { result ≡ option_map peer_and_integrity (at id self.now.transactions) }
     {
@@ -85,7 +85,7 @@ impl<A: Allocator + Copy> StunAgent<A> {
         Some((request.to(), request.integrity()))
     }
 
-    /// Applies a change to a request if it is outstanding.
+    /// Applies a change to the request with this transaction ID, if it is outstanding.
     fn change(&mut self, id: TransactionId, change: Change)
         ensures { self.new ≡ with_transactions self.old
             (with_change_at (changed_transaction change) id self.old.transactions) }
@@ -102,8 +102,8 @@ impl<'a, A: Allocator + Copy> StunRequest<'a, A> {
         self.peer_address
     }
 
-    /// Returns the algorithm of the request's integrity attribute, or `None` if it has none. If it
-    /// has both attributes, this is HMAC-SHA256.
+    /// Returns the algorithm of the request's integrity attribute, or `None` if the request has no
+    /// integrity attribute. If the request has both integrity attributes, this is HMAC-SHA256.
     pub fn integrity(&self) -> Option<IntegrityAlgorithm>
         ensures { result ≡ self.now.integrity }
     {
@@ -143,8 +143,8 @@ impl<'a, A: Allocator + Copy> StunRequestMut<'a, A> {
         self.peer_address
     }
 
-    /// Returns the algorithm of the request's integrity attribute, or `None` if it has none. If it
-    /// has both attributes, this is HMAC-SHA256.
+    /// Returns the algorithm of the request's integrity attribute, or `None` if the request has no
+    /// integrity attribute. If the request has both integrity attributes, this is HMAC-SHA256.
     pub fn integrity(&self) -> Option<IntegrityAlgorithm>
         ensures { result ≡ self.now.integrity }
     {
@@ -170,8 +170,8 @@ impl<'a, A: Allocator + Copy> StunRequestMut<'a, A> {
     /// Stops retransmitting the request, but still waits for its response.
     ///
     /// The request ends at the time at which it would otherwise have timed out, and `poll` then
-    /// reports it as canceled. An ICE agent uses this when a check has become pointless but its
-    /// answer is still welcome.
+    /// reports it as canceled. An ICE agent uses this call when it no longer needs the result of a
+    /// check, but can still use it.
     ///
     /// Does nothing if the request is no longer outstanding. Does not allocate.
     pub fn cancel_retransmissions(&mut self)
@@ -200,7 +200,7 @@ impl<'a, A: Allocator + Copy> StunRequestMut<'a, A> {
     ///
     /// Timeouts that have already passed still count, and the current wait still starts at the last
     /// of them. The waits between transmissions have no upper bound, even if the builder set one:
-    /// use `configure_timeout_with_max` to set it.
+    /// use `configure_timeout_with_max` to set a bound.
     ///
     /// Does nothing if the request is no longer outstanding. Does not allocate.
     pub fn configure_timeout(
@@ -221,7 +221,8 @@ impl<'a, A: Allocator + Copy> StunRequestMut<'a, A> {
         self.configure_timeout_with_max(initial, retransmits, last_retransmit, Duration::MAX);
     }
 
-    /// Like `configure_timeout`, with `max` as an upper bound on the waits between transmissions.
+    /// Replaces the timeouts like `configure_timeout`, with `max` as an upper bound on the waits
+    /// between transmissions.
     pub fn configure_timeout_with_max(
         &mut self,
         initial: Duration,

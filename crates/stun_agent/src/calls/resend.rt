@@ -1,4 +1,4 @@
-//! Retransmissions: which requests are due to be sent again, and when.
+//! Retransmissions: which requests are due to be retransmitted, and when.
 ghost use Rattle.std.specs.Prelude.{◌≡◌, ◌≤◌, ◌<◌, length};
 ghost use Rattle.std.specs.Prelude.{IfSome, IsSomeAnd, IfOk, OnOk, OnErr};
 ghost use Rattle.std.specs.Borrow.{sem};
@@ -20,8 +20,9 @@ use stun_base::transaction_id::TransactionId;
 impl<A: Allocator + Copy> StunAgent<A> {
     ghost use Rattle.stun_agent.specs.AgentLends.{ends_as, ends_if_ok_as};
 
-    /// Returns the earliest time at which a request is due to be sent again or to end, if there is
-    /// any. Canceled requests do not count, because they end at the next `poll`. Does not allocate.
+    /// Returns the earliest time at which a request is due to be retransmitted or to end, or `None`
+    /// if no request has such a time. Canceled requests do not count, because they end at the next
+    /// `poll`. Does not allocate.
     pub fn next_awaited(&self) -> Option<Instant>
         ensures least { result ≡ next_awaited self.now.transport self.now.transactions }
         ensures kept { AreKept self.now.transactions }
@@ -31,7 +32,7 @@ impl<A: Allocator + Copy> StunAgent<A> {
 
     /// Returns the next retransmission that is due, if there is one.
     ///
-    /// Each call returns one request at most, the one with the least transaction ID among those
+    /// Each call returns at most one request, the one with the least transaction ID among those
     /// that are due, so call until it returns `None`. When many requests are due at once, you may
     /// send some of them, read from your socket, and continue: no retransmission is lost.
     ///
@@ -50,8 +51,8 @@ impl<A: Allocator + Copy> StunAgent<A> {
         self.transmit_of(id)
     }
 
-    /// Like `poll_transmit`, but fails with `NoRoom` if the bytes do not fit into `room`. The agent
-    /// is then unchanged, so no transmission is lost.
+    /// Like `poll_transmit`, but fails with `NoRoom` if the request has more than `room` bytes. The
+    /// agent is then unchanged, so no retransmission is lost.
     pub fn poll_transmit_within(
         &mut self,
         now: Instant,
@@ -73,9 +74,10 @@ impl<A: Allocator + Copy> StunAgent<A> {
         Ok(self.transmit_of(id))
     }
 
-    /// Returns what `poll_transmit` would return at this time, and leaves the agent unchanged.
+    /// Returns the retransmission that `poll_transmit` would return at this time, and leaves the
+    /// agent unchanged.
     ///
-    /// Use it if you have to know the length of the bytes before you call `poll_transmit`, for
+    /// Use this call if you have to know the number of bytes before you call `poll_transmit`, for
     /// example to prepare a buffer. Does not allocate, and copies nothing.
     pub fn next_transmit(&self, now: Instant) -> Option<Transmit<&[u8]>>
         ensures sent { option_map lent_datagram result
@@ -90,7 +92,8 @@ impl<A: Allocator + Copy> StunAgent<A> {
         })
     }
 
-    /// Returns the bytes of the request with this transaction ID, and where to send them.
+    /// Returns the bytes of the request with this transaction ID, and the address to send them to.
+    /// Returns `None` if no such request is outstanding.
     fn transmit_of(&self, id: TransactionId) -> Option<Transmit<&[u8]>>
         ensures { option_map lent_datagram result
             ≡ option_map (datagram_of self.now) (at id self.now.transactions) }
@@ -105,8 +108,8 @@ impl<A: Allocator + Copy> StunAgent<A> {
     }
 
     /// Like `Outstanding::pass_due_slots`, but returns only the transaction ID of the request to
-    /// send again, and counts it in the statistics. If its bytes do not fit into the room, the call
-    /// fails, and nothing changes.
+    /// retransmit, and counts the retransmission in the statistics. If the request has more than
+    /// `room` bytes, the call fails, and nothing changes.
     fn pass_and_count(
         &mut self,
         now: Instant,

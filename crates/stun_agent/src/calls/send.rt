@@ -17,16 +17,16 @@ use crate::error::StunError;
 use crate::state::address::is_same;
 use crate::state::transaction::Transaction;
 use crate::stats::counting;
-use std::alloc::Allocator;
 use std::net::SocketAddr;
 use stun_base::data::OwnedBytes;
 use stun_base::header::MessageHeader;
 use stun_base::instant::Instant;
+use stun_base::memory::Memory;
 use stun_base::message_type::MessageClass;
 use stun_base::transaction_id::TransactionId;
 use stun_types::message::deciding_algorithm;
 
-impl<A: Allocator + Copy> StunAgent<A> {
+impl<A: Memory> StunAgent<A> {
     ghost use Rattle.stun_agent.specs.AgentLends.{ends_if_ok_as};
 
     /// Wraps bytes that are not STUN, such as media, in a `Transmit`.
@@ -35,7 +35,7 @@ impl<A: Allocator + Copy> StunAgent<A> {
     ///
     /// # Errors
     ///
-    /// The bytes are then dropped.
+    /// After an error, the bytes are dropped.
     ///
     /// - `ProtocolViolation`: the agent has a fixed remote address and `to` is a different one.
     pub fn send_data<T: OwnedBytes + Drop>(
@@ -51,7 +51,8 @@ impl<A: Allocator + Copy> StunAgent<A> {
         Ok(Transmit::new(bytes, self.outstanding.transport(), self.local_addr, to))
     }
 
-    /// Fails for every address but the fixed remote address, if there is one.
+    /// Fails with `ProtocolViolation` if the agent has a fixed remote address and `to` is a
+    /// different one.
     fn check_address(&self, to: SocketAddr) -> Result<(), StunError>
         ensures { MatchOption (address_refusal self.now to) (result ≡ Ok tt)
             (λ error. result ≡ Err error) }
@@ -70,9 +71,9 @@ impl<A: Allocator + Copy> StunAgent<A> {
 
     /// Wraps a response or an indication in a `Transmit`, and counts it in the statistics.
     ///
-    /// The agent does not store the message, because nothing answers it, and the call does not
-    /// allocate. To send a request, call `send_request`. The time is not used: it is an argument
-    /// because the Rust crate has it.
+    /// The agent does not store the message, because no response to it will arrive, and the call
+    /// does not allocate. To send a request, call `send_request`. `_now` is not used. It is an
+    /// argument because the crate `stun-proto` has it.
     ///
     /// # Errors
     ///
@@ -111,7 +112,7 @@ impl<A: Allocator + Copy> StunAgent<A> {
     /// Until then `poll_transmit` returns the same bytes again each time a retransmission is due.
     ///
     /// Each request needs a new, unpredictable transaction ID. This includes the signed request
-    /// that answers a 401 or a 438: build it from scratch.
+    /// that you send after a 401 or a 438, so build that request from scratch.
     ///
     /// # Errors
     ///
@@ -132,13 +133,16 @@ impl<A: Allocator + Copy> StunAgent<A> {
             (after_send_request self.old (T.contents msg) to now)) }
         ensures refused { MatchOption (request_refusal self.old (T.contents msg) to)
             (IsOkUnless result StunError.OutOfMemory) (IsErrOf result) }
+        ensures granted { A.grants → request_refusal self.old (T.contents msg) to ≡ None
+            → IsOk result }
         ensures sent { IfOk result (λ t. lent_datagram t
             ≡ (T.contents msg, self.old.transport, self.old.local_addr, to)) }
     {
         let id = self.keep_request(msg.bytes(), to, now)?;
         let transport = self.outstanding.transport();
         let from = self.local_addr;
-        // Borrows the stored copy: the exact clause has no proof for a result that may own memory.
+        // Borrows the stored copy, because the clause `after`, which is exact, cannot be proved for
+        // a result that may own memory.
         let request = self.outstanding.get(id, Uncounted::new()).unwrap();
         Ok(Transmit {
             data: request.bytes(),
@@ -158,6 +162,7 @@ impl<A: Allocator + Copy> StunAgent<A> {
     ) -> Result<TransactionId, StunError>
         ensures refused { MatchOption (request_refusal self.old bytes.now to)
             (IsOkUnless result StunError.OutOfMemory) (IsErrOf result) }
+        ensures granted { A.grants → request_refusal self.old bytes.now to ≡ None → IsOk result }
         ensures taken { OnOk result (request_refusal self.old bytes.now to ≡ None) }
         ensures ok { OnOk result (self.new ≡ after_send_request self.old bytes.now to now) }
         ensures err { OnErr result (self.new ≡ self.old) }
@@ -165,14 +170,15 @@ impl<A: Allocator + Copy> StunAgent<A> {
             ≡ Some (request_of self.old bytes.now to now)) }
     {
         let id = self.id_to_ask(bytes, to)?;
-        let kept = Vec::from_slice(self.alloc, bytes)?;
+        let kept = A::copied(self.alloc, bytes)?;
         let request = Transaction::new(kept, to, deciding_algorithm(bytes), self.settings, now);
         self.outstanding.insert(self.alloc, id, request, ())?;
         counting::count_sent(&mut self.stats, MessageClass::Request, bytes.len());
         Ok(id)
     }
 
-    /// Returns the class of a message, if it is an indication or a response that may be sent.
+    /// Returns the class of a message if it is an indication or a response that may be sent to
+    /// `to`. Fails with the error of `send` otherwise.
     fn class_to_send(&self, bytes: &[u8], to: SocketAddr) -> Result<MessageClass, StunError>
         ensures accepted { OnOk result (sending_refusal self.now bytes.now to ≡ None) }
         ensures class { IfOk result (λ class. class ≡ class_in bytes.now) }
@@ -184,7 +190,8 @@ impl<A: Allocator + Copy> StunAgent<A> {
         Ok(class)
     }
 
-    /// Returns the transaction ID of a message, if it is a request that may be sent.
+    /// Returns the transaction ID of a message if it is a request that may be sent to `to`. Fails
+    /// with the error of `send_request` otherwise.
     fn id_to_ask(&self, bytes: &[u8], to: SocketAddr) -> Result<TransactionId, StunError>
         ensures answer { MatchOption (request_refusal self.now bytes.now to)
             (result ≡ Ok (transaction_id_field bytes.now)) (λ error. result ≡ Err error) }
@@ -204,7 +211,8 @@ impl<A: Allocator + Copy> StunAgent<A> {
     }
 }
 
-/// Returns the class of an indication or a response. Fails for a request.
+/// Returns the class of an indication or a response. Fails for a request, and if the bytes do not
+/// start with a STUN header.
 fn class_of_answerless(bytes: &[u8]) -> Result<MessageClass, StunError>
     ensures { MatchOption (class_refusal bytes.now) (result ≡ Ok (class_in bytes.now))
         (λ error. result ≡ Err error) }

@@ -1,6 +1,6 @@
-//! The calls of a table that have an ID, or look for a request to send again.
+//! The calls of a table on its requests, except `poll`.
 ghost use Rattle.std.specs.Prelude.{◌≡◌, length, Err, OnOk, OnErr, IsOkUnless, MatchOption};
-ghost use Rattle.std.specs.Prelude.{IfSome};
+ghost use Rattle.std.specs.Prelude.{IfSome, IsOk, None};
 ghost use Rattle.std.specs.Option.{is_some, option_copied, option_map};
 ghost use Rattle.stun_agent.specs.Tables.{IsTable, datum_at, after_sending, after_answer};
 ghost use Rattle.stun_agent.specs.Tables.{after_cancel, with_other_datum, sent_in};
@@ -14,12 +14,12 @@ use crate::state::rto::RequestRto;
 use crate::state::transaction::Transaction;
 use crate::stats::counting;
 use crate::table::Table;
-use std::alloc::Allocator;
 use stun_base::instant::Instant;
+use stun_base::memory::Memory;
 use stun_base::message_type::MessageClass;
 use stun_base::transaction_id::TransactionId;
 
-impl<A: Allocator + Copy, D: Drop> Table<A, D> {
+impl<A: Memory, D: Drop> Table<A, D> {
     /// Returns whether a request with this transaction ID is outstanding.
     pub fn has(&self, id: TransactionId) -> bool
         ensures has { result ≡ is_some (at id self.now.requests) }
@@ -45,7 +45,8 @@ impl<A: Allocator + Copy, D: Drop> Table<A, D> {
     }
 
     /// Replaces the datum of the outstanding request with this transaction ID, and returns the
-    /// datum before. If there is no such request, the call drops the datum. Does not allocate.
+    /// former datum. If there is no such request, drops `datum` and returns `None`. Does not
+    /// allocate.
     pub fn replace_datum(&mut self, id: TransactionId, datum: D) -> Option<D>
         ensures before { result ≡ datum_at id self.old.attached }
         ensures after { self.new ≡ with_other_datum id datum self.old }
@@ -53,11 +54,11 @@ impl<A: Allocator + Copy, D: Drop> Table<A, D> {
         self.outstanding.replace_datum(id, datum)
     }
 
-    /// Stores a request, starts its retransmission timer with these timeouts, and counts it. Send
-    /// its bytes now.
+    /// Stores a request, starts its retransmission timer with these timeouts, and counts it in the
+    /// statistics. You must then send its bytes.
     ///
-    /// The bytes are moved in. They must begin with a header that has this transaction ID. The
-    /// request stays outstanding until `answer`, `cancel` or `poll` returns its datum.
+    /// The bytes are moved into the table. They must begin with a header that has this transaction
+    /// ID. The request stays outstanding until `answer`, `cancel` or `poll` returns its datum.
     ///
     /// # Errors
     ///
@@ -79,6 +80,7 @@ impl<A: Allocator + Copy, D: Drop> Table<A, D> {
         ensures refused { MatchOption (at id self.old.requests)
             (IsOkUnless result StunError.OutOfMemory)
             (λ t. result ≡ Err StunError.AlreadyInProgress) }
+        ensures granted { A.grants → at id self.old.requests ≡ None → IsOk result }
         ensures ok { OnOk result (self.new
             ≡ after_sending id bytes.items (settings_of timeouts) datum now self.old) }
         ensures err { OnErr result (self.new ≡ self.old) }
@@ -93,11 +95,12 @@ impl<A: Allocator + Copy, D: Drop> Table<A, D> {
         Ok(())
     }
 
-    /// Ends the outstanding request with this transaction ID, if there is one, by a response of
-    /// `count` bytes, and returns its bytes and its datum. Does not allocate.
+    /// Ends the outstanding request with this transaction ID because a response of `count` bytes
+    /// has arrived, and returns the request's bytes and datum. Returns `None` and changes nothing
+    /// if there is no such request. Does not allocate.
     ///
-    /// If the time is passed, a round trip is measured, unless a timeout of the request has passed
-    /// (see `StunAgent::handle_stun_message_with_time`).
+    /// If you pass the current time, the call measures the round trip, unless a timeout of the
+    /// request has passed (see `StunAgent::handle_stun_message_with_time`).
     pub fn answer(
         &mut self,
         id: TransactionId,
@@ -115,8 +118,9 @@ impl<A: Allocator + Copy, D: Drop> Table<A, D> {
         Some((request.into_bytes(), datum))
     }
 
-    /// Ends the outstanding request with this transaction ID, if there is one, without a response,
-    /// and returns its bytes and its datum. It counts as canceled. Does not allocate.
+    /// Ends the outstanding request with this transaction ID without a response, and returns the
+    /// request's bytes and datum. The statistics count the request as canceled. Returns `None` and
+    /// changes nothing if there is no such request. Does not allocate.
     pub fn cancel(&mut self, id: TransactionId) -> Option<(Vec<u8, A>, D)>
         ensures bytes { option_map (λ r. r.0.items) result
             ≡ option_map (λ t. t.bytes) (at id self.old.requests) }
@@ -128,10 +132,10 @@ impl<A: Allocator + Copy, D: Drop> Table<A, D> {
         Some((request.into_bytes(), datum))
     }
 
-    /// Returns the transaction ID of the next request to send again, if one is due. Its bytes are
-    /// those of `bytes_of`.
+    /// Returns the transaction ID of the next request to retransmit, or `None` if no retransmission
+    /// is due. `bytes_of` returns the bytes of the request.
     ///
-    /// Each call returns one request at most, the one with the least transaction ID among those
+    /// Each call returns at most one request, the one with the least transaction ID among those
     /// that are due, so call until it returns `None`. Does not allocate.
     pub fn poll_transmit(&mut self, now: Instant) -> Option<TransactionId>
         ensures sent { result ≡ option_map (λ e. e.0) (sent_in now self.old) }
@@ -147,8 +151,8 @@ impl<A: Allocator + Copy, D: Drop> Table<A, D> {
         Some(id)
     }
 
-    /// Returns the earliest time at which a request is due to be sent again or to end, if there is
-    /// any. Does not allocate.
+    /// Returns the earliest time at which a request is due to be retransmitted or to end, or `None`
+    /// if no request has such a time. Does not allocate.
     pub fn next_awaited(&self) -> Option<Instant>
         ensures { result ≡ next_awaited self.now.transport self.now.requests }
     {

@@ -1,17 +1,18 @@
-//! Data to send.
+//! The data that an agent returns to be sent.
 ghost use Rattle.std.specs.Prelude.{◌≡◌, length, IsOk, IfOk, Ok, Some};
 ghost use Rattle.stun_base.specs.Data.{IsOwned};
 
-use std::alloc::{AllocError, Allocator};
+use std::alloc::AllocError;
 use std::fmt;
 use std::net::SocketAddr;
 use stun_base::data::{Data, OwnedBytes};
+use stun_base::memory::Memory;
 use stun_base::transport::TransportType;
 
 /// Bytes to send, with the transport to send them over and the addresses to send them from and to.
 ///
-/// The calls of `StunAgent` that send return it. Sending is up to you, because an agent has no
-/// sockets.
+/// `StunAgent` returns a `Transmit` when a message must be sent. Sending it is up to you, because
+/// an agent has no sockets.
 #[derive(Debug, Drop)]
 pub struct Transmit<T: OwnedBytes> {
     /// The bytes to send, borrowed or owned.
@@ -39,7 +40,7 @@ impl<T: OwnedBytes> Transmit<T> {
         }
     }
 
-    /// Converts the data by a closure. The transport and the addresses stay as they are.
+    /// Replaces the data with the result of a closure, and keeps the transport and the addresses.
     pub fn reinterpret_data<O: OwnedBytes, F: FnOnce(T) -> O>(self, f: F) -> Transmit<O>
         requires { F.pre f (parts self).0 }
         ensures made { F.post f (parts self).0 (parts result).0 }
@@ -57,10 +58,10 @@ impl<T: OwnedBytes> Transmit<T> {
     }
 }
 
-impl<'a, A: Allocator> Transmit<Data<'a, A>> {
+impl<'a, A: Memory> Transmit<Data<'a, A>> {
     ghost use Rattle.stun_agent.specs.Datagrams.{parts, datagram};
 
-    /// Converts the bytes to owned ones.
+    /// Converts the bytes to owned bytes.
     ///
     /// Borrowed bytes are copied into memory from `alloc`. Owned bytes are moved, which does not
     /// allocate. The call fails only if its allocation fails, and the `Transmit` is then dropped.
@@ -69,6 +70,7 @@ impl<'a, A: Allocator> Transmit<Data<'a, A>> {
         ensures owned { IfOk result (λ owned. IsOwned (parts owned).0) }
         ensures moves { IsOwned (parts self.entry).0 → IsOk result }
         ensures itself { IsOwned (parts self.entry).0 → result ≡ Ok self.entry }
+        ensures granted { A.grants → IsOk result }
     {
         let Transmit {
             data,

@@ -1,7 +1,7 @@
-//! The permission to look for a request, or at one, without a count. Only the calls beside this
-//! module can create it. `poll` stands elsewhere, and can create none.
+//! The permission to search the requests, or to read one of them, without a count. Only the modules
+//! below `calls` can create it. `poll` is not one of these modules, so it cannot create it.
 
-/// The permission to look for a request, or at one, without a count.
+/// The permission to search the requests, or to read one of them, without a count.
 #[derive(Clone, Copy)]
 pub(crate) struct Uncounted {
     leave: (),

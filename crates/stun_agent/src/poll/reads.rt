@@ -1,5 +1,5 @@
 //! The count of a poll: how many requests it reads, and at how many links of the tree it looks.
-//! Only `poll_counted` can begin a count. All that is done below it counts under that one.
+//! Only `poll_counted` can begin a count, and all code below that call adds to this count.
 ghost use Rattle.std.specs.Prelude.{◌≡◌, ◌≤◌, ◌+◌, Some, None, IfOk, IfErr, OnErr, codes};
 ghost use Rattle.std.specs.Fmt.{WritesOnOk};
 ghost use Rattle.std.specs.Option.{option_map};
@@ -16,10 +16,10 @@ use std::sync::ledger::{Blank, Book, Ledger, Share};
 use stun_base::instant::Instant;
 use stun_base::transaction_id::TransactionId;
 
-/// The number of requests that a search has read, and the number of links whose times it has looked
-/// at. It takes no memory, and no program can read it.
+/// The number of requests that a search has read, and the number of links at whose times it has
+/// looked. The count uses no memory, and no program can read it.
 ///
-/// Contracts: they see it as these two numbers.
+/// Contracts: the value is a record of these two numbers.
 #[derive(Drop)]
 pub struct Reads<L: Ledger> {
     book: Book<L>,
@@ -49,7 +49,7 @@ impl<L: Ledger> fmt::Debug for Reads<L> {
 }
 
 impl<L: Ledger> Reads<L> {
-    /// Begins a count at zero, under a ledger that nobody has used.
+    /// Starts a count at zero, in a ledger that has not been used.
     fn new(blank: Blank) -> Self
         requires { IsUnused blank.name blank.parts L.name L.parts }
         ensures { result ≡ record { entries = 0; looks = 0 } }
@@ -63,14 +63,14 @@ impl<L: Ledger> Reads<L> {
         }
     }
 
-    /// Counts a request that is read.
+    /// Counts a request that the search reads.
     pub(crate) fn count_entry(&mut self)
         ensures { self.new ≡ record self.old { entries = self.old.entries + 1 } }
     {
         self.book.add(&mut self.entries, 1);
     }
 
-    /// Counts a link whose times are looked at.
+    /// Counts a link at whose times the search looks.
     pub(crate) fn count_look(&mut self)
         ensures { self.new ≡ record self.old { looks = self.old.looks + 1 } }
     {
@@ -79,21 +79,21 @@ impl<L: Ledger> Reads<L> {
 }
 
 impl<A: Allocator> StunAgent<A> {
-    /// Like `poll`, but also returns how many requests it read, and at how many links of the tree
-    /// of requests it looked.
+    /// Like `poll`, but also returns the number of requests that the call read, and the number of
+    /// links of the tree at which it looked.
     ///
-    /// The number of requests is at most the number of those that are canceled or whose next
-    /// deadline is at or before `now`, and at most one. A read gives the entry of a request: its
-    /// transaction ID, the time that it awaits, and whether it is still retransmitted. A look gives
-    /// the earliest times of the requests below one link, or the times of one request. A call that
-    /// ends no request looks twice, at the root, and a call that ends one looks at no more than
-    /// four links for each of the 48 levels of the tree, and two more, however many requests are
+    /// The call reads at most one request, and none if no request is canceled and the next deadline
+    /// of every request is after `now`. To read a request is to read its transaction ID, the time
+    /// that it awaits, and whether it is still retransmitted. To look at a link is to read the
+    /// earliest times of the requests below it, or of the one request that it leads to. A call that
+    /// ends no request looks twice, at the root. A call that ends a request looks at no more than
+    /// four links for each of the 48 levels of the tree, plus two, however many requests are
     /// outstanding.
     ///
-    /// The count takes no memory, and no program can read it.
+    /// The count uses no memory, and no program can read it.
     ///
-    /// Contracts: they see the count as these two numbers. `poll` is this call under a ledger of
-    /// its own.
+    /// Contracts: the value of the count is a record of these two numbers. `poll` is this call with
+    /// a ledger of its own.
     #[doc(hidden)]
     pub fn poll_counted<L: Ledger>(
         &mut self,
@@ -115,8 +115,8 @@ impl<A: Allocator> StunAgent<A> {
 }
 
 impl<A: Allocator, D: Drop> Table<A, D> {
-    /// Like `poll`, but also returns how many requests it read, and at how many links of the tree
-    /// of requests it looked (see `StunAgent::poll_counted`).
+    /// Like `poll`, but also returns the number of requests that the call read, and the number of
+    /// links of the tree at which it looked (see `StunAgent::poll_counted`).
     #[doc(hidden)]
     pub fn poll_counted<L: Ledger>(
         &mut self,

@@ -1,5 +1,5 @@
-//! Polling a table: which request ends. As for an agent, each request that is read for this, and
-//! each link of the tree that is looked at, is counted (`reads`).
+//! Polls a table: finds the request that ends. As for an agent, each request that the search reads,
+//! and each link of the tree that it looks at, is counted (`reads`).
 ghost use Rattle.std.specs.Prelude.{◌≡◌, ◌≤◌, Some, None, IfOk, IfErr, OnErr};
 ghost use Rattle.std.specs.Option.{option_map};
 ghost use Rattle.stun_agent.specs.Deadlines.{early_requests, most_reads, most_looks, IsUnused};
@@ -15,15 +15,17 @@ use stun_base::instant::Instant;
 use stun_base::transaction_id::TransactionId;
 
 impl<A: Allocator, D: Drop> Table<A, D> {
-    /// Ends at most one request, whose response did not arrive in time, and returns its transaction
-    /// ID and its datum. If none ends, fails with the time at which to poll again.
+    /// Ends at most one request whose response did not arrive in time, and returns its transaction
+    /// ID and its datum. If no request ends, fails with the time at which to poll again.
     ///
-    /// If several requests are over, each call ends one of them, the one with the least transaction
-    /// ID, so call again at once after an end. As for `StunAgent::poll`, the time is never before
-    /// `now` and at most one hour after it. Call `poll_transmit` first, until it returns `None`.
+    /// If several requests have timed out, each call ends only the one with the least transaction
+    /// ID, so poll again at once after a request has ended. As for `StunAgent::poll`, the time is
+    /// never before `now` and at most one hour after it. Call `poll_transmit` first, until it
+    /// returns `None`.
     ///
-    /// Does not allocate. However many requests are outstanding, this call reads at most one of
-    /// them, the one that it ends, and looks at a limited number of times (`poll_counted`).
+    /// This call does not allocate. However many requests are outstanding, it reads only the
+    /// request that it ends, and it looks at a limited number of links of the tree
+    /// (`poll_counted`).
     pub fn poll(&mut self, now: Instant) -> Result<(TransactionId, D), Instant>
         ensures ended { IfOk result (λ e. option_map (λ o. o.0) (over_in now self.old)
             ≡ Some e.0) }
@@ -53,7 +55,7 @@ impl<A: Allocator, D: Drop> Table<A, D> {
         answer
     }
 
-    /// Polls under a count that `poll_counted` has begun.
+    /// Polls, and adds to the count that `poll_counted` has begun.
     pub(super) fn end_under<L: Ledger>(
         &mut self,
         now: Instant,

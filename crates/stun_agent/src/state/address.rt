@@ -1,4 +1,4 @@
-//! Equality of addresses, by the definition that contracts cite.
+//! Equality of addresses, as the specification defines it.
 ghost use Rattle.std.specs.Prelude.{◌≡◌};
 ghost use Rattle.stun_base.specs.Address.{same_address};
 

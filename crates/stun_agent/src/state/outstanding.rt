@@ -2,7 +2,7 @@
 ghost use Rattle.std.specs.Prelude.{◌≡◌, ◌+◌, ◌≤◌, ◌<◌, [], length, Some, None};
 ghost use Rattle.std.specs.Map.{keys_of};
 ghost use Rattle.std.specs.Prelude.{MatchOption, IfSome, IsSome, IsSomeAnd};
-ghost use Rattle.std.specs.Prelude.{IfOk, OnOk, IfErr, OnErr};
+ghost use Rattle.std.specs.Prelude.{IfOk, IsOk, OnOk, IfErr, OnErr};
 ghost use Rattle.std.specs.Option.{is_some, option_map, option_copied};
 ghost use Rattle.stun_agent.specs.Deadlines.{early_requests, most_reads, most_looks};
 ghost use Rattle.stun_agent.specs.Tables.{datum_at, with_datum, without_datum, set_datum};
@@ -27,11 +27,15 @@ use std::alloc::{AllocError, Allocator};
 use std::marker::Model;
 use std::sync::ledger::Ledger;
 use stun_base::instant::Instant;
+use stun_base::memory::Memory;
 use stun_base::transaction_id::TransactionId;
 use stun_base::transport::TransportType;
 
 /// The outstanding requests in a tree by their IDs, and the transport that carries them. Each leaf
-/// also has a datum of the owner. A contract sees the requests by ascending IDs.
+/// also has a datum of the owner.
+///
+/// Contracts: the value is a record of the transport, the requests in ascending order of their IDs,
+/// and the data of the owner.
 #[derive(Drop)]
 #[derive_where(Debug)]
 pub(crate) struct Outstanding<A: Allocator, D> {
@@ -55,8 +59,8 @@ impl<A: Allocator, D> Model for Outstanding<A, D> {
     ghost invariant = { λ o. IsTree o.transport o.root };
 }
 
-/// What a poll may call. These calls stand apart, because their bodies know nothing of `A: Copy`,
-/// which all others want.
+/// The calls that a poll may make. They are separate, because they do not have the bound `A: Copy`,
+/// which all other calls require.
 impl<A: Allocator, D: Drop> Outstanding<A, D> {
     pub(crate) fn transport(&self) -> TransportType
         ensures { result ≡ self.now.transport }
@@ -64,9 +68,9 @@ impl<A: Allocator, D: Drop> Outstanding<A, D> {
         self.transport
     }
 
-    /// Returns the ID of the request to end and whether it was still being retransmitted. If none
-    /// ends, returns the time of the next poll. Counts each request that it reads, and each link
-    /// that it looks at.
+    /// Returns the ID of the request to end and whether it was still being retransmitted. If no
+    /// request ends, fails with the time of the next poll. Counts each request that it reads, and
+    /// each link that it looks at.
     pub(crate) fn find_over<L: Ledger>(
         &self,
         now: Instant,
@@ -88,7 +92,8 @@ impl<A: Allocator, D: Drop> Outstanding<A, D> {
         search::decide(&self.root, now, reads)
     }
 
-    /// Removes the request with this ID, and returns it with its datum.
+    /// Removes the request with this ID, and returns it with its datum. Returns `None` if there is
+    /// no such request.
     pub(crate) fn remove(&mut self, id: TransactionId) -> Option<(Transaction<A>, D)>
         ensures answer { option_map (λ r. r.0) result ≡ at id self.old.requests }
         ensures datum { option_map (λ r. r.1) result ≡ datum_at id self.old.attached }
@@ -128,15 +133,15 @@ impl<A: Allocator + Copy, D: Drop> Outstanding<A, D> {
         lookups::get(&self.root, LEVELS, id, leave)
     }
 
-    /// Returns the datum of the request with this ID.
+    /// Returns the datum of the request with this ID, or `None` if there is no such request.
     pub(crate) fn datum(&self, id: TransactionId, leave: Uncounted) -> Option<&D>
         ensures { option_copied result ≡ datum_at id self.now.attached }
     {
         lookups::datum(&self.root, LEVELS, id, leave)
     }
 
-    /// Replaces the datum of the request with this ID, and returns the one before. If there is no
-    /// such request, the datum is dropped.
+    /// Replaces the datum of the request with this ID, and returns the former datum. If there is no
+    /// such request, drops `datum` and returns `None`.
     pub(crate) fn replace_datum(&mut self, id: TransactionId, datum: D) -> Option<D>
         ensures before { result ≡ datum_at id self.old.attached }
         ensures after { self.new ≡ record self.old {
@@ -146,30 +151,8 @@ impl<A: Allocator + Copy, D: Drop> Outstanding<A, D> {
         replace(&mut self.root, LEVELS, id, datum)
     }
 
-    /// Stores a request whose ID has none. If an allocation fails, the requests stay as they were,
-    /// but forks that were made before the failure stay: up to 47 of them.
-    pub(crate) fn insert(
-        &mut self,
-        alloc: A,
-        id: TransactionId,
-        request: Transaction<A>,
-        datum: D,
-    ) -> Result<(), AllocError>
-        requires named { IsNamed (id, request) }
-        requires absent { at id self.old.requests ≡ None }
-        ensures ok { OnOk result (self.new ≡ record self.old {
-          requests = with id request self.old.requests;
-          attached = with_datum id datum self.old.attached;
-        }) }
-        ensures there { OnOk result (at id self.new.requests ≡ Some request) }
-        ensures err { OnErr result (self.new ≡ self.old) }
-    {
-        let awaited = request.awaited_by(self.transport);
-        let leaf = Box::new(alloc, Leaf::new(id, request, datum))?;
-        insert(&mut self.root, LEVELS, alloc, &awaited, leaf)
-    }
-
-    /// Returns the next time that a request awaits. Canceled requests do not count.
+    /// Returns the earliest time that a request awaits, or `None` if no request awaits a time.
+    /// Canceled requests do not count.
     pub(crate) fn next_awaited(&self, leave: Uncounted) -> Option<Instant>
         ensures least { result ≡ next_awaited self.now.transport self.now.requests }
         ensures kept { AreKept self.now.requests }
@@ -177,9 +160,10 @@ impl<A: Allocator + Copy, D: Drop> Outstanding<A, D> {
         lookups::next_awaited(&self.root, leave)
     }
 
-    /// Advances requests whose slot is due, in order of their IDs, up to and including the first
-    /// one to retransmit. Returns the ID and the number of bytes of that request. If its bytes do
-    /// not fit into the room, the call fails, and nothing changes.
+    /// Advances requests past the slots that are due, in the order of their IDs, up to and
+    /// including the first request to retransmit. Returns the ID and the number of bytes of that
+    /// request, or `None` if there is no such request. If the request has more than `room` bytes,
+    /// the call fails, and nothing changes.
     pub(crate) fn pass_due_slots(
         &mut self,
         now: Instant,
@@ -207,7 +191,8 @@ impl<A: Allocator + Copy, D: Drop> Outstanding<A, D> {
             (λ e. r < length e.1.bytes))) }
         ensures same { OnErr result (self.new ≡ self.old) }
     {
-        // The request is found before a slot passes: if its bytes do not fit, nothing has changed.
+        // The request is found before any request is changed, so a failure leaves everything as it
+        // was.
         let sent = lookups::length_sent(&self.root, now, leave);
         if !fits(room, &sent) {
             return Err(NoRoom);
@@ -216,7 +201,7 @@ impl<A: Allocator + Copy, D: Drop> Outstanding<A, D> {
         Ok(sent)
     }
 
-    /// Returns the request that `pass_due_slots` would send again.
+    /// Returns the request whose ID `pass_due_slots` would return next, if there is one.
     pub(crate) fn next_sent(&self, now: Instant, leave: Uncounted) -> Option<&Transaction<A>>
         ensures { option_copied result ≡ option_map (λ e. e.1)
             (next_sent self.now.transport now self.now.requests) }
@@ -234,8 +219,34 @@ impl<A: Allocator + Copy, D: Drop> Outstanding<A, D> {
     }
 }
 
-/// Returns whether the bytes of the request to send again, if there is one, fit into the room, if
-/// that is limited.
+impl<A: Memory, D: Drop> Outstanding<A, D> {
+    /// Stores a request whose ID is not in use. If an allocation fails, the requests are unchanged,
+    /// but forks that were made before the failure stay: up to 47 of them.
+    pub(crate) fn insert(
+        &mut self,
+        alloc: A,
+        id: TransactionId,
+        request: Transaction<A>,
+        datum: D,
+    ) -> Result<(), AllocError>
+        requires named { IsNamed (id, request) }
+        requires absent { at id self.old.requests ≡ None }
+        ensures ok { OnOk result (self.new ≡ record self.old {
+          requests = with id request self.old.requests;
+          attached = with_datum id datum self.old.attached;
+        }) }
+        ensures there { OnOk result (at id self.new.requests ≡ Some request) }
+        ensures err { OnErr result (self.new ≡ self.old) }
+        ensures granted { A.grants → IsOk result }
+    {
+        let awaited = request.awaited_by(self.transport);
+        let leaf = A::boxed(alloc, Leaf::new(id, request, datum))?;
+        insert(&mut self.root, LEVELS, alloc, &awaited, leaf)
+    }
+}
+
+/// Returns whether the request to retransmit, whose ID and length are in `sent`, has at most `room`
+/// bytes. Returns `true` if there is no such request, or if `room` is `None`, which means no limit.
 fn fits(room: Option<usize>, sent: &Option<(TransactionId, usize)>) -> bool
     ensures { result ≡ has_room room sent.now }
 {

@@ -1,4 +1,4 @@
-//! The timeouts of a request: when it is sent again, and when it ends.
+//! The timeouts of a request: when it is retransmitted, and when it ends.
 ghost use Rattle.std.specs.Prelude.{◌≡◌, ◌≤◌, ◌<◌, ◌+◌, ◌*◌, ◌^◌, ◌⊎◌};
 ghost use Rattle.std.specs.Duration.{as_nanos, max_nanos};
 ghost use Rattle.stun_agent.specs.Timing.{settings_of, default_settings, timeout, slots};
@@ -8,11 +8,11 @@ ghost use Rattle.stun_agent.specs.Timing.{timeouts_before, cut};
 use std::time::Duration;
 use stun_base::transport::TransportType;
 
-/// After so many doublings even one nanosecond is past the longest `Duration`.
+/// After this many doublings even one nanosecond exceeds the longest `Duration`.
 const DOUBLINGS: u32 = 94;
 
-/// The timeouts of a request: when it is sent again, and when it ends (RFC 8489, sections 6.2.1 and
-/// 6.2.2).
+/// The timeouts of a request: when it is retransmitted, and when it ends (RFC 8489, sections 6.2.1
+/// and 6.2.2).
 #[derive(Clone, Copy, Debug, PartialEq, Eq)]
 pub struct RequestRto {
     /// The wait after the first transmission (RTO in section 6.2.1). Each further wait is twice the
@@ -27,7 +27,8 @@ pub struct RequestRto {
     pub last_retransmit: Duration,
 }
 
-/// 500 ms, no maximum, 7 transmissions, and 8 s after the last one (RFC 8489, section 6.2.1).
+/// The default timeouts: a first wait of 500 ms, no upper bound on waits, 7 transmissions, and a
+/// wait of 8 s after the last transmission (RFC 8489, section 6.2.1).
 impl Default for RequestRto {
     ghost is_default = { λ rto. settings_of rto ≡ default_settings };
 
@@ -42,7 +43,7 @@ impl Default for RequestRto {
 }
 
 impl RequestRto {
-    /// Returns how many times the request is sent again. Over TCP this is 0, because TCP loses
+    /// Returns how many times the request is retransmitted. Over TCP this is 0, because TCP loses
     /// nothing.
     pub fn slots(&self, transport: TransportType) -> u32
         ensures { result ≡ slots transport (settings_of self.now) }
@@ -74,9 +75,10 @@ impl RequestRto {
         }
     }
 
-    /// Returns the settings of a plan that ends after this time: the same transmissions at the same
-    /// times, as many as come before the end, and after the last of them a wait for the rest of the
-    /// time. If the whole plan ends in this time, returns the settings as they are.
+    /// Returns the settings of a plan that ends after `time`. The plan has those transmissions of
+    /// the whole plan that come before its end, at the same times, and after the last of them it
+    /// waits for the rest of `time`. If the whole plan ends within `time`, returns the settings
+    /// unchanged.
     pub fn within(&self, time: Duration) -> RequestRto
         ensures { settings_of result ≡ cut (as_nanos time) (settings_of self.now) }
     {
@@ -93,7 +95,7 @@ impl RequestRto {
         }
     }
 
-    /// Returns how many times the request is sent again over UDP.
+    /// Returns how many times the request is retransmitted over UDP.
     fn repetitions(&self) -> u32
         ensures { result ≡ repetitions (settings_of self.now) }
     {
@@ -114,8 +116,8 @@ impl RequestRto {
         }
     }
 
-    /// Returns the sum of the waits between transmissions. From transmission `DOUBLINGS` on all of
-    /// them are equal, so a short loop adds them up.
+    /// Returns the sum of the waits between transmissions. From transmission `DOUBLINGS` on, all
+    /// waits are equal, so a short loop adds them up.
     fn sum_of_timeouts(&self) -> u128
         ensures value { result ≡ sum_of_timeouts (settings_of self.now)
             (repetitions (settings_of self.now)) }
@@ -130,7 +132,8 @@ impl RequestRto {
         sum + (all - rising) as u128 * self.timeout_nanos(DOUBLINGS)
     }
 
-    /// Returns how many of the waits between transmissions end before this time, and their sum.
+    /// Returns how many of the waits between transmissions end before `time`, and the sum of those
+    /// waits.
     fn timeouts_before(&self, time: u128) -> (u32, u128)
         ensures count { result.0
             ≡ timeouts_before time (settings_of self.now) (repetitions (settings_of self.now)) }
@@ -154,7 +157,7 @@ impl RequestRto {
     }
 }
 
-/// Returns how many of `most` equal waits end before this time.
+/// Returns how many of `most` waits of the same length end before `time`.
 fn waits_before(wait: u128, most: u32, time: u128) -> u32
     ensures most { result ≤ most }
     ensures fit { (result ≡ 0) ⊎ (result * wait < time) }

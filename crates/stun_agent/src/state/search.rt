@@ -1,7 +1,7 @@
 //! Decides what a poll does: which request ends, or how long to wait.
 //!
-//! What stands here is a function of the time and of the index, which is a `&Link`. It is passed
-//! nothing else, and can learn nothing of a request that is not counted (`tree`).
+//! The decision is a function of the time and of the index, which is a `&Link`. Nothing else is
+//! passed, so no request can be read without being counted (`tree`).
 ghost use Rattle.std.specs.Prelude.{◌≡◌, ◌≤◌, ◌+◌, ◌*◌, Some, None, MatchOption};
 ghost use Rattle.std.specs.Prelude.{IfOk, OnErr, IfErr};
 ghost use Rattle.std.specs.Option.{option_map};
@@ -23,8 +23,8 @@ use stun_base::transaction_id::TransactionId;
 /// The longest wait that `poll` returns, in seconds.
 const LONGEST_WAIT_SECONDS: u64 = 3600;
 
-/// Returns the ID of the request to end and whether it was still being retransmitted. If none ends,
-/// returns the time of the next poll.
+/// Returns the ID of the request to end and whether it was still being retransmitted. If no request
+/// ends, fails with the time of the next poll.
 pub(crate) fn decide<A: Allocator, D, L: Ledger>(
     index: &Link<A, D>,
     now: Instant,
@@ -70,9 +70,10 @@ fn wake_up<A: Allocator, D, L: Ledger>(
     now.max(first)
 }
 
-/// Returns the least ID among the requests that are over, and whether its request was still being
-/// retransmitted. Goes only to links that tell of a request that is over, so it reads one entry,
-/// and only if it finds one. Otherwise it looks at this link alone.
+/// Returns the least ID among the requests that are over, and whether the request with this ID was
+/// still being retransmitted. The search follows only links below which a request is over. So a
+/// search that finds a request reads only one entry, and a search that finds none looks only at
+/// this link.
 // Inlined into the search of the fork above, so that a link with nothing to find costs no call.
 #[cycle(find_ended)]
 #[inline(always)]

@@ -6,7 +6,8 @@ use crate::state::rto::RequestRto;
 use std::marker::Model;
 use std::time::Duration;
 
-/// The parts of a `RequestRto`. Each `Duration` of it is padded to 16 bytes, and its parts are 12.
+/// The fields of a `RequestRto`, with each `Duration` divided into its two parts. The parts of a
+/// `Duration` take 12 bytes, but a `Duration` is padded to 16.
 #[derive(Debug, Drop)]
 pub(crate) struct Timeouts {
     initial_seconds: u64,

@@ -20,14 +20,14 @@ use stun_base::instant::Instant;
 use stun_base::transaction_id::TransactionId;
 use stun_base::transport::TransportType;
 
-/// What is still sent of a request.
+/// Whether a request is still retransmitted.
 #[derive(Clone, Copy, Debug, PartialEq, Eq)]
 pub(crate) enum Sending {
-    /// It is sent again while timeouts are left.
+    /// The request is retransmitted until its timeouts have passed.
     Repeats,
-    /// It is sent no more, and its response is awaited.
+    /// The request is no longer retransmitted, but its response is awaited.
     Silent,
-    /// It ends at the next poll that reaches it.
+    /// The request ends at the next poll that reaches it.
     Cancelled,
 }
 
@@ -56,19 +56,20 @@ impl Sending {
     }
 }
 
-/// What the user changes in a request.
+/// A change that the user makes to a request.
 #[derive(Clone, Copy, Debug, PartialEq, Eq)]
 pub(crate) enum Change {
-    /// It is sent no more, and its response is awaited.
+    /// The request is no longer retransmitted, but its response is awaited.
     Silence,
-    /// It ends, as canceled, at the next poll that reaches it.
+    /// The request ends, as canceled, at the next poll that reaches it.
     Cancel,
-    /// It has other timeouts.
+    /// The request gets other timeouts.
     Configure(RequestRto),
 }
 
-/// A request that awaits its response. `slot` counts the timeouts that have passed: each is the
-/// slot of one retransmission. `last` is the time of the last one, at first that of sending.
+/// A request that awaits its response. At the end of each timeout there is a slot for a
+/// retransmission. `slot` is the number of slots that have passed, and `last` is the time of the
+/// last of them. Before the first slot, `last` is the time at which the request was sent.
 #[derive(Drop)]
 #[derive_where(Debug)]
 pub(crate) struct Transaction<A: Allocator = Global> {
@@ -149,7 +150,8 @@ impl<A: Allocator> Transaction<A> {
         self.integrity
     }
 
-    /// Returns the nanoseconds from sending the request to this time, if no timeout has passed.
+    /// Returns the number of nanoseconds from the time at which the request was sent to `moment`.
+    /// Returns `None` if `moment` is `None`, or if a timeout of the request has passed.
     pub(crate) fn round_trip(&self, moment: Option<Instant>) -> Option<u64>
         ensures { result ≡ round_trip moment self.now }
     {
@@ -178,7 +180,7 @@ impl<A: Allocator> Transaction<A> {
         }
     }
 
-    /// Returns whether timeouts are left, each with a slot at its end.
+    /// Returns whether the request has slots left.
     fn has_slots(&self, transport: TransportType) -> bool
         ensures { result ≡ has_slots transport self.now }
     {
@@ -191,7 +193,8 @@ impl<A: Allocator> Transaction<A> {
         self.sending.is_cancelled()
     }
 
-    /// Returns the time of the next slot, or of the end if no slot is left.
+    /// Returns the time of the next slot or, if no slot is left, the time at which the request
+    /// ends.
     pub(crate) fn awaited(&self, transport: TransportType) -> Instant
         ensures { result ≡ awaited_moment transport self.now }
     {
@@ -204,7 +207,8 @@ impl<A: Allocator> Transaction<A> {
         self.last + wait
     }
 
-    /// Returns what the request awaits.
+    /// Returns the time that the request awaits, as the time of a slot or as the time at which the
+    /// request ends. A canceled request awaits no time.
     pub(crate) fn awaited_by(&self, transport: TransportType) -> Awaited
         ensures { result ≡ awaited_by transport self.now }
     {
@@ -217,7 +221,7 @@ impl<A: Allocator> Transaction<A> {
         }
     }
 
-    /// Passes the timeout that is due.
+    /// Advances the request past the slot that is due.
     pub(crate) fn take_slot(&mut self, now: Instant)
         requires { self.old.slot < repetitions self.old.settings }
         ensures { self.new ≡ after_slot now self.old }

@@ -1,12 +1,13 @@
-//! The outstanding requests in a tree by their IDs. Each link tells what the requests below it
-//! await, so a search for those that are due goes only where there are some.
+//! The outstanding requests in a tree by their IDs. Each link has the earliest times that the
+//! requests below it await, so a search for requests that are due visits only the parts of the tree
+//! that contain such requests.
 //!
-//! The tree is also the index of deadlines that a poll searches. A `&Link` is all that such a
-//! search sees. The fields of a `Leaf`, and the times in a link, are private to this module and to
-//! the modules below it, so the search has two ways to them: a look at the times of a link
-//! (`Awaited::is_over` and `Link::first`), and `read_entry`, which gives the entry of one request.
-//! Both count (`Reads`). All other calls of the modules below want a link that can be changed, or
-//! the permission `Uncounted`, which neither the search nor `poll` can create.
+//! The tree is also the index of deadlines that a poll searches. Such a search sees only a `&Link`.
+//! The fields of a `Leaf`, and the times in a link, are private to this module and to the modules
+//! below it, so the search can read them in only two ways: it looks at the times of a link
+//! (`Awaited::is_over` and `Link::first`), or it calls `read_entry`, which returns the entry of one
+//! request. Both are counted (`Reads`). All other calls of the modules below require a link that
+//! can be changed, or the permission `Uncounted`, which neither the search nor `poll` can create.
 ghost use Rattle.std.specs.Prelude.{◌≡◌, ◌+◌, ◌-◌, ◌*◌};
 ghost use Rattle.stun_base.specs.declared.wire.transport.TransportType.{TransportType};
 ghost use Rattle.stun_agent.specs.code.Awaited.{awaited_of, first_awaited, joined};
@@ -29,7 +30,7 @@ pub(crate) mod lookups;
 pub(crate) mod remove;
 pub(crate) mod replace;
 
-/// A request and its ID, with what its owner stores beside it.
+/// A request and its ID, with the datum of its owner.
 #[derive(Drop)]
 pub(crate) struct Leaf<A: Allocator, D> {
     id: TransactionId,
@@ -62,8 +63,8 @@ impl<A: Allocator, D: Drop> Leaf<A, D> {
     }
 }
 
-/// Nothing, a request, or a part of the IDs in four quarters. A link also tells what the requests
-/// below it await.
+/// A link of the tree: it leads to nothing, to one request, or to a fork. It also has the earliest
+/// times that the requests below it await.
 #[cycle(tree)]
 #[derive(Drop)]
 pub(crate) enum Link<A: Allocator, D> {
@@ -72,7 +73,7 @@ pub(crate) enum Link<A: Allocator, D> {
     Fork(Awaited, Box<Fork<A, D>, A>),
 }
 
-/// The four quarters of a part of the IDs, by the next two bits of an ID.
+/// A fork of the tree: a range of IDs, divided into four quarters by the next two bits of an ID.
 #[cycle(tree)]
 #[derive(Drop)]
 pub(crate) struct Fork<A: Allocator, D> {
@@ -83,7 +84,8 @@ pub(crate) struct Fork<A: Allocator, D> {
 }
 
 impl<A: Allocator, D> Link<A, D> {
-    /// Looks at the earliest time that a request below this link awaits.
+    /// Returns the earliest time that a request below this link awaits, or `None` if there is none,
+    /// and counts one look.
     pub(crate) fn first<L: Ledger>(&self, reads: &mut Reads<L>) -> Option<Instant>
         ensures first { (transport : TransportType) → IsTimed transport self.now
             → result ≡ first_awaited (awaited_of transport (items self.now)) }
@@ -92,7 +94,7 @@ impl<A: Allocator, D> Link<A, D> {
         self.awaited().first(reads)
     }
 
-    /// Returns what the requests below this link await.
+    /// Returns the earliest times that the requests below this link await.
     fn awaited(&self) -> Awaited
         ensures told { result ≡ told self.now }
         ensures timed { (transport : TransportType) → IsTimed transport self.now
@@ -105,7 +107,7 @@ impl<A: Allocator, D> Link<A, D> {
         }
     }
 
-    /// Joins what the requests below this link await to what others await.
+    /// Updates `others` to include the times that the requests below this link await.
     #[tactic(auto, using(crate::proofs::AwaitedLemmas::joined_nothing))]
     fn join_to(&self, others: &mut Awaited)
         ensures { others.new ≡ joined others.old (told self.now) }
@@ -119,7 +121,7 @@ impl<A: Allocator, D> Link<A, D> {
 }
 
 impl<A: Allocator, D> Fork<A, D> {
-    /// Returns what all the requests await.
+    /// Returns the earliest times that the requests below this fork await.
     fn awaited(&self) -> Awaited
         ensures { (transport : TransportType) → IsTimedFork transport self.now
             → result ≡ awaited_of transport (fork_items self.now) }
@@ -132,8 +134,9 @@ impl<A: Allocator, D> Fork<A, D> {
     }
 }
 
-/// Reads the entry of a request: returns the time that it awaits, if it is not canceled, its ID,
-/// and what is still sent of it. A search under `Reads` has no other way to an ID.
+/// Reads the entry of a request, and counts it. Returns the time that the request awaits (`None` if
+/// it is canceled), its ID, and whether it is still retransmitted. A counted search cannot read an
+/// ID in any other way.
 pub(crate) fn read_entry<A: Allocator, D, L: Ledger>(
     awaited: &Awaited,
     leaf: &Leaf<A, D>,
@@ -150,10 +153,11 @@ pub(crate) fn read_entry<A: Allocator, D, L: Ledger>(
     (awaited.earliest(), leaf.id, leaf.request.sending())
 }
 
-/// The number of levels of forks for which all IDs have room: each has two bits of the ID.
+/// The number of levels of forks that the IDs need: each level stands for two of the 96 bits of an
+/// ID.
 pub(crate) const LEVELS: u32 = 48;
 
-/// A quarter of a part of the IDs.
+/// One of the four quarters of a fork.
 #[derive(Clone, Copy)]
 enum Quarter {
     First,
@@ -162,7 +166,7 @@ enum Quarter {
     Fourth,
 }
 
-/// Returns the quarter in which a fork with room for so many levels has an ID.
+/// Returns the quarter of an ID in a fork that has this many levels, its own included.
 fn quarter_of(id: TransactionId, levels: u32) -> Quarter
     requires { IsDeep levels }
     ensures { part_of (levels - 1) id ≡ 4 * part_of levels id + two_bits result }

@@ -1,4 +1,4 @@
-//! Counting for an agent, if it keeps statistics.
+//! Adds to the statistics of an agent, if it keeps statistics.
 ghost use Rattle.std.specs.Prelude.{◌≡◌, if◌then◌else◌};
 ghost use Rattle.std.specs.Option.{option_map};
 ghost use Rattle.stun_agent.specs.Agent.{sending_tally};
@@ -25,7 +25,7 @@ pub(crate) fn count_sent(stats: &mut Option<StunAgentStats>, class: MessageClass
     }
 }
 
-/// Counts the bytes of a request that is sent again.
+/// Counts the bytes of a request that is retransmitted.
 pub(crate) fn count_sent_again(stats: &mut Option<StunAgentStats>, bytes: usize)
     ensures { stats.new ≡ option_map (statistics_after (request_sent_again bytes)) stats.old }
 {
@@ -55,8 +55,8 @@ pub(crate) fn count_indication_received(stats: &mut Option<StunAgentStats>, byte
     stats.count_indication_received(bytes as u64);
 }
 
-/// Counts a response to an outstanding request, its number of bytes, and its round trip if that is
-/// known.
+/// Counts a response to an outstanding request, its number of bytes and, unless it is `None`, its
+/// round-trip time.
 pub(crate) fn count_response_received(
     stats: &mut Option<StunAgentStats>,
     bytes: usize,
@@ -71,8 +71,8 @@ pub(crate) fn count_response_received(
     stats.count_response_received(bytes as u64, round_trip);
 }
 
-/// Counts the end of a request without a response: a timeout if it was still sent again, and a
-/// cancellation otherwise.
+/// Counts a request that ended without a response: as a timeout if it was still retransmitted, and
+/// otherwise as a cancellation.
 pub(crate) fn count_end(stats: &mut Option<StunAgentStats>, repeats: bool)
     ensures { stats.new
         ≡ option_map (statistics_after (if repeats then request_timed_out else request_cancelled))

@@ -1,4 +1,4 @@
--- The user whom a message names, as the code takes it.
+-- The user whom a message names, as the code uses it.
 use Rattle.std.specs.Prelude.{◌≡◌, ℕ, List, if◌then◌else◌, Option, Some, None}
 use Rattle.stun_auth.specs.declared.feature.Feature.{Feature}
 use Rattle.stun_auth.specs.declared.server.named_user.NamedUser.{NamedUser}

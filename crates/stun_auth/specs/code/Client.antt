@@ -1,4 +1,4 @@
--- What a client is set to and keeps, as data, for Models.
+-- The settings of a client and what it stores, as data, for Models.
 use Rattle.std.specs.Prelude.{◌≡◌, ℕ, List, Bool, true, false, Option, Some, None, ◌⊎◌, refl}
 use Rattle.std.proofs.Common.{inl, inr}
 use Rattle.std.specs.Coded.{Coded, code_by, coded×, coded⊎, coded_ℕ}

@@ -1,4 +1,4 @@
--- What a client keeps, as its settings and its state.
+-- What a client stores, as its settings and its state.
 use Rattle.std.specs.Prelude.{◌≤◌, length, map, Result, Ok, Err, string_bytes}
 use Rattle.std.specs.Option.{IfSome, option_map}
 use Rattle.stun_types.specs.Limits.{TEXT_LIMIT}
@@ -29,13 +29,13 @@ state_seen State.Initial = initial
 state_seen (State.Authenticating c) = authenticating (challenge_seen c)
 state_seen (State.Authenticated c) = authenticated (challenge_seen c)
 
--- nonce and realm that are kept are within their limits
+-- the stored nonce and realm are within their limits
 abbrev pub KeepsShortTexts : ClientState → Type 0
 KeepsShortTexts state =
     IfSome (kept_challenge state)
     (λ c. (length c.nonce ≤ TEXT_LIMIT) × (length c.realm ≤ TEXT_LIMIT))
 
--- the challenge that an offer comes to
+-- the challenge that is stored of an offer
 abbrev pub offer_kept : Feature → Offer → Challenge
 offer_kept feature o =
     new_challenge feature (record { username = o.username.now; password = o.password.now })

@@ -1,4 +1,4 @@
--- What a user who was found is known by, as it is passed.
+-- The secret of a user who was found, as it is passed.
 use Rattle.stun_auth.specs.declared.server.found.FoundSecret.{FoundSecret}
 use Rattle.stun_auth.specs.declared.server.found.FoundSecret.TheVariants.{Password, Keys}
 use Rattle.stun_auth.specs.Registered.{UserSecret, of_keys, of_password}

@@ -1,5 +1,5 @@
--- How the code judges a message that needs a nonce: the place, the verdict, the client, and what is
--- left.
+-- How the code judges a message that needs a nonce: the record, the verdict, the client, and the
+-- record after it.
 use Rattle.std.specs.Prelude.{◌≡◌, ℕ, List, [], if◌then◌else◌, Option, Some, None}
 use Rattle.std.specs.FinMap as map
 use Rattle.std.specs.String.{string_bytes}
@@ -22,7 +22,7 @@ use Rattle.stun_auth.specs.Server.{has_current_nonce, verdict}
 use Rattle.stun_auth.specs.Validation.{Answer, ServerSeen, answer_to, with_accepted}
 use Rattle.stun_base.specs.Moments.{moment_after}
 
--- the name that a message gives, whether that user is registered or not
+-- the name in a message, whether that user is registered or not
 abbrev pub name_by : Option (List ℕ) → Option (List ℕ) → Registered → Feature → Option (List ℕ)
 name_by (Some hash) username users feature =
     if is_possible feature then name_with_hash users hash else None
@@ -31,12 +31,12 @@ name_by None username users feature = username
 abbrev pub name_in : Registered → Feature → Reading → Option (List ℕ)
 name_in users feature r = name_by r.userhash r.username users feature
 
--- a new nonce with its end
+-- a new nonce and when it expires
 abbrev pub renewal_seen : {A : Type 0} → Renewal A → List ℕ × ℕ
 renewal_seen renewal = (string_bytes renewal.nonce.text, renewal.expires)
 
--- the place that a message is judged under: with the new nonce if one was made, and else as it is
--- kept
+-- the record that a message is judged under: with the new nonce if one was made, or else as it is
+-- stored
 abbrev pub place_with : Option PlaceSeen → Option (List ℕ × ℕ) → PlaceSeen
 place_with None None = renewed_place None [] 0
 place_with None (Some new) = renewed_place None new.0 new.1
@@ -49,32 +49,32 @@ judgement_answer (Refused refusal) = Err (server_reason refusal)
 judgement_answer (Known a) = Ok (Validated a)
 judgement_answer (New client) = Ok (Validated client.algorithm)
 
--- the client who is not kept yet
+-- the client that is not stored yet
 abbrev pub client_in : {A : Type 0} → Judgement A → Option ClientSeen
 client_in (Refused refusal) = None
 client_in (Known a) = None
 client_in (New client) = Some (client_seen client)
 
--- the place that is left: only another client changes it
+-- the record after a message: only another client changes it
 abbrev pub place_left : {A : Type 0} → PlaceSeen → Judgement A → PlaceSeen
 place_left place (Refused refusal) = place
 place_left place (Known a) = place
 place_left place (New client) = record place { client = Some (client_seen client) }
 
--- the places that are left
+-- the records after a message
 abbrev pub places_left : {A : Type 0} → PlacesSeen → SocketAddr → Option (List ℕ × ℕ) → Judgement A
     → PlacesSeen
 places_left places from None judged = with_change places from (λ p. place_left p judged)
 places_left places from (Some new) judged =
     map.insert places from (place_left (renewed_place (map.get places from) new.0 new.1) judged)
 
--- the nonce that is made for a server's address where none is current
+-- the nonce that is made for a server's address if none is current
 abbrev pub new_nonce : ServerSeen → ℕ → List ℕ → Option PlaceSeen → Option (List ℕ × ℕ)
 new_nonce s now words place =
     if has_current_nonce now place then None
     else Some (nonce_of s.registered.algorithms s.feature words, moment_after now s.expiry)
 
--- an outcome answers and leaves what the verdict does
+-- the answer of an outcome and the record after it are those of the verdict
 pub record IsJudged {A : Type 0} (users : Registered) (feature : Feature) (r : Reading)
     (place : PlaceSeen) (judged : Judgement A) : Type 0 where
   pub answer : judgement_answer judged
@@ -82,7 +82,7 @@ pub record IsJudged {A : Type 0} (users : Registered) (feature : Feature) (r : R
   pub left : place_left place judged
       ≡ with_accepted place (verdict users feature place.nonce place.offered r)
 
--- the verdict leaves the place as it is
+-- the verdict leaves the record unchanged
 abbrev pub ChangesNoPlace : Registered → Feature → Reading → PlaceSeen → Type 0
 ChangesNoPlace users feature r place =
     with_accepted place (verdict users feature place.nonce place.offered r) ≡ place

@@ -1,4 +1,4 @@
--- The last attribute of each type that is read of a message, and the code of an ERROR-CODE.
+-- The last attribute of each type that is read in a message, and the code of an ERROR-CODE.
 use Rattle.std.specs.Prelude.{ℕ, ◌==◌, ◌||◌, if◌then◌else◌, List, Option, Some, None}
 use Rattle.std.specs.List.{find}
 use Rattle.std.specs.Option.{is_some, option_and_then, option_map, option_or}
@@ -14,7 +14,7 @@ use Rattle.stun_base.specs.MessageType.{is_error}
 use Rattle.stun_auth.specs.Reading.{last_of}
 use Rattle.stun_auth.specs.declared.message.reading.LastAttributes.{LastAttributes}
 
--- those of the members of a message
+-- the last attributes among the members of a message
 abbrev pub last_attributes : List Member → LastAttributes
 last_attributes members = record {
   error_code = option_map (λ m. m.1) (last_of ERROR_CODE members);
@@ -29,8 +29,8 @@ last_attributes members = record {
   has_integrity = is_some (find (λ m. is_integrity m.1) members);
 }
 
--- with one attribute more, which is the last of its type; of the integrity attributes the first of
--- its type is kept
+-- the last attributes with one more, which is the last of its type. Of the integrity attributes the
+-- first of its type stays
 abbrev pub with_member : LastAttributes → Member → LastAttributes
 with_member last m = record {
   error_code = if m.1.kind == ERROR_CODE then Some m.1 else last.error_code;

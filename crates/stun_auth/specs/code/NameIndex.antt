@@ -20,14 +20,14 @@ coded_hashed = coded× (coded_list coded_ℕ) (coded_list coded_ℕ)
 abbrev pub HashedNames : Type 0
 HashedNames = set.FinSet hashed_cmp
 
--- a hash and a name as they are kept
+-- a hash and a name as they are stored
 abbrev pub hashed_seen : {A : Type 0} → List ℕ × String A → List ℕ × List ℕ
 hashed_seen pair = (pair.0, string_bytes pair.1)
 
 abbrev pub names_hashed : {A : Type 0} → List (List ℕ × String A) → HashedNames
 names_hashed pairs = set.from_list (map hashed_seen pairs)
 
--- the least name with a hash, or none where no name has it
+-- the least name with a hash, or none if no name has it
 abbrev pub IsLeastNamed : HashedNames → List ℕ → Option (List ℕ) → Type 0
 IsLeastNamed names hash None = (name : List ℕ) → set.contains names (hash, name) ≡ false
 IsLeastNamed names hash (Some least) =

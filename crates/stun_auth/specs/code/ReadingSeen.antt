@@ -1,4 +1,4 @@
--- What the code keeps of a message that it read, as the reading that the contracts speak of.
+-- What the code stores of a message that it read, as the reading that the contracts use.
 use Rattle.std.specs.Prelude.{map, if◌then◌else◌, Some, None}
 use Rattle.std.specs.Option.{option_copied, option_map}
 use Rattle.stun_types.specs.Integrity.{verified_algorithm}

@@ -1,4 +1,4 @@
--- What a short-term authenticator keeps.
+-- What a short-term authenticator stores.
 use Rattle.std.specs.Prelude.{◌≡◌, Option}
 use Rattle.std.specs.Option.{ForSome, option_map}
 use Rattle.stun_auth.specs.ShortTerm.{Secret}

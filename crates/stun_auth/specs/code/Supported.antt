@@ -1,4 +1,4 @@
--- The list of supported algorithms as the struct of the code keeps it.
+-- The list of supported algorithms as the struct of the code stores it.
 use Rattle.std.specs.Prelude.{List, [], ◌∷◌}
 use Rattle.stun_base.specs.declared.keys.algorithm.IntegrityAlgorithm.{IntegrityAlgorithm}
 use Rattle.stun_base.specs.declared.keys.algorithm.IntegrityAlgorithm.TheVariants.{Sha1, Sha256}
@@ -10,7 +10,7 @@ abbrev pub other : IntegrityAlgorithm → IntegrityAlgorithm
 other Sha1 = Sha256
 other Sha256 = Sha1
 
--- the list of what is supported
+-- the list of the supported algorithms
 abbrev pub in_order : Supported → List IntegrityAlgorithm
 in_order (Only algorithm) = algorithm ∷ []
 in_order (Both first) = first ∷ other first ∷ []

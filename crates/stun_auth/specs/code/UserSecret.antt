@@ -1,4 +1,4 @@
--- What a user is known by, as it is kept.
+-- The secret of a user, as it is stored.
 use Rattle.std.specs.String.{string_bytes}
 use Rattle.stun_auth.specs.declared.server.user_secret.UserSecret.{UserSecret as KeptSecret}
 use Rattle.stun_auth.specs.declared.server.user_secret.UserSecret.TheVariants.{Password, Keys}

@@ -1,4 +1,4 @@
--- The users of a registry as it keeps them.
+-- The users of a registry as it stores them.
 use Rattle.std.specs.Prelude.{◌≡◌, ℕ, List, map, Option, String}
 use Rattle.std.specs.Option.{IfSome}
 use Rattle.std.specs.FinMap as fin
@@ -12,11 +12,11 @@ use Rattle.stun_auth.specs.Registered.{UserSecret, name_cmp, key_if}
 use Rattle.stun_auth.specs.declared.server.registry.User.{User}
 use Rattle.stun_auth.specs.code.UserSecret.{secret_seen}
 
--- what a user is known by
+-- the secret of a user
 abbrev pub secret_of : {A : Type 0} → User A → UserSecret
 secret_of user = secret_seen user.kept.value.secret
 
--- the key that is kept for an algorithm
+-- the key that is stored for an algorithm
 abbrev pub key_in : {A : Type 0} → User A → IntegrityAlgorithm → Option (List ℕ)
 key_in user Sha1 = user.kept.value.sha1
 key_in user Sha256 = user.kept.value.sha256
@@ -27,12 +27,12 @@ HasKeys realm algorithms name user =
     (a : IntegrityAlgorithm)
     → key_in user a ≡ key_if (contains a algorithms) a name realm (secret_of user)
 
--- so does each user
+-- each user has these keys
 abbrev pub AllHaveKeys : {A B : Type 0} → List ℕ → AlgorithmSet → BTreeMap (String A) (User B)
     → Type 0
 AllHaveKeys realm algorithms users =
     (name : List ℕ) → IfSome (get_by_text users name) (HasKeys realm algorithms name)
 
--- what each user is known by, by name
+-- the secret of each user, by name
 abbrev pub secrets_seen : {A B : Type 0} → List (String A × User B) → fin.FinMap name_cmp UserSecret
 secrets_seen entries = fin.from_entries (map (λ e. (string_bytes e.0, secret_of e.1)) entries)

@@ -1,5 +1,5 @@
-//! A server's challenge, as a client answers and keeps it (RFC 8489, section 9.2.5).
-ghost use Rattle.std.specs.Prelude.{◌≡◌, ◌≤◌, IfOk, Ok, Err, Some, None, length, map};
+//! A server's challenge, which a client answers and stores (RFC 8489, section 9.2.5).
+ghost use Rattle.std.specs.Prelude.{◌≡◌, ◌≤◌, IfOk, IsOk, Ok, Err, Some, None, length, map};
 ghost use Rattle.std.specs.Option.{option_map};
 ghost use Rattle.stun_types.specs.Limits.{TEXT_LIMIT};
 ghost use Rattle.stun_types.specs.PasswordAlgorithms.{integrity_of};
@@ -16,6 +16,7 @@ use crate::naming::UserNaming;
 use crate::supported::Supported;
 use std::alloc::{AllocError, Allocator};
 use stun_base::key::long_term_key;
+use stun_base::memory::Memory;
 use stun_types::attribute::{PasswordAlgorithmValue, PasswordAlgorithms};
 use stun_types::message::{IntegrityAlgorithm, PreparedKey};
 
@@ -26,7 +27,8 @@ pub(crate) enum ChallengeRefusal {
     UnsupportedFeature,
 }
 
-/// What a client keeps of a server's challenge.
+/// The contents of a server's challenge that a client stores, and the key that the client made for
+/// the challenge.
 #[derive(Drop)]
 pub(crate) struct KeptChallenge<A: Allocator> {
     pub(crate) naming: UserNaming<A>,
@@ -37,8 +39,8 @@ pub(crate) struct KeptChallenge<A: Allocator> {
     pub(crate) key: PreparedKey<A>,
 }
 
-/// A challenge the client will answer: for which user, what the message says, and the algorithm
-/// that the client chose.
+/// A challenge that the client will answer: the user, the contents of the message, and the
+/// algorithm that the client chose.
 #[derive(Drop)]
 pub(crate) struct Offer<'a, 'm> {
     pub(crate) username: &'a str,
@@ -53,13 +55,15 @@ pub(crate) struct Offer<'a, 'm> {
 impl Offer<'_, '_> {
     ghost use Rattle.stun_auth.specs.code.ClientKept.{challenge_seen, offer_kept};
 
-    /// Copies what the client stores of the challenge.
-    pub(crate) fn kept<A: Allocator + Copy>(
+    /// Copies the texts of the challenge and makes the key, and returns them to be stored. Fails if
+    /// an allocation fails.
+    pub(crate) fn kept<A: Memory>(
         &self,
         alloc: A,
         feature: Feature,
     ) -> Result<KeptChallenge<A>, AllocError>
-        ensures { IfOk result (λ kept. challenge_seen kept ≡ offer_kept feature self.now) }
+        ensures kept { IfOk result (λ kept. challenge_seen kept ≡ offer_kept feature self.now) }
+        ensures granted { A.grants → IsOk result }
     {
         let hashes = asks_for_userhash(self.nonce) && feature.is_possible();
         let naming = UserNaming::new(alloc, hashes, self.username, self.realm)?;
@@ -84,13 +88,14 @@ impl Offer<'_, '_> {
     }
 }
 
-/// Copies a server's list. The copy is empty if there is none.
-fn copied<A: Allocator>(
+/// Copies a server's list of algorithms. The copy is empty if the server sent no list.
+fn copied<A: Memory>(
     alloc: A,
     list: &Option<PasswordAlgorithms>,
 ) -> Result<Vec<PasswordAlgorithmValue, A>, AllocError>
-    ensures { IfOk result (λ copy. map integrity_of copy.items
+    ensures list { IfOk result (λ copy. map integrity_of copy.items
         ≡ list_or_none (option_map (map integrity_of) list.now)) }
+    ensures granted { A.grants → IsOk result }
 {
     match list {
         Some(list) => listed(alloc, list),
@@ -98,17 +103,18 @@ fn copied<A: Allocator>(
     }
 }
 
-/// Copies a list.
-fn listed<A: Allocator>(
+/// Copies a list of algorithms.
+fn listed<A: Memory>(
     alloc: A,
     list: &PasswordAlgorithms,
 ) -> Result<Vec<PasswordAlgorithmValue, A>, AllocError>
-    ensures { IfOk result (λ copy. copy.items ≡ list.now) }
+    ensures list { IfOk result (λ copy. copy.items ≡ list.now) }
+    ensures granted { A.grants → IsOk result }
 {
     let mut copy = Vec::new(alloc);
     for i in 0..list.len() {
         if let Some(algorithm) = list.get(i) {
-            copy.push(algorithm)?;
+            A::push(&mut copy, algorithm)?;
         }
     }
     Ok(copy)
@@ -120,7 +126,8 @@ fn is_required(feature: Feature) -> bool
     matches!(feature, Feature::Required)
 }
 
-/// Returns the first algorithm of a server's list that the client supports.
+/// Returns the first algorithm of a server's list that the client supports, or `None` if it
+/// supports none of them.
 fn first_supported(supported: Supported, list: &PasswordAlgorithms) -> Option<IntegrityAlgorithm>
     ensures { result ≡ first_supported (in_order supported) (map integrity_of list.now) }
 {
@@ -135,8 +142,10 @@ fn first_supported(supported: Supported, list: &PasswordAlgorithms) -> Option<In
     None
 }
 
-/// Picks the algorithm from a server's list. Without a list it is HMAC-SHA1, and `Unauthorized` if
-/// the nonce requires a choice.
+/// Picks the first algorithm in a server's list that the client supports, or fails with
+/// `UnsupportedFeature` if it supports none of them. Without a list, picks HMAC-SHA1, or fails with
+/// `Unauthorized` if `asks` is true, which means that the nonce has the security bit *Password
+/// algorithms*.
 fn choose_by_list(
     supported: Supported,
     asks: bool,
@@ -160,7 +169,8 @@ fn choose_by_list(
     }
 }
 
-/// Fails with `UnsupportedFeature` if a required feature is missing.
+/// Returns `choice`. Fails with `UnsupportedFeature` if `choice` is an algorithm but `missing` is
+/// true, which means that the nonce lacks a required feature.
 fn unless(
     missing: bool,
     choice: Result<IntegrityAlgorithm, ChallengeRefusal>,
@@ -174,7 +184,8 @@ fn unless(
     Ok(algorithm)
 }
 
-/// Picks the algorithm where the nonce has no security bits: HMAC-SHA1, and no hashed name.
+/// Picks HMAC-SHA1, for a nonce without security bits. Fails with `UnsupportedFeature` if the
+/// client does not support it, or requires a hashed user name.
 fn choose_without_bits(
     supported: Supported,
     feature: Feature,

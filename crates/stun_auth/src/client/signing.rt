@@ -1,6 +1,6 @@
-//! Signing what a client sends (RFC 8489, section 9.2.5).
+//! Signs the messages of a client (RFC 8489, section 9.2.5).
 ghost use Rattle.std.specs.Prelude.{◌≡◌, ◌≤◌, ◌<◌, ◌+◌, ◌-◌, ◌^◌, length, min};
-ghost use Rattle.std.specs.Prelude.{Bool, true, false, IfOk, IsOk, Ok};
+ghost use Rattle.std.specs.Prelude.{Bool, ⊤, true, false, IfOk, IsOk, Ok};
 ghost use Rattle.std.specs.Option.{option_map};
 ghost use Rattle.stun_base.specs.Header.{BeginsWithHeader};
 ghost use Rattle.stun_base.specs.MessageType.{class_in, is_request};
@@ -24,19 +24,21 @@ use stun_types::message::{IntegrityAlgorithm, MessageClass, StunWriteError};
 use stun_types::prelude::*;
 
 impl<A: Allocator> KeptChallenge<A> {
-    /// Adds nonce, realm and the name of the user.
+    /// Adds NONCE, REALM, and USERNAME or USERHASH.
     fn add_identity<W: MessageWrite>(&self, writer: &mut W) -> Result<(), StunWriteError>
         requires { 20 ≤ length (W.bytes writer.old) }
         ensures header { 20 ≤ length (W.bytes writer.new) }
         ensures added { IsAdded (identity (challenge_seen self.now))
             (page_in W.bytes W.room writer.old) (W.reserved writer.old)
             result (page_in W.bytes W.room writer.new) (W.reserved writer.new) }
+        ensures granted { W.grants → UnlessMemory result ⊤ ⊥ }
     {
         let (nonce, realm) = (self.nonce.as_str(), self.realm.as_str());
         self.naming.add_identity(writer, nonce, realm)
     }
 
-    /// Adds the server's list and the chosen algorithm, where they must be named.
+    /// Adds PASSWORD-ALGORITHMS if the server sent a list, and PASSWORD-ALGORITHM if it sent a list
+    /// or the chosen algorithm is HMAC-SHA256.
     fn add_algorithm_choice<W: MessageWrite>(&self, writer: &mut W) -> Result<(), StunWriteError>
         requires { 20 ≤ length (W.bytes writer.old) }
         ensures header { 20 ≤ length (W.bytes writer.new) }
@@ -44,6 +46,7 @@ impl<A: Allocator> KeptChallenge<A> {
             (challenge_seen self.now).algorithms self.now.algorithm)
             (page_in W.bytes W.room writer.old) (W.reserved writer.old)
             result (page_in W.bytes W.room writer.new) (W.reserved writer.new) }
+        ensures granted { W.grants → UnlessMemory result ⊤ ⊥ }
     {
         let choice = AddedAttribute::PasswordAlgorithm(self.algorithm);
         match self.algorithms.as_slice() {
@@ -58,12 +61,14 @@ impl<A: Allocator> KeptChallenge<A> {
         }
     }
 
-    /// Adds what a message needs, and the integrity attribute under the kept key.
+    /// Signs a message under the stored key: adds the identity if `is_request` is true, then the
+    /// choice of the algorithm, and last the integrity attribute.
     fn sign<W: MessageWrite>(&self, writer: &mut W, is_request: bool) -> Result<(), StunWriteError>
         requires { 20 ≤ length (W.bytes writer.old) }
-        ensures { IsOutcome (challenge_additions is_request (challenge_seen self.now))
+        ensures outcome { IsOutcome (challenge_additions is_request (challenge_seen self.now))
             (page_in W.bytes W.room writer.old) (W.reserved writer.old)
             result (page_in W.bytes W.room writer.new) }
+        ensures granted { W.grants → UnlessMemory result ⊤ ⊥ }
     {
         if is_request {
             self.add_identity(writer)?;
@@ -76,15 +81,16 @@ impl<A: Allocator> KeptChallenge<A> {
     /// Adds the choice of the algorithm and the integrity attribute.
     fn add_protection<W: MessageWrite>(&self, writer: &mut W) -> Result<(), StunWriteError>
         requires { 20 ≤ length (W.bytes writer.old) }
-        ensures { IsOutcome (challenge_additions false (challenge_seen self.now))
+        ensures outcome { IsOutcome (challenge_additions false (challenge_seen self.now))
             (page_in W.bytes W.room writer.old) (W.reserved writer.old)
             result (page_in W.bytes W.room writer.new) }
+        ensures granted { W.grants → UnlessMemory result ⊤ ⊥ }
     {
         self.add_algorithm_choice(writer)?;
         add_integrity(writer, &self.key, self.algorithm)
     }
 
-    /// Returns how many bytes signing adds to a request, at most 2^64 - 1.
+    /// Returns the number of bytes that signing adds to a request, at most 2^64 - 1.
     fn signature_bytes(&self) -> usize
         ensures { result ≡ min (growth (challenge_additions true (challenge_seen self.now)))
             (2 ^ 64 - 1) }
@@ -94,7 +100,7 @@ impl<A: Allocator> KeptChallenge<A> {
             .saturating_add(integrity_bytes(self.algorithm))
     }
 
-    /// Returns how many bytes nonce, realm and the name of the user take, at most 2^64 - 1.
+    /// Returns the number of bytes that `add_identity` adds, at most 2^64 - 1.
     fn identity_bytes(&self) -> usize
         ensures { result ≡ min (growth (identity (challenge_seen self.now))) (2 ^ 64 - 1) }
     {
@@ -103,7 +109,7 @@ impl<A: Allocator> KeptChallenge<A> {
             .saturating_add(self.naming.bytes())
     }
 
-    /// Returns how many bytes the choice of the algorithm takes, at most 2^64 - 1.
+    /// Returns the number of bytes that `add_algorithm_choice` adds, at most 2^64 - 1.
     fn choice_bytes(&self) -> usize
         ensures { result ≡ min (growth (algorithm_choice
             (challenge_seen self.now).algorithms self.now.algorithm)) (2 ^ 64 - 1) }
@@ -119,7 +125,7 @@ impl<A: Allocator> KeptChallenge<A> {
 }
 
 impl<A: Allocator> State<A> {
-    /// Returns the challenge that the client has stored.
+    /// Returns the challenge that the client has stored, or `None` if it has stored none.
     fn kept(&self) -> Option<&KeptChallenge<A>>
         ensures { option_map (λ kept. challenge_seen kept.now) result
             ≡ kept_challenge (state_seen self.now) }
@@ -158,8 +164,8 @@ impl<A: Allocator> LongTermClientAuth<A> {
         }
     }
 
-    /// Returns the number of bytes that `sign_outgoing_message` adds to a request, at most 2^64 -
-    /// 1. It is 0 if the client has not accepted a challenge yet.
+    /// Returns the number of bytes that `sign_outgoing_message` adds to a request, or 0 if the
+    /// client has not accepted a challenge yet. The result is at most 2^64 - 1.
     pub fn message_signature_bytes(&self) -> usize
         ensures { result ≡ min (growth (client_additions true self.now.state)) (2 ^ 64 - 1) }
     {
@@ -169,8 +175,8 @@ impl<A: Allocator> LongTermClientAuth<A> {
         }
     }
 
-    /// Signs a message for the server, as the accepted challenge asks for (RFC 8489, section
-    /// 9.2.5).
+    /// Signs a message for the server, by the challenge that the client has accepted (RFC 8489,
+    /// section 9.2.5).
     ///
     /// If the client has not accepted a challenge yet, the message is unchanged. Otherwise these
     /// attributes are added, in this order:
@@ -181,11 +187,11 @@ impl<A: Allocator> LongTermClientAuth<A> {
     /// - MESSAGE-INTEGRITY or MESSAGE-INTEGRITY-SHA256.
     ///
     /// The writer must hold a message without FINGERPRINT. The attributes are added one after
-    /// another, and the first error decides. It drops the writer. The client is unchanged in any
-    /// case.
+    /// another, and the call fails with the first error. The writer is then dropped. The client is
+    /// unchanged in any case.
     ///
-    /// - `MessageIntegrityExists`, `AttributeExists`: the message has a signature, or this
-    ///   attribute, already.
+    /// - `MessageIntegrityExists`, `AttributeExists`: the message already has a signature, or
+    ///   already has the attribute to add.
     /// - `TooLarge`: the message would be too long, or the user name has more than 513 bytes.
     /// - `TooSmall`: the writer has no room.
     /// - `OutOfMemory`: an allocation failed.
@@ -196,39 +202,46 @@ impl<A: Allocator> LongTermClientAuth<A> {
             UnlessMemory result (written_page W.bytes W.room result
             ≡ added_all additions (page_in W.bytes W.room writer))
             (WantsMemory additions (page_in W.bytes W.room writer) (W.reserved writer)) }
+        ensures granted { W.grants → UnlessMemory result ⊤ ⊥ }
         ensures grows { IfOk result (λ signed. length (W.bytes signed)
             ≡ length (W.bytes writer) + growth
             (client_additions (is_request (class_in (W.bytes writer))) self.old.state)) }
 
-        // What is reserved already does not allocate.
+        // Nothing is allocated for bytes that are reserved already.
         ensures succeeds { let request = is_request (class_in (W.bytes writer)) in
             IsSignableAtClient request self.old.state (W.bytes writer) (W.room writer)
             → growth (client_additions request self.old.state) ≤ W.reserved writer
             → IsOk result }
+
+        // A signable message fails only for lack of memory.
+        ensures signable { IsSignableAtClient (is_request (class_in (W.bytes writer)))
+            self.old.state (W.bytes writer) (W.room writer)
+            → UnlessMemory result (IsOk result) ⊤ }
         ensures stays { self.new ≡ self.old }
     {
-        // Laws do nothing when they run: this one is for the clause `succeeds`.
+        // A law does nothing at run time. This one helps to prove the clause `succeeds`.
         sides_sign_what_is_signable();
         self.keeps_short_texts();
         self.signed(writer)
     }
 
-    /// The kept nonce and realm are within their limits, as those of a message are. For the proof
-    /// alone: it brings in what the types of the fields promise.
+    /// Does nothing at run time. It gives the proof a fact that the types of the fields guarantee:
+    /// the stored nonce and realm are within the limits of their attributes.
     fn keeps_short_texts(&self)
         ensures { KeepsShortTexts self.now.state }
     {
         let _ = &self.state;
     }
 
-    /// Adds to a message what the stored challenge asks for.
+    /// Adds to a message the attributes that the stored challenge requires.
     fn signed<W: MessageWrite>(&self, writer: W) -> Result<W, StunWriteError>
         requires { BeginsWithHeader (W.bytes writer) }
-        ensures { let additions = client_additions
+        ensures outcome { let additions = client_additions
             (is_request (class_in (W.bytes writer))) self.now.state in
             UnlessMemory result (written_page W.bytes W.room result
             ≡ added_all additions (page_in W.bytes W.room writer))
             (WantsMemory additions (page_in W.bytes W.room writer) (W.reserved writer)) }
+        ensures granted { W.grants → UnlessMemory result ⊤ ⊥ }
     {
         let mut writer = writer;
         if let Some(kept) = self.state.kept() {
@@ -238,12 +251,11 @@ impl<A: Allocator> LongTermClientAuth<A> {
         Ok(writer)
     }
 
-    /// Like `sign_outgoing_message`, for a message that you know to be signable, which it signs in
-    /// the same way.
+    /// Signs a message like `sign_outgoing_message`, if you know that it is signable.
     ///
     /// A signable message has no integrity attribute, no FINGERPRINT, and none of the attributes
-    /// that signing adds. Its writer and its length field have room for what is added. The user
-    /// name has at most 513 bytes.
+    /// that signing adds. Its writer and its length field have room for the attributes to add. The
+    /// user name has at most 513 bytes.
     ///
     /// Fails if an allocation fails. The client is unchanged in any case.
     pub fn sign_outgoing_message_unchecked<W: MessageWrite>(
@@ -262,10 +274,11 @@ impl<A: Allocator> LongTermClientAuth<A> {
             ≡ length (W.bytes writer) + growth
             (client_additions (is_request (class_in (W.bytes writer))) self.old.state)) }
 
-        // What is reserved already does not allocate.
+        // Nothing is allocated for bytes that are reserved already.
         ensures succeeds { growth (client_additions
             (is_request (class_in (W.bytes writer))) self.old.state)
             ≤ W.reserved writer → IsOk result }
+        ensures granted { W.grants → IsOk result }
         ensures stays { self.new ≡ self.old }
     {
         match self.sign_outgoing_message(writer) {

@@ -1,9 +1,10 @@
-//! Adding attributes to a message, one after another, and integrity last.
-ghost use Rattle.std.specs.Prelude.{◌≡◌, ◌≤◌, ◌<◌, ◌+◌, ◌*◌, ◌^◌, ◌∷◌, [], false, length};
+//! Adds attributes to a message, one after another, and the integrity attribute last.
+ghost use Rattle.std.specs.Prelude.{◌≡◌, ◌≤◌, ◌<◌, ◌+◌, ◌*◌, ◌^◌, ◌∷◌, [], ⊤, false, length};
 ghost use Rattle.stun_base.specs.Algorithm.{digest_length};
 ghost use Rattle.stun_types.specs.Attribute.{attribute_length};
 ghost use Rattle.stun_auth.specs.Parts.{attribute_of};
-ghost use Rattle.stun_auth.specs.Additions.{attribute, integrity, is_text_too_long, page_in};
+ghost use Rattle.stun_auth.specs.Additions.{UnlessMemory, attribute, integrity, is_text_too_long};
+ghost use Rattle.stun_auth.specs.Additions.{page_in};
 ghost use Rattle.stun_auth.specs.Outcome.{IsAdded, IsOutcome};
 
 use std::alloc::Allocator;
@@ -22,17 +23,19 @@ pub enum AddedAttribute<'a> {
     Userhash([u8; 32]),
     /// The algorithms that a server offers.
     PasswordAlgorithms(&'a [PasswordAlgorithmValue]),
-    /// The algorithm whose key is used.
+    /// The algorithm that the client chose, as the integrity algorithm that its keys are for.
     PasswordAlgorithm(IntegrityAlgorithm),
 }
 
-/// Adds an attribute. A text past its limit fails with `TooLarge`, before the writer is asked.
+/// Adds an attribute. If a text exceeds its limit, the call fails with `TooLarge` before it touches
+/// the writer.
 pub fn add<W: MessageWrite>(writer: &mut W, added: AddedAttribute<'_>) -> Result<(), StunWriteError>
     requires { 20 ≤ length (W.bytes writer.old) }
     ensures header { 20 ≤ length (W.bytes writer.new) }
     ensures added { IsAdded (attribute (attribute_of added.entry) ∷ [])
         (page_in W.bytes W.room writer.old) (W.reserved writer.old) result
         (page_in W.bytes W.room writer.new) (W.reserved writer.new) }
+    ensures granted { W.grants → UnlessMemory result ⊤ ⊥ }
 {
     match added {
         AddedAttribute::Nonce(text) => add_made(writer, &Nonce::new(text)?),
@@ -63,11 +66,12 @@ pub fn add_made<W: MessageWrite, M: Attribute>(
         (attribute (record { kind = M.kind made.now; value = M.value made.now }) ∷ [])
         (page_in W.bytes W.room writer.old) (W.reserved writer.old) result
         (page_in W.bytes W.room writer.new) (W.reserved writer.new) }
+    ensures granted { W.grants → UnlessMemory result ⊤ ⊥ }
 {
     writer.add_attribute(made)
 }
 
-/// Adds the integrity attribute of an algorithm under a key.
+/// Adds the integrity attribute of an algorithm, with the signature under a key.
 #[tactic(auto, unfolding(crate::specs::Additions::added_one))]
 pub fn add_integrity<W: MessageWrite, A: Allocator>(
     writer: &mut W,
@@ -75,14 +79,15 @@ pub fn add_integrity<W: MessageWrite, A: Allocator>(
     algorithm: IntegrityAlgorithm,
 ) -> Result<(), StunWriteError>
     requires { 20 ≤ length (W.bytes writer.old) }
-    ensures { IsOutcome (integrity algorithm key.now ∷ []) (page_in W.bytes W.room writer.old)
+    ensures outcome { IsOutcome (integrity algorithm key.now ∷ []) (page_in W.bytes W.room writer.old)
         (W.reserved writer.old)
         result (page_in W.bytes W.room writer.new) }
+    ensures granted { W.grants → UnlessMemory result ⊤ ⊥ }
 {
     writer.add_message_integrity_with_prepared_key(key, algorithm)
 }
 
-/// Returns how many bytes the integrity attribute of an algorithm takes.
+/// Returns the number of bytes of the integrity attribute of an algorithm.
 pub(crate) fn integrity_bytes(algorithm: IntegrityAlgorithm) -> usize
     ensures { result ≡ attribute_length (digest_length algorithm) }
 {
@@ -92,7 +97,7 @@ pub(crate) fn integrity_bytes(algorithm: IntegrityAlgorithm) -> usize
     }
 }
 
-/// Returns how many bytes an attribute takes whose value has `length` bytes.
+/// Returns the number of bytes of an attribute whose value has `length` bytes.
 pub(crate) fn attribute_bytes(length: usize) -> usize
     requires { length < 2 ^ 63 }
     ensures { result ≡ attribute_length length }

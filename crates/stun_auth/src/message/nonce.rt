@@ -1,6 +1,9 @@
 //! The nonces of a server, and the security bits that they carry (RFC 8489, section 9.2).
-ghost use Rattle.std.specs.Prelude.{◌≡◌, ◌++◌, List, ℕ, Some, None, IfOk, OnOk};
-ghost use Rattle.std.specs.String.{string_bytes};
+ghost use Rattle.base64.specs.Engines.{standard};
+ghost use Rattle.base64.specs.GeneralPurpose.{encode_of};
+ghost use Rattle.std.specs.Prelude.{◌≡◌, ◌+◌, ◌++◌, ◌≤◌, List, ℕ, Some, None, IfOk, IsOk, OnOk};
+ghost use Rattle.std.specs.Str.{IsUtf8};
+ghost use Rattle.std.specs.String.{string_bytes, string_capacity, string_len};
 ghost use Rattle.stun_base.specs.Words.{next_words, after_words};
 ghost use Rattle.stun_auth.specs.Nonces.{begins_with_cookie, security_bits, security_byte};
 ghost use Rattle.stun_auth.specs.Nonces.{nonce_of, asks_for_algorithms, asks_for_userhash};
@@ -9,39 +12,40 @@ ghost use Rattle.stun_auth.specs.Feature.{is_possible};
 
 use crate::algorithm_set::AlgorithmSet;
 use crate::feature::Feature;
-use crate::letters::push_letters;
+use crate::letters::{push_letters, text_with_room};
 use crate::limited_text::LimitedText;
 use base64::engine::general_purpose::STANDARD;
 use rand_core::Rng;
 use std::alloc::{AllocError, Allocator};
 use std::marker::Model;
 use stun_base::algorithm::IntegrityAlgorithm;
+use stun_base::memory::Memory;
 
-/// The nonce cookie, with which a nonce begins that carries security bits (RFC 8489, section 9.2).
+/// The nonce cookie: every nonce that has security bits begins with it (RFC 8489, section 9.2).
 pub const LONG_TERM_RFC8489_NONCE_COOKIE: &str = "obMatJos2";
 
-/// How many bytes the cookie and the four letters after it have.
+/// The number of bytes of the cookie and the four letters after it.
 const FRONT_LENGTH: usize = 13;
 
-/// How many random letters a nonce has.
+/// The number of random letters of a nonce.
 const LETTERS: usize = 16;
 
-/// A number whose letter is p.
+/// A number for which `letter` returns `p`.
 const NUMBER_OF_P: u32 = 41;
 
-/// The bit of the first byte that asks for password algorithms (section 18.1).
+/// The security bit *Password algorithms*, in the first byte (section 18.1).
 const PASSWORD_ALGORITHMS: u8 = 0x80;
 
-/// The bit of the first byte that allows hashed user names (section 18.1).
+/// The security bit *Username anonymity*, in the first byte (section 18.1).
 const USERNAME_ANONYMITY: u8 = 0x40;
 
 /// The 24 security bits of a nonce (RFC 8489, sections 9.2 and 18.1), with which a server announces
-/// what it supports.
+/// the features that it supports.
 ///
-/// A nonce that has them begins with the cookie `obMatJos2`, followed by the bits as four
+/// A nonce that has security bits begins with the cookie `obMatJos2`, followed by the bits as four
 /// characters of base64.
 ///
-/// Contracts: they see the three bytes.
+/// Contracts: the value is the list of the three bytes.
 #[derive(Clone, Copy, Debug, Default, PartialEq, Eq, Hash)]
 pub struct NonceSecurityBits {
     bytes: [u8; 3],
@@ -68,16 +72,17 @@ impl NonceSecurityBits {
         NonceSecurityBits { bytes }
     }
 
-    /// Returns the security bits as three bytes. The first has both assigned bits.
+    /// Returns the security bits as three bytes. The two bits that have a meaning are in the first
+    /// byte.
     pub fn bytes(&self) -> [u8; 3]
         ensures { result ≡ self.now }
     {
         self.bytes
     }
 
-    /// Returns the security bits of a nonce, or `None` if it has none: it does not begin with the
-    /// cookie, or the four characters after the cookie are not base64 of three bytes (RFC 8489,
-    /// section 9.2).
+    /// Returns the security bits of a nonce. Returns `None` if the nonce has none, because it does
+    /// not begin with the cookie, or the four characters after the cookie are not base64 of three
+    /// bytes (RFC 8489, section 9.2).
     #[tactic(auto, unfolding(crate::specs::Nonces::security_bits))]
     pub fn from_nonce(nonce: &str) -> Option<NonceSecurityBits>
         ensures { result ≡ security_bits nonce.now }
@@ -95,32 +100,38 @@ impl NonceSecurityBits {
 
     /// Returns the 13 bytes with which a nonce with these bits begins: the cookie, and the bits as
     /// four characters of base64. Fails if an allocation fails.
-    pub fn as_string<A: Allocator>(&self, alloc: A) -> Result<String<A>, AllocError>
-        ensures { IfOk result (λ text. string_bytes text ≡ spelled_bits self.now) }
+    pub fn as_string<A: Memory>(&self, alloc: A) -> Result<String<A>, AllocError>
+        ensures text { IfOk result (λ text. string_bytes text ≡ spelled_bits self.now) }
+        ensures granted { A.grants → IsOk result }
     {
-        let mut text = String::with_capacity(alloc, FRONT_LENGTH)?;
+        let mut text = text_with_room(alloc, FRONT_LENGTH)?;
         self.push_to(&mut text)?;
         Ok(text)
     }
 
-    /// Appends the 13 bytes.
+    /// Appends the 13 bytes of `as_string` to a text. It does not allocate if the text has room for
+    /// them.
     #[tactic(auto, unfolding(crate::specs::Nonces::spelled_bits))]
     fn push_to<A: Allocator>(&self, text: &mut String<A>) -> Result<(), AllocError>
-        ensures { OnOk result (string_bytes text.new
+        ensures bytes { OnOk result (string_bytes text.new
             ≡ string_bytes text.old ++ spelled_bits self.now) }
+        ensures len { OnOk result (string_len text.new ≡ string_len text.old + 13) }
+        ensures capacity { string_capacity text.old ≤ string_capacity text.new }
+        ensures succeeds { string_len text.old + 13 ≤ string_capacity text.old → IsOk result }
     {
+        let bits = base64_of(&self.bytes);
         text.push_str(LONG_TERM_RFC8489_NONCE_COOKIE)?;
-        STANDARD.encode_string(&self.bytes, text)
+        text.push_str(str::from_utf8(&bits).unwrap())
     }
 
-    /// Returns true if the client is to choose among password algorithms (RFC 8489, section 18.1).
+    /// Returns `true` if the client must choose among password algorithms (RFC 8489, section 18.1).
     pub fn password_algorithms(&self) -> bool
         ensures { result ≡ first_has 0x80 (Some self.now) }
     {
         self.bytes[0] & PASSWORD_ALGORITHMS != 0
     }
 
-    /// Sets whether the client is to choose among password algorithms.
+    /// Sets whether the client must choose among password algorithms.
     pub fn set_password_algorithms(&mut self, enabled: bool)
         ensures { self.new ≡ with_first_bit 0x80 enabled self.old }
     {
@@ -131,7 +142,7 @@ impl NonceSecurityBits {
         }
     }
 
-    /// Returns true if the user name may be sent as a hash (RFC 8489, section 18.1).
+    /// Returns `true` if the user name may be sent as a hash (RFC 8489, section 18.1).
     pub fn username_anonymity(&self) -> bool
         ensures { result ≡ first_has 0x40 (Some self.now) }
     {
@@ -150,7 +161,17 @@ impl NonceSecurityBits {
     }
 }
 
-/// Returns whether a nonce asks for a choice of password algorithms.
+/// Returns three bytes as four characters of base64.
+fn base64_of(bytes: &[u8; 3]) -> [u8; 4]
+    ensures characters { result ≡ encode_of standard bytes.now }
+    ensures text { IsUtf8 result }
+{
+    let mut characters = [0u8; 4];
+    STANDARD.encode_slice(bytes, &mut characters).unwrap();
+    characters
+}
+
+/// Returns whether a nonce has the security bit *Password algorithms*.
 pub(crate) fn asks_for_algorithms(nonce: &str) -> bool
     ensures { result ≡ asks_for_algorithms nonce.now }
 {
@@ -195,29 +216,30 @@ fn security_byte(algorithms: AlgorithmSet, feature: Feature) -> u8
     for_algorithms + for_userhash
 }
 
-/// Makes a nonce of sixteen random numbers. Allocates once.
-pub(crate) fn nonce_of_words<A: Allocator + Copy>(
+/// Makes a nonce from sixteen random numbers. Allocates once, and fails if the allocation fails.
+pub(crate) fn nonce_of_words<A: Memory>(
     alloc: A,
     algorithms: AlgorithmSet,
     feature: Feature,
     words: &[u32; 16],
 ) -> Result<String<A>, AllocError>
-    ensures { IfOk result (λ text. string_bytes text ≡ nonce_of algorithms feature words.now) }
+    ensures text { IfOk result (λ text. string_bytes text ≡ nonce_of algorithms feature words.now) }
+    ensures granted { A.grants → IsOk result }
 {
     let byte = security_byte(algorithms, feature);
     if byte != 0 {
-        let mut text = String::with_capacity(alloc, FRONT_LENGTH + LETTERS)?;
+        let mut text = text_with_room(alloc, FRONT_LENGTH + LETTERS)?;
         NonceSecurityBits::from_bytes([byte, 0, 0]).push_to(&mut text)?;
         push_letters(&mut text, words)?;
         return Ok(text);
     }
-    let mut text = String::with_capacity(alloc, LETTERS)?;
+    let mut text = text_with_room(alloc, LETTERS)?;
     push_letters(&mut text, words)?;
     if !begins_with_cookie(text.as_bytes()) {
         return Ok(text);
     }
-    // By chance the letters begin with the cookie, and would read as security bits that nobody set.
-    // Another first letter prevents that.
+    // The letters begin with the cookie by chance, so a client would read security bits that nobody
+    // set. Another first letter prevents that.
     let mut others = *words;
     others[0] = NUMBER_OF_P;
     text.clear();
@@ -225,11 +247,11 @@ pub(crate) fn nonce_of_words<A: Allocator + Copy>(
     Ok(text)
 }
 
-/// Makes a new nonce of the next sixteen random numbers of the source.
+/// Makes a new nonce from the next sixteen random numbers of the source.
 ///
-/// It asks for password algorithms if and only if HMAC-SHA256 is supported. It allows hashed names
-/// if and only if the feature does. Where it does neither, it carries no security bits.
-pub(crate) fn make_nonce<A: Allocator + Copy, R: Rng>(
+/// The nonce asks for password algorithms if and only if HMAC-SHA256 is supported, and allows
+/// hashed names if and only if `feature` does. If it does neither, it has no security bits.
+pub(crate) fn make_nonce<A: Memory, R: Rng>(
     alloc: A,
     algorithms: AlgorithmSet,
     feature: Feature,
@@ -243,6 +265,7 @@ pub(crate) fn make_nonce<A: Allocator + Copy, R: Rng>(
     ensures asks_for_userhash { IfOk result (λ nonce. asks_for_userhash (string_bytes nonce.text)
         ≡ is_possible feature) }
     ensures source { R.stream rng.new ≡ after_words 16 (R.stream rng.old) }
+    ensures granted { A.grants → IsOk result }
 {
     let words = draw_words(rng);
     let text = nonce_of_words(alloc, algorithms, feature, &words)?;

@@ -1,5 +1,5 @@
-//! What an authenticator reads of a message, in one walk: the last visible attribute of each type,
-//! where it is well formed.
+//! Reads a message for an authenticator in one walk: parses the last visible attribute of each
+//! type, and ignores it if it is malformed.
 //!
 //! Nothing here allocates.
 
@@ -29,8 +29,8 @@ use stun_types::attribute::{
 use stun_types::message::{Message, MessageClass};
 use stun_types::prelude::AttributeFromRaw;
 
-/// The last visible attribute of each type that is read. Of the integrity attributes it is the
-/// first of each type, with its place.
+/// The last visible attribute of each type that an authenticator reads. For each of the two
+/// integrity types, this is the first visible attribute instead, with its offset.
 #[derive(Drop)]
 struct LastAttributes<'a> {
     error_code: Option<RawAttribute<'a>>,
@@ -42,12 +42,12 @@ struct LastAttributes<'a> {
     password_algorithm: Option<RawAttribute<'a>>,
     integrity: Option<(usize, RawAttribute<'a>)>,
     integrity_sha256: Option<(usize, RawAttribute<'a>)>,
-    /// Whether one of these two is well formed.
+    /// Whether a visible integrity attribute is well formed.
     has_integrity: bool,
 }
 
 impl<'a> LastAttributes<'a> {
-    /// Finds the last attributes of a message, in one walk of it.
+    /// Finds these attributes in a message, in one walk.
     fn of(message: &Message<'a>) -> Self
         ensures { result ≡ last_attributes (visible message.now) }
     {
@@ -69,7 +69,8 @@ impl<'a> LastAttributes<'a> {
         last
     }
 
-    /// Takes one attribute more, which is then the last of its type.
+    /// Stores an attribute as the last of its type. An integrity attribute is stored only if it is
+    /// the first of its type.
     fn note(&mut self, place: usize, attribute: RawAttribute<'a>)
         ensures { self.new ≡ with_member self.old (place, attribute.entry) }
     {
@@ -102,7 +103,9 @@ impl<'a> LastAttributes<'a> {
     }
 }
 
-/// A message, with the integrity attribute whose digest decides. Contracts see the message.
+/// A message, with the integrity attribute that decides whether its signature is valid.
+///
+/// Contracts: the value is the list of the message's bytes.
 #[derive(Drop)]
 struct Signature<'a, 'm> {
     message: &'m Message<'a>,
@@ -121,7 +124,8 @@ impl<'a, 'm> Model for Signature<'a, 'm> {
 }
 
 impl Signature<'_, '_> {
-    /// Returns the algorithm of the attribute whose digest decides.
+    /// Returns the algorithm of the integrity attribute that decides, or `None` if no integrity
+    /// attribute is visible.
     fn algorithm(&self) -> Option<IntegrityAlgorithm>
         ensures { result ≡ deciding_algorithm self.now }
     {
@@ -137,7 +141,8 @@ impl Signature<'_, '_> {
         }
     }
 
-    /// Returns the algorithm whose digest verifies under a key.
+    /// Returns the algorithm of the message's signature if the signature is valid under `key`, and
+    /// `None` otherwise.
     fn verified_under<A: Allocator>(&self, key: &PreparedKey<A>) -> Option<IntegrityAlgorithm>
         ensures { result ≡ verified_algorithm self.now key.now }
     {
@@ -152,7 +157,8 @@ impl Signature<'_, '_> {
     }
 }
 
-/// Reads an attribute as a value of type `A`, if it is there and well formed.
+/// Parses an attribute as a value of type `A`. Returns `None` if there is no attribute, or if it is
+/// malformed.
 fn read<'a, A: AttributeFromRaw<'a>>(attribute: Option<RawAttribute<'a>>) -> Option<A>
     ensures { result ≡ option_and_then A.reading attribute.entry }
 {
@@ -162,7 +168,8 @@ fn read<'a, A: AttributeFromRaw<'a>>(attribute: Option<RawAttribute<'a>>) -> Opt
     }
 }
 
-/// Returns the code of an error response.
+/// Returns the code in `attribute`, an ERROR-CODE. Returns `None` if the class is not an error
+/// response, or if the attribute is missing or malformed.
 fn error(class: MessageClass, attribute: Option<RawAttribute<'_>>) -> Option<u16>
     ensures { result ≡ last_error_code class attribute.entry }
 {
@@ -175,7 +182,7 @@ fn error(class: MessageClass, attribute: Option<RawAttribute<'_>>) -> Option<u16
     }
 }
 
-/// Returns the text of a REALM.
+/// Returns the text of REALM, or `None` if it is missing or malformed.
 fn realm<'a>(attribute: Option<RawAttribute<'a>>) -> Option<&'a str>
     ensures text { option_copied result
         ≡ option_and_then (text_of REALM TEXT_LIMIT) attribute.entry }
@@ -187,7 +194,7 @@ fn realm<'a>(attribute: Option<RawAttribute<'a>>) -> Option<&'a str>
     }
 }
 
-/// Returns the text of a NONCE.
+/// Returns the text of NONCE, or `None` if it is missing or malformed.
 fn nonce<'a>(attribute: Option<RawAttribute<'a>>) -> Option<&'a str>
     ensures text { option_copied result
         ≡ option_and_then (text_of NONCE TEXT_LIMIT) attribute.entry }
@@ -199,7 +206,7 @@ fn nonce<'a>(attribute: Option<RawAttribute<'a>>) -> Option<&'a str>
     }
 }
 
-/// Returns the text of a USERNAME.
+/// Returns the text of USERNAME, or `None` if it is missing or malformed.
 fn username<'a>(attribute: Option<RawAttribute<'a>>) -> Option<&'a str>
     ensures { option_copied result
         ≡ option_and_then (text_of USERNAME USERNAME_LIMIT) attribute.entry }
@@ -210,7 +217,7 @@ fn username<'a>(attribute: Option<RawAttribute<'a>>) -> Option<&'a str>
     }
 }
 
-/// Returns the hash of a USERHASH.
+/// Returns the hash in USERHASH, or `None` if it is missing or malformed.
 fn userhash(attribute: Option<RawAttribute<'_>>) -> Option<[u8; 32]>
     ensures { result ≡ option_and_then hash_of attribute.entry }
 {
@@ -220,7 +227,8 @@ fn userhash(attribute: Option<RawAttribute<'_>>) -> Option<[u8; 32]>
     }
 }
 
-/// Returns the algorithm whose key the chosen password algorithm makes.
+/// Returns the integrity algorithm whose key is made by the password algorithm in
+/// PASSWORD-ALGORITHM, or `None` if the attribute is missing or malformed.
 fn algorithm(attribute: Option<RawAttribute<'_>>) -> Option<IntegrityAlgorithm>
     ensures { result
         ≡ option_map integrity_of (option_and_then password_algorithm_in attribute.entry) }
@@ -231,8 +239,9 @@ fn algorithm(attribute: Option<RawAttribute<'_>>) -> Option<IntegrityAlgorithm>
     }
 }
 
-/// What is read of a message (RFC 8489, sections 9.2.4 and 9.2.5). Each attribute is the last
-/// visible one of its type, if that is well formed.
+/// The contents of a message that an authenticator reads (RFC 8489, sections 9.2.4 and 9.2.5). The
+/// value of an attribute comes from the last visible attribute of its type, and is `None` if that
+/// attribute is missing or malformed.
 #[derive(Drop)]
 pub(crate) struct MessageReading<'a, 'm> {
     signature: Signature<'a, 'm>,
@@ -245,7 +254,7 @@ pub(crate) struct MessageReading<'a, 'm> {
     pub(crate) userhash: Option<[u8; 32]>,
     /// The list of password algorithms.
     pub(crate) algorithms: Option<PasswordAlgorithms<'a>>,
-    /// The algorithm whose key the chosen password algorithm makes.
+    /// The integrity algorithm whose key is made by the password algorithm in PASSWORD-ALGORITHM.
     pub(crate) algorithm: Option<IntegrityAlgorithm>,
     /// Whether a well-formed integrity attribute is visible.
     pub(crate) has_integrity: bool,
@@ -295,14 +304,16 @@ impl<'a, 'm> MessageReading<'a, 'm> {
         matches!(self.class, MessageClass::Success)
     }
 
-    /// Returns the algorithm of the attribute whose digest decides.
+    /// Returns the algorithm of the integrity attribute that decides, or `None` if no integrity
+    /// attribute is visible.
     pub(crate) fn deciding_algorithm(&self) -> Option<IntegrityAlgorithm>
         ensures { result ≡ deciding_algorithm self.now.signature }
     {
         self.signature.algorithm()
     }
 
-    /// Returns the algorithm whose digest verifies under a key.
+    /// Returns the algorithm of the message's signature if the signature is valid under `key`, and
+    /// `None` otherwise.
     pub(crate) fn verified_under<A: Allocator>(
         &self,
         key: &PreparedKey<A>,

@@ -14,11 +14,12 @@ use stun_base::prepared_key::PreparedKey;
 ///
 /// It borrows from the server, from the user that was passed, or from the message. Sign the
 /// response with `key` and `algorithm` (`add_message_integrity_with_prepared_key`). To sign it
-/// later, or on another thread, clone the key: the clone needs nothing of the server.
+/// later, or on another thread, clone the key: the clone does not need the server.
 ///
-/// `Debug` shows nothing of it, because it has a key.
+/// It has a key, so `Debug` shows nothing of it.
 ///
-/// Contracts: they see name, algorithm and the bytes of the key.
+/// Contracts: the value is a record of the client, which is the name and the algorithm, and of the
+/// bytes of the key.
 #[derive(Drop)]
 pub struct Accepted<'a, A: Allocator = Global> {
     name: &'a str,
@@ -44,7 +45,7 @@ impl<'a, A: Allocator> fmt::Debug for Accepted<'a, A> {
         ensures writes { WritesOnOk W.write_str_gives f.old result
             (codes "Accepted { .. }") f.new }
 
-        // It writes the same with every width, precision and other option.
+        // The options of the formatter, such as the width, do not change the text.
         ensures styled { WritesStyledOnOk W.write_str_gives f.old result
             (codes "Accepted { .. }") f.new }
     {
@@ -72,8 +73,8 @@ impl<'a, A: Allocator> Accepted<'a, A> {
         self.name
     }
 
-    /// Returns the algorithm that both sides agreed on, which the key is for. The signature of the
-    /// message may be of the other one (RFC 8489, section 9.2.4).
+    /// Returns the algorithm that both sides agreed on, and that the key is for. The message itself
+    /// may be signed with the other algorithm (RFC 8489, section 9.2.4).
     pub fn algorithm(&self) -> IntegrityAlgorithm
         ensures { result ≡ self.now.client.algorithm }
     {

@@ -1,4 +1,4 @@
-//! What a message says of who sent it (RFC 8489, section 9.2.4).
+//! The claim of a message about its sender (RFC 8489, section 9.2.4).
 
 ghost use Rattle.std.specs.Prelude.{◌≡◌, ◌||◌, false, Some};
 ghost use Rattle.std.specs.Option.{ForSome, IfSome, is_none, is_some};
@@ -9,18 +9,20 @@ ghost use Rattle.stun_auth.specs.code.ReadingSeen.{reading_seen};
 use crate::message::reading::MessageReading;
 use crate::server::named_user::NamedUser;
 
-/// What a message with integrity says of who sent it. REALM is there too.
+/// The nonce and the user that a message with an integrity attribute and REALM claims. They are not
+/// verified yet.
 #[derive(Clone, Copy)]
 pub(crate) struct Claim<'a> {
     pub(crate) nonce: &'a str,
     pub(crate) user: NamedUser<'a>,
 }
 
-/// A message that can be judged under a nonce: it has no integrity, or REALM, NONCE and a name too.
+/// A message that can be judged under a nonce: either it has no integrity attribute, or it has
+/// REALM, NONCE and a user name too.
 #[derive(Drop)]
 pub(crate) struct JudgeableMessage<'a, 'm, 'r> {
     pub(crate) reading: &'r MessageReading<'a, 'm>,
-    /// `None` if the message has no integrity.
+    /// `None` if the message has no integrity attribute.
     pub(crate) claim: Option<Claim<'a>>,
     ghost signed: { is_some claim ≡ is_some (reading_seen reading.now).integrity },
     ghost whole: { is_malformed (reading_seen reading.now) ≡ false },
@@ -29,7 +31,8 @@ pub(crate) struct JudgeableMessage<'a, 'm, 'r> {
 }
 
 impl<'a, 'm, 'r> JudgeableMessage<'a, 'm, 'r> {
-    /// The message, unless it is malformed: it has integrity, but lacks REALM, NONCE or a name.
+    /// Creates the value from the contents of a message. Returns `None` if the message has an
+    /// integrity attribute but lacks REALM, NONCE or a user name.
     pub(crate) fn of(reading: &'r MessageReading<'a, 'm>) -> Option<Self>
         ensures malformed { is_none result ≡ is_malformed (reading_seen reading.now) }
         ensures reading { IfSome result (λ message. message.reading.now ≡ reading.now) }
@@ -50,7 +53,8 @@ impl<'a, 'm, 'r> JudgeableMessage<'a, 'm, 'r> {
     }
 }
 
-/// The user whom a message names: by the hash, if it has one, or else by the name.
+/// Returns the user whom a message names: by the hash in USERHASH or, without a USERHASH, by the
+/// name in USERNAME. Returns `None` if the message has neither.
 pub(crate) fn named_user<'a>(reading: &MessageReading<'a, '_>) -> Option<NamedUser<'a>>
     ensures named { IfSome result (IsNamed (reading_seen reading.now)) }
     ensures there { is_some result ≡ (is_some (reading_seen reading.now).userhash

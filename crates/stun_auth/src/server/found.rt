@@ -1,5 +1,5 @@
-//! A user whom the caller found, and whose keys are made as a message needs them, for a server that
-//! looks its users up elsewhere and keeps none of them (RFC 8489, section 9.2.4).
+//! A user whom the caller found, for a server that looks its users up elsewhere and stores none of
+//! them (RFC 8489, section 9.2.4). A key of the user is made only when a message needs it.
 //!
 //! ```text
 //! let read = ReadMessage::of(&message);
@@ -36,13 +36,13 @@ use stun_base::compare::is_same_text;
 use stun_base::key::{IntegrityKey, long_term_key, userhash};
 use stun_base::prepared_key::PreparedKey;
 
-/// What a signed message claims: the user whom it names, under which nonce, and the algorithm that
-/// both sides agree on. Whether that nonce is current, whether there is such a user, and whether the
-/// signature is that user's, is left to look at.
+/// The claim of a signed message: the user whom it names, its nonce, and the algorithm that both
+/// sides agree on. It has not been checked yet that the nonce is current, that the user exists, and
+/// that the signature is that user's.
 ///
-/// `LongTermServerAuth::claim_in` makes one.
+/// `LongTermServerAuth::claim_in` makes a claim.
 ///
-/// Contracts: they see the message, the user and the algorithm.
+/// Contracts: the value is a record of the message's bytes, the user and the algorithm.
 #[derive(Drop)]
 pub struct UserClaim<'a, 'm, 'r> {
     read: &'r ReadMessage<'a, 'm>,
@@ -69,7 +69,7 @@ impl<'a, 'm, 'r> Model for UserClaim<'a, 'm, 'r> {
 }
 
 impl<'a, 'm, 'r> UserClaim<'a, 'm, 'r> {
-    /// Returns the user whom the message names. Anybody can name anybody, because the signature is
+    /// Returns the user whom the message names. Anybody can name any user, because the signature is
     /// not checked yet.
     pub fn user(&self) -> NamedUser<'a>
         ensures { named_seen result ≡ self.now.user }
@@ -77,14 +77,16 @@ impl<'a, 'm, 'r> UserClaim<'a, 'm, 'r> {
         self.user
     }
 
-    /// Returns the algorithm that both sides agree on. The user's key for it decides.
+    /// Returns the algorithm that both sides agree on. The signature must be valid under the user's
+    /// key for it.
     pub fn algorithm(&self) -> IntegrityAlgorithm
         ensures { result ≡ self.now.algorithm }
     {
         self.algorithm
     }
 
-    /// Returns whether the message has this nonce. It looks at each byte, wherever they differ.
+    /// Returns whether the message has this nonce. The call compares all bytes, even after a
+    /// difference.
     pub fn has_nonce(&self, nonce: &str) -> bool
         ensures { result ≡ bytes_eq (their_nonce (reading_of self.now.message)) nonce.now }
     {
@@ -92,7 +94,7 @@ impl<'a, 'm, 'r> UserClaim<'a, 'm, 'r> {
     }
 }
 
-/// What a user who was found is known by.
+/// The secret of a user who was found.
 #[derive(Clone, Copy)]
 enum FoundSecret<'u> {
     Password(&'u str),
@@ -102,8 +104,9 @@ enum FoundSecret<'u> {
 impl FoundSecret<'_> {
     ghost use Rattle.stun_auth.specs.code.Found.{found_secret};
 
-    /// The key for an algorithm of the user of this name at this realm. It does not allocate.
-    fn key<A: Allocator>(
+    /// Returns the key of the user with this name at this realm for an algorithm, or `None` if it
+    /// is not stored. It does not allocate.
+    fn key<A: Allocator + Copy>(
         &self,
         alloc: A,
         algorithm: IntegrityAlgorithm,
@@ -121,14 +124,14 @@ impl FoundSecret<'_> {
     }
 }
 
-/// A user whom the caller found: a name, and a password or stored keys, all of them the caller's. No
-/// key is made before a message needs it, and then only that one.
+/// A user whom the caller found: a name, and a password or stored keys, all of them borrowed from
+/// the caller. A key is made only when a message needs it.
 ///
-/// A user who sends many messages is cheaper to prepare once, by `prepare_user`.
+/// For a user who sends many messages it is cheaper to call `prepare_user` once.
 ///
 /// `Debug` shows nothing of the contents.
 ///
-/// Contracts: they see the name, and the password or the keys.
+/// Contracts: the value is a record of the name, and of the password or the keys.
 #[derive(Drop)]
 pub struct FoundUser<'u> {
     name: &'u str,
@@ -148,7 +151,7 @@ impl<'u> Model for FoundUser<'u> {
 }
 
 impl<'u> FoundUser<'u> {
-    /// A user with a password.
+    /// Returns a user with a password.
     pub fn with_password(name: &'u str, password: &'u str) -> Self
         ensures { result ≡ user_by_password
             (record { username = name.entry.now; password = password.entry.now }) }
@@ -159,8 +162,8 @@ impl<'u> FoundUser<'u> {
         }
     }
 
-    /// A user with stored keys in place of a password. They must have been made for the realm of the
-    /// server.
+    /// Returns a user with stored keys in place of a password. The keys must have been made for the
+    /// realm of the server.
     pub fn with_keys(name: &'u str, keys: StoredKeys) -> Self
         ensures { result ≡ user_by_keys name.entry.now keys }
     {
@@ -177,8 +180,9 @@ impl<'u> FoundUser<'u> {
         self.name
     }
 
-    /// The user's key for an algorithm at a realm, if that is supported. It does not allocate.
-    fn key<A: Allocator>(
+    /// Returns the user's key for an algorithm at a realm. Returns `None` if the algorithm is not
+    /// supported, or if the user has no key for it. It does not allocate.
+    fn key<A: Allocator + Copy>(
         &self,
         alloc: A,
         supported: AlgorithmSet,
@@ -203,7 +207,7 @@ impl fmt::Debug for FoundUser<'_> {
         ensures writes { WritesOnOk W.write_str_gives f.old result
             (codes "FoundUser { .. }") f.new }
 
-        // It writes the same with every width, precision and other option.
+        // The options of the formatter, such as the width, do not change the text.
         ensures styled { WritesStyledOnOk W.write_str_gives f.old result
             (codes "FoundUser { .. }") f.new }
     {
@@ -211,7 +215,7 @@ impl fmt::Debug for FoundUser<'_> {
     }
 }
 
-/// Whether a message names the user of this name at a realm.
+/// Returns whether `user`, which a message names, is the user with this name at this realm.
 fn is_claimed(user: NamedUser<'_>, name: &str, realm: &str) -> bool
     ensures { result ≡ is_claimed (named_seen user.entry) name.now realm.now }
 {
@@ -222,12 +226,12 @@ fn is_claimed(user: NamedUser<'_>, name: &str, realm: &str) -> bool
 }
 
 impl<A: Allocator + Copy> LongTermServerAuth<A> {
-    /// Returns what a message claims, if only nonce, user and signature are left to look at: it has a
-    /// well-formed integrity attribute, REALM, NONCE and a user name, or its hash if the server
-    /// accepts hashes, and its algorithms agree with those that the server supports.
+    /// Returns the claim of a message, if only nonce, user and signature remain to be checked. Such
+    /// a message has a well-formed integrity attribute, REALM, NONCE, and a user name or, if the
+    /// server accepts hashes, its hash. Its algorithms agree with those that the server supports.
     ///
-    /// Otherwise `judge` refuses the message, whoever the users are. Look at the class first, because
-    /// a response is read like a request. It does not allocate.
+    /// Otherwise returns `None`, and `judge` refuses the message whatever users the server has.
+    /// Check the class first, because a response is read like a request. It does not allocate.
     pub fn claim_in<'a, 'm, 'r>(
         &self,
         read: &'r ReadMessage<'a, 'm>,
@@ -250,13 +254,14 @@ impl<A: Allocator + Copy> LongTermServerAuth<A> {
         })
     }
 
-    /// Returns the algorithm of a message's signature and the key of a user whom you found, if the
-    /// message is that user's: it names the user, who has a key for the agreed algorithm, and the
-    /// signature verifies under that key. Sign the response by both.
+    /// Verifies that a message was signed by a user whom you found: it names the user, the user has
+    /// a key for the agreed algorithm, and the signature is valid under that key. If so, returns
+    /// the algorithm of the signature and the key, and you sign the response with both. Otherwise
+    /// returns `None`.
     ///
-    /// The message is then accepted from this user under its own nonce, and so by `judge_of` with the
-    /// user whom `prepare_user` makes. Whether that nonce is current is for you to look at:
-    /// `UserClaim::has_nonce`. Only the one key is made. It does not allocate.
+    /// The message is then accepted from this user under its own nonce, as `judge_of` accepts it
+    /// with the user that `prepare_user` makes. Check with `UserClaim::has_nonce` that this nonce
+    /// is current. The call makes only this key, and does not allocate.
     ///
     /// Contracts: law `found_users_are_judged_as_prepared_ones`.
     pub fn verify_found(

@@ -1,5 +1,6 @@
-//! Judging a message with a user whom the caller looks up elsewhere, for example in a database (RFC
-//! 8489, section 9.2.4). The first step returns whom a message names, and the second judges it.
+//! Judges a message with a user whom the caller looks up elsewhere, for example in a database (RFC
+//! 8489, section 9.2.4). The first step returns the user whom a message names, and the second
+//! judges the message.
 //!
 //! ```text
 //! let Some(named) = server.named_user(&message, from) else { .. validate_incoming_message .. };
@@ -36,15 +37,18 @@ use crate::server::stored_keys::StoredKeys;
 use crate::server::user::LongTermServerUser;
 use crate::server::user_secret::UserSecret;
 use rand_core::Rng;
-use std::alloc::{AllocError, Allocator};
+use std::alloc::AllocError;
 use std::mem;
 use std::net::SocketAddr;
 use stun_base::credentials::LongTermCredentials;
 use stun_base::instant::Instant;
+use stun_base::memory::Memory;
 use stun_types::message::{Message, StunWriteError};
 use stun_types::prelude::*;
 
-/// The user whom a request or an indication names, by a hash or by name.
+/// Returns the user whom a request or an indication names: by the hash in USERHASH or, without a
+/// USERHASH, by the name in USERNAME. Returns `None` if it has neither, or if it has a USERHASH and
+/// `feature` does not allow hashes.
 pub(crate) fn named_in<'a>(
     reading: &MessageReading<'a, '_>,
     feature: Feature,
@@ -67,7 +71,7 @@ pub(crate) fn named_in<'a>(
     }
 }
 
-impl<A: Allocator + Copy> LongTermServerAuth<A> {
+impl<A: Memory> LongTermServerAuth<A> {
     /// Returns the user whose key a message will be verified with, so that you can look that user
     /// up before the message is judged.
     ///
@@ -77,9 +81,8 @@ impl<A: Allocator + Copy> LongTermServerAuth<A> {
     /// `None` means that the verdict does not depend on the users. Call `validate_incoming_message`
     /// in that case.
     ///
-    /// It checks neither the signature nor the nonce, and does not know whether the user is
-    /// registered. Anybody can send any name, so limit how often you look one up. It does not
-    /// allocate.
+    /// The call does not check the signature, the nonce, or whether the user is registered. Anybody
+    /// can send any name, so limit how often you look up a name. It does not allocate.
     pub fn named_user<'a>(
         &'a self,
         message: &Message<'a>,
@@ -98,15 +101,16 @@ impl<A: Allocator + Copy> LongTermServerAuth<A> {
         }
     }
 
-    /// Returns the user whom a request or an indication names: by the hash in its last visible
-    /// USERHASH, or if it has none by the name in its last visible USERNAME.
+    /// Returns the user whom a request or an indication names. If the message has a visible
+    /// USERHASH, this is the user with the hash in the last one. Otherwise it is the user with the
+    /// name in the last visible USERNAME.
     ///
-    /// Returns `None` if it has neither, or if it has a USERHASH while the server does not accept
-    /// hashes (`Feature::Disabled`), even if it also has a USERNAME. The verdict of `judge` then
-    /// does not depend on the users.
+    /// Returns `None` if the message has neither, or if it has a USERHASH while the server does not
+    /// accept hashes (`Feature::Disabled`), even if it also has a USERNAME. The verdict of `judge`
+    /// then does not depend on the users.
     ///
-    /// It checks neither the signature nor the nonce, so an attacker can name anybody. Nor does it
-    /// look at the class, or whether such a user is registered. It does not allocate.
+    /// The call does not check the signature, the nonce, the class of the message, or whether the
+    /// user is registered. So an attacker can name any user. It does not allocate.
     pub fn named_in<'a>(&self, message: &Message<'a>) -> Option<NamedUser<'a>>
         ensures { option_map named_seen result ≡ named_in (reading_of message.now).userhash
             (reading_of message.now).username self.now.feature }
@@ -118,17 +122,18 @@ impl<A: Allocator + Copy> LongTermServerAuth<A> {
     /// the server supports now, at the server's realm (RFC 8489, section 9.2.2). Pass the result
     /// along with a message.
     ///
-    /// Names are compared byte by byte, so a message that spells the name differently is refused.
-    /// You may keep the user and pass it again, until you change the supported algorithms. The
-    /// server is unchanged.
+    /// Names are compared byte by byte, so a message in which the name is written differently is
+    /// refused. You may cache the user and pass it again, until you change the supported
+    /// algorithms. The server is unchanged.
     ///
     /// Fails if an allocation fails.
     pub fn prepare_user(
         &self,
         credentials: LongTermCredentials<A>,
     ) -> Result<LongTermServerUser<A>, AllocError>
-        ensures { IfOk result (λ user. user
+        ensures user { IfOk result (λ user. user
             ≡ just self.now.registered (Some (user_by_password credentials))) }
+        ensures granted { A.grants → IsOk result }
     {
         let (name, password) = credentials.into_parts();
         let registry = self
@@ -137,11 +142,11 @@ impl<A: Allocator + Copy> LongTermServerAuth<A> {
         Ok(LongTermServerUser { registry })
     }
 
-    /// Like `prepare_user`, with stored keys in place of a password.
+    /// Prepares a user like `prepare_user`, with stored keys in place of a password.
     ///
-    /// Clients derive their keys for the realm that the server sends, so these must have been made
-    /// for that realm. The user has those of them whose algorithms the server supports now, and is
-    /// judged and signed for as with the password that they were made from.
+    /// Clients derive their keys for the realm that the server sends, so the keys must have been
+    /// made for that realm. The user has the keys whose algorithms the server supports now, and is
+    /// treated like a user with the password that the keys were made from.
     ///
     /// Contracts: law `stored_keys_are_as_their_password`.
     ///
@@ -151,20 +156,22 @@ impl<A: Allocator + Copy> LongTermServerAuth<A> {
         name: String<A>,
         keys: StoredKeys,
     ) -> Result<LongTermServerUser<A>, AllocError>
-        ensures { IfOk result (λ user. user
+        ensures user { IfOk result (λ user. user
             ≡ just self.now.registered (Some (user_by_keys (string_bytes name) keys))) }
+        ensures granted { A.grants → IsOk result }
     {
         let registry = self.registry.with_just(name, UserSecret::Keys(keys))?;
         Ok(LongTermServerUser { registry })
     }
 
     /// Judges a message like `validate_incoming_message` does on a server whose only user is
-    /// `user`. It returns the same verdict, stores the same record, and makes the same nonce of the
-    /// same random numbers. The server's own users are ignored, and they and `user` are unchanged.
+    /// `user`. It returns the same verdict, stores the same record, and makes the same nonce from
+    /// the same random numbers. The server's own users are ignored, and they and `user` are
+    /// unchanged.
     ///
-    /// Pass the user whom `named_user` returned: the verdict is then that of a server that has all
-    /// users (law `the_named_user_is_enough`). If your database has no such user, call
-    /// `validate_incoming_message` on a server without users, which gives that verdict.
+    /// Pass the user whom `named_user` returned: the verdict is then the same as at a server that
+    /// has all users (law `the_named_user_is_enough`). If your database has no such user, call
+    /// `validate_incoming_message` on a server without users, which returns that verdict.
     ///
     /// On `Validated` this user is the client of the address. Pass the same user when you sign the
     /// response.
@@ -194,11 +201,12 @@ impl<A: Allocator + Copy> LongTermServerAuth<A> {
             (reading_of message.now) then after_words 16
             (R.stream rng.old) else R.stream rng.old)) ⊤ }
 
-        // Where the message changes nothing, no allocation fails.
+        // If the message changes nothing, no allocation fails.
         ensures unchanged { ChangesNothing (sight (with_users self.old user.old) from) now
             (next_words 16 (R.stream rng.old)) (reading_of message.now) →
             result ≡ answer (sight (with_users self.old user.old) from) now
             (next_words 16 (R.stream rng.old)) (reading_of message.now) }
+        ensures granted { A.grants → ServerUnlessMemory result ⊤ ⊥ }
     {
         self.exchange_users(user);
         let answer = self.validate_incoming_message(message, from, now, rng);
@@ -212,7 +220,7 @@ impl<A: Allocator + Copy> LongTermServerAuth<A> {
     /// If the address has a client, the message is signed with the key of `user`. If `user` is not
     /// that client, or has no key for its algorithm, the call fails with `IntegrityFailed`. It
     /// fails otherwise like `sign_outgoing_message`. `message_signature_bytes` returns how many
-    /// bytes are added, whoever the users are.
+    /// bytes are added, which does not depend on the users.
     pub fn sign_outgoing_message_of<W: MessageWrite>(
         &mut self,
         writer: W,
@@ -227,11 +235,12 @@ impl<A: Allocator + Copy> LongTermServerAuth<A> {
             (page_in W.bytes W.room writer))
             (WantsMemory (server_additions (sight (with_users self.old user.old) to) response)
             (page_in W.bytes W.room writer) (W.reserved writer)) }
+        ensures granted { W.grants → UnlessMemory result ⊤ ⊥ }
         ensures grows { IfOk result (λ signed. length (W.bytes signed)
             ≡ length (W.bytes writer) + server_growth (sight (with_users self.old user.old) to)
             (is_response_class (class_in (W.bytes writer)))) }
 
-        // What is reserved already does not allocate.
+        // Nothing is allocated for bytes that are reserved already.
         ensures succeeds { let response = is_response_class
             (class_in (W.bytes writer)) in
             IsSignableAtServer (sight (with_users self.old user.old) to) response
@@ -250,7 +259,7 @@ impl<A: Allocator + Copy> LongTermServerAuth<A> {
         signed
     }
 
-    /// Exchanges the server's users and the user who is handed in.
+    /// Exchanges the server's users and the user who was passed.
     fn exchange_users(&mut self, user: &mut LongTermServerUser<A>)
         ensures server { self.new ≡ with_users self.old user.old }
         ensures user { user.new ≡ self.old.registered }

@@ -1,4 +1,4 @@
-//! Judging a message under a nonce that the caller passes, for a server that stores nothing about
+//! Judges a message under a nonce that the caller passes, for a server that stores nothing about
 //! its clients (RFC 8489, section 9.2.4).
 //!
 //! ```text
@@ -9,7 +9,7 @@
 //! }
 //! ```
 
-ghost use Rattle.std.specs.Prelude.{◌≡◌, ◌≤◌, ◌+◌, Some, IfOk, IsOk, length};
+ghost use Rattle.std.specs.Prelude.{◌≡◌, ◌≤◌, ◌+◌, ⊤, Some, IfOk, IsOk, length};
 ghost use Rattle.std.specs.String.{string_bytes};
 ghost use Rattle.stun_base.specs.Header.{BeginsWithHeader};
 ghost use Rattle.stun_auth.specs.Additions.{UnlessMemory, WantsMemory, added_all, growth};
@@ -30,40 +30,42 @@ use crate::server::reason::VerdictRefusal;
 use crate::server::registry::Registry;
 use crate::server::user::LongTermServerUser;
 use crate::server::verdict::verdict;
-use std::alloc::{AllocError, Allocator};
+use std::alloc::AllocError;
+use stun_base::memory::Memory;
 use stun_types::message::{Message, StunWriteError};
 use stun_types::prelude::*;
 
-impl<A: Allocator + Copy> LongTermServerAuth<A> {
-    /// Returns the nonce that sixteen numbers make, with the security bits of the current settings.
-    /// It is the nonce that `validate_incoming_message` makes of the same random numbers.
+impl<A: Memory> LongTermServerAuth<A> {
+    /// Makes a nonce from 16 random numbers, with the security bits of the current settings. The
+    /// call `validate_incoming_message` makes the same nonce from the same random numbers.
     ///
     /// A server that stores no nonces derives the numbers from a secret, the address of the client
-    /// and the time, because whoever can predict them can predict nonces. Only their remainders
+    /// and the time, because anybody who can predict them can predict nonces. Only their remainders
     /// modulo 62 count (law `nonces_of_different_words_differ`).
     ///
     /// Fails if an allocation fails.
     pub fn nonce_of_words(&self, words: &[u32; 16]) -> Result<String<A>, AllocError>
-        ensures { IfOk result (λ nonce. string_bytes nonce
+        ensures nonce { IfOk result (λ nonce. string_bytes nonce
             ≡ nonce_of self.now.registered.algorithms self.now.feature words.now) }
+        ensures granted { A.grants → IsOk result }
     {
         let supported = self.registry.supported();
         nonce_of_words(self.alloc, supported, self.feature, words)
     }
 
-    /// Judges a request or an indication under a nonce: the verdict is that of
-    /// `validate_incoming_message` if this nonce is the current one of the address and all
-    /// supported algorithms were offered there.
+    /// Judges a request or an indication under a nonce. The verdict is the same as that of
+    /// `validate_incoming_message` if this nonce were the current one of the address and all
+    /// supported algorithms had been offered there.
     ///
-    /// It reads no record of an address and makes none, so it takes `&self`, and threads can share
-    /// a server whose nonces are a function of the address and the time. It uses no random numbers
-    /// and does not allocate.
+    /// The call neither reads nor makes a record of an address, so it takes `&self`, and threads
+    /// can share a server whose nonces are a function of the address and the time. It uses no
+    /// random numbers, and does not allocate.
     ///
-    /// Look at the class first, because a response is judged like a request. Pass a nonce of
-    /// `nonce_of_words`: one without the security bit *Password algorithms* is judged with
-    /// HMAC-SHA1 even if the server supports HMAC-SHA256.
+    /// Check the class first, because a response is judged like a request. Pass a nonce that
+    /// `nonce_of_words` made, because a message under a nonce without the security bit *Password
+    /// algorithms* is judged with HMAC-SHA1 even if the server supports HMAC-SHA256.
     ///
-    /// The first of these refusals that applies:
+    /// Otherwise the call returns the first of these refusals that applies:
     ///
     /// - `Unauthorized` (answer 401): there is no well-formed integrity attribute.
     /// - `BadRequest` (400): REALM, NONCE or the user name is missing.
@@ -73,7 +75,7 @@ impl<A: Allocator + Copy> LongTermServerAuth<A> {
     /// - `Unauthorized` (401): the message has another nonce, whose security bits differ.
     /// - `StaleNonce` (438): the message has another nonce.
     /// - `Unauthorized` (401): the user is unknown or has no key for the algorithm, or the
-    ///   signature does not verify.
+    ///   signature is invalid.
     pub fn judge<'a>(
         &'a self,
         message: &Message<'a>,
@@ -90,12 +92,12 @@ impl<A: Allocator + Copy> LongTermServerAuth<A> {
         self.judge_by(&ReadMessage::of(message), nonce, &self.registry)
     }
 
-    /// Like `judge`, on a server whose only user is `user`. The server's own users are ignored. The
-    /// algorithms on offer are those that the server supports, and the keys are those that the user
-    /// has.
+    /// Judges a message like `judge`, on a server whose only user is `user`. The server's own users
+    /// are ignored. The algorithms on offer are those that the server supports, and the keys are
+    /// those that the user has.
     ///
-    /// Pass the user whom `named_in` returned: the verdict is then that of a server that has all
-    /// users (law `the_named_user_is_enough_to_judge`). If your database has no such user, call
+    /// Pass the user whom `named_in` returned: the verdict is then the same as at a server that has
+    /// all users (law `the_named_user_is_enough_to_judge`). If your database has no such user, call
     /// `judge` on a server without users. It does not allocate.
     pub fn judge_of<'a>(
         &'a self,
@@ -113,8 +115,8 @@ impl<A: Allocator + Copy> LongTermServerAuth<A> {
         self.judge_by(&ReadMessage::of(message), nonce, &user.registry)
     }
 
-    /// Like `judge`, for a message that was read before. A server that accepts several nonces of an
-    /// address calls it for each of them.
+    /// Judges a message that was read before, like `judge`. A server that accepts several nonces of
+    /// an address calls it for each of them.
     pub fn judge_read<'a>(
         &'a self,
         read: &ReadMessage<'a, '_>,
@@ -128,7 +130,7 @@ impl<A: Allocator + Copy> LongTermServerAuth<A> {
         self.judge_by(read, nonce, &self.registry)
     }
 
-    /// Like `judge_of`, for a message that was read before.
+    /// Judges a message that was read before, like `judge_of`.
     pub fn judge_read_of<'a>(
         &'a self,
         read: &ReadMessage<'a, '_>,
@@ -143,7 +145,7 @@ impl<A: Allocator + Copy> LongTermServerAuth<A> {
         self.judge_by(read, nonce, &user.registry)
     }
 
-    /// Judges a message with these users, where all algorithms that the server supports were
+    /// Judges a message against `users`, as if all algorithms that the server supports had been
     /// offered.
     fn judge_by<'a>(
         &self,
@@ -162,13 +164,14 @@ impl<A: Allocator + Copy> LongTermServerAuth<A> {
         verdict(users, self.feature, &message, nonce, offered)
     }
 
-    /// Adds to a response what a client needs to sign its next request under a nonce: NONCE, REALM
-    /// and, if the nonce has the security bit *Password algorithms*, PASSWORD-ALGORITHMS with the
-    /// algorithms that the server supports, the strongest first (RFC 8489, section 9.2.4).
+    /// Adds to a response the attributes that a client needs to sign its next request under a
+    /// nonce: NONCE, REALM and, if the nonce has the security bit *Password algorithms*,
+    /// PASSWORD-ALGORITHMS with the algorithms that the server supports, the strongest first (RFC
+    /// 8489, section 9.2.4).
     ///
-    /// It is for a 401 or a 438 of a server that stores no nonces: pass the nonce under which you
-    /// will judge the next request, as `nonce_of_words` makes it. Nothing is signed, and no record
-    /// of an address is read or made. Add FINGERPRINT afterwards.
+    /// Call it for a 401 or a 438 of a server that stores no nonces. Pass the nonce that
+    /// `nonce_of_words` made, and under which you will judge the next request. The call signs
+    /// nothing, and neither reads nor makes a record of an address. Add FINGERPRINT afterwards.
     ///
     /// The attributes are added one after another. The first of these errors that applies drops the
     /// writer:
@@ -191,11 +194,12 @@ impl<A: Allocator + Copy> LongTermServerAuth<A> {
             (page_in W.bytes W.room writer))
             (WantsMemory (challenge_under self.now.registered nonce.now)
             (page_in W.bytes W.room writer) (W.reserved writer)) }
+        ensures granted { W.grants → UnlessMemory result ⊤ ⊥ }
         ensures grows { IfOk result (λ challenged. length (W.bytes challenged)
             ≡ length (W.bytes writer)
             + growth (challenge_under self.now.registered nonce.now)) }
 
-        // What is reserved already does not allocate.
+        // Nothing is allocated for bytes that are reserved already.
         ensures succeeds { IsOk (added_all (challenge_under self.now.registered nonce.now)
             (page_in W.bytes W.room writer))
             → growth (challenge_under self.now.registered nonce.now) ≤ W.reserved writer
@@ -206,27 +210,31 @@ impl<A: Allocator + Copy> LongTermServerAuth<A> {
         Ok(writer)
     }
 
-    /// Adds nonce and realm, and the algorithms if the nonce asks for a choice.
+    /// Adds NONCE, REALM and, if the nonce has the security bit *Password algorithms*,
+    /// PASSWORD-ALGORITHMS.
     fn add_under<W: MessageWrite>(&self, writer: &mut W, nonce: &str) -> Result<(), StunWriteError>
         requires { 20 ≤ length (W.bytes writer.old) }
-        ensures { IsAdded (challenge_under self.now.registered nonce.now)
+        ensures added { IsAdded (challenge_under self.now.registered nonce.now)
             (page_in W.bytes W.room writer.old) (W.reserved writer.old) result
             (page_in W.bytes W.room writer.new) (W.reserved writer.new) }
+        ensures granted { W.grants → UnlessMemory result ⊤ ⊥ }
     {
         self.add_nonce_and_realm(writer, nonce)?;
         self.add_asked_offer(writer, nonce)
     }
 
-    /// Adds the supported algorithms if the nonce asks for a choice.
+    /// Adds PASSWORD-ALGORITHMS with the supported algorithms if the nonce has the security bit
+    /// *Password algorithms*. Otherwise adds nothing.
     fn add_asked_offer<W: MessageWrite>(
         &self,
         writer: &mut W,
         nonce: &str,
     ) -> Result<(), StunWriteError>
         requires { 20 ≤ length (W.bytes writer.old) }
-        ensures { IsAdded (offer (asks_for_algorithms nonce.now) self.now.registered)
+        ensures added { IsAdded (offer (asks_for_algorithms nonce.now) self.now.registered)
             (page_in W.bytes W.room writer.old) (W.reserved writer.old) result
             (page_in W.bytes W.room writer.new) (W.reserved writer.new) }
+        ensures granted { W.grants → UnlessMemory result ⊤ ⊥ }
     {
         if asks_for_algorithms(nonce) {
             self.add_offer(writer)

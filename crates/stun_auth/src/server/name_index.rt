@@ -1,6 +1,7 @@
-//! An index of names by their hash, so that a USERHASH is looked up without a digest.
+//! An index of user names by their hash, so that the name for a USERHASH is found without computing
+//! a hash.
 
-ghost use Rattle.std.specs.Prelude.{◌≡◌, OnOk, OnErr};
+ghost use Rattle.std.specs.Prelude.{◌≡◌, IsOk, OnOk, OnErr};
 ghost use Rattle.std.specs.Option.{option_copied};
 ghost use Rattle.std.specs.FinSet as set;
 ghost use Rattle.std.specs.String.{string_bytes};
@@ -9,6 +10,7 @@ ghost use Rattle.stun_auth.specs.code.NameIndex.{IsLeastNamed};
 use std::alloc::{AllocError, Allocator};
 use std::collections::BTreeSet;
 use std::marker::Model;
+use stun_base::memory::Memory;
 
 /// Names, each with its hash, in the order of the hashes and then of the names.
 #[derive(Drop)]
@@ -28,8 +30,8 @@ impl<A: Allocator> Model for NameIndex<A> {
     ghost view = { λ index. names_hashed index.hashed.keys };
 }
 
-impl<A: Allocator + Copy> NameIndex<A> {
-    /// An empty index.
+impl<A: Memory> NameIndex<A> {
+    /// Creates an empty index.
     pub(crate) fn new(alloc: A) -> Self
         ensures { result ≡ set.empty }
     {
@@ -43,8 +45,9 @@ impl<A: Allocator + Copy> NameIndex<A> {
     pub(crate) fn insert(&mut self, hash: [u8; 32], name: String<A>) -> Result<(), AllocError>
         ensures ok { OnOk result (self.new ≡ set.insert self.old (hash, string_bytes name)) }
         ensures err { OnErr result (self.new ≡ self.old) }
+        ensures granted { A.grants → IsOk result }
     {
-        self.hashed.insert((hash, name))?;
+        A::add(&mut self.hashed, (hash, name))?;
         Ok(())
     }
 
@@ -56,7 +59,7 @@ impl<A: Allocator + Copy> NameIndex<A> {
         self.hashed.remove(&pair);
     }
 
-    /// The least of the names that have this hash.
+    /// Returns the first name in byte order that has this hash, or `None` if no name has it.
     pub(crate) fn least(&self, hash: &[u8; 32]) -> Option<&str>
         ensures { IsLeastNamed self.now hash.now (option_copied result) }
     {

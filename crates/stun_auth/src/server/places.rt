@@ -1,5 +1,4 @@
-//! What a server keeps for each address: the nonce and when it expires, the offered algorithms, and
-//! the client.
+//! The records of addresses: nonce, expiry time, offered algorithms, and client.
 
 ghost use Rattle.std.specs.Prelude.{◌≡◌, ◌↔◌, IfOk, IfSome, IsTrue, false, Option, None, Some};
 ghost use Rattle.std.specs.Prelude.{IsOk, OnOk, OnErr, if◌then◌else◌};
@@ -21,6 +20,7 @@ use std::net::SocketAddr;
 use std::ops::Bound;
 use stun_base::algorithm::IntegrityAlgorithm;
 use stun_base::instant::Instant;
+use stun_base::memory::Memory;
 
 /// The user who was validated last at an address.
 #[derive(Drop)]
@@ -29,24 +29,25 @@ pub(crate) struct ValidatedUser<A: Allocator> {
     pub(crate) algorithm: IntegrityAlgorithm,
 }
 
-impl<A: Allocator> ValidatedUser<A> {
+impl<A: Memory> ValidatedUser<A> {
     ghost use Rattle.stun_auth.specs.code.Places.{client_seen};
 
-    /// A client of this name, which is copied.
+    /// Creates a client with a copy of this name. Fails if an allocation fails.
     pub(crate) fn new(
         alloc: A,
         name: &str,
         algorithm: IntegrityAlgorithm,
     ) -> Result<Self, AllocError>
-        ensures { IfOk result (λ client. client_seen client
+        ensures client { IfOk result (λ client. client_seen client
             ≡ record { name = name.now; algorithm = algorithm }) }
+        ensures granted { A.grants → IsOk result }
     {
-        let name = String::from_str(alloc, name)?;
+        let name = A::text(alloc, name)?;
         Ok(ValidatedUser { name, algorithm })
     }
 
-    /// A client of this name. It takes the name of the user who was removed if that is the same,
-    /// and copies it otherwise.
+    /// Returns a client with this name. If `removed` has the same name, its text is used and
+    /// nothing is allocated. Otherwise the name is copied.
     pub(crate) fn in_place_of(
         removed: Option<Self>,
         alloc: A,
@@ -57,6 +58,7 @@ impl<A: Allocator> ValidatedUser<A> {
             ≡ record { name = name.now; algorithm = algorithm }) }
         ensures needless { option_map (λ user. string_bytes user.name) removed ≡ Some name.now
             → IsOk result }
+        ensures granted { A.grants → IsOk result }
     {
         match removed {
             Some(user) => {
@@ -73,10 +75,10 @@ impl<A: Allocator> ValidatedUser<A> {
     }
 }
 
-/// What is kept for an address.
+/// The record of an address.
 ///
-/// A client who was removed counts as none. The name is kept, so that a client who returns needs no
-/// memory.
+/// After a client is removed, the record has no client, but keeps the name, so that no memory is
+/// needed if that client returns.
 #[derive(Drop)]
 pub(crate) struct Place<A: Allocator> {
     pub(crate) nonce: LimitedText<A>,
@@ -91,7 +93,7 @@ impl<A: Allocator> Place<A> {
     ghost use Rattle.stun_auth.specs.Places.{with_client, with_offer};
     ghost use Rattle.stun_auth.specs.code.Places.{place_seen, client_seen, renewed_with};
 
-    /// The place of an address that had none.
+    /// Creates the record of an address that had no record.
     fn new(nonce: LimitedText<A>, expires: Instant, client: Option<ValidatedUser<A>>) -> Self
         ensures { place_seen result ≡ renewed_with None (string_bytes nonce.text) expires
             (option_map client_seen client) }
@@ -105,7 +107,8 @@ impl<A: Allocator> Place<A> {
         }
     }
 
-    /// Its client: the user who was validated last, unless that user was removed since.
+    /// Returns the client, which is the user who was validated last. Returns `None` if no user was
+    /// validated, or if the client has been removed since.
     pub(crate) fn client(&self) -> Option<&ValidatedUser<A>>
         ensures { option_map client_seen (option_copied result) ≡ (place_seen self.now).client }
     {
@@ -118,7 +121,7 @@ impl<A: Allocator> Place<A> {
         }
     }
 
-    /// Whether its client has this name and this algorithm.
+    /// Returns whether the record has a client with this name and this algorithm.
     pub(crate) fn has_client(&self, name: &str, algorithm: IntegrityAlgorithm) -> bool
         ensures { IsTrue result ↔ ((place_seen self.now).client
             ≡ Some (record { name = name.now; algorithm = algorithm })) }
@@ -129,14 +132,15 @@ impl<A: Allocator> Place<A> {
         }
     }
 
-    /// Whether it may be forgotten at a moment: it has no client, and its nonce expired before.
+    /// Returns whether the record may be forgotten at a time: it has no client, and its nonce
+    /// expired before that time.
     fn is_forgotten(&self, now: Instant) -> bool
         ensures { result ≡ is_forgotten now (place_seen self.now) }
     {
         self.client().is_none() && self.expires < now
     }
 
-    /// Keeps what was offered, unless there is a client.
+    /// Stores the algorithms that were offered. Does nothing if the record has a client.
     fn offer(&mut self, supported: AlgorithmSet)
         ensures { place_seen self.new ≡ with_offer supported (place_seen self.old) }
     {
@@ -145,7 +149,7 @@ impl<A: Allocator> Place<A> {
         }
     }
 
-    /// Gives the place another nonce, and another client if one is given.
+    /// Stores another nonce in the record, and another client if one is passed.
     fn renew(&mut self, nonce: LimitedText<A>, expires: Instant, client: Option<ValidatedUser<A>>)
         ensures { place_seen self.new ≡ renewed_with (Some (place_seen self.old))
             (string_bytes nonce.text) expires (option_map client_seen client) }
@@ -157,7 +161,7 @@ impl<A: Allocator> Place<A> {
         }
     }
 
-    /// Makes a user the client, or nobody.
+    /// Makes a user the client of the record, or removes its client if `client` is `None`.
     fn set_client(&mut self, client: Option<ValidatedUser<A>>)
         ensures { place_seen self.new
             ≡ with_client (option_map client_seen client) (place_seen self.old) }
@@ -166,7 +170,7 @@ impl<A: Allocator> Place<A> {
         self.is_removed = false;
     }
 
-    /// Removes the client, whose name stays.
+    /// Removes the client, but keeps the name.
     fn remove_client(&mut self)
         ensures state { place_seen self.new ≡ with_client None (place_seen self.old) }
         ensures kept { self.new.last_user ≡ self.old.last_user }
@@ -174,7 +178,8 @@ impl<A: Allocator> Place<A> {
         self.is_removed = true;
     }
 
-    /// Takes out the user who was removed, if any.
+    /// Returns the client that was removed, and no longer stores its name. Returns `None` if no
+    /// client was removed.
     fn take_removed(&mut self) -> Option<ValidatedUser<A>>
         ensures state { place_seen self.new ≡ place_seen self.old }
         ensures removed { result ≡ (if self.old.is_removed then self.old.last_user else None) }
@@ -186,62 +191,61 @@ impl<A: Allocator> Place<A> {
     }
 }
 
-/// The first address of a range that has a place, and whether that place may be forgotten.
+/// The first address of a range that has a record, and whether that record may be forgotten.
 #[derive(Clone, Copy)]
 struct FirstPlace {
     address: SocketAddr,
     has_expired: bool,
 }
 
-/// The places of all addresses, each under its address.
+/// A map from each address to its record.
 #[derive(Drop)]
 pub(crate) struct Places<A: Allocator> {
     by_address: BTreeMap<SocketAddr, Place<A>, A>,
 }
 
 impl<A: Allocator> Model for Places<A> {
-    ghost use Rattle.std.specs.FinMap as map;
-    ghost use Rattle.stun_base.specs.Address.{address_cmp};
-    ghost use Rattle.stun_auth.specs.code.AddressCode.{coded_address};
-    ghost use Rattle.stun_auth.specs.Seen.{PlaceSeen};
-    ghost use Rattle.stun_auth.specs.code.Seen.{coded_place};
+    ghost use Rattle.stun_auth.specs.code.Places.{PlacesKept, coded_places};
+    ghost use Rattle.stun_auth.specs.code.Places.{last_users_of, places_seen};
 
-    ghost Value = { map.FinMap address_cmp PlaceSeen };
+    ghost Value = { PlacesKept };
 
-    ghost coded = { map.code coded_address coded_place };
+    ghost coded = { coded_places };
 
-    ghost use Rattle.stun_auth.specs.code.Places.{places_seen};
-
-    ghost view = { λ places. places_seen places.by_address.entries };
+    ghost view = { λ places. record {
+      seen = places_seen places.by_address.entries;
+      last_users = last_users_of places.by_address.entries;
+    } };
 }
 
-impl<A: Allocator + Copy> Places<A> {
-    /// No places.
+impl<A: Memory> Places<A> {
+    /// Creates a map without records.
     pub(crate) fn new(alloc: A) -> Self
-        ensures { result ≡ map.empty }
+        ensures { result.seen ≡ map.empty }
     {
         Places {
             by_address: BTreeMap::new(alloc),
         }
     }
 
-    /// How many addresses have a place.
+    /// Returns the number of addresses that have a record.
     pub(crate) fn len(&self) -> usize
-        ensures { result ≡ map.len self.now }
+        ensures { result ≡ map.len self.now.seen }
     {
         self.by_address.len()
     }
 
-    /// The place of an address.
+    /// Returns the record of an address.
     pub(crate) fn get(&self, address: SocketAddr) -> Option<&Place<A>>
-        ensures { option_map place_seen (option_copied result) ≡ map.get self.now address }
+        ensures { option_map place_seen (option_copied result) ≡ map.get self.now.seen address }
     {
         self.by_address.get(&address)
     }
 
-    /// Makes a user the client of an address that has a nonce, or nobody.
+    /// Makes a user the client of an address that has a record, or removes the client if `client`
+    /// is `None`.
     pub(crate) fn set_client(&mut self, address: SocketAddr, client: Option<ValidatedUser<A>>)
-        ensures { self.new ≡ with_change self.old address
+        ensures { self.new.seen ≡ with_change self.old.seen address
             (with_client (option_map client_seen client)) }
     {
         match self.by_address.get_mut(&address) {
@@ -253,9 +257,10 @@ impl<A: Allocator + Copy> Places<A> {
         }
     }
 
-    /// Removes the client of an address, and keeps the name until another user is validated there.
+    /// Removes the client of an address, but keeps the name until another user is validated there.
     pub(crate) fn remove_client(&mut self, address: SocketAddr)
-        ensures { self.new ≡ with_change self.old address (with_client None) }
+        ensures state { self.new.seen ≡ with_change self.old.seen address (with_client None) }
+        ensures names { self.new.last_users ≡ self.old.last_users }
     {
         match self.by_address.get_mut(&address) {
             Some(place) => {
@@ -266,9 +271,10 @@ impl<A: Allocator + Copy> Places<A> {
         }
     }
 
-    /// Takes out the user who was removed at an address, if any.
+    /// Returns the client that was removed from an address, and no longer stores its name. Returns
+    /// `None` if no client was removed there.
     pub(crate) fn take_removed(&mut self, address: SocketAddr) -> Option<ValidatedUser<A>>
-        ensures { self.new ≡ self.old }
+        ensures { self.new.seen ≡ self.old.seen }
     {
         match self.by_address.get_mut(&address) {
             Some(place) => return place.take_removed(),
@@ -276,30 +282,31 @@ impl<A: Allocator + Copy> Places<A> {
         }
     }
 
-    /// Forgets the place of an address.
+    /// Forgets the record of an address.
     pub(crate) fn forget(&mut self, address: SocketAddr)
-        ensures { self.new ≡ map.remove self.old address }
+        ensures { self.new.seen ≡ map.remove self.old.seen address }
     {
         self.by_address.remove(&address);
     }
 
-    /// Forgets each place without a client whose nonce expired before a moment.
+    /// Forgets each record without a client whose nonce expired before a time.
     pub(crate) fn forget_expired(&mut self, now: Instant)
-        ensures { self.new ≡ places_kept now self.old }
+        ensures { self.new.seen ≡ places_kept now self.old.seen }
     {
         self.by_address.retain(|_, place| !place.is_forgotten(now));
     }
 
-    /// Forgets as `forget_expired` does, but looks at no more than `most` addresses: from one on,
-    /// or from the first. Returns the address to go on at.
+    /// Forgets records like `forget_expired`, but visits at most `most` addresses, beginning at
+    /// `from`, or at the first address if `from` is `None`. Returns the first address that it did
+    /// not visit, or `None` if it has visited the last.
     pub(crate) fn forget_expired_within(
         &mut self,
         now: Instant,
         from: Option<SocketAddr>,
         most: usize,
     ) -> Option<SocketAddr>
-        ensures next { result ≡ next_address_from self.old (start_of from) most }
-        ensures state { self.new ≡ places_kept_where (is_looked_at from result) now self.old }
+        ensures next { result ≡ next_address_from self.old.seen (start_of from) most }
+        ensures state { self.new.seen ≡ places_kept_where (is_looked_at from result) now self.old.seen }
     {
         let mut start = start_at(from);
         for _looked in 0..most {
@@ -311,12 +318,12 @@ impl<A: Allocator + Copy> Places<A> {
         Some(next.address)
     }
 
-    /// The first address that has a place, from a start on, and whether that place may be
-    /// forgotten.
+    /// Returns the first address from `start` on that has a record, and whether that record may be
+    /// forgotten. Returns `None` if there is no such address.
     fn first_from(&self, start: Bound<SocketAddr>, now: Instant) -> Option<FirstPlace>
-        ensures first { IsFirstFrom self.now start (option_map (λ f. f.address) result) }
+        ensures first { IsFirstFrom self.now.seen start (option_map (λ f. f.address) result) }
         ensures expired { IfSome result (λ f. f.has_expired
-            ≡ option_map_or (is_forgotten now) (map.get self.now f.address) false) }
+            ≡ option_map_or (is_forgotten now) (map.get self.now.seen f.address) false) }
     {
         let (address, place) = self.by_address.range((start, Bound::Unbounded)).next()?;
         Some(FirstPlace {
@@ -325,18 +332,20 @@ impl<A: Allocator + Copy> Places<A> {
         })
     }
 
-    /// Forgets the place of an address if it has expired, which the caller has looked up.
+    /// Forgets the record of an address if `has_expired` is true. The caller has found out already
+    /// whether the record may be forgotten.
     fn forget_if(&mut self, address: SocketAddr, has_expired: bool)
-        ensures { self.new ≡ (if has_expired then map.remove self.old address else self.old) }
+        ensures { self.new.seen ≡ (if has_expired then map.remove self.old.seen address else self.old.seen) }
     {
         if has_expired {
             self.forget(address);
         }
     }
 
-    /// Keeps what was offered to an address that has a nonce and no client.
+    /// Stores the algorithms that were offered to an address. Does nothing if the address has no
+    /// record, or if the record has a client.
     pub(crate) fn offer(&mut self, address: SocketAddr, supported: AlgorithmSet)
-        ensures { self.new ≡ with_change self.old address (with_offer supported) }
+        ensures { self.new.seen ≡ with_change self.old.seen address (with_offer supported) }
     {
         match self.by_address.get_mut(&address) {
             Some(place) => {
@@ -347,7 +356,8 @@ impl<A: Allocator + Copy> Places<A> {
         }
     }
 
-    /// Gives an address a nonce in place of the one before, if any, and a client if one is given.
+    /// Stores a nonce for an address in place of the former nonce, if any, and a client if one is
+    /// passed.
     ///
     /// Only the first nonce of an address allocates here.
     pub(crate) fn renew(
@@ -357,10 +367,11 @@ impl<A: Allocator + Copy> Places<A> {
         expires: Instant,
         client: Option<ValidatedUser<A>>,
     ) -> Result<(), AllocError>
-        ensures ok { OnOk result (self.new ≡ map.insert self.old address
-            (renewed_with (map.get self.old address) (string_bytes nonce.text) expires
+        ensures ok { OnOk result (self.new.seen ≡ map.insert self.old.seen address
+            (renewed_with (map.get self.old.seen address) (string_bytes nonce.text) expires
             (option_map client_seen client))) }
         ensures err { OnErr result (self.new ≡ self.old) }
+        ensures granted { A.grants → IsOk result }
     {
         match self.by_address.get_mut(&address) {
             Some(place) => {
@@ -369,14 +380,15 @@ impl<A: Allocator + Copy> Places<A> {
             }
             None => {
                 let place = Place::new(nonce, expires, client);
-                self.by_address.insert(address, place)?;
+                A::insert(&mut self.by_address, address, place)?;
                 Ok(())
             }
         }
     }
 }
 
-/// Where a walk over addresses begins: at one, or at the first of all.
+/// Returns where a walk over addresses begins: at `from`, or at the first address if `from` is
+/// `None`.
 fn start_at(from: Option<SocketAddr>) -> Bound<SocketAddr>
     ensures { result ≡ start_of from }
 {

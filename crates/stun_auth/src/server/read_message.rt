@@ -13,9 +13,9 @@ use stun_base::prepared_key::PreparedKey;
 use stun_types::message::Message;
 
 /// A message whose attributes were read in one walk. A server that accepts several nonces of an
-/// address judges it under each of them, and reads it only once.
+/// address judges the message under each of them, and reads it only once.
 ///
-/// Contracts: they see the message.
+/// Contracts: the value is the list of the message's bytes.
 #[derive(Drop)]
 pub struct ReadMessage<'a, 'm> {
     message: &'m Message<'a>,
@@ -51,16 +51,17 @@ impl<'a, 'm> ReadMessage<'a, 'm> {
         self.message
     }
 
-    /// Returns the algorithm of the attribute that decides whether the message is signed: HMAC-SHA256
-    /// if MESSAGE-INTEGRITY-SHA256 is visible, otherwise HMAC-SHA1 if MESSAGE-INTEGRITY is visible,
-    /// and otherwise `None` (RFC 8489, sections 14.5 and 14.6). The value is not looked at.
+    /// Returns the algorithm of the attribute that decides whether the message is signed:
+    /// HMAC-SHA256 if MESSAGE-INTEGRITY-SHA256 is visible, otherwise HMAC-SHA1 if MESSAGE-INTEGRITY
+    /// is visible, and otherwise `None` (RFC 8489, sections 14.5 and 14.6). The value is not read.
     pub fn deciding_algorithm(&self) -> Option<IntegrityAlgorithm>
         ensures { result ≡ deciding_algorithm self.now }
     {
         self.reading.deciding_algorithm()
     }
 
-    /// Returns the algorithm whose digest verifies under a key.
+    /// Returns the algorithm of the message's signature if the signature is valid under `key`, and
+    /// `None` otherwise.
     pub(crate) fn verified_under<A: Allocator>(
         &self,
         key: &PreparedKey<A>,

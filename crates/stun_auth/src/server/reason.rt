@@ -1,4 +1,4 @@
-//! What a server returns for a message, and why it refuses one.
+//! The results of a server for a message, and its reasons to refuse one.
 
 ghost use Rattle.std.specs.Prelude.{◌≡◌, Result};
 ghost use Rattle.stun_auth.specs.Reasons.{server_reason};
@@ -11,9 +11,9 @@ use thiserror::Error;
 /// The result of a server for a message that it accepts.
 #[derive(Clone, Copy, Debug, PartialEq, Eq)]
 pub enum LongTermServerValidation {
-    /// The message is accepted. For a request or an indication this is the algorithm that both
-    /// sides agreed on: the signature verifies under the key for it. For a response it is the
-    /// algorithm of the valid signature.
+    /// The message is accepted. For a request or an indication, both sides agreed on this
+    /// algorithm, and the signature is valid under the user's key for it. For a response, it is the
+    /// algorithm of the signature.
     Validated(IntegrityAlgorithm),
 }
 
@@ -27,14 +27,14 @@ pub enum LongTermServerAuthErrorReason {
     /// - The user is not registered, or is named by a USERHASH while the server does not accept
     ///   hashes.
     /// - The user has no key for the algorithm.
-    /// - The signature does not verify.
+    /// - The signature is invalid.
     #[error("The message is not sufficiently authenticated")]
     Unauthorized,
-    /// The signature of a response does not verify under the key of the address's client, or the
-    /// address has no client. Drop the response.
+    /// The signature of a response is missing, or is invalid under the key of the address's client,
+    /// or the address has no client. Drop the response.
     #[error("The message failed integrity checks")]
     IntegrityFailed,
-    /// Present because the Rust crate has it. No call of a server returns it.
+    /// No call of a server returns this reason. It is here because the crate `stun-proto` has it.
     #[error("A required feature is not supported")]
     UnsupportedFeature,
     /// Answer 400, or 438 if the address had no nonce before. REALM, NONCE or the user name is
@@ -49,8 +49,8 @@ pub enum LongTermServerAuthErrorReason {
     OutOfMemory,
 }
 
-/// Present because the Rust crate has it. No call of this crate uses it. The reason is
-/// `IntegrityFailed`, whatever the error is.
+/// Converts every error to `IntegrityFailed`. No call of this crate uses this conversion: it is
+/// here because the crate `stun-proto` has it.
 impl From<ValidateError> for LongTermServerAuthErrorReason {
     ghost use Rattle.std.specs.Prelude.{◌≡◌};
     ghost use Rattle.stun_auth.specs.declared.server.reason.LongTermServerAuthErrorReason.TheVariants.{IntegrityFailed};
@@ -64,11 +64,11 @@ impl From<ValidateError> for LongTermServerAuthErrorReason {
 
 /// The error of a server that refuses a message.
 ///
-/// Contracts: they see its reason.
+/// Contracts: the value is the reason.
 pub type LongTermServerAuthError = LongTermAuthError<LongTermServerAuthErrorReason>;
 
-/// Why a server refuses a message under a given nonce (RFC 8489, section 9.2.4). No allocation can
-/// fail there.
+/// Why a server refuses a message under a given nonce (RFC 8489, section 9.2.4). It has no variant
+/// for a failed allocation, because judging under a given nonce does not allocate.
 #[derive(Clone, Copy, Debug, PartialEq, Eq, Error)]
 pub enum VerdictRefusal {
     /// Answer 401, for one of the causes of `LongTermServerAuthErrorReason::Unauthorized`.
@@ -84,7 +84,7 @@ pub enum VerdictRefusal {
 }
 
 impl VerdictRefusal {
-    /// Returns the reason that `validate_incoming_message` gives for this refusal.
+    /// Returns the reason with which `validate_incoming_message` fails for this refusal.
     pub fn reason(self) -> LongTermServerAuthErrorReason
         ensures { result ≡ server_reason self }
     {
@@ -96,7 +96,7 @@ impl VerdictRefusal {
     }
 }
 
-/// The answer, with an error made of its reason.
+/// Returns `answer`, in which a reason to refuse is converted to an error.
 pub(crate) fn refused(
     answer: Result<LongTermServerValidation, LongTermServerAuthErrorReason>,
 ) -> Result<LongTermServerValidation, LongTermServerAuthError>

@@ -1,7 +1,7 @@
 //! The users of a realm, each with a key for each supported algorithm.
 
 ghost use Rattle.std.specs.Prelude.{◌≡◌, ◌↔◌, Option, None, Some, IsTrue, OnOk};
-ghost use Rattle.std.specs.Prelude.{OnErr, IfOk, IfErr, IfNone, IfSome};
+ghost use Rattle.std.specs.Prelude.{OnErr, IfOk, IfErr, IfNone, IfSome, IsOk};
 ghost use Rattle.std.specs.FinMap as map;
 ghost use Rattle.std.specs.Ordering.{nat_cmp};
 ghost use Rattle.std.specs.BTreeMap.{Updates, UpdatesBy, get_by_text};
@@ -26,17 +26,18 @@ use std::marker::Model;
 use stun_base::algorithm::IntegrityAlgorithm;
 use stun_base::credentials::LongTermCredentials;
 use stun_base::key::userhash;
+use stun_base::memory::Memory;
 use stun_base::prepared_key::PreparedKey;
 
 /// A user: the password or stored keys, and the key for each supported algorithm, prepared to
-/// verify digests.
+/// verify signatures.
 #[derive(Drop)]
 pub(crate) struct User<A: Allocator> {
-    /// In a box, since it is long and a tree leaves half of its nodes empty.
+    /// The contents are in a box, because they are long and the nodes of a tree can be half empty.
     kept: Box<KeptUser<A>, A>,
 }
 
-/// What is kept of a user.
+/// The secret of a user, and the prepared keys.
 #[derive(Drop)]
 pub(crate) struct KeptUser<A: Allocator> {
     secret: UserSecret<A>,
@@ -44,8 +45,9 @@ pub(crate) struct KeptUser<A: Allocator> {
     sha256: Option<PreparedKey<A>>,
 }
 
-/// The key of a user for an algorithm, if that is supported and the user has one for it.
-fn key_if<A: Allocator>(
+/// Returns the key of a user for an algorithm. Returns `None` if the algorithm is not supported, or
+/// if the user has no key for it.
+fn key_if<A: Allocator + Copy>(
     alloc: A,
     supported: AlgorithmSet,
     algorithm: IntegrityAlgorithm,
@@ -66,7 +68,7 @@ fn key_if<A: Allocator>(
     }
 }
 
-impl<A: Allocator + Copy> User<A> {
+impl<A: Memory> User<A> {
     ghost use Rattle.stun_auth.specs.code.Users.{HasKeys, key_in, secret_of};
 
     fn new(
@@ -78,6 +80,7 @@ impl<A: Allocator + Copy> User<A> {
     ) -> Result<Self, AllocError>
         ensures keys { IfOk result (HasKeys realm.now supported name.now) }
         ensures secret { IfOk result (λ user. secret_of user ≡ secret_seen secret) }
+        ensures granted { A.grants → IsOk result }
     {
         let kept = KeptUser {
             secret,
@@ -85,13 +88,13 @@ impl<A: Allocator + Copy> User<A> {
             sha256: None,
         };
         let mut user = User {
-            kept: Box::new(alloc, kept)?,
+            kept: A::boxed(alloc, kept)?,
         };
         user.set_keys(alloc, name, realm, supported);
         Ok(user)
     }
 
-    /// Makes the keys anew. It does not allocate.
+    /// Makes the user's keys again, for the algorithms in `supported`. It does not allocate.
     fn set_keys(&mut self, alloc: A, name: &str, realm: &str, supported: AlgorithmSet)
         ensures keys { HasKeys realm.now supported name.now self.new }
         ensures secret { secret_of self.new ≡ secret_of self.old }
@@ -133,7 +136,7 @@ pub(crate) struct Registry<A: Allocator> {
     realm: String<A>,
     supported: AlgorithmSet,
     users: BTreeMap<String<A>, User<A>, A>,
-    /// The name of each user by its hash.
+    /// The name of each user, indexed by its hash.
     hashed: NameIndex<A>,
 }
 
@@ -159,8 +162,8 @@ impl<A: Allocator> Model for Registry<A> {
         × IsNameIndexOf (string_bytes r.realm) (secrets_seen r.users.entries) r.hashed };
 }
 
-impl<A: Allocator + Copy> Registry<A> {
-    /// A realm without users, with HMAC-SHA1 alone.
+impl<A: Memory> Registry<A> {
+    /// Creates a registry without users for a realm. It supports HMAC-SHA1 only.
     pub(crate) fn new(alloc: A, realm: String<A>) -> Self
         ensures { result ≡ new_registered (string_bytes realm) }
     {
@@ -172,21 +175,21 @@ impl<A: Allocator + Copy> Registry<A> {
         }
     }
 
-    /// The realm.
+    /// Returns the realm.
     pub(crate) fn realm(&self) -> &str
         ensures { result.now ≡ self.now.realm }
     {
         self.realm.as_str()
     }
 
-    /// The supported algorithms.
+    /// Returns the supported algorithms.
     pub(crate) fn supported(&self) -> AlgorithmSet
         ensures { result ≡ self.now.algorithms }
     {
         self.supported
     }
 
-    /// Whether another registry has the same realm and supports the same algorithms.
+    /// Returns whether another registry has the same realm and supports the same algorithms.
     pub(crate) fn has_realm_of(&self, other: &Self) -> bool
         ensures { IsTrue result ↔ ((self.now.realm ≡ other.now.realm)
             × (self.now.algorithms ≡ other.now.algorithms)) }
@@ -194,7 +197,8 @@ impl<A: Allocator + Copy> Registry<A> {
         self.supported == other.supported && self.realm.as_str() == other.realm.as_str()
     }
 
-    /// The key of a registered user for a supported algorithm.
+    /// Returns the key of a registered user for an algorithm, or `None` if there is no such user or
+    /// key.
     pub(crate) fn key(&self, name: &str, algorithm: IntegrityAlgorithm) -> Option<&PreparedKey<A>>
         ensures { option_copied result ≡ key_at self.now name.now algorithm }
     {
@@ -204,23 +208,25 @@ impl<A: Allocator + Copy> Registry<A> {
         }
     }
 
-    /// The least name of a registered user that has this hash.
+    /// Returns the first name in byte order of a registered user that has this hash, or `None` if
+    /// no name has it.
     pub(crate) fn name_with_hash(&self, hash: &[u8; 32]) -> Option<&str>
         ensures { option_copied result ≡ name_with_hash self.now hash.now }
     {
         self.hashed.least(hash)
     }
 
-    /// Adds a user, or gives a registered one another password and its keys.
+    /// Adds a user, or replaces the password and the keys of a registered user.
     pub(crate) fn add_user(&mut self, credentials: LongTermCredentials<A>) -> Result<(), AllocError>
         ensures ok { OnOk result (self.new ≡ with_user self.old credentials) }
         ensures err { OnErr result (self.new ≡ self.old) }
+        ensures granted { A.grants → IsOk result }
     {
         let (name, password) = credentials.into_parts();
         self.insert(name, UserSecret::Password(password))
     }
 
-    /// Adds a user with stored keys, or gives a registered one these keys.
+    /// Adds a user with stored keys, or replaces the keys of a registered user.
     pub(crate) fn add_user_with_keys(
         &mut self,
         name: String<A>,
@@ -228,6 +234,7 @@ impl<A: Allocator + Copy> Registry<A> {
     ) -> Result<(), AllocError>
         ensures ok { OnOk result (self.new ≡ with_user_by_keys self.old (string_bytes name) keys) }
         ensures err { OnErr result (self.new ≡ self.old) }
+        ensures granted { A.grants → IsOk result }
     {
         self.insert(name, UserSecret::Keys(keys))
     }
@@ -237,32 +244,37 @@ impl<A: Allocator + Copy> Registry<A> {
           secrets = map.insert self.old.secrets (string_bytes name) (secret_seen secret);
         }) }
         ensures err { OnErr result (self.new ≡ self.old) }
+        ensures granted { A.grants → IsOk result }
     {
         let alloc = *name.allocator();
         let realm = self.realm.as_str();
         let user = User::new(alloc, name.as_str(), realm, secret, self.supported)?;
         let hash = userhash(name.as_str(), self.realm.as_str());
-        self.hashed.insert(hash, name.clone()?)?;
+        self.hashed.insert(hash, A::text(alloc, name.as_str())?)?;
         match put_user(&mut self.users, name, user) {
             Ok(()) => Ok(()),
             Err(refused) => {
-                // Only a new name is refused, which the index did not have before.
+                // The map refuses only a name that it did not contain, so the index contains the
+                // name only because of this call.
                 self.hashed.remove(hash, refused);
                 Err(AllocError)
             }
         }
     }
 
-    /// A registry of the same realm and algorithms, with one user alone.
+    /// Returns a registry with the same realm and algorithms, whose only user has this name and
+    /// secret. Fails if an allocation fails.
     pub(crate) fn with_just(
         &self,
         name: String<A>,
         secret: UserSecret<A>,
     ) -> Result<Self, AllocError>
-        ensures { IfOk result (λ users. users ≡ just self.now
+        ensures users { IfOk result (λ users. users ≡ just self.now
             (Some (record { username = string_bytes name; secret = secret_seen secret }))) }
+        ensures granted { A.grants → IsOk result }
     {
-        let mut users = Registry::new(*self.realm.allocator(), self.realm.clone()?);
+        let alloc = *self.realm.allocator();
+        let mut users = Registry::new(alloc, A::text(alloc, self.realm.as_str())?);
         users.set_supported(self.supported);
         users.insert(name, secret)?;
         Ok(users)
@@ -278,7 +290,7 @@ impl<A: Allocator + Copy> Registry<A> {
         }
     }
 
-    /// Supports these algorithms from now on: each user has keys for them, and no others.
+    /// Sets the supported algorithms: each user has keys for them, and no others.
     pub(crate) fn set_supported(&mut self, supported: AlgorithmSet)
         ensures { self.new ≡ record self.old { algorithms = supported } }
     {
@@ -288,9 +300,9 @@ impl<A: Allocator + Copy> Registry<A> {
     }
 }
 
-/// Puts a user under a name, in place of the one before. Where an allocation fails, a new name
-/// comes back.
-fn put_user<A: Allocator + Copy>(
+/// Stores a user under a name, in place of the former user with that name, if there was one. If an
+/// allocation fails, the error contains the name.
+fn put_user<A: Memory>(
     users: &mut BTreeMap<String<A>, User<A>, A>,
     name: String<A>,
     user: User<A>,
@@ -299,8 +311,9 @@ fn put_user<A: Allocator + Copy>(
     ensures refused { IfErr result (λ refused. refused ≡ name) }
     ensures absent { OnErr result (get_by_text users.old (string_bytes name) ≡ None) }
     ensures same { OnErr result (users.new.entries ≡ users.old.entries) }
+    ensures granted { A.grants → IsOk result }
 {
-    match users.insert(name, user) {
+    match A::insert(users, name, user) {
         Ok(_) => Ok(()),
         Err(refused) => {
             let (name, _) = refused.value;
@@ -309,7 +322,8 @@ fn put_user<A: Allocator + Copy>(
     }
 }
 
-/// Takes out the user of a name, and returns the name that was kept. It does not allocate.
+/// Removes the user with this name, and returns the name that was stored, or `None` if there is no
+/// such user. It does not allocate.
 fn take_user<A: Allocator + Copy>(
     users: &mut BTreeMap<String<A>, User<A>, A>,
     name: &str,
@@ -323,7 +337,7 @@ fn take_user<A: Allocator + Copy>(
     Some(name)
 }
 
-/// Makes the keys of all users anew. It does not allocate.
+/// Makes the keys of all users again, for the algorithms in `supported`. It does not allocate.
 fn make_keys<A: Allocator, B: Allocator + Copy>(
     users: &mut BTreeMap<String<A>, User<B>, A>,
     alloc: B,
@@ -333,7 +347,7 @@ fn make_keys<A: Allocator, B: Allocator + Copy>(
     ensures keys { AllHaveKeys realm.now supported users.new }
     ensures secrets { secrets_seen users.new.entries ≡ secrets_seen users.old.entries }
 {
-    // It keeps all of them: this only walks the users with their names.
+    // `retain` removes nobody here: it only serves to walk over the users with their names.
     users.retain(|name, user| {
         user.set_keys(alloc, name.as_str(), realm, supported);
         true

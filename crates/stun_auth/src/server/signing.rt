@@ -1,7 +1,7 @@
-//! Signing what a server sends (RFC 8489, section 9.2.4).
+//! Signs the messages of a server (RFC 8489, section 9.2.4).
 
 ghost use Rattle.std.specs.Prelude.{◌≡◌, ◌≤◌, ◌<◌, ◌+◌, ◌-◌, ◌^◌, length, min};
-ghost use Rattle.std.specs.Prelude.{not, true, Some, IfOk, IsOk, OnOk, OnErr, Ok};
+ghost use Rattle.std.specs.Prelude.{⊤, not, true, Some, IfOk, IsOk, OnOk, OnErr, Ok};
 ghost use Rattle.std.specs.Option.{IfSome, option_copied, option_map};
 ghost use Rattle.stun_base.specs.Header.{BeginsWithHeader};
 ghost use Rattle.stun_base.specs.MessageType.{class_in, is_response as is_response_class};
@@ -31,7 +31,7 @@ use std::net::SocketAddr;
 use stun_types::message::{IntegrityAlgorithm, StunWriteError};
 use stun_types::prelude::*;
 
-/// Whether the message in a writer is a response.
+/// Returns whether the message in a writer is a response.
 fn is_response<W: MessageWrite>(writer: &W) -> bool
     requires { BeginsWithHeader (W.bytes writer.now) }
     ensures { result ≡ is_response_class (class_in (W.bytes writer.now)) }
@@ -44,7 +44,7 @@ impl<A: Allocator + Copy> LongTermServerAuth<A> {
     /// most 2^64 - 1, or 0 if no nonce was made for the address.
     ///
     /// `is_request` is true for a request or an indication, and false for a response. The call does
-    /// not look whether signing would fail, for example because the client's user was removed or
+    /// not check whether signing would fail, for example because the client's user was removed or
     /// the realm is too long.
     pub fn message_signature_bytes(&self, to: SocketAddr, is_request: bool) -> usize
         ensures { result ≡ min (server_growth (sight self.now to) (not is_request)) (2 ^ 64 - 1) }
@@ -63,8 +63,8 @@ impl<A: Allocator + Copy> LongTermServerAuth<A> {
     ///
     /// - to a response, NONCE and REALM;
     /// - to a response to an address without a client, PASSWORD-ALGORITHMS, which lists the
-    ///   supported algorithms. They are then the ones that this address was offered, so send what
-    ///   you sign;
+    ///   supported algorithms. From then on, these count as the algorithms that this address was
+    ///   offered, so send every message that you sign;
     /// - PASSWORD-ALGORITHM, if the client uses HMAC-SHA256;
     /// - MESSAGE-INTEGRITY or MESSAGE-INTEGRITY-SHA256, if the address has a client, under the key
     ///   that the user has now.
@@ -76,14 +76,15 @@ impl<A: Allocator + Copy> LongTermServerAuth<A> {
     /// `BadRequest`, goes out as it is.
     ///
     /// The writer must hold a message without FINGERPRINT. The attributes are added one after
-    /// another, and the first error decides. It drops the writer and leaves the server unchanged.
+    /// another, and the call fails with the first error. The writer is then dropped, and the server
+    /// is unchanged.
     ///
-    /// - `MessageIntegrityExists`, `AttributeExists`: the message has a signature, or this
-    ///   attribute, already.
+    /// - `MessageIntegrityExists`, `AttributeExists`: the message already has a signature, or
+    ///   already has the attribute to add.
     /// - `TooLarge`: the message would be too long, or the realm has more than 763 bytes.
     /// - `TooSmall`: the writer has no room.
-    /// - `IntegrityFailed`: the client's user was removed, or has no key for the algorithm any
-    ///   more.
+    /// - `IntegrityFailed`: the user who is the client was removed, or no longer has a key for the
+    ///   algorithm.
     /// - `OutOfMemory`: an allocation failed.
     pub fn sign_outgoing_message<W: MessageWrite>(
         &mut self,
@@ -97,21 +98,27 @@ impl<A: Allocator + Copy> LongTermServerAuth<A> {
             ≡ server_signed (sight self.old to) response (page_in W.bytes W.room writer))
             (WantsMemory (server_additions (sight self.old to) response)
             (page_in W.bytes W.room writer) (W.reserved writer)) }
+        ensures granted { W.grants → UnlessMemory result ⊤ ⊥ }
         ensures grows { IfOk result (λ signed. length (W.bytes signed)
             ≡ length (W.bytes writer) + server_growth (sight self.old to)
             (is_response_class (class_in (W.bytes writer)))) }
 
-        // What is reserved already does not allocate.
+        // Nothing is allocated for bytes that are reserved already.
         ensures succeeds { let response = is_response_class
             (class_in (W.bytes writer)) in
             IsSignableAtServer (sight self.old to) response (W.bytes writer) (W.room writer)
             → server_growth (sight self.old to) response ≤ W.reserved writer → IsOk result }
+
+        // A signable message fails only for lack of memory.
+        ensures signable { IsSignableAtServer (sight self.old to) (is_response_class
+            (class_in (W.bytes writer))) (W.bytes writer) (W.room writer)
+            → UnlessMemory result (IsOk result) ⊤ }
         ensures signed { OnOk result (self.new
             ≡ after_signing self.old to (is_response_class
             (class_in (W.bytes writer)))) }
         ensures refused { OnErr result (self.new ≡ self.old) }
     {
-        // Laws do nothing when they run: this one is for the clause `succeeds`.
+        // A law does nothing at run time. This one helps to prove the clause `succeeds`.
         sides_sign_what_is_signable();
         let mut writer = writer;
         let is_response = is_response(&writer);
@@ -123,12 +130,11 @@ impl<A: Allocator + Copy> LongTermServerAuth<A> {
         Ok(writer)
     }
 
-    /// Like `sign_outgoing_message`, for a message that you know to be signable, which it signs in
-    /// the same way.
+    /// Signs a message like `sign_outgoing_message`, if you know that it is signable.
     ///
     /// A signable message has no integrity attribute, no FINGERPRINT, and none of the attributes
-    /// that signing adds. Its writer and its length field have room for what is added. The realm
-    /// has at most 763 bytes, and the client's user is still registered and has the key.
+    /// that signing adds. Its writer and its length field have room for the attributes to add. The
+    /// realm has at most 763 bytes, and the client's user is still registered and has the key.
     ///
     /// Fails if an allocation fails. The server is then unchanged.
     pub fn sign_outgoing_message_unchecked<W: MessageWrite>(
@@ -148,10 +154,11 @@ impl<A: Allocator + Copy> LongTermServerAuth<A> {
             ≡ length (W.bytes writer) + server_growth (sight self.old to)
             (is_response_class (class_in (W.bytes writer)))) }
 
-        // What is reserved already does not allocate.
+        // Nothing is allocated for bytes that are reserved already.
         ensures succeeds { server_growth (sight self.old to)
             (is_response_class (class_in (W.bytes writer))) ≤ W.reserved writer
             → IsOk result }
+        ensures granted { W.grants → IsOk result }
         ensures signed { OnOk result (self.new
             ≡ after_signing self.old to (is_response_class
             (class_in (W.bytes writer)))) }
@@ -163,7 +170,7 @@ impl<A: Allocator + Copy> LongTermServerAuth<A> {
         }
     }
 
-    /// Adds to a message to an address what signing adds.
+    /// Adds to a message all attributes that signing adds for an address.
     fn add_signature<W: MessageWrite>(
         &self,
         writer: &mut W,
@@ -175,6 +182,7 @@ impl<A: Allocator + Copy> LongTermServerAuth<A> {
             ≡ server_signed (sight self.now to) is_response (page_in W.bytes W.room writer.old))
             (WantsMemory (server_additions (sight self.now to) is_response)
             (page_in W.bytes W.room writer.old) (W.reserved writer.old)) }
+        ensures granted { W.grants → UnlessMemory result ⊤ ⊥ }
         ensures short { IfSome (sight self.now to).place
             (λ (p : PlaceSeen). length p.nonce ≤ TEXT_LIMIT) }
     {
@@ -184,7 +192,7 @@ impl<A: Allocator + Copy> LongTermServerAuth<A> {
         }
     }
 
-    /// Adds to a message to an address with this place what signing adds.
+    /// Adds to a message all attributes that signing adds for an address with this record.
     fn sign_at<W: MessageWrite>(
         &self,
         writer: &mut W,
@@ -192,12 +200,13 @@ impl<A: Allocator + Copy> LongTermServerAuth<A> {
         is_response: bool,
     ) -> Result<(), StunWriteError>
         requires { 20 ≤ length (W.bytes writer.old) }
-        ensures { UnlessMemory result (outcome_of result (page_in W.bytes W.room writer.new)
+        ensures outcome { UnlessMemory result (outcome_of result (page_in W.bytes W.room writer.new)
             ≡ signed_at is_response self.now.registered (Some (place_seen place.now))
             (page_in W.bytes W.room writer.old))
             (WantsMemory (additions_at is_response self.now.registered
             (Some (place_seen place.now))) (page_in W.bytes W.room writer.old)
             (W.reserved writer.old)) }
+        ensures granted { W.grants → UnlessMemory result ⊤ ⊥ }
     {
         self.add_attributes(writer, place, is_response)?;
         match place.client() {
@@ -206,7 +215,7 @@ impl<A: Allocator + Copy> LongTermServerAuth<A> {
         }
     }
 
-    /// Adds the attributes before the integrity attribute.
+    /// Adds the attributes that precede the integrity attribute.
     fn add_attributes<W: MessageWrite>(
         &self,
         writer: &mut W,
@@ -219,6 +228,7 @@ impl<A: Allocator + Copy> LongTermServerAuth<A> {
             (place_seen place.now).nonce (place_seen place.now).client)
             (page_in W.bytes W.room writer.old) (W.reserved writer.old) result
             (page_in W.bytes W.room writer.new) (W.reserved writer.new) }
+        ensures granted { W.grants → UnlessMemory result ⊤ ⊥ }
     {
         if is_response {
             self.add_nonce_and_realm(writer, place.nonce.as_str())?;
@@ -228,8 +238,8 @@ impl<A: Allocator + Copy> LongTermServerAuth<A> {
         }
     }
 
-    /// Names the algorithm of a client. Without a client, a response lists the supported
-    /// algorithms.
+    /// Adds PASSWORD-ALGORITHM with the algorithm of a client or, to a response without a client,
+    /// PASSWORD-ALGORITHMS.
     fn add_algorithms<W: MessageWrite>(
         &self,
         writer: &mut W,
@@ -242,6 +252,7 @@ impl<A: Allocator + Copy> LongTermServerAuth<A> {
             (option_map client_seen (option_copied client.entry)))
             (page_in W.bytes W.room writer.old) (W.reserved writer.old) result
             (page_in W.bytes W.room writer.new) (W.reserved writer.new) }
+        ensures granted { W.grants → UnlessMemory result ⊤ ⊥ }
     {
         match client {
             Some(client) => add_named_algorithm(writer, client.algorithm),
@@ -255,7 +266,7 @@ impl<A: Allocator + Copy> LongTermServerAuth<A> {
         }
     }
 
-    /// Adds nonce and realm.
+    /// Adds NONCE and REALM.
     pub(crate) fn add_nonce_and_realm<W: MessageWrite>(
         &self,
         writer: &mut W,
@@ -266,35 +277,39 @@ impl<A: Allocator + Copy> LongTermServerAuth<A> {
         ensures added { IsAdded (challenge true self.now.registered nonce.now)
             (page_in W.bytes W.room writer.old) (W.reserved writer.old) result
             (page_in W.bytes W.room writer.new) (W.reserved writer.new) }
+        ensures granted { W.grants → UnlessMemory result ⊤ ⊥ }
     {
         add(writer, AddedAttribute::Nonce(nonce))?;
         add(writer, AddedAttribute::Realm(self.registry.realm()))
     }
 
-    /// Adds the supported algorithms.
+    /// Adds PASSWORD-ALGORITHMS with the supported algorithms.
     pub(crate) fn add_offer<W: MessageWrite>(&self, writer: &mut W) -> Result<(), StunWriteError>
         requires { 20 ≤ length (W.bytes writer.old) }
         ensures header { 20 ≤ length (W.bytes writer.new) }
         ensures added { IsAdded (offer true self.now.registered)
             (page_in W.bytes W.room writer.old) (W.reserved writer.old) result
             (page_in W.bytes W.room writer.new) (W.reserved writer.new) }
+        ensures granted { W.grants → UnlessMemory result ⊤ ⊥ }
     {
         let offered = self.registry.supported().password_algorithms();
         add(writer, AddedAttribute::PasswordAlgorithms(offered))
     }
 
-    /// Adds the integrity attribute under the present key of a client.
+    /// Adds the integrity attribute with the signature under the key that the client's user has
+    /// now.
     fn add_digest<W: MessageWrite>(
         &self,
         writer: &mut W,
         client: &ValidatedUser<A>,
     ) -> Result<(), StunWriteError>
         requires { 20 ≤ length (W.bytes writer.old) }
-        ensures { UnlessMemory result (outcome_of result (page_in W.bytes W.room writer.new)
+        ensures outcome { UnlessMemory result (outcome_of result (page_in W.bytes W.room writer.new)
             ≡ protected_for self.now.registered (Some (client_seen client.now))
             (page_in W.bytes W.room writer.old))
             (WantsMemory (digest_for self.now.registered (Some (client_seen client.now)))
             (page_in W.bytes W.room writer.old) (W.reserved writer.old)) }
+        ensures granted { W.grants → UnlessMemory result ⊤ ⊥ }
     {
         match self.registry.key(client.name.as_str(), client.algorithm) {
             Some(key) => add_integrity(writer, key, client.algorithm),
@@ -302,7 +317,8 @@ impl<A: Allocator + Copy> LongTermServerAuth<A> {
         }
     }
 
-    /// How many bytes signing adds to a message to an address with this place, at most 2^64 - 1.
+    /// Returns the number of bytes that signing adds to a message to an address with this record,
+    /// at most 2^64 - 1.
     fn signature_bytes(&self, place: &Place<A>, is_response: bool) -> usize
         ensures { result ≡ min (growth_at is_response self.now.registered
             (Some (place_seen place.now))) (2 ^ 64 - 1) }
@@ -312,7 +328,7 @@ impl<A: Allocator + Copy> LongTermServerAuth<A> {
             .saturating_add(protection_bytes(place.client()))
     }
 
-    /// How many bytes nonce and realm take, at most 2^64 - 1.
+    /// Returns the number of bytes of NONCE and REALM, at most 2^64 - 1.
     fn challenge_bytes(&self, nonce: &str, is_response: bool) -> usize
         ensures { result ≡ min (growth (challenge is_response self.now.registered nonce.now))
             (2 ^ 64 - 1) }
@@ -323,7 +339,7 @@ impl<A: Allocator + Copy> LongTermServerAuth<A> {
         attribute_bytes(nonce.len()).saturating_add(attribute_bytes(self.registry.realm().len()))
     }
 
-    /// How many bytes the attributes after nonce and realm take.
+    /// Returns the number of bytes that `add_algorithms` adds.
     fn algorithms_bytes(&self, client: Option<&ValidatedUser<A>>, is_response: bool) -> usize
         ensures { result ≡ growth (algorithms_for is_response self.now.registered
             (option_map client_seen (option_copied client.entry))) }
@@ -334,7 +350,7 @@ impl<A: Allocator + Copy> LongTermServerAuth<A> {
         }
     }
 
-    /// How many bytes the offer of the supported algorithms takes.
+    /// Returns the number of bytes that `add_offer` adds.
     fn offer_bytes(&self) -> usize
         ensures { result ≡ growth (offer true self.now.registered) }
     {
@@ -346,7 +362,7 @@ impl<A: Allocator + Copy> LongTermServerAuth<A> {
     }
 }
 
-/// Adds the algorithm of a client, unless it is HMAC-SHA1.
+/// Adds PASSWORD-ALGORITHM, unless the algorithm is HMAC-SHA1.
 fn add_named_algorithm<W: MessageWrite>(
     writer: &mut W,
     algorithm: IntegrityAlgorithm,
@@ -356,6 +372,7 @@ fn add_named_algorithm<W: MessageWrite>(
     ensures added { IsAdded (named_algorithm algorithm)
         (page_in W.bytes W.room writer.old) (W.reserved writer.old) result
         (page_in W.bytes W.room writer.new) (W.reserved writer.new) }
+    ensures granted { W.grants → UnlessMemory result ⊤ ⊥ }
 {
     match algorithm {
         IntegrityAlgorithm::Sha1 => Ok(()),
@@ -363,7 +380,7 @@ fn add_named_algorithm<W: MessageWrite>(
     }
 }
 
-/// How many bytes `add_named_algorithm` adds.
+/// Returns the number of bytes that `add_named_algorithm` adds.
 fn named_algorithm_bytes(algorithm: IntegrityAlgorithm) -> usize
     ensures { result ≡ growth (named_algorithm algorithm) }
 {
@@ -373,7 +390,7 @@ fn named_algorithm_bytes(algorithm: IntegrityAlgorithm) -> usize
     }
 }
 
-/// How many bytes the integrity attribute to a client takes.
+/// Returns the number of bytes of the integrity attribute for a client, or 0 without a client.
 fn protection_bytes<A: Allocator>(client: Option<&ValidatedUser<A>>) -> usize
     ensures { result ≡ protection_growth (option_map client_seen (option_copied client.entry)) }
 {

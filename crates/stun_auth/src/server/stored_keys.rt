@@ -9,11 +9,11 @@ use std::fmt;
 use stun_base::algorithm::IntegrityAlgorithm;
 use stun_base::key::IntegrityKey;
 
-/// The keys of a user that a database stores in place of the password. Each is a hash of
-/// `username:realm:password`, as `long_term_key` makes it (RFC 8489, section 9.2.2). `None` means
-/// that the key is not stored, and that the user has no key for that algorithm.
+/// The keys of a user, which a database can store in place of the password. Each key is a hash of
+/// `username:realm:password`, as `long_term_key` makes it (RFC 8489, section 9.2.2). If a key is
+/// `None`, the user has no key for that algorithm.
 ///
-/// Whoever has a key can sign as that user, so keep it as secret as a password. `Debug` shows
+/// Anybody who has a key can sign as that user, so keep it as secret as a password. `Debug` shows
 /// nothing of it.
 #[derive(Clone, Copy)]
 pub struct StoredKeys {
@@ -24,8 +24,8 @@ pub struct StoredKeys {
 }
 
 impl StoredKeys {
-    /// The key for an algorithm. It does not allocate.
-    pub(crate) fn key<A: Allocator>(
+    /// Returns the key for an algorithm, or `None` if it is not stored. It does not allocate.
+    pub(crate) fn key<A: Allocator + Copy>(
         &self,
         alloc: A,
         algorithm: IntegrityAlgorithm,
@@ -52,7 +52,7 @@ impl fmt::Debug for StoredKeys {
         ensures writes { WritesOnOk W.write_str_gives f.old result
             (codes "StoredKeys { .. }") f.new }
 
-        // It writes the same with every width, precision and other option.
+        // The options of the formatter, such as the width, do not change the text.
         ensures styled { WritesStyledOnOk W.write_str_gives f.old result
             (codes "StoredKeys { .. }") f.new }
     {

@@ -1,4 +1,5 @@
-//! Which refusal a client is answered with, and whether a message has a nonce.
+//! Two calls for a server that accepts several nonces: one returns the refusal to send, and the
+//! other whether a message has a given nonce.
 
 ghost use Rattle.std.specs.Prelude.{◌≡◌};
 ghost use Rattle.std.specs.Str.{bytes_eq};
@@ -13,13 +14,13 @@ use crate::server::read_message::ReadMessage;
 use crate::server::reason::VerdictRefusal;
 use crate::server::verdict::is_same_nonce;
 
-/// Returns the refusal to answer a request with that was refused under every nonce that the server
-/// accepts. `nonce` is the current one.
+/// Returns the refusal to send for a request that was refused under every nonce that the server
+/// accepts. `nonce` is the current nonce.
 ///
-/// `BadRequest` becomes `StaleNonce` unless the message is malformed or has the current nonce. A
-/// client that repeats what a server offered it long ago, or with other settings, then learns how
-/// to continue, because clients drop an unsigned 400. Other refusals stay as they are. It does not
-/// allocate.
+/// `BadRequest` becomes `StaleNonce`, unless the message is malformed or has the current nonce.
+/// Clients drop an unsigned 400, but from a 438 a client that repeats an old offer, or an offer
+/// under other settings, learns how to continue. Other refusals are returned as they are. It does
+/// not allocate.
 pub fn told_refusal(
     refusal: VerdictRefusal,
     read: &ReadMessage<'_, '_>,
@@ -34,7 +35,8 @@ pub fn told_refusal(
     }
 }
 
-/// How a bad request is told.
+/// Returns the refusal to send in place of `BadRequest`: `StaleNonce`, unless the message is
+/// malformed or has the current nonce.
 fn told_bad_request(reading: &MessageReading<'_, '_>, nonce: &str) -> VerdictRefusal
     ensures { result
         ≡ told_refusal nonce.now (reading_seen reading.now) VerdictRefusal.BadRequest }
@@ -46,18 +48,19 @@ fn told_bad_request(reading: &MessageReading<'_, '_>, nonce: &str) -> VerdictRef
     }
 }
 
-/// Returns whether a message has this nonce: whether its last visible NONCE is well formed, and is
-/// `nonce`. It looks at each byte, wherever they differ, and does not allocate.
+/// Returns whether a message has this nonce: its last visible NONCE is well formed and equal to
+/// `nonce`. A message without a well-formed NONCE has the empty nonce. The call compares all bytes,
+/// even after a difference, and does not allocate.
 ///
-/// A server that looks its users up elsewhere calls it first, so that only requests with a nonce of
-/// its own cause a look-up.
+/// A server that looks its users up elsewhere calls this first, so that only requests with one of
+/// its own nonces cause a look-up.
 pub fn has_nonce(read: &ReadMessage<'_, '_>, nonce: &str) -> bool
     ensures { result ≡ bytes_eq (their_nonce (reading_of read.now)) nonce.now }
 {
     reads_nonce(&read.reading, nonce)
 }
 
-/// Whether a message has this nonce.
+/// Returns whether a message has this nonce (see `has_nonce`).
 fn reads_nonce(reading: &MessageReading<'_, '_>, nonce: &str) -> bool
     ensures { result ≡ bytes_eq (their_nonce (reading_seen reading.now)) nonce.now }
 {

@@ -10,12 +10,13 @@ use std::fmt;
 use std::marker::Model;
 
 /// A user who is passed along with a message, with a key for each algorithm that the server
-/// supports. `LongTermServerAuth::prepare_user` makes one from a password, and
+/// supports. `LongTermServerAuth::prepare_user` makes such a user from a password, and
 /// `prepare_user_with_keys` from stored keys.
 ///
 /// `Debug` shows nothing of the contents.
 ///
-/// Contracts: they see this user, and the realm and the algorithms that the server had then.
+/// Contracts: the value is a record of this user, and of the realm and the algorithms that the
+/// server had when the user was prepared.
 #[derive(Drop)]
 pub struct LongTermServerUser<A: Allocator = Global> {
     pub(crate) registry: Registry<A>,
@@ -36,10 +37,10 @@ impl<A: Allocator + Copy> LongTermServerUser<A> {
     /// Returns whether this user can be passed to a server: whether the user was prepared for that
     /// server's realm, and for the algorithms that the server supports now.
     ///
-    /// If so, the user is the one that `prepare_user` of that server returns for the same name and
-    /// secret, so you can keep a prepared user and pass it with every message. If not, prepare the
-    /// user again: the server would otherwise judge and sign for the realm and the algorithms that
-    /// the user was prepared for. The call does not allocate.
+    /// If so, the server would prepare the same user again from the same name and secret, so you
+    /// can keep the prepared user and pass it with every message. If not, prepare the user again:
+    /// otherwise the server would judge and sign for the realm and the algorithms that the user was
+    /// prepared for. The call does not allocate.
     pub fn belongs_to(&self, server: &LongTermServerAuth<A>) -> bool
         ensures { IsTrue result ↔ ((self.now.realm ≡ server.now.registered.realm)
             × (self.now.algorithms ≡ server.now.registered.algorithms)) }
@@ -55,7 +56,7 @@ impl<A: Allocator> fmt::Debug for LongTermServerUser<A> {
         ensures writes { WritesOnOk W.write_str_gives f.old result
             (codes "LongTermServerUser { .. }") f.new }
 
-        // It writes the same with every width, precision and other option.
+        // The options of the formatter, such as the width, do not change the text.
         ensures styled { WritesStyledOnOk W.write_str_gives f.old result
             (codes "LongTermServerUser { .. }") f.new }
     {

@@ -9,15 +9,16 @@ use std::alloc::Allocator;
 use stun_base::algorithm::IntegrityAlgorithm;
 use stun_base::key::{IntegrityKey, long_term_key};
 
-/// A password, or the keys that were made of one and stored.
+/// A password, or stored keys that were made from one.
 #[derive(Drop)]
 pub(crate) enum UserSecret<A: Allocator> {
     Password(String<A>),
     Keys(StoredKeys),
 }
 
-impl<A: Allocator> UserSecret<A> {
-    /// The key for an algorithm of the user of this name at this realm. It does not allocate.
+impl<A: Allocator + Copy> UserSecret<A> {
+    /// Returns the key of the user with this name at this realm for an algorithm, or `None` if it
+    /// is not stored. It does not allocate.
     pub(crate) fn key(
         &self,
         alloc: A,

@@ -1,4 +1,4 @@
-//! How a server judges the messages that arrive (RFC 8489, section 9.2.4).
+//! Judges the messages that arrive at a server (RFC 8489, section 9.2.4).
 
 ghost use Rattle.std.specs.Prelude.{◌≡◌, ◌↔◌, ⊤, true, IsTrue, Option, None, Some, IfOk};
 ghost use Rattle.std.specs.Prelude.{IsOk, IfNone, Ok, if◌then◌else◌, option_and_then};
@@ -39,30 +39,32 @@ use std::alloc::{AllocError, Allocator};
 use std::net::SocketAddr;
 use stun_base::algorithm::IntegrityAlgorithm;
 use stun_base::instant::Instant;
+use stun_base::memory::Memory;
 use stun_types::message::Message;
 
-/// A nonce that was made for an address, and when it expires.
+/// A nonce that was made for an address, and its expiry time.
 #[derive(Drop)]
 struct Renewal<A: Allocator> {
     nonce: LimitedText<A>,
     expires: Instant,
 }
 
-/// The outcome for a message that must be judged under a nonce.
+/// The result of judging a message under a nonce.
 #[derive(Drop)]
 enum Judgement<A: Allocator> {
-    /// Nobody is accepted.
+    /// The message is refused.
     Refused(VerdictRefusal),
-    /// The place's client is accepted again, with this algorithm.
+    /// The message is accepted from the user who is already the client in the record, with this
+    /// algorithm.
     Known(IntegrityAlgorithm),
-    /// Another client is accepted.
+    /// The message is accepted from another user, who becomes the client.
     New(ValidatedUser<A>),
 }
 
 impl<A: Allocator> Judgement<A> {
     ghost use Rattle.stun_auth.specs.code.Judging.{judgement_answer, client_in};
 
-    /// What the call returns of it.
+    /// Returns the result of `validate_incoming_message` for this judgement.
     fn answer(&self) -> Result<LongTermServerValidation, LongTermServerAuthErrorReason>
         ensures { result ≡ judgement_answer self.now }
     {
@@ -73,7 +75,8 @@ impl<A: Allocator> Judgement<A> {
         }
     }
 
-    /// The client who is not kept yet.
+    /// Returns the new client, or `None` if the message is refused or the record has the client
+    /// already.
     fn into_client(self) -> Option<ValidatedUser<A>>
         ensures { option_map client_seen result ≡ client_in self }
     {
@@ -84,7 +87,7 @@ impl<A: Allocator> Judgement<A> {
     }
 }
 
-/// Whether the nonce of a place is current: until it expires, that moment included.
+/// Returns whether the nonce of a record is current: `now` is not later than its expiry time.
 fn nonce_stands<A: Allocator>(place: Option<&Place<A>>, now: Instant) -> bool
     ensures { result ≡ has_current_nonce now (option_map place_seen (option_copied place.entry)) }
 {
@@ -94,7 +97,8 @@ fn nonce_stands<A: Allocator>(place: Option<&Place<A>>, now: Instant) -> bool
     }
 }
 
-/// The nonce that a message is judged under: the new one if one was made, and else the one kept.
+/// Returns the nonce under which a message is judged: the new nonce if one was made, and otherwise
+/// the stored nonce.
 fn nonce_at<'p, A: Allocator>(
     place: Option<&'p Place<A>>,
     renewal: &'p Option<Renewal<A>>,
@@ -111,7 +115,8 @@ fn nonce_at<'p, A: Allocator>(
     }
 }
 
-/// The algorithms that were offered to an address, if any.
+/// Returns the algorithms that were offered to an address, or `None` if it has no record or no
+/// offer.
 fn offered_at<A: Allocator>(place: Option<&Place<A>>) -> Option<AlgorithmSet>
     ensures { result ≡ option_and_then (λ (p : PlaceSeen). p.offered)
         (option_map place_seen (option_copied place.entry)) }
@@ -122,7 +127,7 @@ fn offered_at<A: Allocator>(place: Option<&Place<A>>) -> Option<AlgorithmSet>
     }
 }
 
-/// Whether the place keeps this client already.
+/// Returns whether the accepted user is already the client in the record, with the same algorithm.
 fn is_known<A: Allocator>(place: Option<&Place<A>>, accepted: &Accepted<'_, A>) -> bool
     ensures { IsTrue result ↔ (option_and_then (λ (p : PlaceSeen). p.client)
         (option_map place_seen (option_copied place.entry))
@@ -134,18 +139,18 @@ fn is_known<A: Allocator>(place: Option<&Place<A>>, accepted: &Accepted<'_, A>) 
     }
 }
 
-impl<A: Allocator + Copy> LongTermServerAuth<A> {
+impl<A: Memory> LongTermServerAuth<A> {
     /// Checks the signature of a message with the key that a registered user has for `algorithm`,
-    /// and returns the algorithm of the signature if it verifies. Returns `None` if it does not, or
-    /// if there is no such user or key.
+    /// and returns the algorithm of the signature if it is valid. Returns `None` if the signature
+    /// is missing or invalid, or if there is no such user or key.
     ///
     /// It checks the integrity attribute that `validate_incoming_message` checks, whichever
     /// algorithm the key is for. Use it to check a user's key, or to find out who could have signed
     /// a message.
     ///
     /// This is not authentication: nonce, realm, name and algorithms of the message are not
-    /// checked, so a recorded message verifies again. The call shows no key, changes nothing and
-    /// does not allocate.
+    /// checked, so the signature of a recorded message is still valid. The call reveals no key,
+    /// changes nothing and does not allocate.
     pub fn user_verifies(
         &self,
         name: &str,
@@ -163,8 +168,8 @@ impl<A: Allocator + Copy> LongTermServerAuth<A> {
 
     /// Judges a message that arrived from an address (RFC 8489, section 9.2.4).
     ///
-    /// A response is `Validated` if its signature verifies under the key of the address's client.
-    /// Otherwise the error is `IntegrityFailed`: drop it.
+    /// A response is `Validated` if its signature is valid under the key of the address's client.
+    /// Otherwise the call fails with `IntegrityFailed`: drop the response.
     ///
     /// A request or an indication is `Validated` with an algorithm if and only if
     ///
@@ -172,10 +177,10 @@ impl<A: Allocator + Copy> LongTermServerAuth<A> {
     /// - its NONCE is the current one of the address;
     /// - its algorithms agree with those that the address was offered;
     /// - it names a registered user, who has a key for the agreed algorithm;
-    /// - its signature verifies under that key.
+    /// - its signature is valid under that key.
     ///
-    /// The user is then the client of the address. Otherwise it is refused with the first of these
-    /// that applies:
+    /// The user is then the client of the address. Otherwise the message is refused with the first
+    /// of these that applies:
     ///
     /// - `Unauthorized` (answer 401): there is no well-formed integrity attribute.
     /// - `BadRequest` (400): REALM, NONCE or the user name is missing, or the algorithms disagree
@@ -184,11 +189,11 @@ impl<A: Allocator + Copy> LongTermServerAuth<A> {
     /// - `StaleNonce` (438): the nonce is not the current one. If its security bits differ too, the
     ///   refusal is `Unauthorized` (401).
     /// - `Unauthorized` (401): the user is not registered or has no key for the algorithm, or the
-    ///   signature does not verify.
+    ///   signature is invalid.
     ///
     /// A nonce is current until it expires, that time included. If the address has no current
     /// nonce, a new one is made, from sixteen random numbers. This happens for a message without an
-    /// integrity attribute, and for one that has REALM, NONCE and a user name.
+    /// integrity attribute, and for a message that has REALM, NONCE and a user name.
     ///
     /// `OutOfMemory` means that an allocation failed, and can occur only when a nonce must be made
     /// or a new client stored. The record of the address is then unchanged, but random numbers may
@@ -216,18 +221,19 @@ impl<A: Allocator + Copy> LongTermServerAuth<A> {
             (reading_of message.now) then after_words 16
             (R.stream rng.old) else R.stream rng.old)) ⊤ }
 
-        // Where the message changes nothing, no allocation fails. So it is for a response and for a
-        // malformed message. Under a current nonce it is so for each refusal, and for a client who
-        // is kept already.
+        // If the message changes nothing, no allocation fails. A response and a malformed message
+        // change nothing. Under a current nonce, neither does a refused message, nor a message of
+        // the client that is already stored.
         ensures unchanged { ChangesNothing (sight self.old from) now
             (next_words 16 (R.stream rng.old)) (reading_of message.now) →
             result ≡ answer (sight self.old from) now (next_words 16 (R.stream rng.old))
             (reading_of message.now) }
+        ensures granted { A.grants → ServerUnlessMemory result ⊤ ⊥ }
     {
         refused(self.judge_incoming(message, from, now, rng))
     }
 
-    /// The answer, or the reason of a refusal.
+    /// Judges a message like `validate_incoming_message`, but fails with the bare reason.
     fn judge_incoming<R: Rng>(
         &mut self,
         message: &Message<'_>,
@@ -250,6 +256,7 @@ impl<A: Allocator + Copy> LongTermServerAuth<A> {
             (next_words 16 (R.stream rng.old)) (reading_of message.now) →
             result ≡ answer (sight self.old from) now (next_words 16 (R.stream rng.old))
             (reading_of message.now) }
+        ensures granted { A.grants → ServerUnlessMemory result ⊤ ⊥ }
     {
         let reading = MessageReading::of(message);
         if reading.is_response() {
@@ -268,7 +275,8 @@ impl<A: Allocator + Copy> LongTermServerAuth<A> {
         self.commit(from, renewal, judged)
     }
 
-    /// The answer to a response: its digest is to verify under the key of the address's client.
+    /// Validates a response: its signature must be valid under the key of the address's client.
+    /// Fails with `IntegrityFailed` otherwise.
     fn check_response(
         &self,
         reading: &MessageReading<'_, '_>,
@@ -293,7 +301,8 @@ impl<A: Allocator + Copy> LongTermServerAuth<A> {
         }
     }
 
-    /// A new nonce of the next sixteen random numbers, where none is current.
+    /// Makes a new nonce from the next sixteen random numbers, or returns `None` if the stored
+    /// nonce is current.
     fn renewal<R: Rng>(
         &self,
         place: Option<&Place<A>>,
@@ -310,6 +319,7 @@ impl<A: Allocator + Copy> LongTermServerAuth<A> {
         ensures needless { has_current_nonce now (option_map place_seen (option_copied place.entry))
             ≡ true
             → IsOk result }
+        ensures granted { A.grants → IsOk result }
     {
         if nonce_stands(place, now) {
             return Ok(None);
@@ -322,7 +332,8 @@ impl<A: Allocator + Copy> LongTermServerAuth<A> {
     }
 
     /// Judges a message under the address's record, or under the new nonce if one was made. It
-    /// allocates only for the name of a client who is neither kept nor the one who was removed.
+    /// allocates only to copy the name of a new client, unless this client was removed from the
+    /// record before.
     fn judge_at(
         &mut self,
         message: &JudgeableMessage<'_, '_, '_>,
@@ -337,6 +348,7 @@ impl<A: Allocator + Copy> LongTermServerAuth<A> {
             (reading_seen message.now.reading.now)
             (place_with (map.get self.old.places from) (option_map renewal_seen renewal.now))
             → IsOk result }
+        ensures granted { A.grants → IsOk result }
     {
         let alloc = self.alloc;
         let feature = self.feature;
@@ -351,8 +363,8 @@ impl<A: Allocator + Copy> LongTermServerAuth<A> {
         )
     }
 
-    /// Keeps the new nonce if one was made, and a client who is not kept yet. Returns the answer.
-    /// Only the first nonce of an address allocates here.
+    /// Stores the new nonce if one was made, and the new client if there is one, and returns the
+    /// result of the validation. It allocates only for the first nonce of an address.
     fn commit(
         &mut self,
         from: SocketAddr,
@@ -367,6 +379,7 @@ impl<A: Allocator + Copy> LongTermServerAuth<A> {
             })
             (self.new ≡ self.old) }
         ensures needless { IfNone renewal (result ≡ judgement_answer judged) }
+        ensures granted { A.grants → result ≡ judgement_answer judged }
     {
         let answer = judged.answer();
         let client = judged.into_client();
@@ -390,8 +403,8 @@ impl<A: Allocator + Copy> LongTermServerAuth<A> {
     }
 }
 
-/// Judges a message with these users and places, as `judge_at` does.
-fn judge_by<A: Allocator + Copy>(
+/// Judges a message with these users and records, as `judge_at` does.
+fn judge_by<A: Memory>(
     registry: &Registry<A>,
     places: &mut Places<A>,
     alloc: A,
@@ -402,12 +415,13 @@ fn judge_by<A: Allocator + Copy>(
 ) -> Result<Judgement<A>, AllocError>
     ensures judged { IfOk result (IsJudged registry.now feature
         (reading_seen message.now.reading.now)
-        (place_with (map.get places.old from) (option_map renewal_seen renewal.now))) }
-    ensures state { places.new ≡ places.old }
+        (place_with (map.get places.old.seen from) (option_map renewal_seen renewal.now))) }
+    ensures state { places.new.seen ≡ places.old.seen }
     ensures needless { ChangesNoPlace registry.now feature
         (reading_seen message.now.reading.now)
-        (place_with (map.get places.old from) (option_map renewal_seen renewal.now))
+        (place_with (map.get places.old.seen from) (option_map renewal_seen renewal.now))
         → IsOk result }
+    ensures granted { A.grants → IsOk result }
 {
     let place = places.get(from);
     let nonce = nonce_at(place, renewal);
@@ -424,16 +438,17 @@ fn judge_by<A: Allocator + Copy>(
     }
 }
 
-/// The user who is accepted, to be kept as the client of an address. It allocates unless this is
+/// Returns the accepted user, to be stored as the client of an address. It allocates unless this is
 /// the user who was removed there.
-fn new_client<A: Allocator + Copy>(
+fn new_client<A: Memory>(
     places: &mut Places<A>,
     alloc: A,
     from: SocketAddr,
     accepted: &Accepted<'_, A>,
 ) -> Result<ValidatedUser<A>, AllocError>
     ensures client { IfOk result (λ client. client_seen client ≡ accepted.now.client) }
-    ensures state { places.new ≡ places.old }
+    ensures state { places.new.seen ≡ places.old.seen }
+    ensures granted { A.grants → IsOk result }
 {
     let removed = places.take_removed(from);
     ValidatedUser::in_place_of(removed, alloc, accepted.name(), accepted.algorithm())

@@ -1,4 +1,5 @@
-//! Whom a server accepts, and why it refuses all others (RFC 8489, section 9.2.4).
+//! The verdict of a server on a message: the user who is accepted, or the reason to refuse the
+//! message (RFC 8489, section 9.2.4).
 
 ghost use Rattle.std.specs.Prelude.{◌≡◌, Option, None, Some, IfOk, map};
 ghost use Rattle.std.specs.Option.{option_copied};
@@ -25,7 +26,7 @@ use stun_base::algorithm::IntegrityAlgorithm;
 use stun_base::compare::is_same_text;
 use stun_types::attribute::{PasswordAlgorithmValue, PasswordAlgorithms};
 
-/// The password algorithms that were offered, the strongest first.
+/// Returns the password algorithms that were offered, the strongest first.
 fn offered_values(offered: Option<AlgorithmSet>) -> &'static [PasswordAlgorithmValue]
     ensures { map integrity_of result.now ≡ offered_list offered }
 {
@@ -35,14 +36,14 @@ fn offered_values(offered: Option<AlgorithmSet>) -> &'static [PasswordAlgorithmV
     }
 }
 
-/// Whether a list is the one that was offered.
+/// Returns whether a list is the list that was offered.
 fn is_offered_list(list: &PasswordAlgorithms<'_>, offered: Option<AlgorithmSet>) -> bool
     ensures { result ≡ same_list (map integrity_of list.now) (offered_list offered) }
 {
     list.equals(offered_values(offered))
 }
 
-/// Whether an algorithm was offered.
+/// Returns whether an algorithm was offered.
 fn is_offered(algorithm: IntegrityAlgorithm, offered: Option<AlgorithmSet>) -> bool
     ensures { result ≡ is_among algorithm (offered_list offered) }
 {
@@ -52,7 +53,8 @@ fn is_offered(algorithm: IntegrityAlgorithm, offered: Option<AlgorithmSet>) -> b
     }
 }
 
-/// The algorithm that both sides agree on.
+/// Returns the algorithm that both sides agree on, or `None` if the message's algorithms disagree
+/// with the offer.
 pub(crate) fn agreed(
     reading: &MessageReading<'_, '_>,
     nonce: &str,
@@ -73,7 +75,7 @@ pub(crate) fn agreed(
     }
 }
 
-/// Whether both nonces have security bits and these differ.
+/// Returns whether both nonces have security bits, and the bits differ.
 fn bits_differ(ours: &str, theirs: &str) -> bool
     ensures { result ≡ bits_differ (security_bits ours.now) (security_bits theirs.now) }
 {
@@ -86,7 +88,7 @@ fn bits_differ(ours: &str, theirs: &str) -> bool
     ours.bytes() != theirs.bytes()
 }
 
-/// Why a nonce that is not the current one is refused.
+/// Returns the reason to refuse a message whose nonce is not the current one.
 fn nonce_refusal(ours: &str, theirs: &str) -> VerdictRefusal
     ensures { result ≡ nonce_refusal ours.now theirs.now }
 {
@@ -97,7 +99,8 @@ fn nonce_refusal(ours: &str, theirs: &str) -> VerdictRefusal
     }
 }
 
-/// The name of the user who is named, by a hash or by name.
+/// Returns the name of the user whom a message names. A hash is looked up in the registry. Returns
+/// `None` if no registered name has the hash, or if `feature` does not allow hashes.
 fn name_of<'a, A: Allocator + Copy>(
     registry: &'a Registry<A>,
     feature: Feature,
@@ -117,14 +120,16 @@ fn name_of<'a, A: Allocator + Copy>(
     }
 }
 
-/// Whether a nonce is the current one. It looks at each byte, wherever they differ.
+/// Returns whether a nonce is equal to the current one. It compares all bytes, even after a
+/// difference.
 pub(crate) fn is_same_nonce(theirs: &str, ours: &str) -> bool
     ensures { result ≡ bytes_eq theirs.now ours.now }
 {
     is_same_text(theirs.as_bytes(), ours.as_bytes())
 }
 
-/// Who is accepted under this nonce and these offered algorithms, or the first refusal that holds.
+/// Returns the user who is accepted under this nonce and these offered algorithms, or the first
+/// refusal that applies.
 ///
 /// It does not allocate and derives no key.
 pub(crate) fn verdict<'a, A: Allocator + Copy>(

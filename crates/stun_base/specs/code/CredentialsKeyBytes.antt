@@ -1,4 +1,4 @@
--- How the key of credentials keeps its bytes.
+-- How the key of credentials stores its bytes.
 use Rattle.std.specs.Prelude.{ℕ, List}
 use Rattle.stun_base.specs.declared.keys.credentials.CredentialsKeyBytes.{CredentialsKeyBytes}
 use Rattle.stun_base.specs.declared.keys.credentials.CredentialsKeyBytes.TheVariants.{Password}

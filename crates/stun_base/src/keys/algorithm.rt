@@ -4,20 +4,20 @@ ghost use Rattle.std.specs.Prelude.{◌≡◌};
 
 use crate::keys::hmac::{SHA1_LENGTH, SHA256_LENGTH};
 
-/// The algorithm that a message is signed with. HMAC-SHA1, the weaker one, is less than
-/// HMAC-SHA256.
+/// The algorithm of a signature. HMAC-SHA1 is less than HMAC-SHA256, because it is weaker.
 #[derive(Debug, Clone, Copy, PartialEq, Eq, PartialOrd, Ord, Hash)]
 pub enum IntegrityAlgorithm {
-    /// HMAC-SHA1, 20 bytes, in MESSAGE-INTEGRITY (RFC 8489, section 14.5).
+    /// HMAC-SHA1, 20 bytes, sent in MESSAGE-INTEGRITY (RFC 8489, section 14.5).
     Sha1,
-    /// HMAC-SHA256, 32 bytes, in MESSAGE-INTEGRITY-SHA256 (RFC 8489, section 14.6).
+    /// HMAC-SHA256, 32 bytes, sent in MESSAGE-INTEGRITY-SHA256 (RFC 8489, section 14.6).
     Sha256,
 }
 
 impl IntegrityAlgorithm {
     ghost use Rattle.stun_base.specs.Algorithm.{digest_length};
 
-    /// Returns the number of bytes of a whole digest: 20 for HMAC-SHA1, and 32 for HMAC-SHA256.
+    /// Returns the number of bytes of an HMAC that is not truncated: 20 for HMAC-SHA1, and 32 for
+    /// HMAC-SHA256.
     pub fn digest_length(self) -> usize
         ensures { result ≡ digest_length self }
     {

@@ -1,4 +1,4 @@
-//! What is kept of the hash functions between the blocks of a message.
+//! Hash functions that have hashed a first block.
 
 ghost use Rattle.std.specs.Prelude.{ℕ, List};
 ghost use Rattle.sha1.specs.Sha1.{Holds as HoldsSha1};
@@ -8,24 +8,24 @@ use crate::keys::hash::HashFunction;
 use sha1::{Sha1, Sha1 as BegunSha1};
 use sha2::{Sha256, Sha256 as BegunSha256};
 
-/// A hash function that has been fed one block. Hashers of messages that begin with the block
-/// start from it. Where a hash function has a type of its own for this, that type has no buffer for
-/// a part of a block, and so it is smaller than a hasher.
+/// The state of a hash function that has been fed one block. It can start any number of hashers for
+/// messages that begin with this block. If the crate of the hash function has a separate type for
+/// such a state, that type has no buffer for an incomplete block, so it is smaller than a hasher.
 pub(crate) trait BegunHash: Drop {
     type Hasher: HashFunction;
 
-    // The hash function has been fed this block.
+    // States that the hash function has been fed this block.
     ghost has_begun: { Self → List ℕ → Type 0 };
 
-    /// The hash function that has been fed this block.
+    /// Creates the state of a hash function that has been fed this block.
     fn of(block: &[u8; 64]) -> Self
         ensures { has_begun result block.now };
 
-    /// The hash function that has been fed the same block.
+    /// Returns a copy of this state.
     fn copy(&self) -> Self
         ensures { (block : List ℕ) → has_begun self.now block → has_begun result block };
 
-    /// A hasher that has been fed the block.
+    /// Returns a hasher that has been fed the block of this state.
     fn hasher(&self) -> Self::Hasher
         ensures { (block : List ℕ) → has_begun self.now block → Self.Hasher.holds result block };
 }

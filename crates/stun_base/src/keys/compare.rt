@@ -1,4 +1,4 @@
-//! Comparison without an early exit, for digests, nonces and other bytes that an attacker may
+//! Comparison without an early exit, for HMACs, nonces and other bytes that an attacker may try to
 //! guess.
 
 ghost use Rattle.std.specs.Prelude.{◌≡◌, ◌↔◌, IsTrue};
@@ -11,12 +11,12 @@ mod pairs;
 
 /// Returns `true` if two texts have the same bytes. This does not allocate.
 ///
-/// Texts of different lengths are compared by their lengths alone. If the lengths are equal, each
-/// byte is read once, wherever the texts differ, so that the work does not depend on the number of
-/// bytes that agree. Whether it takes the same time for all texts of a length also depends on the
-/// compiler and the processor, and is neither proved nor promised.
+/// If the lengths differ, no byte is read. If they are equal, every byte is read once, even after a
+/// difference, so the work does not depend on the number of bytes that agree. Whether the call
+/// takes the same time for all texts of a length also depends on the compiler and the processor,
+/// and is neither proved nor promised.
 ///
-/// Contracts: that each byte is read once is the clause `reads` of `is_same_text_counted`.
+/// Contracts: the clause `reads` of `is_same_text_counted` states that each byte is read once.
 pub fn is_same_text(one: &[u8], other: &[u8]) -> bool
     ensures { IsTrue result ↔ (one.now ≡ other.now) }
 {
@@ -26,8 +26,8 @@ pub fn is_same_text(one: &[u8], other: &[u8]) -> bool
     is_same_text_counted(&mut BytePairs::of(one, other))
 }
 
-/// Compares the bytes of two texts of the same length, of which none has been read. After that each
-/// pair has been read once, whatever the bytes are.
+/// Returns `true` if two texts of the same length have the same bytes. No pair of bytes may have
+/// been read before the call, and after it every pair has been read once, whatever the bytes are.
 #[doc(hidden)]
 pub fn is_same_text_counted(pairs: &mut BytePairs<'_>) -> bool
     requires unread { pairs.old.read ≡ 0 }

@@ -9,14 +9,15 @@ ghost use Rattle.stun_base.specs.Keys.{long_term_key_of};
 
 use crate::keys::algorithm::IntegrityAlgorithm;
 use crate::keys::key::{self, IntegrityKey};
+use crate::memory::Memory;
 use std::alloc::{AllocError, Allocator, Global};
 use std::fmt;
 use std::marker::Model;
 
-/// The password of a short-term credential (RFC 8489, section 9.1).
+/// A password without a user name, as a short-term credential (RFC 8489, section 9.1).
 ///
-/// The text is used as it is: to prepare it with OpaqueString (RFC 8265, section 4.2) is up to the
-/// caller. `Debug` shows none of it.
+/// The password is used as it is: preparing it with OpaqueString (RFC 8265, section 4.2) is up to
+/// the caller. `Debug` does not show it.
 ///
 /// Contracts: the value is the list of the password's bytes.
 #[derive(Drop)]
@@ -33,14 +34,14 @@ impl<A: Allocator> Model for ShortTermCredentials<A> {
 }
 
 impl<A: Allocator> ShortTermCredentials<A> {
-    /// Creates the credentials from a password, which they take over with its allocator.
+    /// Creates the credentials from a password, and takes ownership of it.
     pub fn new(password: String<A>) -> Self
         ensures { result ≡ string_bytes password }
     {
         ShortTermCredentials { password }
     }
 
-    /// Returns the password. Its bytes are the key for both algorithms, however many they are.
+    /// Returns the password. For both algorithms, the key consists of all its bytes.
     pub fn password(&self) -> &str
         ensures { result.now ≡ self.now }
     {
@@ -48,9 +49,9 @@ impl<A: Allocator> ShortTermCredentials<A> {
     }
 }
 
-impl<A: Allocator + Copy> ShortTermCredentials<A> {
-    /// Returns the key, which consists of the bytes of the password (RFC 8489, section 9.1.1). Up
-    /// to 32 bytes are stored in the key itself, and a longer key is allocated by the allocator of
+impl<A: Memory> ShortTermCredentials<A> {
+    /// Returns the key, which consists of the bytes of the password (RFC 8489, section 9.1.1). A
+    /// key of up to 32 bytes is stored inline, and a longer key is allocated by the allocator of
     /// the password.
     ///
     /// # Errors
@@ -59,14 +60,17 @@ impl<A: Allocator + Copy> ShortTermCredentials<A> {
     pub fn make_key(&self) -> Result<IntegrityKey<A>, AllocError>
         ensures key { IfOk result (λ key. key ≡ self.now) }
         ensures succeeds_inline { length self.now ≤ 32 → IsOk result }
+        ensures granted { A.grants → IsOk result }
     {
         IntegrityKey::from_bytes(*self.password.allocator(), self.password.as_bytes())
     }
 }
 
-/// Copies the password, into memory of the same allocator.
-impl<A: Allocator + Copy> Clone for ShortTermCredentials<A> {
+/// Copies the password into memory of its own allocator.
+impl<A: Memory> Clone for ShortTermCredentials<A> {
     ghost is_clone = { λ credentials copy. copy ≡ credentials };
+
+    ghost is_infallible = { λ _. A.grants };
 
     fn clone(&self) -> Result<Self, AllocError> {
         Ok(ShortTermCredentials::new(copied(&self.password)?))
@@ -80,7 +84,7 @@ impl<A: Allocator> fmt::Debug for ShortTermCredentials<A> {
         ensures writes { WritesOnOk W.write_str_gives f.old result
             (codes "ShortTermCredentials { .. }") f.new }
 
-        // It writes the same with every width, precision and other option.
+        // The options of the formatter, such as the width, do not change the text.
         ensures styled { WritesStyledOnOk W.write_str_gives f.old result
             (codes "ShortTermCredentials { .. }") f.new }
     {
@@ -88,7 +92,7 @@ impl<A: Allocator> fmt::Debug for ShortTermCredentials<A> {
     }
 }
 
-/// Credentials are equal if and only if their passwords have the same bytes.
+/// Two credentials are equal if their passwords have the same bytes.
 impl<A: Allocator> PartialEq for ShortTermCredentials<A> {
     ghost eq = { same_text };
 
@@ -105,10 +109,10 @@ impl<A: Allocator> Eq for ShortTermCredentials<A> {
 
 /// The name and the password of a user (RFC 8489, section 9.2).
 ///
-/// The texts are used as they are: to prepare them with OpaqueString (RFC 8265, section 4.2) is up
-/// to the caller. `Debug` shows none of them.
+/// The texts are used as they are: preparing them with OpaqueString (RFC 8265, section 4.2) is up
+/// to the caller. `Debug` does not show them.
 ///
-/// Contracts: the value is a record of the bytes of both.
+/// Contracts: the value is a record of the bytes of the name and of the password.
 #[derive(Drop)]
 pub struct LongTermCredentials<A: Allocator = Global> {
     username: String<A>,
@@ -128,8 +132,7 @@ impl<A: Allocator> Model for LongTermCredentials<A> {
 }
 
 impl<A: Allocator> LongTermCredentials<A> {
-    /// Creates the credentials from a user name and a password, which they take over with their
-    /// allocators.
+    /// Creates the credentials from a user name and a password, and takes ownership of both.
     pub fn new(username: String<A>, password: String<A>) -> Self
         ensures { result ≡ record {
           username = string_bytes username;
@@ -153,7 +156,7 @@ impl<A: Allocator> LongTermCredentials<A> {
         self.password.as_str()
     }
 
-    /// Returns the user name and the password, with their allocators.
+    /// Converts the credentials into the user name and the password.
     pub fn into_parts(self) -> (String<A>, String<A>)
         ensures username { string_bytes result.0 ≡ self.username }
         ensures password { string_bytes result.1 ≡ self.password }
@@ -163,9 +166,8 @@ impl<A: Allocator> LongTermCredentials<A> {
     }
 }
 
-impl<A: Allocator + Copy> LongTermCredentials<A> {
-    /// Combines the credentials with a realm. Keys can be derived from the result without an
-    /// allocation.
+impl<A: Memory> LongTermCredentials<A> {
+    /// Combines the credentials with a realm. Deriving keys from the result does not allocate.
     ///
     /// The user name and the password are copied, each into memory of its own allocator.
     ///
@@ -173,11 +175,12 @@ impl<A: Allocator + Copy> LongTermCredentials<A> {
     ///
     /// `AllocError`: an allocation failed.
     pub fn to_key(&self, realm: String<A>) -> Result<LongTermKeyCredentials<A>, AllocError>
-        ensures { IfOk result (λ key. key ≡ record {
+        ensures key { IfOk result (λ key. key ≡ record {
           username = self.now.username;
           realm = string_bytes realm;
           password = self.now.password;
         }) }
+        ensures granted { A.grants → IsOk result }
     {
         let username = copied(&self.username)?;
         let password = copied(&self.password)?;
@@ -189,16 +192,19 @@ impl<A: Allocator + Copy> LongTermCredentials<A> {
     }
 }
 
-/// The same text, in memory of the same allocator.
-fn copied<A: Allocator + Copy>(text: &String<A>) -> Result<String<A>, AllocError>
-    ensures { IfOk result (λ copy. string_bytes copy ≡ string_bytes text.now) }
+/// Copies a text into memory of its own allocator.
+fn copied<A: Memory>(text: &String<A>) -> Result<String<A>, AllocError>
+    ensures bytes { IfOk result (λ copy. string_bytes copy ≡ string_bytes text.now) }
+    ensures granted { A.grants → IsOk result }
 {
-    String::from_str(*text.allocator(), text.as_str())
+    A::text(*text.allocator(), text.as_str())
 }
 
-/// Copies the user name and the password, into memory of the same allocators.
-impl<A: Allocator + Copy> Clone for LongTermCredentials<A> {
+/// Copies the user name and the password, each into memory of its own allocator.
+impl<A: Memory> Clone for LongTermCredentials<A> {
     ghost is_clone = { λ credentials copy. copy ≡ credentials };
+
+    ghost is_infallible = { λ _. A.grants };
 
     fn clone(&self) -> Result<Self, AllocError> {
         let username = copied(&self.username)?;
@@ -214,7 +220,7 @@ impl<A: Allocator> fmt::Debug for LongTermCredentials<A> {
         ensures writes { WritesOnOk W.write_str_gives f.old result
             (codes "LongTermCredentials { .. }") f.new }
 
-        // It writes the same with every width, precision and other option.
+        // The options of the formatter, such as the width, do not change the text.
         ensures styled { WritesStyledOnOk W.write_str_gives f.old result
             (codes "LongTermCredentials { .. }") f.new }
     {
@@ -222,7 +228,8 @@ impl<A: Allocator> fmt::Debug for LongTermCredentials<A> {
     }
 }
 
-/// Credentials are equal if and only if their names and their passwords have the same bytes.
+/// Two credentials are equal if their user names have the same bytes and their passwords have the
+/// same bytes.
 impl<A: Allocator> PartialEq for LongTermCredentials<A> {
     ghost eq = { same_user };
 
@@ -237,12 +244,12 @@ impl<A: Allocator> Eq for LongTermCredentials<A> {
     ghost laws = { same_user_equivalence };
 }
 
-/// The name and the password of a user in a realm, from which long-term keys are derived (RFC 8489,
-/// section 9.2.2). `LongTermCredentials::to_key` returns them.
+/// The user name, the realm and the password from which the long-term keys of a user are derived
+/// (RFC 8489, section 9.2.2). `LongTermCredentials::to_key` creates this value.
 ///
 /// `Debug` shows none of the three texts.
 ///
-/// Contracts: the value is a record of their bytes.
+/// Contracts: the value is a record of the bytes of the three texts.
 #[derive(Drop)]
 pub struct LongTermKeyCredentials<A: Allocator = Global> {
     username: String<A>,
@@ -300,9 +307,11 @@ impl<A: Allocator> LongTermKeyCredentials<A> {
     }
 }
 
-/// Copies the texts, into memory of the same allocators.
-impl<A: Allocator + Copy> Clone for LongTermKeyCredentials<A> {
+/// Copies the three texts, each into memory of its own allocator.
+impl<A: Memory> Clone for LongTermKeyCredentials<A> {
     ghost is_clone = { λ credentials copy. copy ≡ credentials };
+
+    ghost is_infallible = { λ _. A.grants };
 
     fn clone(&self) -> Result<Self, AllocError> {
         let username = copied(&self.username)?;
@@ -323,7 +332,7 @@ impl<A: Allocator> fmt::Debug for LongTermKeyCredentials<A> {
         ensures writes { WritesOnOk W.write_str_gives f.old result
             (codes "LongTermKeyCredentials { .. }") f.new }
 
-        // It writes the same with every width, precision and other option.
+        // The options of the formatter, such as the width, do not change the text.
         ensures styled { WritesStyledOnOk W.write_str_gives f.old result
             (codes "LongTermKeyCredentials { .. }") f.new }
     {
@@ -331,15 +340,15 @@ impl<A: Allocator> fmt::Debug for LongTermKeyCredentials<A> {
     }
 }
 
-/// The credentials that a message is signed or verified with (RFC 8489, section 9).
+/// The credentials with which messages are signed and validated (RFC 8489, section 9).
 ///
 /// They have one key for each algorithm: the bytes of the password, or a long-term key. `Debug`
-/// shows only which kind they are.
+/// shows only the variant.
 #[derive(Drop)]
 pub enum MessageIntegrityCredentials<A: Allocator = Global> {
-    /// A password without a user (RFC 8489, section 9.1).
+    /// A password without a user name (RFC 8489, section 9.1).
     ShortTerm(ShortTermCredentials<A>),
-    /// A user in a realm (RFC 8489, section 9.2).
+    /// A user name, a realm and a password (RFC 8489, section 9.2).
     LongTerm(LongTermKeyCredentials<A>),
 }
 
@@ -397,7 +406,7 @@ impl<A: Allocator> fmt::Debug for MessageIntegrityCredentials<A> {
     fn fmt<W: fmt::Write>(&self, f: &mut fmt::Formatter<W>) -> fmt::Result
         ensures writes { WritesOnOk W.write_str_gives f.old result (kind_shown self.now) f.new }
 
-        // It writes the same with every width, precision and other option.
+        // The options of the formatter, such as the width, do not change the text.
         ensures styled { WritesStyledOnOk W.write_str_gives f.old result
             (kind_shown self.now) f.new }
     {
@@ -408,8 +417,8 @@ impl<A: Allocator> fmt::Debug for MessageIntegrityCredentials<A> {
     }
 }
 
-/// The key that credentials have for one algorithm. It borrows a password, or contains a long-term
-/// key. `Debug` shows none of its bytes.
+/// The key of some credentials for one algorithm: a borrowed password, or a long-term key. `Debug`
+/// shows none of its bytes.
 ///
 /// Contracts: the value is the list of the key's bytes.
 #[derive(Drop)]
@@ -417,7 +426,7 @@ pub struct CredentialsKey<'a, A: Allocator = Global> {
     bytes: CredentialsKeyBytes<'a, A>,
 }
 
-/// Where the bytes of the key are.
+/// The bytes of a key: a borrowed password, or a long-term key.
 #[derive(Drop)]
 enum CredentialsKeyBytes<'a, A: Allocator> {
     Password(&'a [u8]),
@@ -452,7 +461,7 @@ impl<'a, A: Allocator> fmt::Debug for CredentialsKey<'a, A> {
         ensures writes { WritesOnOk W.write_str_gives f.old result
             (codes "CredentialsKey { .. }") f.new }
 
-        // It writes the same with every width, precision and other option.
+        // The options of the formatter, such as the width, do not change the text.
         ensures styled { WritesStyledOnOk W.write_str_gives f.old result
             (codes "CredentialsKey { .. }") f.new }
     {

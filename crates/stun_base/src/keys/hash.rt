@@ -1,4 +1,4 @@
-//! The hash functions of digests and keys.
+//! The hash functions that HMACs and keys are computed with.
 
 ghost use Rattle.std.specs.Prelude.{◌≡◌, ◌≤◌, ◌++◌, ℕ, List, [], length};
 ghost use Rattle.md5.specs.Md5.{md5};
@@ -13,11 +13,11 @@ use sha1::Sha1;
 use sha2::{Digest, Sha256};
 use std::convert::AsSlice;
 
-/// A hash function with blocks of 64 bytes. A message is fed to it in pieces.
+/// A hash function with blocks of 64 bytes, which can be fed a message in pieces.
 pub(crate) trait HashFunction: Drop {
     type Digest: AsSlice<u8> + Drop;
 
-    // The hasher has been fed this message.
+    // States that the hasher has been fed this message.
     ghost holds: { Self → List ℕ → Type 0 };
 
     // The digest of a message.
@@ -36,7 +36,7 @@ pub(crate) trait HashFunction: Drop {
         ensures fits { length (Self.Digest.items result) ≤ 64 };
 }
 
-/// The digest of a message in one piece.
+/// Returns the digest of a message, which is passed in one piece.
 pub(crate) fn digest_of<H: HashFunction>(message: &[u8]) -> H::Digest
     ensures value { H.Digest.items result ≡ H.digest message.now }
     ensures fits { length (H.Digest.items result) ≤ 64 }

@@ -19,16 +19,17 @@ pub const SHA1_LENGTH: usize = 20;
 /// The number of bytes of an HMAC-SHA256.
 pub const SHA256_LENGTH: usize = 32;
 
-/// The number of bytes of one block of both hash functions.
+/// The number of bytes of a block, which is the same for both hash functions.
 const BLOCK_LENGTH: usize = 64;
 
-/// The byte that each byte of the key is xored with before the text is hashed.
+/// The byte with which each byte of the key block is XORed before the text is hashed.
 const INNER_PAD: u8 = 0x36;
 
-/// The byte that each byte of the key is xored with before the inner digest is hashed.
+/// The byte with which each byte of the key block is XORed before the inner digest is hashed.
 const OUTER_PAD: u8 = 0x5c;
 
-/// The key as one block: a longer key is hashed, and zeros fill up the block.
+/// Returns the key as one block, filled up with zeros. If the key is longer than a block, its
+/// digest is used in its place.
 fn key_block<H: HashFunction>(key: &[u8]) -> [u8; BLOCK_LENGTH]
     ensures { result ≡ spec.key_block H.digest key.now }
 {
@@ -42,7 +43,7 @@ fn key_block<H: HashFunction>(key: &[u8]) -> [u8; BLOCK_LENGTH]
     }
 }
 
-/// The bytes, filled up to a block by zeros.
+/// Returns these bytes as one block, filled up with zeros.
 fn filled(bytes: &[u8]) -> [u8; BLOCK_LENGTH]
     requires { length bytes.now ≤ 64 }
     ensures { result ≡ spec.block_of bytes.now }
@@ -52,7 +53,7 @@ fn filled(bytes: &[u8]) -> [u8; BLOCK_LENGTH]
     block
 }
 
-/// Each byte of the block xor the pad.
+/// Returns the block with each of its bytes XORed with `pad`.
 fn padded(block: &[u8; BLOCK_LENGTH], pad: u8) -> [u8; BLOCK_LENGTH]
     ensures { result ≡ spec.xor_pad pad block.now }
 {
@@ -63,7 +64,7 @@ fn padded(block: &[u8; BLOCK_LENGTH], pad: u8) -> [u8; BLOCK_LENGTH]
     masked
 }
 
-/// A hasher that has been fed the key's block under a pad.
+/// Returns a hasher that has been fed the key block, XORed with `pad`.
 fn begun<H: HashFunction>(block: &[u8; BLOCK_LENGTH], pad: u8) -> H
     ensures { H.holds result (spec.xor_pad pad block.now) }
 {
@@ -72,7 +73,7 @@ fn begun<H: HashFunction>(block: &[u8; BLOCK_LENGTH], pad: u8) -> H
     hasher
 }
 
-/// Feeds the pieces in their order.
+/// Feeds the pieces to a hasher, in their order.
 fn feed_all<H: HashFunction>(hasher: &mut H, pieces: &[&[u8]])
     ensures { (message : List ℕ) → H.holds hasher.old message →
         H.holds hasher.new (message ++ concat (map (λ piece. piece.now) pieces.now)) }
@@ -82,7 +83,8 @@ fn feed_all<H: HashFunction>(hasher: &mut H, pieces: &[&[u8]])
     }
 }
 
-/// HMAC over a hash function, of the pieces in their order as one text.
+/// Computes the HMAC, with this hash function, of the text that consists of the pieces in their
+/// order.
 #[tactic(auto, unfolding(crate::specs::Hmac::hmac))]
 fn hmac<H: HashFunction>(key: &[u8], pieces: &[&[u8]]) -> H::Digest
     ensures { H.Digest.items result ≡
@@ -96,9 +98,10 @@ fn hmac<H: HashFunction>(key: &[u8], pieces: &[&[u8]]) -> H::Digest
     outer.finish()
 }
 
-/// The part of HMAC that comes before the text (RFC 2104, section 4): a hash function that has been
-/// fed the key's block under the inner pad, and one that has been fed the key's block under the
-/// outer pad. They are as secret as the key: digests under the key can be made with them.
+/// The part of an HMAC that does not depend on the text (RFC 2104, section 4): one hash function
+/// that has been fed the key block XORed with the inner pad, and another that has been fed the key
+/// block XORed with the outer pad. They are as secret as the key, because anybody who has them can
+/// compute HMACs under the key.
 #[derive(Drop)]
 pub(crate) struct BegunHmac<B: BegunHash> {
     inner: B,
@@ -106,7 +109,7 @@ pub(crate) struct BegunHmac<B: BegunHash> {
 }
 
 impl<B: BegunHash> BegunHmac<B> {
-    /// The part for a key.
+    /// Computes the part of an HMAC that depends only on the key.
     pub(crate) fn of(key: &[u8]) -> Self
         ensures { IsBegun B.has_begun B.Hasher.digest key.now result.inner result.outer }
     {
@@ -117,7 +120,7 @@ impl<B: BegunHash> BegunHmac<B> {
         }
     }
 
-    /// The part for the same key.
+    /// Returns a copy for the same key.
     pub(crate) fn copy(&self) -> Self
         ensures { (key : List ℕ) →
             IsBegun B.has_begun B.Hasher.digest key self.now.inner self.now.outer →
@@ -129,7 +132,7 @@ impl<B: BegunHash> BegunHmac<B> {
         }
     }
 
-    /// HMAC of the pieces, in their order as one text, under the same key.
+    /// Computes the HMAC under this key of the text that consists of the pieces in their order.
     #[tactic(auto, unfolding(crate::specs::Hmac::hmac))]
     pub(crate) fn digest(&self, pieces: &[&[u8]]) -> <B::Hasher as HashFunction>::Digest
         ensures { (key : List ℕ) →
@@ -145,15 +148,15 @@ impl<B: BegunHash> BegunHmac<B> {
     }
 }
 
-/// Computes the HMAC-SHA1 (RFC 2104) of the pieces, taken one after the other as one text. The key
-/// and the text may have any length. This does not allocate.
+/// Computes the HMAC-SHA1 (RFC 2104) of the text that consists of the pieces in their order. The
+/// key and the text may have any length. This does not allocate.
 pub fn hmac_sha1(key: &[u8], pieces: &[&[u8]]) -> [u8; SHA1_LENGTH]
     ensures { result ≡ spec.hmac sha1 key.now (concat (map (λ piece. piece.now) pieces.now)) }
 {
     hmac::<Sha1>(key, pieces)
 }
 
-/// Computes the HMAC-SHA256 (RFC 2104) of the pieces, taken one after the other as one text. The
+/// Computes the HMAC-SHA256 (RFC 2104) of the text that consists of the pieces in their order. The
 /// key and the text may have any length. This does not allocate.
 pub fn hmac_sha256(key: &[u8], pieces: &[&[u8]]) -> [u8; SHA256_LENGTH]
     ensures { result ≡ spec.hmac sha256 key.now (concat (map (λ piece. piece.now) pieces.now)) }

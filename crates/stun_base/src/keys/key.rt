@@ -1,7 +1,6 @@
-//! Keys of message integrity (RFC 8489, sections 9.1.1 and 9.2.2), and hashes of user names
-//! (section 14.4).
+//! Integrity keys (RFC 8489, sections 9.1.1 and 9.2.2), and hashes of user names (section 14.4).
 
-ghost use Rattle.std.specs.Prelude.{◌≡◌, ◌≤◌, ◌↔◌, [], length, true, IfOk};
+ghost use Rattle.std.specs.Prelude.{◌≡◌, ◌≤◌, ◌↔◌, ◌⊎◌, [], length, true, IfOk};
 ghost use Rattle.std.specs.Prelude.{IsOk, Some, IfSome, IsSome, codes};
 ghost use Rattle.std.specs.Fmt.{WritesOnOk, WritesStyledOnOk};
 ghost use Rattle.std.specs.Str.{is_utf8};
@@ -11,6 +10,7 @@ use crate::keys::algorithm::IntegrityAlgorithm;
 use crate::keys::hash::{HashFunction, digest_of};
 use crate::keys::no_memory::NoMemory;
 use crate::keys::short_text::ShortText;
+use crate::memory::Memory;
 use md5::Md5;
 use sha2::Sha256;
 use smallvec::SmallVec;
@@ -18,10 +18,10 @@ use std::alloc::{AllocError, Allocator, Global};
 use std::fmt;
 use std::marker::Model;
 
-/// The most bytes of a key that is kept without an allocation.
+/// The largest number of bytes of a key that is stored inline, without an allocation.
 const INLINE_LENGTH: usize = 32;
 
-/// A key that messages are signed and verified with. Up to 32 bytes are stored in the key itself,
+/// A key with which messages are signed and validated. A key of up to 32 bytes is stored inline,
 /// and a longer key is allocated.
 ///
 /// `Debug` shows none of its bytes.
@@ -32,7 +32,7 @@ pub struct IntegrityKey<A: Allocator = Global> {
     bytes: KeyBytes<A>,
 }
 
-/// The bytes of a key: a short one inline, a longer one on the heap.
+/// The bytes of a key: up to 32 bytes inline, or more on the heap.
 #[derive(Drop)]
 enum KeyBytes<A: Allocator> {
     Inline(SmallVec<u8, INLINE_LENGTH, NoMemory>),
@@ -50,9 +50,9 @@ impl<A: Allocator> Model for IntegrityKey<A> {
     ghost invariant = { λ key. IsInItsPlace key.bytes };
 }
 
-impl<A: Allocator> IntegrityKey<A> {
-    /// Creates a key from its bytes. Up to 32 bytes are stored in the key itself, and a longer key
-    /// is allocated by `alloc`.
+impl<A: Memory> IntegrityKey<A> {
+    /// Creates a key from its bytes. Up to 32 bytes are stored inline, and more are allocated by
+    /// `alloc`.
     ///
     /// # Errors
     ///
@@ -60,14 +60,17 @@ impl<A: Allocator> IntegrityKey<A> {
     pub fn from_bytes(alloc: A, bytes: &[u8]) -> Result<Self, AllocError>
         ensures ok { IfOk result (λ key. key ≡ bytes.now) }
         ensures succeeds_inline { length bytes.now ≤ 32 → IsOk result }
+        ensures granted { A.grants → IsOk result }
     {
         let bytes = match SmallVec::from_slice(NoMemory, bytes) {
             Ok(inline) => KeyBytes::Inline(inline),
-            Err(_) => KeyBytes::Heap(Vec::from_slice(alloc, bytes)?),
+            Err(_) => KeyBytes::Heap(A::copied(alloc, bytes)?),
         };
         Ok(IntegrityKey { bytes })
     }
+}
 
+impl<A: Allocator> IntegrityKey<A> {
     /// Returns the bytes of the key.
     pub fn as_bytes(&self) -> &[u8]
         ensures { result.now ≡ self.now }
@@ -79,12 +82,12 @@ impl<A: Allocator> IntegrityKey<A> {
     }
 }
 
-/// Copies the bytes. Up to 32 bytes are copied without an allocation; more are allocated by the
-/// same allocator.
-impl<A: Allocator + Copy> Clone for IntegrityKey<A> {
+/// Copies the key. Up to 32 bytes are copied without an allocation, and more are allocated by the
+/// allocator of the original.
+impl<A: Memory> Clone for IntegrityKey<A> {
     ghost is_clone = { λ key copy. copy ≡ key };
 
-    ghost is_infallible = { λ key. length key ≤ 32 };
+    ghost is_infallible = { λ key. (length key ≤ 32) ⊎ A.grants };
 
     fn clone(&self) -> Result<Self, AllocError> {
         let bytes = match &self.bytes {
@@ -92,7 +95,7 @@ impl<A: Allocator + Copy> Clone for IntegrityKey<A> {
                 KeyBytes::Inline(SmallVec::from_slice(NoMemory, inline.as_slice()).unwrap())
             }
             KeyBytes::Heap(heap) => {
-                KeyBytes::Heap(Vec::from_slice(*heap.allocator(), heap.as_slice())?)
+                KeyBytes::Heap(A::copied(*heap.allocator(), heap.as_slice())?)
             }
         };
         Ok(IntegrityKey { bytes })
@@ -106,7 +109,7 @@ impl<A: Allocator> fmt::Debug for IntegrityKey<A> {
         ensures writes { WritesOnOk W.write_str_gives f.old result
             (codes "IntegrityKey { .. }") f.new }
 
-        // It writes the same with every width, precision and other option.
+        // The options of the formatter, such as the width, do not change the text.
         ensures styled { WritesStyledOnOk W.write_str_gives f.old result
             (codes "IntegrityKey { .. }") f.new }
     {
@@ -114,9 +117,9 @@ impl<A: Allocator> fmt::Debug for IntegrityKey<A> {
     }
 }
 
-/// Puts a user's name, realm and password into an empty text, with colons between them. Returns
-/// false if they do not fit. The text is filled in place, since one that is moved after it was
-/// filled is slower to hash.
+/// Writes `username:realm:password` to `text`, which must be empty. Returns `false` if the three
+/// texts do not fit. The caller passes `text` by reference, because a text that is moved after it
+/// was filled is slower to hash.
 fn join(text: &mut ShortText, username: &[u8], realm: &[u8], password: &[u8]) -> bool
     requires { text.old ≡ [] }
     ensures { result ≡ true → text.new ≡ spec.with_colon
@@ -129,8 +132,7 @@ fn join(text: &mut ShortText, username: &[u8], realm: &[u8], password: &[u8]) ->
         && text.push(password)
 }
 
-/// The digest of a user's name, realm and password with colons between them, fed one after the
-/// other.
+/// Returns the digest of `username:realm:password`. The text is fed to the hasher in pieces.
 fn digest_in_turn<H: HashFunction>(username: &[u8], realm: &[u8], password: &[u8]) -> H::Digest
     ensures value { H.Digest.items result ≡
         H.digest (spec.with_colon (spec.with_colon username.now realm.now) password.now) }
@@ -145,7 +147,7 @@ fn digest_in_turn<H: HashFunction>(username: &[u8], realm: &[u8], password: &[u8
     hasher.finish()
 }
 
-/// The digest of a user's name, realm and password with colons between them.
+/// Returns the digest of `username:realm:password`.
 fn credentials_digest<H: HashFunction>(username: &[u8], realm: &[u8], password: &[u8]) -> H::Digest
     ensures value { H.Digest.items result ≡
         H.digest (spec.with_colon (spec.with_colon username.now realm.now) password.now) }
@@ -159,14 +161,15 @@ fn credentials_digest<H: HashFunction>(username: &[u8], realm: &[u8], password: 
     }
 }
 
-/// Whether bytes are UTF-8.
+/// Returns whether bytes are UTF-8.
 fn is_utf8(bytes: &[u8]) -> bool
     ensures { result ≡ is_utf8 bytes.now }
 {
     simdutf8::basic::from_utf8(bytes).is_ok()
 }
 
-/// The digest of three texts with colons between them, or `None` if one of them is not UTF-8.
+/// Returns the digest of `username:realm:password`, or `None` if one of the three texts is not
+/// UTF-8.
 fn digest_of_utf8<H: HashFunction>(
     username: &[u8],
     realm: &[u8],
@@ -176,7 +179,8 @@ fn digest_of_utf8<H: HashFunction>(
         H.digest (spec.with_colon (spec.with_colon username.now realm.now) password.now)) }
     ensures utf8 { IsSome result ↔ (spec.are_utf8 username.now realm.now password.now ≡ true) }
 {
-    // The test comes last: a processor can make it while it still works on the digest.
+    // UTF-8 is tested last, because the processor can run this test while it still computes the
+    // digest.
     let mut text = ShortText::new();
     if join(&mut text, username, realm, password) {
         let digest = digest_of::<H>(text.as_bytes());
@@ -189,12 +193,12 @@ fn digest_of_utf8<H: HashFunction>(
 }
 
 /// Derives the long-term key of a user in a realm: the hash of `username:realm:password` (RFC 8489,
-/// sections 9.2.2 and 18.5.1). The key is the MD5 hash, 16 bytes, for HMAC-SHA1, and the SHA-256
-/// hash, 32 bytes, for HMAC-SHA256.
+/// sections 9.2.2 and 18.5.1). For HMAC-SHA1 the key is the MD5 hash, 16 bytes, and for HMAC-SHA256
+/// the SHA-256 hash, 32 bytes.
 ///
-/// The texts are used as they are: to prepare them with OpaqueString (RFC 8265, section 4.2) is up
-/// to the caller. This does not allocate. `alloc` is dropped, and only names the allocator type of
-/// the key.
+/// The texts are used as they are: preparing them with OpaqueString (RFC 8265, section 4.2) is up
+/// to the caller. This does not allocate: `alloc` only determines the allocator type of the key,
+/// and is dropped.
 pub fn long_term_key<A: Allocator>(
     alloc: A,
     algorithm: IntegrityAlgorithm,
@@ -208,7 +212,7 @@ pub fn long_term_key<A: Allocator>(
     hashed_key(algorithm, username, realm, password)
 }
 
-/// The long-term key, at any allocator.
+/// Returns the long-term key, with any allocator type.
 pub(crate) fn hashed_key<A: Allocator>(
     algorithm: IntegrityAlgorithm,
     username: &str,
@@ -235,11 +239,11 @@ pub(crate) fn hashed_key<A: Allocator>(
     }
 }
 
-/// Derives the long-term key for HMAC-SHA1 from texts that are given as bytes: the MD5 hash of
+/// Derives the long-term key for HMAC-SHA1 from texts that are passed as bytes: the MD5 hash of
 /// `username:realm:password` (RFC 8489, section 9.2.2). Returns `None` if one of the texts is not
 /// UTF-8.
 ///
-/// The texts are used as they are: to prepare them with OpaqueString (RFC 8265, section 4.2) is up
+/// The texts are used as they are: preparing them with OpaqueString (RFC 8265, section 4.2) is up
 /// to the caller. This does not allocate.
 pub fn md5_key_from_utf8(username: &[u8], realm: &[u8], password: &[u8]) -> Option<[u8; 16]>
     ensures key { IfSome result (λ key. key
@@ -249,11 +253,11 @@ pub fn md5_key_from_utf8(username: &[u8], realm: &[u8], password: &[u8]) -> Opti
     digest_of_utf8::<Md5>(username, realm, password)
 }
 
-/// Derives the long-term key for HMAC-SHA256 from texts that are given as bytes: the SHA-256 hash
+/// Derives the long-term key for HMAC-SHA256 from texts that are passed as bytes: the SHA-256 hash
 /// of `username:realm:password` (RFC 8489, section 18.5.1). Returns `None` if one of the texts is
 /// not UTF-8.
 ///
-/// The texts are used as they are: to prepare them with OpaqueString (RFC 8265, section 4.2) is up
+/// The texts are used as they are: preparing them with OpaqueString (RFC 8265, section 4.2) is up
 /// to the caller. This does not allocate.
 pub fn sha256_key_from_utf8(username: &[u8], realm: &[u8], password: &[u8]) -> Option<[u8; 32]>
     ensures key { IfSome result (λ key. key
@@ -263,10 +267,10 @@ pub fn sha256_key_from_utf8(username: &[u8], realm: &[u8], password: &[u8]) -> O
     digest_of_utf8::<Sha256>(username, realm, password)
 }
 
-/// Computes the hash that USERHASH has in place of a user name: SHA-256 of `username:realm` (RFC
-/// 8489, section 14.4).
+/// Computes the hash that a client sends in USERHASH instead of its user name: SHA-256 of
+/// `username:realm` (RFC 8489, section 14.4).
 ///
-/// The texts are used as they are: to prepare them with OpaqueString (RFC 8265, section 4.2) is up
+/// The texts are used as they are: preparing them with OpaqueString (RFC 8265, section 4.2) is up
 /// to the caller. This does not allocate.
 pub fn userhash(username: &str, realm: &str) -> [u8; 32]
     ensures { result ≡ spec.userhash_of username.now realm.now }

@@ -1,10 +1,10 @@
-//! An allocator for vectors that stay inline.
+//! An allocator for vectors whose items are always stored inline.
 
 ghost use Rattle.std.specs.Borrow.{ffalse};
 
 use std::alloc::{AllocError, Allocator};
 
-/// An allocator without memory: each allocation fails.
+/// An allocator that has no memory, so every allocation fails.
 #[derive(Clone, Copy)]
 pub(crate) struct NoMemory;
 

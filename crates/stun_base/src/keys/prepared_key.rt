@@ -1,7 +1,7 @@
-//! Keys that are prepared for many digests: the part of HMAC that comes before the text is computed
-//! once (RFC 2104, section 4).
+//! Keys that are prepared for many HMACs: the part of an HMAC that does not depend on the text is
+//! computed once (RFC 2104, section 4).
 
-ghost use Rattle.std.specs.Prelude.{◌≡◌, ◌≤◌, Some, codes, length, map};
+ghost use Rattle.std.specs.Prelude.{◌≡◌, ◌≤◌, ◌⊎◌, Some, codes, length, map};
 ghost use Rattle.std.specs.List.{concat};
 ghost use Rattle.std.specs.Fmt.{WritesOnOk, WritesStyledOnOk};
 ghost use Rattle.sha1.specs.Sha1.{sha1};
@@ -11,21 +11,22 @@ ghost use Rattle.stun_base.specs.Hmac.{hmac};
 use crate::keys::algorithm::IntegrityAlgorithm;
 use crate::keys::hmac::{BegunHmac, SHA1_LENGTH, SHA256_LENGTH, hmac_sha1, hmac_sha256};
 use crate::keys::key::IntegrityKey;
+use crate::memory::Memory;
 use sha1::Sha1 as BegunSha1;
 use sha2::Sha256 as BegunSha256;
 use std::alloc::{AllocError, Allocator, Global};
 use std::fmt;
 use std::marker::Model;
 
-/// A key for which, for one algorithm, the part of HMAC that comes before the text has been
-/// computed (RFC 2104, section 4).
+/// A key for which, for one algorithm, the part of an HMAC that does not depend on the text has
+/// been computed in advance (RFC 2104, section 4).
 ///
-/// A digest with that algorithm hashes two blocks fewer than a digest with the key alone, as the
-/// code is written; this is not proved. With the other algorithm the key works too, at the usual
-/// cost. A prepared key is at most about 250 bytes larger than its key, and preparing does not
-/// allocate.
+/// With that algorithm an HMAC hashes two blocks fewer than with an unprepared key. This follows
+/// from the way the code is written, and is not proved. The key also works with the other
+/// algorithm, without this saving. A prepared key is at most about 250 bytes larger than its key,
+/// and preparing does not allocate.
 ///
-/// Everything in it is as secret as the key, and `Debug` shows none of it.
+/// All of its contents are as secret as the key, and `Debug` shows none of them.
 ///
 /// Contracts: the value is the list of the key's bytes.
 #[derive(Drop)]
@@ -34,7 +35,7 @@ pub struct PreparedKey<A: Allocator = Global> {
     begun: Begun,
 }
 
-/// The part of HMAC that comes before the text, by one algorithm.
+/// The part of an HMAC that does not depend on the text, for one algorithm.
 #[derive(Drop)]
 enum Begun {
     Sha1(BegunHmac<BegunSha1>),
@@ -53,7 +54,7 @@ impl<A: Allocator> Model for PreparedKey<A> {
 }
 
 impl<A: Allocator> PreparedKey<A> {
-    /// Prepares a key for digests with an algorithm. This does not allocate.
+    /// Prepares a key for HMACs with this algorithm. This does not allocate.
     pub fn new(key: IntegrityKey<A>, algorithm: IntegrityAlgorithm) -> Self
         ensures { result ≡ key }
     {
@@ -71,8 +72,8 @@ impl<A: Allocator> PreparedKey<A> {
         &self.key
     }
 
-    /// Computes the HMAC-SHA1 of the pieces, taken one after the other as one text. The result is
-    /// that of `hmac::hmac_sha1`. This does not allocate.
+    /// Computes the HMAC-SHA1 of the text that consists of the pieces in their order. The result is
+    /// the same as that of `hmac::hmac_sha1`. This does not allocate.
     pub fn hmac_sha1(&self, pieces: &[&[u8]]) -> [u8; SHA1_LENGTH]
         ensures { result ≡ hmac sha1 self.now (concat (map (λ piece. piece.now) pieces.now)) }
     {
@@ -82,8 +83,8 @@ impl<A: Allocator> PreparedKey<A> {
         }
     }
 
-    /// Computes the HMAC-SHA256 of the pieces, taken one after the other as one text. The result is
-    /// that of `hmac::hmac_sha256`. This does not allocate.
+    /// Computes the HMAC-SHA256 of the text that consists of the pieces in their order. The result
+    /// is the same as that of `hmac::hmac_sha256`. This does not allocate.
     pub fn hmac_sha256(&self, pieces: &[&[u8]]) -> [u8; SHA256_LENGTH]
         ensures { result ≡ hmac sha256 self.now (concat (map (λ piece. piece.now) pieces.now)) }
     {
@@ -94,12 +95,12 @@ impl<A: Allocator> PreparedKey<A> {
     }
 }
 
-/// Copies the key with what was prepared, so that no block is hashed again. A key of up to 32 bytes
-/// is copied without an allocation; a longer one is allocated by the same allocator.
-impl<A: Allocator + Copy> Clone for PreparedKey<A> {
+/// Copies the key and the prepared part, so nothing is hashed again. A key of up to 32 bytes is
+/// copied without an allocation, and a longer key is allocated by the allocator of the original.
+impl<A: Memory> Clone for PreparedKey<A> {
     ghost is_clone = { λ prepared copy. copy ≡ prepared };
 
-    ghost is_infallible = { λ prepared. length prepared ≤ 32 };
+    ghost is_infallible = { λ prepared. (length prepared ≤ 32) ⊎ A.grants };
 
     fn clone(&self) -> Result<Self, AllocError> {
         let key = self.key.clone()?;
@@ -118,7 +119,7 @@ impl<A: Allocator> fmt::Debug for PreparedKey<A> {
         ensures writes { WritesOnOk W.write_str_gives f.old result
             (codes "PreparedKey { .. }") f.new }
 
-        // It writes the same with every width, precision and other option.
+        // The options of the formatter, such as the width, do not change the text.
         ensures styled { WritesStyledOnOk W.write_str_gives f.old result
             (codes "PreparedKey { .. }") f.new }
     {

@@ -1,4 +1,4 @@
-//! Short texts, put together from pieces.
+//! Short texts that are put together from pieces.
 
 ghost use Rattle.std.specs.Prelude.{◌≡◌, ◌+◌, ◌≤◌, ◌↔◌, ◌++◌, [], length, IsTrue, true, false};
 ghost use Rattle.std.specs.Str.{IsUtf8};
@@ -7,13 +7,14 @@ use simdutf8::Checker;
 use std::marker::Model;
 use std::simd::prelude::*;
 
-/// The most bytes of a short text.
+/// The largest number of bytes of a short text.
 const LONGEST: usize = 64;
 
-/// Up to 64 bytes in one block. It is quicker to hash or test them at once than piece by piece.
-/// Zeros fill the block, so that the test can read all of it.
+/// A text of up to 64 bytes in one block. To hash the block at once, or to test it for UTF-8, is
+/// faster than to do so piece by piece. The rest of the block is zeros, so that the test can read
+/// all of it.
 ///
-/// Contracts: the value is the list of the bytes.
+/// Contracts: the value is the list of the text's bytes.
 #[derive(Drop)]
 pub(crate) struct ShortText {
     block: [u8; LONGEST],
@@ -32,7 +33,7 @@ impl Model for ShortText {
 }
 
 impl ShortText {
-    /// No bytes.
+    /// Creates an empty text.
     pub(crate) fn new() -> ShortText
         ensures { result ≡ [] }
     {
@@ -42,7 +43,7 @@ impl ShortText {
         }
     }
 
-    /// Adds a piece, or returns false if it does not fit.
+    /// Appends a piece. Returns `false`, and leaves the text unchanged, if the piece does not fit.
     pub(crate) fn push(&mut self, piece: &[u8]) -> bool
         ensures fits { IsTrue result ↔ (length self.old + length piece.now ≤ 64) }
         ensures added { result ≡ true → self.new ≡ self.old ++ piece.now }
@@ -57,14 +58,14 @@ impl ShortText {
         true
     }
 
-    /// The bytes.
+    /// Returns the bytes.
     pub(crate) fn as_bytes(&self) -> &[u8]
         ensures { result.now ≡ self.now }
     {
         &self.block[..self.length]
     }
 
-    /// Whether the bytes are UTF-8.
+    /// Returns whether the bytes are UTF-8.
     pub(crate) fn is_utf8(&self) -> bool
         ensures { IsTrue result ↔ IsUtf8 self.now }
     {

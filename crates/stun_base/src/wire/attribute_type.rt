@@ -1,4 +1,5 @@
-//! The types of attributes, and the registered types that this library reads or writes.
+//! The type of an attribute, with a constant for each registered type that this library reads or
+//! writes.
 
 ghost use Rattle.std.specs.Prelude.{◌≡◌, Some};
 ghost use Rattle.stun_base.specs.AttributeText.{type_text};
@@ -8,8 +9,8 @@ use std::fmt;
 /// The type of an attribute (RFC 8489, section 14): a number of 16 bits.
 ///
 /// A receiver must understand an attribute whose type is less than 0x8000, and may ignore any
-/// other. The number is public, so that other crates can write constants such as
-/// `AttributeType(0x8000)`. The type is displayed in hexadecimal, for example as `0x0008`.
+/// other. The field is public, so that other crates can define constants such as
+/// `AttributeType(0x8000)`. A type is displayed in hexadecimal, for example as `0x0008`.
 #[derive(Debug, Clone, Copy, PartialEq, Eq, Hash)]
 pub struct AttributeType(pub u16);
 
@@ -37,7 +38,7 @@ impl AttributeType {
     /// FINGERPRINT (RFC 8489, section 14.7).
     pub const FINGERPRINT: AttributeType = AttributeType(0x8028);
 
-    /// Creates a type from its number. Every number of 16 bits is a type.
+    /// Creates a type from its number. Every 16-bit number is a type.
     pub const fn new(number: u16) -> AttributeType
         ensures { result.0 ≡ number }
     {

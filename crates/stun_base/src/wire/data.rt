@@ -1,10 +1,11 @@
-//! Values that contain bytes.
+//! Values that contain bytes: the trait [`OwnedBytes`], and bytes that are borrowed or owned.
 
 ghost use Rattle.std.specs.Prelude.{◌≡◌, ℕ, List, IfOk, IsOk, Ok};
 
+use crate::memory::Memory;
 use std::alloc::{AllocError, Allocator, Global};
 
-/// A value that contains bytes, its own or borrowed ones.
+/// A value that contains bytes, which it owns or borrows.
 ///
 /// Two calls of `bytes` on the same value return the same bytes.
 pub trait OwnedBytes {
@@ -63,13 +64,13 @@ impl<'a, A: Allocator> OwnedBytes for Data<'a, A> {
     }
 }
 
-impl<'a, A: Allocator> Data<'a, A> {
+impl<'a, A: Memory> Data<'a, A> {
     ghost use Rattle.stun_base.specs.Data.{data_bytes, IsOwned};
 
     /// Converts the value into owned bytes, which can outlive `'a`.
     ///
-    /// Owned bytes are moved and stay with their own allocator, without an allocation. Borrowed
-    /// bytes are copied into memory of `alloc`.
+    /// Owned bytes are moved, without an allocation, and keep their own allocator. Borrowed bytes
+    /// are copied into memory of `alloc`.
     ///
     /// # Errors
     ///
@@ -79,9 +80,10 @@ impl<'a, A: Allocator> Data<'a, A> {
         ensures owned { IfOk result (λ owned. IsOwned owned) }
         ensures moves { IsOwned self.entry → IsOk result }
         ensures itself { IsOwned self.entry → result ≡ Ok self.entry }
+        ensures granted { A.grants → IsOk result }
     {
         match self {
-            Data::Borrowed(bytes) => Ok(Data::Owned(Vec::from_slice(alloc, bytes)?)),
+            Data::Borrowed(bytes) => Ok(Data::Owned(A::copied(alloc, bytes)?)),
             Data::Owned(bytes) => Ok(Data::Owned(bytes)),
         }
     }

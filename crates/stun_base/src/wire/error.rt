@@ -1,4 +1,4 @@
-//! The errors of parsing, verifying and writing a message.
+//! The errors of parsing a message, of validating its signature, and of writing a message.
 
 use crate::wire::attribute_type::AttributeType;
 use std::alloc::{AllocError, AllocFailed};
@@ -7,57 +7,59 @@ use thiserror::Error;
 /// Why bytes cannot be parsed as a header, a message or an attribute.
 #[derive(Debug, Clone, Copy, PartialEq, Eq, Error)]
 pub enum StunParseError {
-    /// Bytes are missing at the end of the header, the message or an attribute.
+    /// The bytes end before the header, the message or an attribute is complete.
     #[error("the bytes end too early")]
     Truncated,
     /// The first 20 bytes are not a STUN header: the first two bits are not zero, the magic cookie
     /// is wrong, or the length is not a multiple of 4.
     #[error("the bytes are not a STUN message")]
     NotStun,
-    /// There are bytes after the end of the message.
+    /// Bytes follow the end of the message.
     #[error("bytes follow the message")]
     TooLarge,
     /// No attribute of this type is visible in the message.
     #[error("attribute {0} is missing")]
     MissingAttribute(AttributeType),
-    /// The value of the attribute is malformed, or the attribute has another type than the one to
-    /// parse.
+    /// The value of the attribute is malformed, or the attribute does not have the type that the
+    /// call parses.
     #[error("an attribute is malformed")]
     InvalidAttributeData,
 }
 
-/// Why the signature of a message cannot be verified.
+/// Why the signature of a message could not be validated.
 #[derive(Debug, Clone, Copy, PartialEq, Eq, Error)]
 pub enum ValidateError {
     /// The integrity attribute is missing or malformed; the inner error says which.
     #[error(transparent)]
     Parse(StunParseError),
-    /// The signature is invalid: the digest in the message is not the digest of the message under
-    /// the key.
+    /// The signature is invalid: the HMAC in the message is not the HMAC of the message under the
+    /// key.
     #[error("the digest is not that of the message")]
     IntegrityFailed,
 }
 
-/// Why something could not be written. The bytes and the room of the writer are unchanged.
+/// Why an attribute or a message could not be written. The call that failed has left the bytes and
+/// the room of the writer unchanged.
 #[derive(Debug, Clone, Copy, PartialEq, Eq, Error)]
 pub enum StunWriteError {
-    /// This call does not write attributes of this type. Another call does, or none.
+    /// This call does not write attributes of this type. For some of these types there is another
+    /// call.
     #[error("the attribute is not written by this call")]
     NotAllowed,
-    /// The message has an integrity attribute, and this call writes nothing after one.
+    /// The message has an integrity attribute already, and this call adds nothing after it.
     #[error("the message has its integrity attribute already")]
     MessageIntegrityExists,
     /// The message has an attribute of this type already.
     #[error("attribute {0} is in the message already")]
     AttributeExists(AttributeType),
-    /// The value is longer than the attribute may hold, or the message would have more than 65532
+    /// The value is longer than the attribute allows, or the message would have more than 65532
     /// bytes after its header.
     #[error("the value or the message would be too large")]
     TooLarge,
-    /// The writer has no room.
+    /// The writer has too little room left.
     #[error("the writer has too little room")]
     TooSmall,
-    /// The key to sign with is not known.
+    /// The key for the signature is not known.
     #[error("there is no key for the integrity attribute")]
     IntegrityFailed,
     /// An allocation failed.

@@ -12,8 +12,8 @@ use std::marker::Model;
 /// The number of bytes of a header.
 pub const HEADER_LENGTH: usize = 20;
 
-/// The magic cookie: the four bytes after the type and the length of every message, in network
-/// order (RFC 8489, section 5).
+/// The magic cookie: the four bytes that follow the type and the length in every message, in
+/// network order (RFC 8489, section 5).
 pub const MAGIC_COOKIE: u32 = 0x2112_A442;
 
 /// The header of a message: its first 20 bytes, without the magic cookie (RFC 8489, section 5).
@@ -93,8 +93,8 @@ impl MessageHeader {
         self.message_type
     }
 
-    /// Returns the number of bytes that follow the header, as its length field states it. It is a
-    /// multiple of 4.
+    /// Returns the length field of the header: the number of bytes that follow the header, which is
+    /// a multiple of 4.
     pub fn data_length(&self) -> u16
         ensures value { result ≡ self.now.data_length }
         ensures aligned { result % 4 ≡ 0 }

@@ -1,4 +1,4 @@
-//! Times, which the caller passes, because no call reads a clock.
+//! Times. The caller passes them, because no call reads a clock.
 
 ghost use Rattle.std.specs.Prelude.{◌≡◌, ◌-◌};
 ghost use Rattle.std.specs.Duration.{as_nanos};
@@ -10,10 +10,10 @@ use std::time::Duration;
 
 /// A time, in whole nanoseconds since a start that the caller chooses.
 ///
-/// Arithmetic on times saturates: a sum stops at `Instant::MAX`, and a difference at zero. So no
-/// call overflows.
+/// Arithmetic on times never overflows: a sum is at most `Instant::MAX`, and a difference is at
+/// least zero.
 ///
-/// Contracts: the value is that number, and times are ordered as numbers.
+/// Contracts: the value is the number of nanoseconds, and times are ordered as numbers.
 #[derive(Clone, Copy, Debug, PartialEq, Eq, PartialOrd, Ord, Hash)]
 pub struct Instant {
     nanos: u64,
@@ -50,7 +50,7 @@ impl Instant {
     }
 }
 
-/// The sum stops at `Instant::MAX`.
+/// Adds a duration. The sum is at most `Instant::MAX`.
 impl Add<Duration> for Instant {
     type Output = Instant;
 
@@ -64,7 +64,7 @@ impl Add<Duration> for Instant {
     }
 }
 
-/// The difference is the time elapsed since `earlier`, or zero if `earlier` is the later one.
+/// Returns the time elapsed since `earlier`, or zero if `earlier` is later than this time.
 impl Sub for Instant {
     type Output = Duration;
 

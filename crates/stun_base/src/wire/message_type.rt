@@ -12,9 +12,9 @@ pub enum MessageClass {
     Request,
     /// An indication, which is not answered.
     Indication,
-    /// The response to a request that succeeded.
+    /// A success response: the request succeeded.
     Success,
-    /// The response to a request that failed.
+    /// An error response: the request failed.
     Error,
 }
 
@@ -29,7 +29,7 @@ impl MessageClass {
 
 /// The method of a message: a number of 12 bits.
 ///
-/// Contracts: the value is that number.
+/// Contracts: the value is the number.
 #[derive(Debug, Clone, Copy, PartialEq, Eq, Hash)]
 pub struct Method(u16);
 
@@ -70,12 +70,13 @@ impl Method {
     }
 }
 
-/// The type of a message: its class and its method in 14 bits (RFC 8489, section 5).
+/// The type of a message: its class and its method, combined into a number of 14 bits (RFC 8489,
+/// section 5).
 ///
 /// From the highest bit to the lowest, the number consists of M11 to M7, C1, M6 to M4, C0 and M3 to
 /// M0, where M is the method and C the class.
 ///
-/// Contracts: the value is that number.
+/// Contracts: the value is the number.
 #[derive(Debug, Clone, Copy, PartialEq, Eq, Hash)]
 pub struct MessageType(u16);
 

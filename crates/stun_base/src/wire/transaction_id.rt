@@ -14,7 +14,7 @@ use std::marker::Model;
 /// An attacker who can guess the ID of an outstanding request can forge a response to it. So IDs
 /// must be unpredictable, and every new request needs a new one.
 ///
-/// Contracts: the value is that number, and IDs are ordered as numbers.
+/// Contracts: the value is the number, and IDs are ordered as numbers.
 #[derive(Debug, Clone, Copy, PartialEq, Eq, PartialOrd, Ord, Hash)]
 pub struct TransactionId(u128);
 
@@ -33,7 +33,7 @@ impl Model for TransactionId {
 impl TransactionId {
     ghost use Rattle.byteorder.specs.Endian.{big_number};
 
-    /// Creates a transaction ID from the first 12 bytes, in network order.
+    /// Creates a transaction ID from the first 12 bytes of `bytes`, in network order.
     pub(crate) fn from_bytes(bytes: &[u8]) -> TransactionId
         requires { 12 ≤ length bytes.now }
         ensures { result ≡ big_number 12 bytes.now }
@@ -54,8 +54,8 @@ impl TransactionId {
         }
     }
 
-    /// Creates a random transaction ID from the next three numbers of 32 bits of `rng`, the first
-    /// in the highest bits.
+    /// Creates a random transaction ID from the next three 32-bit numbers of `rng`. The first
+    /// number becomes the highest 32 bits.
     ///
     /// Use a cryptographically secure generator, because an attacker who can predict its numbers
     /// can predict transaction IDs (RFC 8489, section 5).

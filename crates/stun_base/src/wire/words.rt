@@ -1,4 +1,4 @@
-//! Random numbers that the caller passes.
+//! A source of random numbers that the caller supplies.
 
 ghost use Rattle.std.specs.Prelude.{◌≡◌, ◌+◌, length};
 ghost use Rattle.rand_core.specs.Steps.{stream_of, steps_u32};
@@ -8,10 +8,10 @@ use rand_core::utils::NextWord;
 use rand_core::{Rng, utils};
 use std::marker::Model;
 
-/// A source of random numbers that the caller passed: sixteen numbers of 32 bits. It returns them
-/// in their order, and zeros after them.
+/// A source of sixteen 32-bit random numbers, which the caller supplies. It returns them in their
+/// order. After the last of them it returns only zeros.
 ///
-/// Contracts: the value is the list of the numbers that are left.
+/// Contracts: the value is the list of the numbers that have not been read.
 #[derive(Debug, Drop)]
 pub struct WordSource {
     words: [u32; 16],
@@ -28,7 +28,7 @@ impl Model for WordSource {
     ghost invariant = { λ s. s.taken ≤ 16 };
 }
 
-/// Two sources are equal if and only if the same numbers are left.
+/// Two sources are equal if the same numbers are left to read in both.
 impl PartialEq for WordSource {
     ghost use Rattle.std.specs.Prelude.{nat_eq};
     ghost use Rattle.std.specs.Cmp.{partial_equiv_from_equiv};
@@ -50,7 +50,7 @@ impl Eq for WordSource {
 }
 
 impl WordSource {
-    /// Creates a source of these numbers.
+    /// Creates a source that returns these numbers.
     pub fn new(words: [u32; 16]) -> Self
         ensures words { result ≡ words }
         ensures count { length result ≡ 16 }

@@ -2,7 +2,7 @@
 use Rattle.std.specs.Prelude.{ℕ, ◌+◌, ◌-◌, ◌≤◌}
 use Rattle.stun_types.specs.Limits.{LENGTH_LIMIT}
 
--- so many reserved bytes after so many written ones fit the capacity, and what is left of the
+-- this many reserved bytes after this many written ones fit the capacity, and what is left of the
 -- longest message
 pub record FitsBuffer (len reserved capacity : ℕ) : Type 0 where
   pub in_capacity : len + reserved ≤ capacity

@@ -11,12 +11,12 @@ use Rattle.stun_extra.specs.Fingerprint.{fingerprint_word}
 unfoldable pub fingerprint_value : List ℕ → List ℕ
 fingerprint_value bytes = big_bytes 4 (fingerprint_word bytes)
 
--- the attribute
+-- the FINGERPRINT attribute
 abbrev pub fingerprint_after : List ℕ → List ℕ
 fingerprint_after bytes =
     spelled_attribute (record { kind = FINGERPRINT; value = fingerprint_value bytes })
 
--- a message whose length counts it, and then it
+-- a message whose length counts the attribute, and then the attribute
 abbrev pub ended_message : List ℕ → List ℕ
 ended_message message =
     with_length message (length_with message 4)

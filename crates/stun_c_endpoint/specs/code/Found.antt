@@ -1,4 +1,4 @@
--- The user who was found, as the code reads one, and what judges by that user.
+-- The user who was found, as the code reads it, and what judges with that user.
 use Rattle.std.specs.Prelude.{ℕ, List, Bool, if◌then◌else◌, Some, Result, Ok, Err}
 use Rattle.stun_auth.specs.Handed.{just}
 use Rattle.stun_auth.specs.Registered.{RegisteredUser, of_password, user_by_keys, user_by_password}
@@ -31,12 +31,12 @@ key_user name sha1 sha256 =
     (refusal_or (name_refusal name)
     (named_user name (keys_given (key_given 16 sha1) (key_given 32 sha256))))
 
--- one of both
+-- the one of these two that was passed
 abbrev pub found_user : List ℕ → List ℕ → Bool → List ℕ → List ℕ → Result RegisteredUser Refusal
 found_user name password has_password sha1 sha256 =
     if has_password then password_user name password else key_user name sha1 sha256
 
--- a server with a table of this one user
+-- a server with a table of only this user
 abbrev pub found_judge : Settings → RegisteredUser → Judge
 found_judge s user = by_realm s (record (table_of s) {
   registered = just (registered_of s) (Some user);

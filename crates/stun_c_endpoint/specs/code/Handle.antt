@@ -4,7 +4,7 @@ use denote.RattleType.{RattleType}
 use Rattle.std.specs.Coded.{Coded, coded_option}
 use Rattle.stun_c_endpoint.specs.contracts.handle.endpoint.Kept as kept
 
--- a server, a table of users, an agent of ICE or a client
+-- a server, a table of users, an ICE agent or a client
 abbrev pub kept_row : RattleType
 kept_row = kept.the_row
 

@@ -1,4 +1,4 @@
--- The refusal of a check that is not written.
+-- The error for a check that is not written.
 use Rattle.stun_ice.specs.declared.checker.CheckError.{CheckError}
 use Rattle.stun_ice.specs.declared.checker.CheckError.TheVariants.{NoRemote}
 use Rattle.stun_ice.specs.declared.checker.CheckError.TheVariants.{OutOfMemory as NoMemory}

@@ -1,9 +1,9 @@
 //! The calls on a client (RFC 8489, sections 6.2, 6.3 and 9.2.5).
 //!
-//! A call fails first with `EmptyHandle` if its handle is empty, and with `WrongHandle` if it has no
-//! client.
+//! A call fails first with `EmptyHandle` if its handle is empty, and with `WrongHandle` if the
+//! handle has no client.
 
-ghost use Rattle.std.specs.Prelude.{◌≡◌, None};
+ghost use Rattle.std.specs.Prelude.{◌≡◌, None, Some};
 ghost use Rattle.stun_c_endpoint.specs.Clients.{AsksAs, CancelsAs, HearsAs, PollsAs, TellsDropped};
 ghost use Rattle.stun_c_endpoint.specs.Clients.{client_in};
 ghost use Rattle.stun_c_endpoint.specs.ClientsGiven.{MakesClient};
@@ -12,6 +12,7 @@ ghost use Rattle.stun_c_endpoint.specs.Given.{Fills};
 
 use crate::client::doing::{ask, cancel, hear, poll, tell_dropped};
 use crate::client::event::{Dropped, Event};
+use crate::client::options::RequestOptions;
 use crate::client::settings::{ClientGiven, ClientOptions};
 use crate::handle::endpoint::EndpointHandle;
 use std::alloc::Global;
@@ -19,13 +20,19 @@ use stun_handles::address::Address;
 use stun_handles::answers;
 use stun_numbers::refusal::Refusal;
 
-/// Creates a client of a server. A name without bytes means that there is no user, a SOFTWARE text
-/// without bytes means none, and an option that is 0 stands for its default.
+/// Creates a client of a server. If the name has no bytes, the client has no user. If the SOFTWARE
+/// text has no bytes, requests have no SOFTWARE. An option that is 0 has its default.
 ///
-/// Fails with `FullHandle`, then with `BadArgument` for the address or an option, for a name without a
-/// password or a password without a name, or for a seed of one repeated byte, then with `NotText` for
-/// the name, the password or SOFTWARE, then with `TextTooLong` for a name of more than 513 bytes
-/// or for more than 763 bytes of SOFTWARE, then with `OutOfMemory`.
+/// # Errors
+///
+/// The first of these that applies:
+///
+/// - `FullHandle`: the handle is not empty.
+/// - `BadArgument`: `server` is not an IPv4 or IPv6 address, an option is invalid, there is a name
+///   without a password or a password without a name, or the seed is one repeated byte.
+/// - `NotText`: the name, the password or SOFTWARE is not UTF-8.
+/// - `TextTooLong`: the name has more than 513 bytes, or SOFTWARE has more than 763.
+/// - `OutOfMemory`: an allocation failed.
 #[unsafe(no_mangle)]
 pub extern "C" fn stunp_endpoint_client_new_with(
     alloc: Global,
@@ -72,13 +79,18 @@ pub extern "C" fn stunp_endpoint_client_clear(alloc: Global, client: &mut Endpoi
     let _kept = client.take(alloc);
 }
 
-/// Starts a request, and writes its number. The body is a list of attributes, in which the addresses
-/// of XOR-PEER-ADDRESS are not XORed.
+/// Starts a request, and writes its number to `request`. The body is a list of encoded attributes,
+/// in which the addresses of XOR-PEER-ADDRESS are not XORed.
 ///
-/// Fails with `BadArgument` for a method above 4095, then with the first refusal of an attribute of
-/// the body: `NotAllowed`, `MessageTooLong`, or `BadArgument` for bytes that are not an attribute.
-/// Then come `AlreadyInProgress` if no transaction ID is left, and `MessageTooLong` for the whole
-/// request. `OutOfMemory` may come in place of any of these but the first.
+/// # Errors
+///
+/// The first of these that applies. `OutOfMemory` may take the place of any except the first.
+///
+/// - `BadArgument`: the method is above 4095.
+/// - `NotAllowed`, `MessageTooLong`, or `BadArgument` for bytes that are not an attribute: the
+///   error of the first attribute of the body that cannot be added.
+/// - `AlreadyInProgress`: no transaction ID is left.
+/// - `MessageTooLong`: the whole request is too long.
 #[unsafe(no_mangle)]
 pub extern "C" fn stunp_endpoint_client_request_with(
     alloc: Global,
@@ -88,21 +100,48 @@ pub extern "C" fn stunp_endpoint_client_request_with(
     now: u64,
     request: &mut u64,
 ) -> i64
-    ensures { AsksAs (client_in client.old.kept) method body.now now result request.old request.new
-        client.old.kept client.new.kept }
+    ensures { AsksAs (client_in client.old.kept) method body.now None now result request.old
+        request.new client.old.kept client.new.kept }
 {
     let Some(mut kept) = client.take(alloc) else {
         return Refusal::EmptyHandle.code();
     };
-    let answer = answers::done(ask(alloc, &mut kept, method, body, now, request));
+    let answer = answers::done(ask(alloc, &mut kept, method, body, None, now, request));
     client.put(alloc, kept);
     answer
 }
 
-/// Reads a datagram that came from an address, and returns the number of the result. If the datagram
-/// is dropped, the reason is written.
+/// Starts a request like `stunp_endpoint_client_request_with`, but the options say how it is sent,
+/// and from which address its response is accepted.
 ///
-/// Fails with `BadArgument` for the address.
+/// Fails like that call. In addition, it fails with `BadArgument`, right after the test of the
+/// method, if the size of the options is wrong, or if the length of their address is not 0, 4 or
+/// 16.
+#[unsafe(no_mangle)]
+pub extern "C" fn stunp_endpoint_client_request_as_with(
+    alloc: Global,
+    client: &mut EndpointHandle,
+    method: u32,
+    body: &[u8],
+    options: &RequestOptions,
+    now: u64,
+    request: &mut u64,
+) -> i64
+    ensures { AsksAs (client_in client.old.kept) method body.now (Some options.now) now result
+        request.old request.new client.old.kept client.new.kept }
+{
+    let Some(mut kept) = client.take(alloc) else {
+        return Refusal::EmptyHandle.code();
+    };
+    let answer = answers::done(ask(alloc, &mut kept, method, body, Some(options), now, request));
+    client.put(alloc, kept);
+    answer
+}
+
+/// Processes a datagram that arrived from an address, and returns its `stunp_kind`. If the datagram
+/// is dropped, writes the `stunp_drop` to `why`.
+///
+/// Fails with `BadArgument` if `from` is not an IPv4 or IPv6 address.
 #[unsafe(no_mangle)]
 pub extern "C" fn stunp_endpoint_client_receive_with(
     alloc: Global,
@@ -123,12 +162,13 @@ pub extern "C" fn stunp_endpoint_client_receive_with(
     answer
 }
 
-/// Finds the next thing to do, and returns its number. A request to send, or the response that ended
-/// a request, is written to the front of `out`.
+/// Writes the next thing to do to `event`, and returns its `stunp_event_kind`. Writes a request to
+/// send, or the response that ended a request, to the front of `out`.
 ///
-/// Fails with `BadArgument` for the size of the event, or with `BufferTooSmall` if the bytes do not
-/// fit. They are then lost, and the event is written but for its kind and its length. An event of a
-/// call that fails has the kind 7 and the length 0.
+/// Fails with `BadArgument` if the size of the event is wrong, or with `BufferTooSmall` if the
+/// bytes do not fit into `out`. These bytes are then lost, and `event.needed` is their number.
+/// After an error the event has the kind 7 and the length 0. After `BufferTooSmall`, its other
+/// fields are set.
 #[unsafe(no_mangle)]
 pub extern "C" fn stunp_endpoint_client_poll_with(
     alloc: Global,
@@ -149,7 +189,7 @@ pub extern "C" fn stunp_endpoint_client_poll_with(
     answer
 }
 
-/// Ends a request as canceled, and returns 1, or 0 if the request has ended already.
+/// Cancels a request, and returns 1, or 0 if the request has ended already.
 #[unsafe(no_mangle)]
 pub extern "C" fn stunp_endpoint_client_cancel(
     alloc: Global,
@@ -167,7 +207,8 @@ pub extern "C" fn stunp_endpoint_client_cancel(
     answer
 }
 
-/// Writes what was dropped for an outstanding request, and returns 1, or 0 if the request has ended.
+/// Writes to `dropped` how many responses to an outstanding request were dropped, and why the last
+/// one was. Returns 1, or 0 if the request has ended.
 #[unsafe(no_mangle)]
 pub extern "C" fn stunp_endpoint_client_dropped(
     alloc: Global,

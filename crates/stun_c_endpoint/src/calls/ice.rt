@@ -1,7 +1,7 @@
-//! The calls on an agent of ICE (RFC 8445, sections 7.2 and 7.3).
+//! The calls on an ICE agent (RFC 8445, sections 7.2 and 7.3).
 //!
-//! A call fails first with `EmptyHandle` if its handle is empty, and with `WrongHandle` if it has no
-//! agent.
+//! A call fails first with `EmptyHandle` if its handle is empty, and with `WrongHandle` if the
+//! handle has no agent.
 
 ghost use Rattle.std.specs.Prelude.{◌≡◌, None};
 ghost use Rattle.stun_c_endpoint.specs.Agents.{MakesAgent, MakesOffering, SetsPeer};
@@ -23,12 +23,18 @@ use stun_handles::address::Address;
 use stun_handles::answers;
 use stun_numbers::refusal::Refusal;
 
-/// Creates an agent of ICE from the credentials of both sides, its tie-breaker and the role that it
-/// begins with.
+/// Creates an ICE agent with the credentials of both sides and a tie-breaker. The agent begins in
+/// the controlling role if `is_controlling` is true, and otherwise in the controlled role.
 ///
-/// Fails with `FullHandle`, then with `NotText` for a name or a password, then with `BadArgument`
-/// for a name of fewer than 4 or more than 256 bytes, for one with a colon, and for a password of
-/// fewer than 22 or more than 256 bytes. Then comes `OutOfMemory`.
+/// # Errors
+///
+/// The first of these that applies:
+///
+/// - `FullHandle`: the handle is not empty.
+/// - `NotText`: a name or a password is not UTF-8.
+/// - `BadArgument`: a name has fewer than 4 or more than 256 bytes or contains a colon, or a
+///   password has fewer than 22 or more than 256 bytes.
+/// - `OutOfMemory`: an allocation failed.
 #[unsafe(no_mangle)]
 pub extern "C" fn stunp_ice_checker_new_with(
     alloc: Global,
@@ -64,12 +70,19 @@ pub extern "C" fn stunp_ice_checker_new_with(
     given.place(alloc, checker)
 }
 
-/// Creates an agent of ICE from its own credentials alone, its tie-breaker and the role that it
-/// begins with.
+/// Creates an ICE agent that does not know its peer yet, with its own credentials and a
+/// tie-breaker. The agent begins in the controlling role if `is_controlling` is true, and otherwise
+/// in the controlled role.
 ///
-/// Fails with `FullHandle`, then with `NotText` for the name or the password, then with
-/// `BadArgument` for a name of fewer than 4 or more than 256 bytes, for one with a colon, and for a
-/// password of fewer than 22 or more than 256 bytes. Then comes `OutOfMemory`.
+/// # Errors
+///
+/// The first of these that applies:
+///
+/// - `FullHandle`: the handle is not empty.
+/// - `NotText`: the name or the password is not UTF-8.
+/// - `BadArgument`: the name has fewer than 4 or more than 256 bytes or contains a colon, or the
+///   password has fewer than 22 or more than 256 bytes.
+/// - `OutOfMemory`: an allocation failed.
 #[unsafe(no_mangle)]
 pub extern "C" fn stunp_ice_checker_offer_with(
     alloc: Global,
@@ -92,11 +105,16 @@ pub extern "C" fn stunp_ice_checker_offer_with(
     own.place(alloc, tie_breaker, is_controlling, checker)
 }
 
-/// Gives the agent the credentials of its peer. Those that were set before are forgotten.
+/// Sets the credentials of the agent's peer, and forgets any earlier ones.
 ///
-/// Fails with `NotText` for the name or the password, then with `BadArgument` for a name of fewer
-/// than 4 or more than 256 bytes, for one with a colon, and for a password of fewer than 22 or more
-/// than 256 bytes. Then comes `OutOfMemory`.
+/// # Errors
+///
+/// The first of these that applies:
+///
+/// - `NotText`: the name or the password is not UTF-8.
+/// - `BadArgument`: the name has fewer than 4 or more than 256 bytes or contains a colon, or the
+///   password has fewer than 22 or more than 256 bytes.
+/// - `OutOfMemory`: an allocation failed.
 #[unsafe(no_mangle)]
 pub extern "C" fn stunp_ice_checker_set_peer_with(
     alloc: Global,
@@ -129,7 +147,7 @@ pub extern "C" fn stunp_ice_checker_clear(alloc: Global, checker: &mut EndpointH
     let _kept = checker.take(alloc);
 }
 
-/// Returns 1 if the agent controls, and 0 if it does not.
+/// Returns 1 if the agent has the controlling role, and otherwise 0.
 #[unsafe(no_mangle)]
 pub extern "C" fn stunp_ice_checker_is_controlling(
     alloc: Global,
@@ -146,7 +164,7 @@ pub extern "C" fn stunp_ice_checker_is_controlling(
     answer
 }
 
-/// Makes the agent control, or not.
+/// Sets the role of the agent: controlling if `is_controlling` is true, and otherwise controlled.
 #[unsafe(no_mangle)]
 pub extern "C" fn stunp_ice_checker_set_role(
     alloc: Global,
@@ -164,7 +182,7 @@ pub extern "C" fn stunp_ice_checker_set_role(
     answer
 }
 
-/// Gives the agent another tie-breaker.
+/// Sets the tie-breaker of the agent.
 #[unsafe(no_mangle)]
 pub extern "C" fn stunp_ice_checker_set_tie_breaker(
     alloc: Global,
@@ -182,11 +200,12 @@ pub extern "C" fn stunp_ice_checker_set_tie_breaker(
     answer
 }
 
-/// Writes a check to the front of `out`, and returns its length. What the agent needs to judge the
-/// answer is written to `check`.
+/// Writes a check to the front of `out`, and returns its length. Writes to `check` the data that
+/// the agent needs to judge the answer.
 ///
-/// Fails with `BadArgument` for the address, then with `CannotSign` if the credentials of the peer
-/// are not known yet, then with `OutOfMemory`, then with `BufferTooSmall`.
+/// Fails with `BadArgument` if `to` is not an IPv4 or IPv6 address, then with `CannotSign` if the
+/// credentials of the peer are not known yet, then with `OutOfMemory`, then with `BufferTooSmall`
+/// if the check does not fit into `out`.
 #[unsafe(no_mangle)]
 pub extern "C" fn stunp_ice_checker_check_with(
     alloc: Global,
@@ -213,11 +232,17 @@ pub extern "C" fn stunp_ice_checker_check_with(
 /// Writes a check like `stunp_ice_checker_check_with`, with the attributes of a body before its
 /// signature.
 ///
-/// Fails with `BadArgument` for the address, then with `CannotSign` if the credentials of the peer
-/// are not known yet, then with the first refusal of an attribute of the body: `NotAllowed`,
-/// `AttributeExists`, `MessageTooLong`, or `BadArgument` for bytes that are not an attribute. Then
-/// come `MessageTooLong` for the whole check, and `BufferTooSmall`. `OutOfMemory` may come in place
-/// of the refusal of an attribute and of any later one.
+/// # Errors
+///
+/// The first of these that applies. `OutOfMemory` may take the place of the error of an attribute
+/// and of any later one.
+///
+/// - `BadArgument`: `to` is not an IPv4 or IPv6 address.
+/// - `CannotSign`: the credentials of the peer are not known yet.
+/// - `NotAllowed`, `AttributeExists`, `MessageTooLong`, or `BadArgument` for bytes that are not an
+///   attribute: the error of the first attribute of the body that cannot be added.
+/// - `MessageTooLong`: the whole check is too long.
+/// - `BufferTooSmall`: the check does not fit into `out`.
 #[unsafe(no_mangle)]
 pub extern "C" fn stunp_ice_checker_check_body_with(
     alloc: Global,
@@ -243,14 +268,19 @@ pub extern "C" fn stunp_ice_checker_check_body_with(
     answer
 }
 
-/// Judges a datagram that came from an address, and returns the number of the result. If the
-/// datagram is a check of the peer, the answer is written to the front of `out`. `check` is the
-/// check of this agent that the datagram may answer, if `has_check` is true.
+/// Judges a datagram that arrived from an address. Writes the outcome to `received` and returns its
+/// `stunp_kind`. If the datagram is a check of the peer, writes the answer to the front of `out`.
+/// If `has_check` is true, `check` is the check of this agent that the datagram may answer.
 ///
-/// Fails with `BadArgument` for the size of the caller's struct, for the address, or for the
-/// address in `check`. Then come `OutOfMemory`, and `BufferTooSmall`, which writes how much room
-/// the answer needs. Every failure leaves the agent unchanged, and a result with the kind 7 and the
-/// length 0.
+/// # Errors
+///
+/// The first of these that applies. After an error the agent is unchanged, and `received` has the
+/// kind 7 and the length 0.
+///
+/// - `BadArgument`: the size of the caller's struct is wrong, or `from` or the address in `check`
+///   is not an IPv4 or IPv6 address.
+/// - `OutOfMemory`: an allocation failed.
+/// - `BufferTooSmall`: the answer does not fit into `out`. Its length is then in `received.needed`.
 #[unsafe(no_mangle)]
 pub extern "C" fn stunp_ice_checker_receive_with(
     alloc: Global,

@@ -19,13 +19,20 @@ use stun_handles::address::Address;
 use stun_handles::answers;
 use stun_numbers::refusal::Refusal;
 
-/// Creates a server with long-term credentials. A nonce lifetime of 0 seconds means an hour,
-/// algorithms of 0 mean both, and a SOFTWARE text without bytes means none.
+/// Creates a server with long-term credentials. If `nonce_seconds` is 0, nonces are valid for an
+/// hour. If `algorithms` is 0, both are supported. If the SOFTWARE text has no bytes, responses
+/// have no SOFTWARE.
 ///
-/// Fails with `FullHandle`, then with `BadArgument` for algorithms above 3, for a feature above 2,
-/// for a lifetime below 30 seconds or above 30 days, for a secret of one repeated byte, or for a
-/// previous secret like that or that is the secret. Then come `NotText` for the realm or SOFTWARE, `TextTooLong`
-/// for more than 763 bytes of either, and `OutOfMemory`.
+/// # Errors
+///
+/// The first of these that applies:
+///
+/// - `FullHandle`: the handle is not empty.
+/// - `BadArgument`: `algorithms` is above 3, `anonymous_username` is above 2, the nonce lifetime is
+///   below 30 seconds or above 30 days, a secret is one repeated byte, or both secrets are equal.
+/// - `NotText`: the realm or SOFTWARE is not UTF-8.
+/// - `TextTooLong`: the realm or SOFTWARE has more than 763 bytes.
+/// - `OutOfMemory`: an allocation failed.
 #[unsafe(no_mangle)]
 pub extern "C" fn stunp_endpoint_server_new_with(
     alloc: Global,
@@ -74,7 +81,7 @@ pub extern "C" fn stunp_endpoint_server_new_with(
     given.place(alloc, server)
 }
 
-/// Returns the previous secret, if there is one.
+/// Returns the previous secret, or `None` if the caller has passed none.
 fn previous(secret: &[u8; 32], is_there: bool) -> Option<[u8; 32]>
     ensures { result ≡ (if is_there then Some secret.now else None) }
 {
@@ -84,11 +91,11 @@ fn previous(secret: &[u8; 32], is_there: bool) -> Option<[u8; 32]>
     None
 }
 
-/// Creates a server with short-term credentials (RFC 8489, section 9.1). A SOFTWARE text without
-/// bytes means none.
+/// Creates a server with short-term credentials (RFC 8489, section 9.1). If the SOFTWARE text has
+/// no bytes, responses have no SOFTWARE.
 ///
-/// Fails with `FullHandle`, then with `NotText` for SOFTWARE, then with `TextTooLong` for more than
-/// 763 bytes of it, then with `OutOfMemory`.
+/// Fails with `FullHandle` if the handle is not empty, then with `NotText` if SOFTWARE is not
+/// UTF-8, then with `TextTooLong` if SOFTWARE has more than 763 bytes, then with `OutOfMemory`.
 #[unsafe(no_mangle)]
 pub extern "C" fn stunp_endpoint_server_new_short_term(
     alloc: Global,
@@ -118,11 +125,11 @@ pub extern "C" fn stunp_endpoint_server_new_short_term(
     given.place_short_term(alloc, server)
 }
 
-/// Creates a server without credentials, which responds to every client. A SOFTWARE text without
-/// bytes means none.
+/// Creates a server without credentials, which responds to every client. If the SOFTWARE text has
+/// no bytes, responses have no SOFTWARE.
 ///
-/// Fails with `FullHandle`, then with `NotText` for SOFTWARE, then with `TextTooLong` for more than
-/// 763 bytes of it, then with `OutOfMemory`.
+/// Fails with `FullHandle` if the handle is not empty, then with `NotText` if SOFTWARE is not
+/// UTF-8, then with `TextTooLong` if SOFTWARE has more than 763 bytes, then with `OutOfMemory`.
 #[unsafe(no_mangle)]
 pub extern "C" fn stunp_endpoint_server_new_open(
     alloc: Global,
@@ -160,15 +167,24 @@ pub extern "C" fn stunp_endpoint_server_clear(alloc: Global, server: &mut Endpoi
     let _kept = server.take(alloc);
 }
 
-/// Judges a datagram that came from an address, and returns the number of the result. If the server
-/// responds by itself, the response is written to the front of `out`. `unix_seconds` is the time of
-/// the wall clock. A server without credentials ignores the users.
+/// Judges a datagram that arrived from an address. Writes the outcome to `received` and returns its
+/// `stunp_kind`. If the server responds by itself, writes the response to the front of `out`.
+/// `unix_seconds` is the time of the wall clock. A server without credentials ignores the users.
 ///
-/// Fails with `EmptyHandle` or `WrongHandle` for the server's handle, then for that of the users.
-/// `WrongHandle` means that the value is of another kind, or that the users have another kind of
-/// credentials. Then come `BadArgument` for the size of the caller's struct, for the time or for
-/// the address, `OutOfMemory`, and `BufferTooSmall`, which writes how much room the response needs.
-/// A result of a call that fails has the kind 7 and the length 0.
+/// # Errors
+///
+/// The first of these that applies. After an error, `received` has the kind 7 and the length 0.
+///
+/// - `EmptyHandle`: the server's handle is empty.
+/// - `WrongHandle`: the server's handle has no server.
+/// - `EmptyHandle`: the server has credentials, but the users' handle is empty.
+/// - `WrongHandle`: the server has credentials, but the users' handle has no users with such
+///   credentials.
+/// - `BadArgument`: the size of the caller's struct is wrong, `unix_seconds` is too large, or
+///   `from` is not an IPv4 or IPv6 address.
+/// - `OutOfMemory`: an allocation failed.
+/// - `BufferTooSmall`: the response does not fit into `out`. Its length is then in
+///   `received.needed`.
 #[unsafe(no_mangle)]
 pub extern "C" fn stunp_endpoint_server_receive_own(
     alloc: Global,
@@ -202,10 +218,12 @@ pub extern "C" fn stunp_endpoint_server_receive_own(
     answer
 }
 
-/// Judges a datagram that came from an address, like `stunp_endpoint_server_receive_own`, and also
-/// writes the number of the cause for which a server with long-term credentials refuses it, or 0.
+/// Judges a datagram that arrived from an address, like `stunp_endpoint_server_receive_own`, and
+/// also writes to `cause` the `stunp_cause` for which a server with long-term credentials refuses
+/// it, or 0 if there is none.
 ///
-/// Fails as that call does. The cause is then 0, unless it is only that the response has no room.
+/// Fails like that call. After an error `cause` is 0, except that after `BufferTooSmall` it is the
+/// cause of the response that does not fit.
 #[unsafe(no_mangle)]
 pub extern "C" fn stunp_endpoint_server_receive_with_cause_own(
     alloc: Global,
@@ -252,13 +270,21 @@ pub extern "C" fn stunp_endpoint_server_receive_with_cause_own(
     answer
 }
 
-/// Judges a datagram as far as that is possible without its user, and returns the number of the
-/// result, which is 5 if the datagram is a request whose user must be looked up.
+/// Judges a datagram as far as that is possible without the user. Writes the outcome to `received`
+/// and returns its `stunp_kind`, which is 5 if the datagram is a request whose user must be looked
+/// up.
 ///
-/// Fails with `EmptyHandle`, or with `WrongHandle` for anything but a server with long-term
-/// credentials. Then come `BadArgument` for the size of the caller's struct, for the time or for
-/// the address, `OutOfMemory`, and `BufferTooSmall`, which writes how much room the response needs.
-/// A result of a call that fails has the kind 7 and the length 0.
+/// # Errors
+///
+/// The first of these that applies. After an error, `received` has the kind 7 and the length 0.
+///
+/// - `EmptyHandle`: the handle is empty.
+/// - `WrongHandle`: the handle has anything except a server with long-term credentials.
+/// - `BadArgument`: the size of the caller's struct is wrong, `unix_seconds` is too large, or
+///   `from` is not an IPv4 or IPv6 address.
+/// - `OutOfMemory`: an allocation failed.
+/// - `BufferTooSmall`: the response does not fit into `out`. Its length is then in
+///   `received.needed`.
 #[unsafe(no_mangle)]
 pub extern "C" fn stunp_endpoint_server_identify_own(
     alloc: Global,
@@ -284,16 +310,24 @@ pub extern "C" fn stunp_endpoint_server_identify_own(
     answer
 }
 
-/// Judges the request of a look-up by the user who was found, with a password or with stored keys, and
-/// returns the number of the result. It is that of a table of this one user, and only the key that the
-/// request needs is made. A key without bytes is missing.
+/// Judges a request whose user the caller has looked up, with the name of this user and the
+/// password or the stored keys. Writes the outcome to `received` and returns its `stunp_kind`. The
+/// outcome is the same as with a table that has only this user, but only the key that the request
+/// needs is made. A key without bytes is missing.
 ///
-/// Fails with `EmptyHandle`, or with `WrongHandle` for anything but a server with long-term
-/// credentials. Then come `NotText` for the name or the password, `TextTooLong` for a name of more
-/// than 513 bytes, and `BadArgument` for a password without bytes, for the length of a key, for the
-/// size of the caller's struct, for the time or for the address. The last are `OutOfMemory`, and
-/// `BufferTooSmall`, which writes how much room the response needs. A result of a call that fails has
-/// the kind 7 and the length 0.
+/// # Errors
+///
+/// The first of these that applies. After an error, `received` has the kind 7 and the length 0.
+///
+/// - `EmptyHandle`: the handle is empty.
+/// - `WrongHandle`: the handle has anything except a server with long-term credentials.
+/// - `NotText`: the name or the password is not UTF-8.
+/// - `TextTooLong`: the name has more than 513 bytes.
+/// - `BadArgument`: the password has no bytes, a key has a wrong length, the size of the caller's
+///   struct is wrong, `unix_seconds` is too large, or `from` is not an IPv4 or IPv6 address.
+/// - `OutOfMemory`: an allocation failed.
+/// - `BufferTooSmall`: the response does not fit into `out`. Its length is then in
+///   `received.needed`.
 #[unsafe(no_mangle)]
 pub extern "C" fn stunp_endpoint_server_resume_own(
     alloc: Global,
@@ -331,13 +365,19 @@ pub extern "C" fn stunp_endpoint_server_resume_own(
     answer
 }
 
-/// Returns the number of the cause for which a server with long-term credentials refuses a datagram,
-/// or 0 if it does not.
+/// Returns the `stunp_cause` for which a server with long-term credentials refuses a datagram, or 0
+/// if the server does not refuse it.
 ///
-/// Fails with `EmptyHandle` for the server's handle, or with `WrongHandle` if it has anything but a
-/// server with long-term credentials. The users' handle is next: `EmptyHandle`, and `WrongHandle` if
-/// it has anything but users of a realm. Then come `BadArgument` for the time or for the address, and
-/// `OutOfMemory`.
+/// # Errors
+///
+/// The first of these that applies:
+///
+/// - `EmptyHandle`: the server's handle is empty.
+/// - `WrongHandle`: the server's handle has anything except a server with long-term credentials.
+/// - `EmptyHandle`: the users' handle is empty.
+/// - `WrongHandle`: the users' handle has anything except users with long-term credentials.
+/// - `BadArgument`: `unix_seconds` is too large, or `from` is not an IPv4 or IPv6 address.
+/// - `OutOfMemory`: an allocation failed.
 #[unsafe(no_mangle)]
 pub extern "C" fn stunp_endpoint_server_cause_own(
     alloc: Global,

@@ -1,7 +1,7 @@
 //! The calls on a table of users (RFC 8489, section 9.2.2).
 //!
-//! A call fails first with `EmptyHandle` if its handle is empty, and with `WrongHandle` if it has no
-//! table of users.
+//! A call fails first with `EmptyHandle` if its handle is empty, and with `WrongHandle` if the
+//! handle has no table of users.
 
 ghost use Rattle.std.specs.Prelude.{◌≡◌, pos, Some, None, IfErr, IfNone, IfOk};
 ghost use Rattle.stun_handles.specs.Numbers.{OrOutOfMemory};
@@ -17,10 +17,12 @@ use std::alloc::Global;
 use stun_handles::answers;
 use stun_numbers::refusal::Refusal;
 
-/// Creates an empty table of users for a server: for its realm and algorithms, or of users with
-/// short-term credentials. Fails with `FullHandle`, then with `EmptyHandle` for the server's handle,
-/// or with `WrongHandle` if that has no server, or one without credentials. Then comes
-/// `OutOfMemory`.
+/// Creates an empty table of users for a server. If the server has short-term credentials, so have
+/// the users. Otherwise they are users of the server's realm, with keys for its algorithms.
+///
+/// Fails with `FullHandle` if the table's handle is not empty, then with `EmptyHandle` if the
+/// server's handle is empty, then with `WrongHandle` if the server's handle has no server or has a
+/// server without credentials, then with `OutOfMemory`.
 #[unsafe(no_mangle)]
 pub extern "C" fn stunp_endpoint_users_new_own(
     alloc: Global,
@@ -60,9 +62,11 @@ pub extern "C" fn stunp_endpoint_users_clear(alloc: Global, users: &mut Endpoint
     let _kept = users.take(alloc);
 }
 
-/// Adds a user with a password, or replaces the user of this name. Fails with `NotText`, then with
-/// `TextTooLong` for a name of more than 513 bytes, then with `BadArgument` for a password without
-/// bytes, then with `OutOfMemory`.
+/// Adds a user with a password, or replaces the user with this name.
+///
+/// Fails with `NotText` if the name or the password is not UTF-8, then with `TextTooLong` if the
+/// name has more than 513 bytes, then with `BadArgument` if the password has no bytes, then with
+/// `OutOfMemory`.
 #[unsafe(no_mangle)]
 pub extern "C" fn stunp_endpoint_users_add(
     alloc: Global,
@@ -81,12 +85,12 @@ pub extern "C" fn stunp_endpoint_users_add(
     answer
 }
 
-/// Adds a user with stored keys, of 16 bytes for HMAC-SHA1 and of 32 for HMAC-SHA256, or replaces
-/// the user of this name. A key without bytes is missing. Users with short-term credentials have no
-/// stored keys, so for their table the call fails with `WrongHandle`.
+/// Adds a user with stored keys, or replaces the user with this name. The key for HMAC-SHA1 has 16
+/// bytes, and the key for HMAC-SHA256 has 32. A key without bytes is missing. Users with short-term
+/// credentials have no stored keys, so for a table of such users the call fails with `WrongHandle`.
 ///
-/// Fails with `NotText`, then with `TextTooLong` for a name of more than 513 bytes, then with
-/// `BadArgument` for the length of a key, then with `OutOfMemory`.
+/// Fails with `NotText` if the name is not UTF-8, then with `TextTooLong` if the name has more than
+/// 513 bytes, then with `BadArgument` if a key has a wrong length, then with `OutOfMemory`.
 #[unsafe(no_mangle)]
 pub extern "C" fn stunp_endpoint_users_add_keys(
     alloc: Global,
@@ -106,7 +110,8 @@ pub extern "C" fn stunp_endpoint_users_add_keys(
     answer
 }
 
-/// Removes a user, if the table has one of this name. Fails with `NotText`.
+/// Removes the user with this name. Does nothing if the table has no such user. Fails with
+/// `NotText` if the name is not UTF-8.
 #[unsafe(no_mangle)]
 pub extern "C" fn stunp_endpoint_users_remove(
     alloc: Global,

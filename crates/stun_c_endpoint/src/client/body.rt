@@ -1,4 +1,4 @@
-//! The body of a request, which a caller passes as encoded attributes.
+//! Decodes the body of a request, which a caller passes as encoded attributes.
 
 ghost use Rattle.std.specs.Prelude.{◌≡◌, ◌⊎◌, Err, IfErr, IfOk, Ok, OnOk, [], drop, length};
 ghost use Rattle.stun_types.specs.Attribute.{attribute_length};
@@ -12,10 +12,11 @@ use stun_client_endpoint::body::{Body, BodyError};
 use stun_numbers::refusal::Refusal;
 use stun_types::attribute::RawAttribute;
 
-/// XOR-PEER-ADDRESS, whose value depends on the transaction ID.
+/// The type XOR-PEER-ADDRESS. Its value is XORed with the transaction ID, which a caller does not
+/// know.
 const XOR_PEER_ADDRESS: u16 = 0x0012;
 
-/// Returns the refusal of an attribute that cannot be in a body.
+/// Converts the library's error for an attribute that cannot be added to a body.
 fn refusal_of_attribute(error: BodyError) -> Refusal
     ensures { result ≡ refusal_of_attribute error }
 {
@@ -23,12 +24,13 @@ fn refusal_of_attribute(error: BodyError) -> Refusal
         BodyError::NotAllowed => Refusal::NotAllowed,
         BodyError::TooLarge => Refusal::MessageTooLong,
         BodyError::OutOfMemory => Refusal::OutOfMemory,
-        // There is no other one in this release.
+        // There is no other variant in this release.
         _ => Refusal::BadArgument,
     }
 }
 
-/// Reads the address of a peer, which is not XORed yet.
+/// Returns the address of a peer in a value of XOR-PEER-ADDRESS that is not XORed. Returns `None`
+/// if the value is malformed.
 fn peer_of(value: &[u8]) -> Option<SocketAddr>
     ensures { result ≡ peer_of value.now }
 {
@@ -47,7 +49,8 @@ fn peer_of(value: &[u8]) -> Option<SocketAddr>
     None
 }
 
-/// Adds an attribute to a body.
+/// Adds an attribute to a body. Fails with `NotAllowed`, `MessageTooLong`, `BadArgument` or
+/// `OutOfMemory` if it cannot be added.
 fn add(body: &mut Body<Global>, attribute: &RawAttribute<'_>) -> Result<(), Refusal>
     ensures ok { OnOk result (with_attribute body.old attribute.now ≡ Ok body.new) }
     ensures refused { IfErr result (λ refusal. (refusal ≡ Refusal.OutOfMemory)
@@ -67,7 +70,7 @@ fn add(body: &mut Body<Global>, attribute: &RawAttribute<'_>) -> Result<(), Refu
     }
 }
 
-/// Returns the bytes that follow the attribute with which bytes begin.
+/// Returns the bytes after the attribute at the front of `bytes`, and after its padding.
 pub fn after<'a>(bytes: &'a [u8], attribute: &RawAttribute<'_>) -> &'a [u8]
     ensures { result.now ≡ drop (attribute_length (length attribute.now.value)) bytes.now }
 {
@@ -77,7 +80,8 @@ pub fn after<'a>(bytes: &'a [u8], attribute: &RawAttribute<'_>) -> &'a [u8]
     }
 }
 
-/// Reads the body that these bytes encode.
+/// Decodes the body that `bytes` encode. Fails with the error of the first attribute that cannot be
+/// added, and with `BadArgument` for bytes that are not an attribute.
 pub fn body_of(alloc: Global, bytes: &[u8]) -> Result<Body<Global>, Refusal>
     ensures ok { IfOk result (λ body. Reads [] bytes.now (Ok body)) }
     ensures refused { IfErr result (λ refusal. (refusal ≡ Refusal.OutOfMemory)

@@ -1,31 +1,38 @@
-//! What the calls on a client do with the client of a handle.
+//! Makes the calls on the client that a handle has.
 
-ghost use Rattle.std.specs.Prelude.{◌≡◌, Ok, Some, length, nat_lt};
+ghost use Rattle.std.specs.Option.{option_copied, option_map};
+ghost use Rattle.std.specs.Prelude.{◌≡◌, ◌⊎◌, Err, IfOk, IsOkUnless, MatchOption, Ok, OnErr, OnOk};
+ghost use Rattle.std.specs.Prelude.{Some, length, nat_lt};
 ghost use Rattle.stun_handles.specs.Numbers.{done_answer, number_answer};
-ghost use Rattle.stun_client_calls.specs.Clients.{told_of, transmit as transmitted};
+ghost use Rattle.stun_client_calls.specs.Clients.{refusal_to_start, started, told_of};
+ghost use Rattle.stun_client_calls.specs.Clients.{transmit as transmitted};
+ghost use Rattle.stun_client_calls.specs.Options.{options_of};
 ghost use Rattle.stun_c_endpoint.specs.Clients.{AsksAs, CancelsAs, HearsAs, PollsAs};
 ghost use Rattle.stun_c_endpoint.specs.Clients.{Tells, TellsDropped, WritesTold, client_of};
-ghost use Rattle.stun_c_endpoint.specs.Clients.{or_for_ever, received_number, refusal_of_request, why_told};
-ghost use Rattle.stun_c_endpoint.specs.Events.{event_unless};
+ghost use Rattle.stun_c_endpoint.specs.Clients.{received_number, refusal_of_request, why_told};
+ghost use Rattle.stun_c_endpoint.specs.Events.{event_unless, or_for_ever};
 ghost use Rattle.stun_c_endpoint.specs.declared.handle.endpoint.Kept.TheVariants as kind;
 
 use crate::client::body::body_of;
 use crate::client::event::{Dropped, EVENT_SIZE, Event, drop_number};
+use crate::client::options::RequestOptions;
 use crate::handle::endpoint::Kept;
 use std::alloc::Global;
 use stun_base::instant::Instant;
 use stun_client_calls::endpoint::ClientEndpoint;
+use stun_client_calls::options::RequestOptions as Options;
 use stun_client_calls::told::Polled;
+use stun_client_endpoint::body::Body;
 use stun_client_endpoint::told::{Received, RequestError};
 use stun_handles::address::Address;
 use stun_numbers::buffer::put;
 use stun_numbers::refusal::Refusal;
 use stun_types::message::Method;
 
-/// The end of a wait if no request is outstanding.
+/// The greatest time in nanoseconds: the time to wait until if no request is outstanding.
 const FOR_EVER: u64 = 18_446_744_073_709_551_615;
 
-/// Returns the refusal of a request that is not started.
+/// Converts the library's error for a request that could not be started.
 fn refusal_of_request(error: RequestError) -> Refusal
     ensures { result ≡ refusal_of_request error }
 {
@@ -33,40 +40,44 @@ fn refusal_of_request(error: RequestError) -> Refusal
         RequestError::NoId => Refusal::AlreadyInProgress,
         RequestError::TooLarge => Refusal::MessageTooLong,
         RequestError::OutOfMemory => Refusal::OutOfMemory,
-        // There is no other one in this release.
+        // There is no other variant in this release.
         _ => Refusal::BadArgument,
     }
 }
 
-/// Starts a request of the client of a handle, and writes its number.
+/// Starts a request of the client, with options or without them, and writes its number to
+/// `request`. Fails with `WrongHandle` if the value is not a client.
 pub fn ask(
     alloc: Global,
     kept: &mut Kept,
     method: u32,
     body: &[u8],
+    options: Option<&RequestOptions>,
     now: u64,
     request: &mut u64,
 ) -> Result<(), Refusal>
-    ensures { AsksAs (client_of kept.old) method body.now now (done_answer result) request.old
-        request.new (Some kept.old) (Some kept.new) }
+    ensures { AsksAs (client_of kept.old) method body.now (option_copied options.entry) now
+        (done_answer result) request.old request.new (Some kept.old) (Some kept.new) }
 {
     match kept {
-        Kept::Client(client) => ask_of(alloc, client, method, body, now, request),
+        Kept::Client(client) => ask_of(alloc, client, method, body, options, now, request),
         _ => Err(Refusal::WrongHandle),
     }
 }
 
-/// Starts a request of this client, and writes its number.
+/// Starts a request of this client, and writes its number to `request`.
 fn ask_of(
     alloc: Global,
     client: &mut ClientEndpoint<Global>,
     method: u32,
     body: &[u8],
+    options: Option<&RequestOptions>,
     now: u64,
     request: &mut u64,
 ) -> Result<(), Refusal>
-    ensures { AsksAs (Ok client.old) method body.now now (done_answer result) request.old
-        request.new (Some (kind.Client client.old)) (Some (kind.Client client.new)) }
+    ensures { AsksAs (Ok client.old) method body.now (option_copied options.entry) now
+        (done_answer result) request.old request.new (Some (kind.Client client.old))
+        (Some (kind.Client client.new)) }
 {
     if method > 4095 {
         return Err(Refusal::BadArgument);
@@ -74,8 +85,12 @@ fn ask_of(
     let Some(method) = Method::new(method as u16) else {
         return Err(Refusal::BadArgument);
     };
+    let options = match options {
+        Some(options) => Some(options.for_client(client)?),
+        None => None,
+    };
     let body = body_of(alloc, body)?;
-    match client.request(method, body, Instant::from_nanos(now)) {
+    match start(client, method, body, options, Instant::from_nanos(now)) {
         Ok(number) => {
             *request = number;
             Ok(())
@@ -84,7 +99,30 @@ fn ask_of(
     }
 }
 
-/// Returns the number of the result for a datagram, and writes why it is dropped.
+/// Starts a request, with options or without them, and returns its number.
+fn start(
+    client: &mut ClientEndpoint<Global>,
+    method: Method,
+    body: Body<Global>,
+    options: Option<Options>,
+    now: Instant,
+) -> Result<u64, RequestError>
+    ensures refused { MatchOption (refusal_to_start client.old method body
+        (option_map options_of options))
+        (IsOkUnless result RequestError.OutOfMemory)
+        (λ why. (result ≡ Err why) ⊎ (result ≡ Err RequestError.OutOfMemory)) }
+    ensures number { IfOk result (λ number. number ≡ client.old.requests.next) }
+    ensures after { OnOk result (client.new
+        ≡ started method body (option_map options_of options) now client.old) }
+    ensures same { OnErr result (client.new ≡ client.old) }
+{
+    match options {
+        Some(options) => client.request_with(method, body, options, now),
+        None => client.request(method, body, now),
+    }
+}
+
+/// Returns the `stunp_kind` of a datagram. If it is dropped, writes the `stunp_drop` to `why`.
 fn told(received: &Received<'_>, why: &mut u32) -> u32
     ensures number { result ≡ received_number received.now }
     ensures why { why.new ≡ why_told received.now why.old }
@@ -97,12 +135,13 @@ fn told(received: &Received<'_>, why: &mut u32) -> u32
             *why = drop_number(*reason);
             0
         }
-        // There is no other one in this release.
+        // There is no other variant in this release.
         _ => 0,
     }
 }
 
-/// Reads a datagram with the client of a handle, and returns the number of the result.
+/// Passes a datagram to the client, and returns its `stunp_kind`. If it is dropped, writes the
+/// `stunp_drop` to `why`. Fails with `WrongHandle` if the value is not a client.
 pub fn hear(
     kept: &mut Kept,
     message: &[u8],
@@ -119,7 +158,8 @@ pub fn hear(
     }
 }
 
-/// Reads a datagram with this client, and returns the number of the result.
+/// Passes a datagram to this client, and returns its `stunp_kind`. If it is dropped, writes the
+/// `stunp_drop` to `why`.
 fn hear_by(
     client: &mut ClientEndpoint<Global>,
     message: &[u8],
@@ -135,7 +175,7 @@ fn hear_by(
     Ok(told(&received, why))
 }
 
-/// Returns the time until which to wait.
+/// Converts the time until which to wait to nanoseconds. Returns `FOR_EVER` if it is `None`.
 fn until_told(until: Option<Instant>) -> u64
     ensures { result ≡ or_for_ever until }
 {
@@ -145,8 +185,8 @@ fn until_told(until: Option<Instant>) -> u64
     }
 }
 
-/// Writes bytes to the front of the buffer and returns this number, if the bytes fit. If they do not,
-/// the event says so.
+/// Copies bytes to the front of `out`, and returns `number`. If they do not fit, marks the event as
+/// failed, and fails with `BufferTooSmall`.
 fn written(bytes: &[u8], number: u32, out: &mut [u8], event: &mut Event) -> Result<u32, Refusal>
     ensures event { event.new ≡ event_unless (nat_lt (length out.old) (length bytes.now))
         (length bytes.now) event.old }
@@ -161,7 +201,8 @@ fn written(bytes: &[u8], number: u32, out: &mut [u8], event: &mut Event) -> Resu
     Ok(number)
 }
 
-/// Polls the client of a handle, and writes the next thing to do.
+/// Polls the client, and writes the next thing to do to `event`, and bytes to `out`. Returns the
+/// `stunp_event_kind`. Fails with `WrongHandle` if the value is not a client.
 pub fn poll(kept: &mut Kept, now: u64, out: &mut [u8], event: &mut Event) -> Result<u32, Refusal>
     ensures { PollsAs (client_of kept.old) now (number_answer result) out.old out.new event.old
         event.new (Some kept.old) (Some kept.new) }
@@ -172,7 +213,8 @@ pub fn poll(kept: &mut Kept, now: u64, out: &mut [u8], event: &mut Event) -> Res
     }
 }
 
-/// Polls this client, and writes the next thing to do.
+/// Polls this client, and writes the next thing to do to `event`, and bytes to `out`. Fails with
+/// `BadArgument` if the size of the event is wrong.
 fn poll_by(
     client: &mut ClientEndpoint<Global>,
     now: u64,
@@ -189,7 +231,7 @@ fn poll_by(
     tell(client, &polled, out, event)
 }
 
-/// Writes the next thing to do, and returns its number.
+/// Writes the result of a poll to `event`, and bytes to `out`. Returns the `stunp_event_kind`.
 fn tell(
     client: &ClientEndpoint<Global>,
     polled: &Polled<Global>,
@@ -209,12 +251,12 @@ fn tell(
             event.waits(until_told(*until));
             written(&[], 0, out, event)
         }
-        // There is no other one in this release.
+        // There is no other variant in this release.
         _ => Err(Refusal::BadArgument),
     }
 }
 
-/// Writes the bytes of a request, which are to be sent.
+/// Writes to `out` the bytes of a request to send, and sets the event to this request.
 fn transmit(
     client: &ClientEndpoint<Global>,
     number: u64,
@@ -236,7 +278,8 @@ fn transmit(
     }
 }
 
-/// Cancels a request of the client of a handle, and returns 1, or 0 if the request has ended.
+/// Cancels a request of the client, and returns 1, or 0 if the request has ended. Fails with
+/// `WrongHandle` if the value is not a client.
 pub fn cancel(kept: &mut Kept, number: u64) -> Result<u32, Refusal>
     ensures { CancelsAs (client_of kept.old) number (number_answer result) (Some kept.old)
         (Some kept.new) }
@@ -247,8 +290,9 @@ pub fn cancel(kept: &mut Kept, number: u64) -> Result<u32, Refusal>
     }
 }
 
-/// Writes what was dropped for a request of the client of a handle, and returns 1, or 0 if the
-/// request has ended.
+/// Writes to `dropped` how many responses to an outstanding request were dropped, and why the last
+/// one was. Returns 1, or 0 if the request has ended. Fails with `WrongHandle` if the value is not
+/// a client.
 pub fn tell_dropped(kept: &Kept, number: u64, dropped: &mut Dropped) -> Result<u32, Refusal>
     ensures { TellsDropped (client_of kept.now) number (number_answer result) dropped.old
         dropped.new }

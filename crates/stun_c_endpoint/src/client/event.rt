@@ -1,28 +1,32 @@
-//! The structs that a caller receives for the next thing to do and for dropped responses.
+//! The structs in which a caller receives the next thing to do, and the dropped responses to a
+//! request.
 
+ghost use Rattle.std.specs.Duration.{as_nanos};
+ghost use Rattle.std.specs.Option.{option_map};
 ghost use Rattle.std.specs.Prelude.{◌≡◌, true};
 ghost use Rattle.stun_c_endpoint.specs.Events.{drop_told, drops_told, end_told, ended_told};
 ghost use Rattle.stun_c_endpoint.specs.Events.{event_blank, event_failed, event_unless};
-ghost use Rattle.stun_c_endpoint.specs.Events.{outcome_told, sent_told, wait_told};
+ghost use Rattle.stun_c_endpoint.specs.Events.{outcome_told, sent_told, trip_told, wait_told};
 
 use crate::received::{FAILED, integrity_number};
 use std::alloc::Global;
+use std::time::Duration;
 use stun_client::judged::Outcome;
 use stun_client_calls::asked::End;
 use stun_client_endpoint::ended::{DropReason, Drops, RequestEnd};
 
-/// The size of the caller's event, which begins with this number.
-pub const EVENT_SIZE: usize = 72;
+/// The size of `Event` in bytes, which its first field must state.
+pub const EVENT_SIZE: usize = 80;
 
-/// What was dropped for a request.
+/// The responses that were dropped for a request.
 #[repr(C)]
 #[derive(Clone, Copy)]
 pub struct Dropped {
     /// The number of responses that were dropped.
     pub count: u32,
-    /// The number of the reason for which the last of them was dropped.
+    /// The `stunp_drop` of the last dropped response, or 0 if none was dropped.
     pub why: u32,
-    /// The error code of the last of them, or 0 if it had none.
+    /// The error code of the last dropped response, or 0 if that response had none.
     pub code: u32,
 }
 
@@ -31,29 +35,33 @@ pub struct Dropped {
 pub struct Event {
     /// The size of this struct in the caller's program.
     pub size: usize,
-    /// The number of its kind.
+    /// What to do, a `stunp_event_kind`.
     pub kind: u32,
-    /// The number of the way in which a request ended.
+    /// How a request has ended, a `stunp_result`.
     pub result: u32,
-    /// The number of the request that ended, or whose bytes are to be sent.
+    /// The number of the request that has ended, or whose bytes must be sent.
     pub request: u64,
-    /// The time until which to wait.
+    /// The time until which to wait, in nanoseconds.
     pub until: u64,
-    /// The number of bytes in the buffer.
+    /// The number of bytes that were written to the buffer.
     pub length: usize,
-    /// The number of bytes that the buffer had no room for.
+    /// The number of bytes that are lost, because they did not fit into the buffer.
     pub needed: usize,
     /// The code of an error response.
     pub code: u32,
-    /// The type of the attribute that the client does not understand, although it must.
+    /// The type of a comprehension-required attribute in the response that the client does not
+    /// understand.
     pub not_understood: u16,
-    /// The algorithm of the signature of a response, or 0 if it is not signed.
+    /// The algorithm of the response's signature, or 0 if no signature was verified.
     pub signed_by: u16,
-    /// What was dropped for the request.
+    /// The responses that were dropped for a request that has timed out.
     pub dropped: Dropped,
+    /// The nanoseconds between the message that was answered and its response, or `u64::MAX` if
+    /// they are not known.
+    pub round_trip: u64,
 }
 
-/// Returns the number of a reason to drop a response.
+/// Returns the `stunp_drop` of a reason to drop a response.
 pub fn drop_number(why: DropReason) -> u32
     ensures { result ≡ drop_told why }
 {
@@ -66,13 +74,24 @@ pub fn drop_number(why: DropReason) -> u32
         DropReason::OutOfMemory => 12,
         DropReason::LateChallenge => 14,
         DropReason::Refused => 15,
-        // There is no other one in this release.
+        // There is no other variant in this release.
         _ => 0,
     }
 }
 
+/// Converts a round-trip time to nanoseconds. Returns `u64::MAX` if the time is not known, or does
+/// not fit into 64 bits.
+fn trip_told(round_trip: Option<Duration>) -> u64
+    ensures { result ≡ trip_told (option_map as_nanos round_trip) }
+{
+    match round_trip {
+        Some(time) => time.as_nanos().min(u128::from(u64::MAX)) as u64,
+        None => u64::MAX,
+    }
+}
+
 impl Dropped {
-    /// Converts what was dropped to what a caller receives.
+    /// Converts the number of dropped responses, and the reason and the code of the last one.
     pub fn of(drops: Drops) -> Dropped
         ensures { result ≡ drops_told drops }
     {
@@ -93,7 +112,7 @@ impl Dropped {
 }
 
 impl Event {
-    /// Resets the event, and sets its kind.
+    /// Sets the kind, and resets all other fields except the size.
     fn begin(&mut self, kind: u32)
         ensures { self.new ≡ event_blank kind self.old }
     {
@@ -111,10 +130,11 @@ impl Event {
             why: 0,
             code: 0,
         };
+        self.round_trip = 0;
     }
 
-    /// Sets that the call has failed, which holds until the event is set. A struct of another size
-    /// may lack the fields behind the length.
+    /// Sets the kind to `FAILED`, until another event is set. If the size is wrong, sets only the
+    /// kind and the length, because the struct may lack the fields after them.
     pub fn fails(&mut self)
         ensures { self.new ≡ event_failed self.old }
     {
@@ -126,7 +146,8 @@ impl Event {
         }
     }
 
-    /// Sets that the bytes of the event are lost, and how many they were.
+    /// Marks the event as failed because its bytes did not fit into the buffer, and sets `needed`
+    /// to their number.
     pub fn loses(&mut self, count: usize)
         ensures { self.new ≡ event_unless true count self.old }
     {
@@ -135,7 +156,7 @@ impl Event {
         self.needed = count;
     }
 
-    /// Sets the time until which to wait.
+    /// Sets the event to a wait until this time.
     pub fn waits(&mut self, until: u64)
         ensures { self.new ≡ wait_told until self.old }
     {
@@ -143,7 +164,7 @@ impl Event {
         self.until = until;
     }
 
-    /// Sets the number of a request and the number of its bytes, which are to be sent.
+    /// Sets the event to a request to send, with its number and the number of its bytes.
     pub fn sends(&mut self, number: u64, length: usize)
         ensures { self.new ≡ sent_told number length self.old }
     {
@@ -152,17 +173,18 @@ impl Event {
         self.length = length;
     }
 
-    /// Sets the number of the request that ended, and its end.
+    /// Sets the event to a request that has ended, with its number and how it ended.
     pub fn ends(&mut self, request: u64, end: &End<Global>)
         ensures { self.new ≡ ended_told request end.now self.old }
     {
         self.begin(2);
         self.request = request;
         self.length = end.response.len();
+        self.round_trip = trip_told(end.round_trip);
         self.ended(end.end);
     }
 
-    /// Sets the end of a request.
+    /// Sets how the request has ended.
     fn ended(&mut self, end: RequestEnd)
         ensures { self.new ≡ end_told end self.old }
     {
@@ -177,12 +199,12 @@ impl Event {
             }
             RequestEnd::Unauthorized => self.result = 5,
             RequestEnd::Cancelled => self.result = 8,
-            // There is no other one in this release.
+            // There is no other variant in this release.
             _ => {}
         }
     }
 
-    /// Sets what a response that was accepted means.
+    /// Sets the result for a response that was accepted.
     fn answered(&mut self, outcome: Outcome)
         ensures { self.new ≡ outcome_told outcome self.old }
     {
@@ -201,7 +223,7 @@ impl Event {
                 self.not_understood = kind.value();
             }
             Outcome::Malformed => self.result = 7,
-            // There is no other one in this release.
+            // There is no other variant in this release.
             _ => {}
         }
     }

@@ -1,4 +1,4 @@
-//! Creating a client from what a caller passes.
+//! Creates a client from the arguments that a caller passes.
 
 ghost use Rattle.std.specs.Prelude.{◌≡◌, ◌++◌, IfOk, None};
 ghost use Rattle.stun_extra.specs.Unknown.{types_of};
@@ -37,7 +37,7 @@ use stun_numbers::text::text;
 use stun_types::limits::{TEXT_LIMIT, USERNAME_LIMIT};
 use stun_types::message::{IntegrityAlgorithm, LongTermCredentials, PreparedKey};
 
-/// The types of attributes that must be understood and that the header names. Each client
+/// The types of all attributes in `include/stunp.h` that must be understood. Each client
 /// understands them in responses.
 pub const UNDERSTOOD: [AttributeType; 28] = [
     AttributeType(0x0001),
@@ -74,7 +74,7 @@ pub const UNDERSTOOD: [AttributeType; 28] = [
 /// 6.2.1).
 const INITIAL: u64 = 500_000_000;
 
-/// The default longest wait between two transmissions: they have no bound.
+/// The default longest wait between two transmissions. It means that the waits have no bound.
 const LONGEST: u64 = 18_446_744_073_709_551_615;
 
 /// The default wait after the last transmission, in nanoseconds.
@@ -86,22 +86,22 @@ const TRANSMISSIONS: u32 = 7;
 /// The default number of challenges for which a request is sent again.
 const CHALLENGES: u32 = 6;
 
-/// The number of short-term credentials.
+/// The number for short-term credentials.
 const SHORT_TERM: u32 = 1;
 
-/// The number of HMAC-SHA1 alone.
+/// The number for HMAC-SHA1 alone.
 const ONLY_SHA1: u32 = 1;
 
-/// The number of HMAC-SHA256 alone.
+/// The number for HMAC-SHA256 alone.
 const ONLY_SHA256: u32 = 2;
 
-/// The number of both algorithms, which is the greatest one.
+/// The number for both algorithms. It is the greatest number.
 const BOTH: u32 = 3;
 
-/// The greatest number for a feature: names are never hashed.
+/// The greatest number for a feature. It means that names are never hashed.
 const DISABLED: u32 = 2;
 
-/// The numbers among the settings of a client. A number that is 0 stands for its default.
+/// The options of a client. A number that is 0 has its default.
 #[repr(C)]
 #[derive(Clone, Copy)]
 pub struct ClientOptions {
@@ -115,13 +115,13 @@ pub struct ClientOptions {
     pub transmissions: u32,
     /// The number of challenges for which a request is sent again.
     pub challenges: u32,
-    /// The kind of the credentials.
+    /// The kind of the credentials, a `stunp_credentials`.
     pub credentials: u32,
-    /// The algorithms that are supported.
+    /// The supported algorithms: 1 is HMAC-SHA1, 2 is HMAC-SHA256, and 3 is both.
     pub algorithms: u32,
-    /// Whether the user name is sent as a hash.
+    /// When the user name is sent as a hash, a `stunp_feature`.
     pub anonymous_username: u32,
-    /// Whether messages go over a stream.
+    /// Whether messages are sent over a stream.
     pub is_stream: bool,
     /// Whether an unsigned response to an unsigned request is accepted.
     pub accepts_unsigned: bool,
@@ -131,9 +131,9 @@ pub struct ClientOptions {
     pub requires_fingerprint: bool,
 }
 
-/// What a caller passes.
+/// The arguments for creating a client.
 ///
-/// Contracts: they see bytes and numbers.
+/// Contracts: the texts and the seed are lists of bytes, and the attribute types are numbers.
 #[derive(Drop)]
 pub struct ClientGiven<'a> {
     pub server: &'a Address,
@@ -168,14 +168,14 @@ fn or_else(number: u64, default: u64) -> u64
     if number == 0 { default } else { number }
 }
 
-/// Returns a smaller number, or its default if the number is 0.
+/// Like `or_else`, but for a number of 32 bits.
 fn or_else_small(number: u32, default: u32) -> u32
     ensures { result ≡ or_else number default }
 {
     if number == 0 { default } else { number }
 }
 
-/// Returns whether the user name is to be sent as a hash.
+/// Returns the feature with this number. `number` is at most 2.
 fn feature(number: u32) -> Feature
     ensures { result ≡ feature_given number }
 {
@@ -186,7 +186,8 @@ fn feature(number: u32) -> Feature
     }
 }
 
-/// Returns the algorithm that short-term credentials are used with.
+/// Returns the algorithm for short-term credentials: HMAC-SHA256 if `number` is 2, and otherwise
+/// HMAC-SHA1.
 fn algorithm(number: u32) -> IntegrityAlgorithm
     ensures { result ≡ algorithm_given number }
 {
@@ -198,7 +199,7 @@ fn algorithm(number: u32) -> IntegrityAlgorithm
 }
 
 impl ClientOptions {
-    /// Returns the preferences that long-term credentials are used with.
+    /// Returns the preferences for long-term credentials.
     fn preferences(&self) -> Preferences
         ensures { result ≡ preferences_given self.now }
     {
@@ -209,7 +210,7 @@ impl ClientOptions {
         }
     }
 
-    /// Returns whether a number is out of range, for a client with a user or without one.
+    /// Returns whether an option is invalid. `has_user` says whether the client has a user.
     fn is_out_of_range(&self, has_user: bool) -> bool
         ensures { result ≡ is_out_of_range has_user self.now }
     {
@@ -219,7 +220,7 @@ impl ClientOptions {
             || (has_user && self.credentials == SHORT_TERM && self.algorithms == BOTH)
     }
 
-    /// Returns the transport of the messages.
+    /// Returns the transport over which messages are sent.
     fn transport(&self) -> TransportType
         ensures { result ≡ transport_given self.now.is_stream }
     {
@@ -230,7 +231,7 @@ impl ClientOptions {
         }
     }
 
-    /// Returns when a request is sent again, and when it ends.
+    /// Returns the retransmission timeouts of requests.
     fn timeouts(&self) -> RequestRto
         ensures { settings_of result ≡ timeouts_given self.now }
     {
@@ -242,7 +243,7 @@ impl ClientOptions {
         }
     }
 
-    /// Creates the credentials of a user, if there is one.
+    /// Creates the credentials of the client's user, or `Unsigned` if the name has no bytes.
     fn credentials(
         &self,
         alloc: Global,
@@ -273,7 +274,7 @@ impl ClientOptions {
     }
 }
 
-/// Returns the types that a client understands.
+/// Returns the types that a client understands: those that the caller passes, and `UNDERSTOOD`.
 fn understood(alloc: Global, numbers: &[u16]) -> Result<Vec<AttributeType, Global>, AllocError>
     ensures { IfOk result (λ types. types.items ≡ types_of numbers.now ++ UNDERSTOOD) }
 {
@@ -294,7 +295,7 @@ impl<'a> ClientGiven<'a> {
         }
     }
 
-    /// Creates the client in an empty handle, and returns 0 or the number of the error.
+    /// Creates the client in an empty handle. Returns 0, or a negative error code.
     pub fn place(&self, alloc: Global, handle: &mut EndpointHandle) -> i64
         requires { handle.old.kept ≡ None }
         ensures { MakesClient self.now result handle.new.kept }
@@ -305,7 +306,8 @@ impl<'a> ClientGiven<'a> {
         }
     }
 
-    /// Creates the client of a server at this address.
+    /// Creates the client of a server at this address in an empty handle. Returns 0, or a negative
+    /// error code.
     fn place_at(&self, alloc: Global, server: SocketAddr, handle: &mut EndpointHandle) -> i64
         requires { handle.old.kept ≡ None }
         ensures { Makes (client_refusal self.now) (kind.Client (client_given self.now server)) result
@@ -317,7 +319,7 @@ impl<'a> ClientGiven<'a> {
         }
     }
 
-    /// Creates the client of a server.
+    /// Creates the client of a server at this address.
     #[tactic(auto, unfolding(crate::specs::ClientsGiven::client_refusal))]
     fn client(&self, alloc: Global, server: SocketAddr) -> Result<ClientEndpoint<Global>, Refusal>
         ensures { Builds (client_refusal self.now) (client_given self.now server) result }
@@ -340,7 +342,7 @@ impl<'a> ClientGiven<'a> {
         }
     }
 
-    /// Creates the client with these texts.
+    /// Creates the client. `name`, `password` and `software` are the texts in the arguments.
     fn made(
         &self,
         alloc: Global,

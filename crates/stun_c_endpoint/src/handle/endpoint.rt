@@ -1,4 +1,4 @@
-//! The handle of a server, of a table of users, of an agent of ICE or of a client.
+//! The handle to a server, to a table of users, to an ICE agent or to a client.
 ghost use Rattle.std.specs.Prelude.{◌≡◌, Some, None, Option, IfSome, IfNone};
 ghost use Rattle.stun_c_endpoint.specs.declared.handle.endpoint.Kept.{Kept};
 ghost use Rattle.stun_handles.specs.code.Handle.{handle_owns};
@@ -15,7 +15,7 @@ use stun_endpoint::users::Users;
 use stun_handles::handle::Loose;
 use stun_ice::checker::Checker;
 
-/// A value on the heap: a server, a table of users, an agent of ICE, or a client.
+/// A value on the heap: a server, a table of users, an ICE agent, or a client.
 #[derive(Drop)]
 pub enum Kept {
     Server(Server<Global>),
@@ -27,7 +27,7 @@ pub enum Kept {
     Client(ClientEndpoint<Global>),
 }
 
-/// The caller's handle: all zero if it is empty, and otherwise what `put` wrote.
+/// The caller's handle: all zero if it is empty, and otherwise as `put` wrote it.
 #[repr(C)]
 pub struct EndpointHandle {
     is_full: bool,
@@ -56,7 +56,8 @@ impl EndpointHandle {
         Loose { is_full, at }
     }
 
-    /// Takes the value out, if there is one, and leaves the handle empty.
+    /// Takes the value out of the handle, which is then empty. Returns `None` if the handle was
+    /// empty before.
     pub fn take(&mut self, alloc: Global) -> Option<Box<Kept, Global>>
         ensures some { IfSome result (λ kept. self.old.kept ≡ Some kept.value) }
         ensures none { IfNone result (self.old.kept ≡ None) }

@@ -1,4 +1,4 @@
-//! Creates and reads the agent of ICE that a caller holds.
+//! Creates an ICE agent, and reads and sets its role, its tie-breaker and its peer.
 
 ghost use Rattle.std.specs.Prelude.{◌≡◌, IfOk, None, OnErr, OnOk, Some};
 ghost use Rattle.stun_c_endpoint.specs.Agents.{MakesAgent, agent_given, agent_refusal};
@@ -19,7 +19,7 @@ use stun_ice::role::Role;
 use stun_numbers::refusal::Refusal;
 use stun_numbers::text::text;
 
-/// Returns the role of an agent that controls, or of one that does not.
+/// Returns the controlling role if `is_controlling` is true, and otherwise the controlled role.
 pub fn role_if(is_controlling: bool) -> Role
     ensures { result ≡ role_if is_controlling }
 {
@@ -30,7 +30,7 @@ pub fn role_if(is_controlling: bool) -> Role
     }
 }
 
-/// Returns `true` if the role is that of the controlling agent.
+/// Returns `true` if the role is the controlling role.
 pub fn is_controlling(role: Role) -> bool
     ensures { result ≡ is_controlling role }
 {
@@ -40,7 +40,9 @@ pub fn is_controlling(role: Role) -> bool
     }
 }
 
-/// The username fragment and the password of one side. Contracts see bytes.
+/// The username fragment and the password of one side, as a caller passes them.
+///
+/// Contracts: both are lists of bytes.
 #[derive(Drop)]
 pub struct Side<'a> {
     pub name: &'a [u8],
@@ -58,7 +60,9 @@ impl<'a> Model for Side<'a> {
     } };
 }
 
-/// The arguments of a caller. Contracts see bytes and numbers.
+/// The arguments for creating an agent whose peer is known.
+///
+/// Contracts: the texts are lists of bytes, and the tie-breaker is a number.
 #[derive(Drop)]
 pub struct Given<'a> {
     pub name: &'a [u8],
@@ -84,7 +88,7 @@ impl<'a> Model for Given<'a> {
     } };
 }
 
-/// Converts an error of building an agent.
+/// Converts the library's error for an agent that could not be created.
 fn refusal_of_building(error: BuildError) -> Refusal
     ensures { result ≡ refusal_of_building error }
 {
@@ -93,7 +97,7 @@ fn refusal_of_building(error: BuildError) -> Refusal
         BuildError::ColonInName => Refusal::BadArgument,
         BuildError::PasswordLength => Refusal::BadArgument,
         BuildError::OutOfMemory => Refusal::OutOfMemory,
-        // There is no other one in this release.
+        // There is no other variant in this release.
         _ => Refusal::BadArgument,
     }
 }
@@ -109,7 +113,7 @@ fn boxed(alloc: Global, checker: Checker<Global>) -> Result<Box<Kept, Global>, A
 }
 
 impl<'a> Given<'a> {
-    /// Creates the agent in an empty handle. Returns 0 or the number of the error.
+    /// Creates the agent in an empty handle. Returns 0, or a negative error code.
     pub fn place(&self, alloc: Global, handle: &mut EndpointHandle) -> i64
         requires { handle.old.kept ≡ None }
         ensures { MakesAgent self.now result handle.new.kept }
@@ -153,8 +157,8 @@ impl<'a> Given<'a> {
 }
 
 impl<'a> Side<'a> {
-    /// Creates the agent that does not know its peer yet in an empty handle. Returns 0 or the
-    /// number of the error.
+    /// Creates an agent that has these credentials and does not know its peer yet, in an empty
+    /// handle. Returns 0, or a negative error code.
     pub fn place(
         &self,
         alloc: Global,
@@ -198,7 +202,7 @@ impl<'a> Side<'a> {
         }
     }
 
-    /// Gives the agent the credentials of its peer.
+    /// Sets the credentials of this agent's peer.
     #[tactic(auto, unfolding(crate::specs::Agents::side_given_refusal))]
     fn set(&self, checker: &mut Checker<Global>) -> Result<(), Refusal>
         ensures refused { RefusedFor (side_given_refusal self.now) result }
@@ -215,7 +219,8 @@ impl<'a> Side<'a> {
         }
     }
 
-    /// Gives the agent of a handle the credentials of its peer.
+    /// Sets the credentials of the agent's peer. Fails with `WrongHandle` if the value is not an
+    /// agent.
     pub fn set_at(&self, kept: &mut Kept) -> Result<(), Refusal>
         ensures { SetsPeer (agent_of kept.old) self.now (done_answer result) (Some kept.old)
             (Some kept.new) }
@@ -227,7 +232,8 @@ impl<'a> Side<'a> {
     }
 }
 
-/// Returns 1 if the agent of a handle controls, and 0 if it does not.
+/// Returns 1 if the agent has the controlling role, and otherwise 0. Fails with `WrongHandle` if
+/// the value is not an agent.
 pub fn controlling(kept: &Kept) -> Result<u32, Refusal>
     ensures { number_answer result ≡ controlling_answer (agent_of kept.now) }
 {
@@ -237,7 +243,7 @@ pub fn controlling(kept: &Kept) -> Result<u32, Refusal>
     }
 }
 
-/// Changes the tie-breaker of the agent of a handle.
+/// Sets the tie-breaker of the agent. Fails with `WrongHandle` if the value is not an agent.
 pub fn set_tie_breaker(kept: &mut Kept, tie_breaker: u64) -> Result<(), Refusal>
     ensures { SetsTieBreaker (agent_of kept.old) tie_breaker (done_answer result) (Some kept.old)
         (Some kept.new) }
@@ -251,7 +257,7 @@ pub fn set_tie_breaker(kept: &mut Kept, tie_breaker: u64) -> Result<(), Refusal>
     }
 }
 
-/// Changes the role of the agent of a handle.
+/// Sets the role of the agent. Fails with `WrongHandle` if the value is not an agent.
 pub fn set_role(kept: &mut Kept, is_controlling: bool) -> Result<(), Refusal>
     ensures { SetsRole (agent_of kept.old) is_controlling (done_answer result) (Some kept.old)
         (Some kept.new) }

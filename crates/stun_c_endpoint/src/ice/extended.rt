@@ -1,4 +1,4 @@
-//! The call that writes a check with further attributes.
+//! Writes a check with further attributes, which the caller passes.
 
 ghost use Rattle.std.specs.Prelude.{◌≡◌, ◌≤◌, ◌⊎◌, Err, IfErr, IfOk, Ok, OnOk, length};
 ghost use Rattle.stun_handles.specs.Numbers.{length_answer};
@@ -21,8 +21,8 @@ use stun_types::attribute::{AttributeType, RawAttribute};
 use stun_types::message::{MessageWriteVec, TransactionId};
 use stun_types::prelude::*;
 
-/// USE-CANDIDATE, ICE-CONTROLLED and ICE-CONTROLLING, by which a check says what the agent is asked
-/// to say, and XOR-PEER-ADDRESS, which a body has without the XOR.
+/// The types of USE-CANDIDATE, ICE-CONTROLLED and ICE-CONTROLLING, which the agent itself writes to
+/// a check, and of XOR-PEER-ADDRESS, whose value in a body is not XORed.
 const KEPT_FROM_CHECKS: [u16; 4] = [0x0025, 0x8029, 0x802A, 0x0012];
 
 /// Returns whether a caller cannot add attributes of this type to a check.
@@ -32,7 +32,7 @@ fn is_kept_from_checks(kind: AttributeType) -> bool
     KEPT_FROM_CHECKS.contains(&kind.value())
 }
 
-/// Adds an attribute to a check.
+/// Adds one of the caller's attributes to a check.
 fn add(page: &mut MessageWriteVec<Global>, attribute: &RawAttribute<'_>) -> Result<(), Refusal>
     requires { 20 ≤ length page.old.bytes }
     ensures header { OnOk result (20 ≤ length page.new.bytes) }
@@ -49,7 +49,7 @@ fn add(page: &mut MessageWriteVec<Global>, attribute: &RawAttribute<'_>) -> Resu
     }
 }
 
-/// Adds the attributes that these bytes encode to a check.
+/// Adds to a check the attributes that `bytes` encode.
 fn with_all(page: MessageWriteVec<Global>, bytes: &[u8]) -> Result<MessageWriteVec<Global>, Refusal>
     requires { 20 ≤ length page.bytes }
     ensures header { IfOk result (λ whole. 20 ≤ length whole.bytes) }
@@ -72,7 +72,7 @@ fn with_all(page: MessageWriteVec<Global>, bytes: &[u8]) -> Result<MessageWriteV
     Ok(whole)
 }
 
-/// Writes a check with the attributes that these bytes encode.
+/// Creates a check with the attributes that `body` encodes.
 fn extended(
     checker: &Checker<Global>,
     id: TransactionId,
@@ -97,8 +97,8 @@ fn extended(
     }
 }
 
-/// Writes a check with further attributes to the front of the buffer, and what the agent needs to
-/// judge the answer.
+/// Writes a check of this agent with the attributes of a body to the front of `out`, and writes to
+/// `check` the data that the agent needs to judge the answer. Returns the length of the check.
 fn write(
     checker: &Checker<Global>,
     id: &[u8; 12],
@@ -120,7 +120,9 @@ fn write(
     }
 }
 
-/// Writes a check with further attributes of the agent of a handle.
+/// Writes a check with the attributes of a body to the front of `out`, and writes to `check` the
+/// data that the agent needs to judge the answer. Returns the length of the check. Fails with
+/// `WrongHandle` if the value is not an agent.
 pub fn write_extended_of(
     kept: &Kept,
     id: &[u8; 12],

@@ -1,4 +1,4 @@
-//! The call that judges a datagram with an agent of ICE.
+//! Judges a datagram with an ICE agent.
 
 ghost use Rattle.std.specs.Prelude.{◌≡◌, IfOk, IfErr, None, Ok, Some, length};
 ghost use Rattle.stun_ice.specs.Received.{given_of, responded};
@@ -22,7 +22,8 @@ use stun_numbers::buffer::put;
 use stun_numbers::id::transaction_id;
 use stun_numbers::refusal::Refusal;
 
-/// Returns the check that a caller passes, if there is one.
+/// Converts the check that a caller passes. Returns `None` if `has_check` is false. Otherwise fails
+/// with `BadArgument` if the address in the check is not an IPv4 or IPv6 address.
 fn stored(
     alloc: Global,
     has_check: bool,
@@ -41,7 +42,8 @@ fn stored(
     Ok(Some(Check::without_bytes(alloc, id, to, role, check.nominates)))
 }
 
-/// Judges a datagram with the agent of a handle, and writes the result.
+/// Judges a datagram with the agent. Writes the outcome to `received` and an answer to `out`, and
+/// returns the `stunp_kind`. Fails with `WrongHandle` if the value is not an agent.
 pub fn judge_at(
     alloc: Global,
     kept: &mut Kept,
@@ -64,7 +66,8 @@ pub fn judge_at(
     }
 }
 
-/// Judges a datagram with the agent, and writes the result.
+/// Judges a datagram with this agent. Writes the outcome to `received` and an answer to `out`, and
+/// returns the `stunp_kind`.
 fn judge(
     alloc: Global,
     checker: &mut Checker<Global>,
@@ -89,7 +92,8 @@ fn judge(
     tell(checker, before, seen, out, received)
 }
 
-/// Writes what a datagram comes to, at the agent whose role was this one.
+/// Writes the outcome of a datagram to `received`, and an answer to `out`. `before` is the role
+/// that the agent had before the datagram.
 fn tell(
     checker: &mut Checker<Global>,
     before: Role,
@@ -105,7 +109,7 @@ fn tell(
 {
     match seen {
         Received::Check { answer, judged, .. } => {
-            // The answer must fit, or the agent gets its role back.
+            // An error must leave the agent unchanged, so the agent gets back its former role.
             if out.len() < answer.len() {
                 checker.set_role(before);
                 received.needed = answer.len();
@@ -127,12 +131,12 @@ fn tell(
             received.dropped(why);
             Ok(0)
         }
-        // There is no other one in this release.
+        // There is no other variant in this release.
         _ => Err(Refusal::BadArgument),
     }
 }
 
-/// Writes the outcome of a check of this agent to the result.
+/// Writes the outcome of a check of this agent to `received`.
 fn ended(outcome: &Outcome, received: &mut IceReceived)
     ensures told { received.new ≡ outcome_told outcome.now received.new.mapped
         (ice_blank 4 received.old) }
@@ -142,7 +146,7 @@ fn ended(outcome: &Outcome, received: &mut IceReceived)
         Outcome::Valid(mapped) => received.valid(mapped),
         Outcome::RoleConflict { switched } => received.conflict(*switched),
         Outcome::Failed(failure) => received.failed(*failure),
-        // There is no other one in this release.
+        // There is no other variant in this release.
         _ => {}
     }
 }

@@ -1,5 +1,4 @@
-//! The structs that a caller receives for a check that was written and for a datagram that was
-//! judged.
+//! The structs in which a caller receives a new check, and the outcome of a datagram.
 
 ghost use Rattle.std.specs.Prelude.{◌≡◌};
 ghost use Rattle.stun_ice.specs.Received.{dropped};
@@ -16,10 +15,11 @@ use stun_handles::address::Address;
 use stun_ice::check::Check;
 use stun_ice::received::{DropReason, Failure, Judged, Mapped, Outcome};
 
-/// The size of the caller's struct, which begins with this number.
+/// The size of `IceReceived` in bytes, which its first field must state.
 pub const ICE_RECEIVED_SIZE: usize = 72;
 
-/// What the agent needs to judge the answer to a check. It does not have the bytes of the check.
+/// The data that the agent needs to judge the answer to a check. It does not have the bytes of the
+/// check.
 #[repr(C)]
 #[derive(Clone, Copy)]
 pub struct IceCheck {
@@ -27,43 +27,45 @@ pub struct IceCheck {
     pub id: [u8; 12],
     /// The address that the check was sent to.
     pub to: Address,
-    /// Whether the check says that its sender controls.
+    /// Whether the check states that its sender has the controlling role.
     pub is_controlling: bool,
     /// Whether the check nominates its pair.
     pub nominates: bool,
 }
 
-/// The result of judging a datagram with an agent of ICE.
+/// The outcome of a datagram at an ICE agent.
 #[repr(C)]
 pub struct IceReceived {
     /// The size of this struct in the caller's program.
     pub size: usize,
-    /// The number of the result.
+    /// The outcome, a `stunp_kind`.
     pub kind: u32,
-    /// The number of the reason, if the datagram is dropped.
+    /// The reason, a `stunp_drop`, if the datagram is dropped.
     pub why: u32,
-    /// The number of the outcome of a check, or of the answer to one.
+    /// The outcome of a check of the peer, or of the answer to a check of this agent, a
+    /// `stunp_ice_outcome`.
     pub outcome: u32,
     /// The code of an error response.
     pub code: u32,
     /// The priority of an accepted check.
     pub priority: u32,
-    /// The type of the attribute that the agent does not understand, although it must.
+    /// The type of a comprehension-required attribute in the answer that the agent does not
+    /// understand.
     pub not_understood: u16,
     /// Whether an accepted check nominates its pair.
     pub nominated: bool,
     /// Whether the agent has changed its role.
     pub switched: bool,
-    /// The length of the answer.
+    /// The length of the answer that was written.
     pub length: usize,
-    /// The length of an answer that the buffer had no room for.
+    /// The length of the answer, if the buffer had no room for it.
     pub needed: usize,
-    /// The address in a success response.
+    /// The address in a success response, from which the peer saw the check arrive.
     pub mapped: Address,
 }
 
 impl IceCheck {
-    /// Converts a check to what a caller stores.
+    /// Converts a check to the struct that a caller stores.
     pub fn of(check: &Check<Global>) -> IceCheck
         ensures { result ≡ check_told check.now }
     {
@@ -76,7 +78,7 @@ impl IceCheck {
     }
 }
 
-/// Returns the number of a reason to drop a datagram.
+/// Returns the `stunp_drop` of a reason to drop a datagram.
 fn drop_number(why: DropReason) -> u32
     ensures { result ≡ ice_drop_number why }
 {
@@ -88,13 +90,13 @@ fn drop_number(why: DropReason) -> u32
         DropReason::OtherMethod => 5,
         DropReason::NotAsked => 6,
         DropReason::WrongSignature => 7,
-        // There is no other one in this release.
+        // There is no other variant in this release.
         _ => 0,
     }
 }
 
 impl IceReceived {
-    /// Resets the result, and sets its number.
+    /// Sets the kind, and resets all other fields except the size.
     fn begin(&mut self, kind: u32)
         ensures { self.new ≡ ice_blank kind self.old }
     {
@@ -111,8 +113,8 @@ impl IceReceived {
         self.mapped = Address::of_start(None);
     }
 
-    /// Sets that the call has failed, which holds until the result is set. A struct of another size
-    /// may lack the fields behind the length.
+    /// Sets the kind to `FAILED`, until another outcome is set. If the size is wrong, sets only the
+    /// kind and the length, because the struct may lack the fields after them.
     pub fn fails(&mut self)
         ensures { self.new ≡ ice_failed self.old }
     {
@@ -124,7 +126,7 @@ impl IceReceived {
         }
     }
 
-    /// Sets the result for a datagram that is dropped.
+    /// Sets the outcome to a datagram that is dropped for this reason.
     pub fn dropped(&mut self, why: DropReason)
         ensures { self.new ≡ record (ice_blank 0 self.old) { why = ice_drop_number why } }
     {
@@ -132,14 +134,14 @@ impl IceReceived {
         self.why = drop_number(why);
     }
 
-    /// Sets the result for an indication.
+    /// Sets the outcome to an indication.
     pub fn indicated(&mut self)
         ensures { self.new ≡ ice_blank 3 self.old }
     {
         self.begin(3);
     }
 
-    /// Sets the result for a check of the peer, and the length of its answer.
+    /// Sets the outcome to a check of the peer, with the length of the answer to it.
     pub fn checked(&mut self, judged: Judged, length: usize)
         ensures { self.new ≡ record (judged_told judged (ice_blank 1 self.old)) {
           length = length;
@@ -150,7 +152,7 @@ impl IceReceived {
         self.length = length;
     }
 
-    /// Sets the outcome of a check of the peer.
+    /// Sets the fields that say how a check of the peer was judged.
     fn judged(&mut self, judged: Judged)
         ensures { self.new ≡ judged_told judged self.old }
     {
@@ -173,12 +175,13 @@ impl IceReceived {
                 self.outcome = 3;
                 self.code = u32::from(refusal.code());
             }
-            // There is no other one in this release.
+            // There is no other variant in this release.
             _ => {}
         }
     }
 
-    /// Sets the result for a valid pair, with the address that the peer saw.
+    /// Sets the outcome to an answer that makes the pair valid, with the address from which the
+    /// peer saw the check arrive.
     pub fn valid(&mut self, mapped: &Mapped)
         ensures told { self.new ≡ outcome_told (Ended.Valid mapped.now) self.new.mapped
             (ice_blank 4 self.old) }
@@ -189,7 +192,8 @@ impl IceReceived {
         self.mapped = Address::of(mapped.address());
     }
 
-    /// Sets the result for a role conflict that the peer found.
+    /// Sets the outcome to an answer in which the peer reports a role conflict. `switched` says
+    /// whether this agent has switched its role.
     pub fn conflict(&mut self, switched: bool)
         ensures { self.new ≡ record (ice_blank 4 self.old) {
           outcome = 5;
@@ -203,7 +207,7 @@ impl IceReceived {
         self.switched = switched;
     }
 
-    /// Sets the result for a check that failed.
+    /// Sets the outcome to an answer because of which the check has failed.
     pub fn failed(&mut self, failure: Failure)
         ensures { self.new ≡ failure_told failure (ice_blank 4 self.old) }
     {
@@ -219,7 +223,7 @@ impl IceReceived {
                 self.not_understood = kind.value();
             }
             Failure::Malformed => self.outcome = 9,
-            // There is no other one in this release.
+            // There is no other variant in this release.
             _ => {}
         }
     }

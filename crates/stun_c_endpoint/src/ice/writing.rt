@@ -1,4 +1,4 @@
-//! The call that writes a check.
+//! Writes a check.
 
 ghost use Rattle.std.specs.Prelude.{◌≡◌, Ok, length, nat_lt};
 ghost use Rattle.stun_handles.specs.Numbers.{length_answer};
@@ -16,19 +16,21 @@ use stun_numbers::buffer::put;
 use stun_numbers::id::transaction_id;
 use stun_numbers::refusal::Refusal;
 
-/// Converts an error of writing a check.
+/// Converts the library's error for a check that could not be written.
 pub(crate) fn refusal_of_check(error: CheckError) -> Refusal
     ensures { result ≡ refusal_of_check error }
 {
     match error {
         CheckError::NoRemote => Refusal::CannotSign,
         CheckError::OutOfMemory => Refusal::OutOfMemory,
-        // There is no other one in this release.
+        // There is no other variant in this release.
         _ => Refusal::BadArgument,
     }
 }
 
-/// Writes a check of the agent of a handle.
+/// Writes a check to the front of `out`, and writes to `check` the data that the agent needs to
+/// judge the answer. Returns the length of the check. Fails with `WrongHandle` if the value is not
+/// an agent.
 pub fn write_of(
     kept: &Kept,
     id: &[u8; 12],
@@ -47,7 +49,8 @@ pub fn write_of(
     }
 }
 
-/// Writes a check to the front of the buffer, and what the agent needs to judge the answer.
+/// Writes a check of this agent to the front of `out`, and writes to `check` the data that the
+/// agent needs to judge the answer. Returns the length of the check.
 fn write(
     checker: &Checker<Global>,
     id: &[u8; 12],
@@ -68,8 +71,9 @@ fn write(
     }
 }
 
-/// Writes the bytes of a check to the front of the buffer, if they fit, and what the agent needs to
-/// judge the answer.
+/// Copies the bytes of a check to the front of `out`, and writes to `check` the data that the agent
+/// needs to judge the answer. Returns the length of the check. Fails with `BufferTooSmall` if the
+/// bytes do not fit, and then writes nothing.
 pub fn hand_out(
     written: &Check<Global>,
     out: &mut [u8],

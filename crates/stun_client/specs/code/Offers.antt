@@ -1,4 +1,4 @@
--- Which entry of a list is taken.
+-- Which entry of a list is chosen.
 use Rattle.std.specs.Prelude.{if◌then◌else◌, Option, Some, None}
 use Rattle.stun_base.specs.declared.keys.algorithm.IntegrityAlgorithm.{IntegrityAlgorithm}
 use Rattle.stun_client.specs.Preferences.{supports}

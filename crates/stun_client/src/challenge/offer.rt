@@ -1,4 +1,4 @@
-//! PASSWORD-ALGORITHMS as it came, and the algorithms of it that are known (RFC 8489, section
+//! PASSWORD-ALGORITHMS as it arrived, and the known algorithms in its list (RFC 8489, section
 //! 14.11).
 ghost use Rattle.std.specs.Prelude.{◌≡◌, find, ⊤};
 ghost use Rattle.stun_base.specs.Attributes.{PASSWORD_ALGORITHMS};
@@ -15,9 +15,9 @@ use stun_types::attribute::{AttributeType, RawAttribute};
 use stun_types::message::IntegrityAlgorithm;
 use stun_types::prelude::*;
 
-/// PASSWORD-ALGORITHMS with its value as bytes, which are borrowed.
+/// PASSWORD-ALGORITHMS with its value as borrowed bytes.
 ///
-/// Contracts: the value is the list of its bytes.
+/// Contracts: the value is the list of the bytes.
 #[derive(Debug, Drop)]
 pub(crate) struct Offer<'a> {
     bytes: &'a [u8],
@@ -92,7 +92,7 @@ impl<'a> AttributeFromRaw<'a> for Offer<'a> {
     }
 }
 
-/// Returns whether bytes are entries of a list, one after the other.
+/// Returns whether these bytes are a sequence of whole entries.
 pub(crate) fn are_entries(bytes: &[u8]) -> bool
     ensures { result ≡ are_entries bytes.now }
 {
@@ -100,7 +100,8 @@ pub(crate) fn are_entries(bytes: &[u8]) -> bool
     AlgorithmList::from_raw(raw).is_ok()
 }
 
-/// Returns the algorithm whose key an entry of a list makes, if it is known.
+/// Returns the integrity algorithm whose key is made by the password algorithm of an entry. Returns
+/// `None` if the number of the password algorithm is unknown, or if the entry has parameters.
 fn known(entry: &RawAttribute<'_>) -> Option<IntegrityAlgorithm>
     ensures { result ≡ known entry.now }
 {
@@ -114,7 +115,8 @@ fn known(entry: &RawAttribute<'_>) -> Option<IntegrityAlgorithm>
     }
 }
 
-/// Returns the algorithm of an entry, if it is supported.
+/// Returns the integrity algorithm of an entry, or `None` if it is unknown or the client does not
+/// support it.
 fn supported(preferences: Preferences, entry: &RawAttribute<'_>) -> Option<IntegrityAlgorithm>
     ensures { result ≡ if_supported preferences (known entry.now) }
 {
@@ -124,8 +126,8 @@ fn supported(preferences: Preferences, entry: &RawAttribute<'_>) -> Option<Integ
     }
 }
 
-/// Returns the first algorithm of a list that is supported. Entries that are unknown are passed
-/// over.
+/// Returns the first algorithm in a list that the client supports, or `None` if it supports none of
+/// them. Unknown entries are skipped.
 pub(crate) fn first_supported(preferences: Preferences, list: &[u8]) -> Option<IntegrityAlgorithm>
     ensures { result ≡ find (supports preferences) (algorithms_in list.now) }
 {

@@ -1,4 +1,4 @@
-//! What is read of a challenge: the first visible attribute of each type (RFC 8489, section 14).
+//! Reads a challenge: the first visible attribute of each type (RFC 8489, section 14).
 ghost use Rattle.std.specs.Prelude.{◌≡◌, ◌≤◌, length};
 ghost use Rattle.std.specs.Option.{option_copied, option_map_or};
 ghost use Rattle.stun_types.specs.Limits.{TEXT_LIMIT};
@@ -9,7 +9,8 @@ use crate::challenge::offer::{Offer, are_entries};
 use stun_types::attribute::{ErrorCode, Nonce, Realm};
 use stun_types::message::{Message, MessageClass};
 
-/// Returns the code of an error response.
+/// Returns the error code of a message, or `None` if the message is not an error response with a
+/// well-formed ERROR-CODE.
 pub(crate) fn code_of(message: &Message<'_>) -> Option<u16>
     ensures { result ≡ code_in message.now }
 {
@@ -22,7 +23,7 @@ pub(crate) fn code_of(message: &Message<'_>) -> Option<u16>
     }
 }
 
-/// Returns whether an error response asks for credentials, by 401 or by 438.
+/// Returns whether a message is an error response with the code 401 or 438.
 pub(crate) fn is_challenge(message: &Message<'_>) -> bool
     ensures { result ≡ is_challenge message.now }
 {
@@ -32,7 +33,7 @@ pub(crate) fn is_challenge(message: &Message<'_>) -> bool
     }
 }
 
-/// Returns the text of REALM.
+/// Returns the text of REALM, or `None` if it is missing or malformed.
 pub(crate) fn realm_of<'a>(message: &Message<'a>) -> Option<&'a str>
     ensures text { option_copied result ≡ realm_in message.now }
     ensures short { option_map_or (λ text. length text.now) result 0 ≤ TEXT_LIMIT }
@@ -43,7 +44,7 @@ pub(crate) fn realm_of<'a>(message: &Message<'a>) -> Option<&'a str>
     }
 }
 
-/// Returns the text of NONCE.
+/// Returns the text of NONCE, or `None` if it is missing or malformed.
 pub(crate) fn nonce_of<'a>(message: &Message<'a>) -> Option<&'a str>
     ensures text { option_copied result ≡ nonce_in message.now }
     ensures short { option_map_or (λ text. length text.now) result 0 ≤ TEXT_LIMIT }
@@ -54,7 +55,8 @@ pub(crate) fn nonce_of<'a>(message: &Message<'a>) -> Option<&'a str>
     }
 }
 
-/// Returns the list of password algorithms, as the bytes of its value.
+/// Returns the value of PASSWORD-ALGORITHMS, or `None` if it is missing or not a sequence of whole
+/// entries.
 pub(crate) fn list_of<'a>(message: &Message<'a>) -> Option<&'a [u8]>
     ensures { option_copied result ≡ list_in message.now }
 {

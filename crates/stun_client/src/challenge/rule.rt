@@ -11,7 +11,7 @@ use crate::preferences::Preferences;
 use stun_auth::auth::{Feature, NonceSecurityBits};
 use stun_types::message::IntegrityAlgorithm;
 
-/// Returns whether a nonce asks for password algorithms.
+/// Returns whether a nonce has the security bit *Password algorithms*.
 pub(crate) fn asks_for_algorithms(nonce: &str) -> bool
     ensures { result ≡ asks_for_algorithms nonce.now }
 {
@@ -39,14 +39,14 @@ pub(crate) fn has_same_bits(nonce: &str, other: &str) -> bool
         && is_same_bit(asks_for_userhash(nonce), asks_for_userhash(other))
 }
 
-/// Returns whether two bits are the same.
+/// Returns whether two bits are equal.
 fn is_same_bit(one: bool, other: bool) -> bool
     ensures { result ≡ is_same_bit one other }
 {
     if one { other } else { !other }
 }
 
-/// Returns whether hashed user names are sent at all.
+/// Returns whether the user name may be sent as a hash at all.
 fn is_possible(feature: Feature) -> bool
     ensures { result ≡ is_possible feature }
 {
@@ -57,7 +57,7 @@ fn is_possible(feature: Feature) -> bool
     }
 }
 
-/// Returns whether user names must be hashed.
+/// Returns whether the user name must be sent as a hash.
 fn is_required(feature: Feature) -> bool
     ensures { result ≡ is_required feature }
 {
@@ -68,21 +68,21 @@ fn is_required(feature: Feature) -> bool
     }
 }
 
-/// Returns whether the user is named by a hash.
+/// Returns whether a client with these preferences answers this nonce with a hash of the user name.
 pub(crate) fn is_hashed(preferences: Preferences, nonce: &str) -> bool
     ensures { result ≡ is_hashed preferences nonce.now }
 {
     asks_for_userhash(nonce) && is_possible(preferences.anonymous_username)
 }
 
-/// Returns whether the user must be named by a hash, and the nonce does not allow it.
+/// Returns whether the user name must be sent as a hash, but the nonce does not allow hashes.
 pub(crate) fn lacks_userhash(preferences: Preferences, nonce: &str) -> bool
     ensures { result ≡ lacks_userhash preferences nonce.now }
 {
     is_required(preferences.anonymous_username) && !asks_for_userhash(nonce)
 }
 
-/// Returns the algorithm for a nonce and a list, and `None` if the challenge is ignored.
+/// Returns the algorithm for a nonce and a list, or `None` if the client ignores the challenge.
 pub(crate) fn chosen(
     preferences: Preferences,
     nonce: &str,

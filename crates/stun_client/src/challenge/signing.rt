@@ -1,5 +1,5 @@
-//! Signing what a client sends for a challenge (RFC 8489, section 9.2.5).
-ghost use Rattle.std.specs.Prelude.{◌≡◌, ◌≤◌, ◌+◌, ◌∷◌, [], length, true, false, IfOk, None};
+//! Signs the requests that a client sends for a challenge (RFC 8489, section 9.2.5).
+ghost use Rattle.std.specs.Prelude.{◌≡◌, ◌≤◌, ◌+◌, ◌∷◌, [], ⊤, length, true, false, IfOk, None};
 ghost use Rattle.stun_base.specs.MessageType.{class_in};
 ghost use Rattle.stun_auth.specs.Additions.{UnlessMemory, WantsMemory};
 ghost use Rattle.stun_auth.specs.Additions.{added_all, attribute, growth, page_in, written_page};
@@ -22,19 +22,21 @@ use stun_types::message::{IntegrityAlgorithm, StunWriteError};
 use stun_types::prelude::*;
 
 impl<A: Allocator> KeptChallenge<A> {
-    /// Adds nonce, realm and the name of the user.
+    /// Adds NONCE, REALM, and USERNAME or USERHASH.
     fn add_identity<W: MessageWrite>(&self, writer: &mut W) -> Result<(), StunWriteError>
         requires { 20 ≤ length (W.bytes writer.old) }
         ensures header { 20 ≤ length (W.bytes writer.new) }
         ensures added { IsAdded (identity (challenge_seen self.now))
             (page_in W.bytes W.room writer.old) (W.reserved writer.old)
             result (page_in W.bytes W.room writer.new) (W.reserved writer.new) }
+        ensures granted { W.grants → UnlessMemory result ⊤ ⊥ }
     {
         let (nonce, realm) = (self.nonce.as_str(), self.realm.as_str());
         self.naming.add_identity(writer, nonce, realm)
     }
 
-    /// Adds the server's list and the chosen algorithm, if they must be named.
+    /// Adds PASSWORD-ALGORITHMS with the server's list and PASSWORD-ALGORITHM with the chosen
+    /// algorithm, each if it is required.
     fn add_algorithm_choice<W: MessageWrite>(&self, writer: &mut W) -> Result<(), StunWriteError>
         requires { 20 ≤ length (W.bytes writer.old) }
         ensures header { 20 ≤ length (W.bytes writer.new) }
@@ -42,6 +44,7 @@ impl<A: Allocator> KeptChallenge<A> {
             (challenge_seen self.now).offered self.now.algorithm)
             (page_in W.bytes W.room writer.old) (W.reserved writer.old)
             result (page_in W.bytes W.room writer.new) (W.reserved writer.new) }
+        ensures granted { W.grants → UnlessMemory result ⊤ ⊥ }
     {
         let choice = AddedAttribute::PasswordAlgorithm(self.algorithm);
         match self.offered.as_slice() {
@@ -59,40 +62,43 @@ impl<A: Allocator> KeptChallenge<A> {
     /// Adds the choice of the algorithm and the integrity attribute.
     fn add_protection<W: MessageWrite>(&self, writer: &mut W) -> Result<(), StunWriteError>
         requires { 20 ≤ length (W.bytes writer.old) }
-        ensures { IsOutcome (challenge_additions false (challenge_seen self.now))
+        ensures outcome { IsOutcome (challenge_additions false (challenge_seen self.now))
             (page_in W.bytes W.room writer.old) (W.reserved writer.old)
             result (page_in W.bytes W.room writer.new) }
+        ensures granted { W.grants → UnlessMemory result ⊤ ⊥ }
     {
         self.add_algorithm_choice(writer)?;
         add_integrity(writer, &self.key, self.algorithm)
     }
 
-    /// Adds what a request needs, and the integrity attribute.
+    /// Adds all attributes that a request needs, and the integrity attribute last.
     fn add_all<W: MessageWrite>(&self, writer: &mut W) -> Result<(), StunWriteError>
         requires { 20 ≤ length (W.bytes writer.old) }
-        ensures { IsOutcome (challenge_additions true (challenge_seen self.now))
+        ensures outcome { IsOutcome (challenge_additions true (challenge_seen self.now))
             (page_in W.bytes W.room writer.old) (W.reserved writer.old)
             result (page_in W.bytes W.room writer.new) }
+        ensures granted { W.grants → UnlessMemory result ⊤ ⊥ }
     {
         self.add_identity(writer)?;
         self.add_protection(writer)
     }
 
-    /// Does nothing: the texts are UTF-8.
+    /// Does nothing at run time. It gives proofs the fact that the texts are UTF-8.
     fn keeps_texts(&self)
         ensures { IsText (added_under true (challenge_seen self.now)) }
     {
         self.naming.keeps_text();
     }
 
-    /// Returns the message with what the challenge asks for.
+    /// Adds to a message the attributes that the challenge requires, and returns the writer.
     fn signed<W: MessageWrite>(&self, writer: W) -> Result<W, StunWriteError>
         requires { 20 ≤ length (W.bytes writer) }
-        ensures { UnlessMemory result (written_page W.bytes W.room result
+        ensures outcome { UnlessMemory result (written_page W.bytes W.room result
             ≡ added_all (challenge_additions true (challenge_seen self.now))
             (page_in W.bytes W.room writer))
             (WantsMemory (challenge_additions true (challenge_seen self.now))
             (page_in W.bytes W.room writer) (W.reserved writer)) }
+        ensures granted { W.grants → UnlessMemory result ⊤ ⊥ }
     {
         let mut writer = writer;
         self.add_all(&mut writer)?;
@@ -107,6 +113,7 @@ fn add_list<W: MessageWrite>(writer: &mut W, list: &[u8]) -> Result<(), StunWrit
     ensures added { IsAdded (attribute (repeated_list list.now) ∷ [])
         (page_in W.bytes W.room writer.old) (W.reserved writer.old)
         result (page_in W.bytes W.room writer.new) (W.reserved writer.new) }
+    ensures granted { W.grants → UnlessMemory result ⊤ ⊥ }
 {
     add_made(writer, &Offer::new(list))
 }
@@ -116,22 +123,22 @@ impl<A: Allocator> Challenge<A> {
     /// attributes are added, in this order:
     ///
     /// - NONCE, REALM, and USERNAME or USERHASH;
-    /// - PASSWORD-ALGORITHMS, which repeats the server's list as it came, and PASSWORD-ALGORITHM, if
-    ///   the nonce asks for password algorithms;
+    /// - PASSWORD-ALGORITHMS, which repeats the server's list as it arrived, and
+    ///   PASSWORD-ALGORITHM, if the nonce has the security bit *Password algorithms*;
     /// - MESSAGE-INTEGRITY or MESSAGE-INTEGRITY-SHA256.
     ///
     /// The writer must hold a message without FINGERPRINT. The attributes are added one after
-    /// another, and the first error decides. It drops the writer.
+    /// another, and the call fails with the first error. The writer is then dropped.
     ///
-    /// - `MessageIntegrityExists`, `AttributeExists`: the message has a signature, or this
-    ///   attribute, already.
+    /// - `MessageIntegrityExists`, `AttributeExists`: the message already has a signature, or
+    ///   already has the attribute to add.
     /// - `TooLarge`: the message would be too long, or the user name has more than 513 bytes.
     /// - `TooSmall`: the writer has no room.
     /// - `OutOfMemory`: an allocation failed.
     ///
-    /// Contracts: `not_bid_down` says that a server which accepts the request accepts it by the
-    /// strongest algorithm that both sides support, whatever this client has read before. `hashed`
-    /// says that a client which must hash its user name never sends it.
+    /// Contracts: by `not_bid_down`, a server that accepts the request accepts it with the
+    /// strongest algorithm that both sides support, whatever messages this client has read before.
+    /// By `hashed`, a client that must hash its user name never sends the name in clear.
     pub fn sign<W: MessageWrite>(&self, writer: W) -> Result<W, StunWriteError>
         requires { 20 ≤ length (W.bytes writer) }
         ensures signed { UnlessMemory result (written_page W.bytes W.room result
@@ -139,6 +146,7 @@ impl<A: Allocator> Challenge<A> {
             (page_in W.bytes W.room writer))
             (WantsMemory (challenge_additions true self.now.challenge)
             (page_in W.bytes W.room writer) (W.reserved writer)) }
+        ensures granted { W.grants → UnlessMemory result ⊤ ⊥ }
         ensures grows { IfOk result (λ signed. length (W.bytes signed)
             ≡ length (W.bytes writer) + growth (challenge_additions true self.now.challenge)) }
         ensures reads { IfOk result (λ signed. IsUnsigned (W.bytes writer)
@@ -150,7 +158,8 @@ impl<A: Allocator> Challenge<A> {
             → is_required self.now.preferences.anonymous_username ≡ true
             → (reading_of (W.bytes signed)).username ≡ None) }
     {
-        // Laws do nothing when they run: these are for the clauses `reads` and `not_bid_down`.
+        // A law does nothing at run time. These two help to prove the clauses `reads` and
+        // `not_bid_down`.
         stun_types::laws::writing_adds_one_attribute();
         stun_types::laws::signed_message_stands();
         signed_requests_are_not_bid_down();

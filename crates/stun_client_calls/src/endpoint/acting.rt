@@ -1,18 +1,24 @@
-//! Ends by a response, and other messages.
+//! Acts on a decision about a response: ends the request, or makes another of its messages the
+//! current one.
 ghost use Rattle.std.specs.BTreeMap.{insert_entry};
+ghost use Rattle.std.specs.Duration.{as_nanos};
+ghost use Rattle.std.specs.Option.{IfSome, option_map};
 ghost use Rattle.std.specs.Ordering.{nat_cmp};
-ghost use Rattle.std.specs.Prelude.{◌≡◌, ◌⊎◌, ◌&&◌, Err, IfErr, IfOk, None, Ok, Some};
-ghost use Rattle.std.specs.Prelude.{if◌then◌else◌, length};
+ghost use Rattle.std.specs.Prelude.{◌≡◌, ◌⊎◌, ◌&&◌, ⊤, Err, IfErr, IfOk, IsOk, None, Ok, Some};
+ghost use Rattle.std.specs.Prelude.{if◌then◌else◌, length, true};
 ghost use Rattle.stun_agent.specs.Transactions.{IsRequestOf};
+ghost use Rattle.stun_auth.specs.Additions.{UnlessMemory as UnlessRefused};
 ghost use Rattle.stun_base.specs.MessageType.{class_in};
 ghost use Rattle.stun_client_calls.specs.Clients.{with_requests};
 ghost use Rattle.stun_client_calls.specs.Deciding.{answered, unauthorized};
 ghost use Rattle.stun_client_calls.specs.Messages.{AskedSeen};
-ghost use Rattle.stun_client_calls.specs.Receiving.{Met, UnlessMemory, answered_in, by_decision};
+ghost use Rattle.stun_client_calls.specs.Options.{round_trip};
+ghost use Rattle.stun_client_calls.specs.Receiving.{Met, UnlessMemory, all_memory, answered_in};
+ghost use Rattle.stun_client_calls.specs.Receiving.{by_decision};
 ghost use Rattle.stun_client_calls.specs.Receiving.{spot_of, turned_at, turned_to, unwritten};
 ghost use Rattle.stun_client_calls.specs.Writing.{message_bytes};
-ghost use Rattle.stun_client_calls.specs.code.Acting.{IsExchanged, confirmed_in};
-ghost use Rattle.stun_client_requests.specs.Requests.{after_answering, datum_of};
+ghost use Rattle.stun_client_calls.specs.code.Acting.{IsExchanged, confirmed_in, exchanging};
+ghost use Rattle.stun_client_requests.specs.Requests.{after_answering, datum_of, number_at};
 
 use crate::asked::{Asked, End};
 use crate::deciding::copied;
@@ -20,10 +26,12 @@ use crate::endpoint::ClientEndpoint;
 use crate::endpoint::changing::nothing;
 use crate::turning::{Turn, Why};
 use crate::writing::message as written;
-use std::alloc::{AllocError, Allocator};
+use std::alloc::AllocError;
 use std::collections::BTreeMap;
 use std::marker::Model;
+use std::time::Duration;
 use stun_base::instant::Instant;
+use stun_base::memory::Memory;
 use stun_client::challenge::Challenge;
 use stun_client::judged::Outcome;
 use stun_client_endpoint::ended::{DropReason, RequestEnd};
@@ -32,10 +40,10 @@ use stun_types::message::{
     IntegrityAlgorithm, Message, MessageClass, StunWriteError, TransactionId,
 };
 
-/// Where another message of a request stands: its transaction ID, its rank, and the number of the
-/// next transaction ID.
+/// The message that becomes the current message of a request: its transaction ID, its rank, and the
+/// number of the next transaction ID.
 ///
-/// Contracts: they see all of it.
+/// Contracts: the value is a record of all fields.
 #[derive(Drop)]
 pub(crate) struct Spot {
     id: TransactionId,
@@ -51,8 +59,8 @@ impl Model for Spot {
     ghost view = { λ s. record { id = s.id; rank = s.rank; next_id = s.next_id } };
 }
 
-impl<A: Allocator + Copy> ClientEndpoint<A> {
-    /// Ends a request by a response that is believed.
+impl<A: Memory> ClientEndpoint<A> {
+    /// Ends a request with a response that is believed.
     pub(crate) fn end_answered(
         &mut self,
         number: u64,
@@ -61,20 +69,27 @@ impl<A: Allocator + Copy> ClientEndpoint<A> {
         message: &Message<'_>,
         now: Instant,
     ) -> Received<'static>
-        ensures { (m : Met) → answered_in message.now self.old ≡ Some m → number ≡ m.number
+        ensures acted { (m : Met) → answered_in message.now self.old ≡ Some m → number ≡ m.number
             → is_current ≡ m.is_current
             → UnlessMemory (λ memory. by_decision memory self.old now message.now m (answered by))
-            message.now self.old (result, self.new) }
+            message.now (Some m) self.old (result, self.new) }
+        ensures granted { A.grants → (m : Met) → answered_in message.now self.old ≡ Some m
+            → number ≡ m.number → is_current ≡ m.is_current
+            → (result, self.new)
+            ≡ by_decision all_memory self.old now message.now m (answered by) }
     {
-        let Ok(response) = Vec::from_slice(self.alloc, message.as_bytes()) else {
+        let Ok(response) = A::copied(self.alloc, message.as_bytes()) else {
             return self.drop_for(number, DropReason::OutOfMemory, message);
         };
         let Ok(confirmed) = self.confirmed_by(number, is_current, message) else {
             return self.drop_for(number, DropReason::OutOfMemory, message);
         };
-        let end = RequestEnd::Answered(Outcome::of(message, &self.understood), by);
-        let Some(asked) = self.end_by(number, is_current, End { end, response }, message, now)
-        else {
+        let end = End {
+            end: RequestEnd::Answered(Outcome::of(message, &self.understood), by),
+            response,
+            round_trip: self.round_trip_of(number, is_current, now),
+        };
+        let Some(asked) = self.end_by(number, is_current, end, message, now) else {
             return Received::NotOurs;
         };
         self.standing.confirm(confirmed);
@@ -82,17 +97,33 @@ impl<A: Allocator + Copy> ClientEndpoint<A> {
         Received::Consumed
     }
 
-    /// Returns the challenge that a success confirms, which is that of the message that it answers.
-    /// An error confirms none. Fails if an allocation fails.
+    /// Returns the time between a message of a request and a response to it that arrives at `now`.
+    /// Returns `None` unless the message is the current one and `poll` has returned its bytes
+    /// exactly once.
+    fn round_trip_of(&self, number: u64, is_current: bool, now: Instant) -> Option<Duration>
+        ensures { (a : AskedSeen) → datum_of number self.now.requests ≡ Some a
+            → option_map as_nanos result
+            ≡ if is_current then round_trip now a.handed_out else None }
+    {
+        if !is_current {
+            return None;
+        }
+        let asked = self.requests.datum_of(number)?;
+        asked.round_trip(now)
+    }
+
+    /// Returns the challenge that a success confirms: the challenge that the answered message is
+    /// signed for. An error response confirms no challenge. Fails if an allocation fails.
     fn confirmed_by(
         &self,
         number: u64,
         is_current: bool,
         message: &Message<'_>,
     ) -> Result<Option<Challenge<A>>, AllocError>
-        ensures { (m : Met) → answered_in message.now self.now ≡ Some m → number ≡ m.number
-            → is_current ≡ m.is_current
+        ensures confirmed { (m : Met) → answered_in message.now self.now ≡ Some m
+            → number ≡ m.number → is_current ≡ m.is_current
             → IfOk result (λ c. c ≡ confirmed_in (class_in message.now) m) }
+        ensures granted { A.grants → IsOk result }
     {
         if message.class() != MessageClass::Success {
             return Ok(None);
@@ -109,7 +140,7 @@ impl<A: Allocator + Copy> ClientEndpoint<A> {
         }
     }
 
-    /// Ends a request that was challenged or refused as often as it may be.
+    /// Ends a request that was challenged or refused too often.
     pub(crate) fn end_unauthorized(
         &mut self,
         number: u64,
@@ -117,15 +148,16 @@ impl<A: Allocator + Copy> ClientEndpoint<A> {
         message: &Message<'_>,
         now: Instant,
     ) -> Received<'static>
-        ensures { (m : Met) → answered_in message.now self.old ≡ Some m → number ≡ m.number
+        ensures acted { (m : Met) → answered_in message.now self.old ≡ Some m → number ≡ m.number
             → is_current ≡ m.is_current
             → UnlessMemory (λ memory. by_decision memory self.old now message.now m unauthorized)
-            message.now self.old (result, self.new) }
+            message.now (Some m) self.old (result, self.new) }
+        ensures granted { A.grants → (m : Met) → answered_in message.now self.old ≡ Some m
+            → number ≡ m.number → is_current ≡ m.is_current
+            → (result, self.new)
+            ≡ by_decision all_memory self.old now message.now m unauthorized }
     {
-        let end = End {
-            end: RequestEnd::Unauthorized,
-            response: Vec::new(self.alloc),
-        };
+        let end = End::bare(self.alloc, RequestEnd::Unauthorized);
         let Some(asked) = self.end_by(number, is_current, end, message, now) else {
             return Received::NotOurs;
         };
@@ -133,7 +165,8 @@ impl<A: Allocator + Copy> ClientEndpoint<A> {
         Received::Consumed
     }
 
-    /// Ends a request, and returns what was stored of it.
+    /// Ends a request with the outcome `end`, and returns its state. Returns `None` if no
+    /// outstanding request has this number.
     fn end_by(
         &mut self,
         number: u64,
@@ -151,7 +184,8 @@ impl<A: Allocator + Copy> ClientEndpoint<A> {
             .answer(number, message.as_bytes().len(), moment, end)
     }
 
-    /// Makes another message of a request the current one.
+    /// Makes another message of a request the current one, or drops the response if that message
+    /// cannot be written.
     pub(crate) fn turn(
         &mut self,
         number: u64,
@@ -161,10 +195,14 @@ impl<A: Allocator + Copy> ClientEndpoint<A> {
         message: &Message<'_>,
         now: Instant,
     ) -> Received<'static>
-        ensures { (m : Met) → answered_in message.now self.old ≡ Some m → number ≡ m.number
+        ensures acted { (m : Met) → answered_in message.now self.old ≡ Some m → number ≡ m.number
             → UnlessMemory (λ memory. turned_at memory self.old now message.now m why signed_for
             (spot_of self.old m.asked place))
-            message.now self.old (result, self.new) }
+            message.now (Some m) self.old (result, self.new) }
+        ensures granted { A.grants → (m : Met) → answered_in message.now self.old ≡ Some m
+            → number ≡ m.number
+            → (result, self.new) ≡ turned_at all_memory self.old now message.now m why signed_for
+            (spot_of self.old m.asked place) }
     {
         let Some(spot) = self.spot(number, place) else {
             return self.drop_for(number, DropReason::OutOfMemory, message);
@@ -175,7 +213,10 @@ impl<A: Allocator + Copy> ClientEndpoint<A> {
         }
     }
 
-    /// Returns where another message of a request stands.
+    /// Returns the transaction ID, the rank and the next number for the message that becomes the
+    /// current one: the earlier message at `place`, or a new one if `place` is `None`. Returns
+    /// `None` if no transaction ID is left for a new message, or if a current message has the
+    /// transaction ID of the earlier one.
     fn spot(&self, number: u64, place: Option<(u32, TransactionId)>) -> Option<Spot>
         ensures { (a : AskedSeen) → datum_of number self.now.requests ≡ Some a
             → result ≡ spot_of self.now a place }
@@ -183,7 +224,8 @@ impl<A: Allocator + Copy> ClientEndpoint<A> {
         let asked = self.requests.datum_of(number)?;
         match place {
             Some((rank, id)) => {
-                // Its ID may be that of another message by now if there was no memory to note it.
+                // Another message may have this ID by now, if there was no memory to record that
+                // the ID is in use.
                 if self.requests.number_of(id).is_some() {
                     return None;
                 }
@@ -204,7 +246,7 @@ impl<A: Allocator + Copy> ClientEndpoint<A> {
         }
     }
 
-    /// Writes a message of a request.
+    /// Writes the message of a request with this transaction ID, signed for this challenge.
     fn bytes_for(
         &self,
         number: u64,
@@ -218,6 +260,8 @@ impl<A: Allocator + Copy> ClientEndpoint<A> {
         ensures refused { (a : AskedSeen) → datum_of number self.now.requests ≡ Some a
             → IfErr result (λ why. (why ≡ StunWriteError.OutOfMemory)
             ⊎ (message_bytes self.now.form self.now.identity signed_for.now id a ≡ Err why)) }
+        ensures granted { A.grants → (a : AskedSeen) → datum_of number self.now.requests ≡ Some a
+            → UnlessRefused result ⊤ ⊥ }
     {
         let Some(asked) = self.requests.datum_of(number) else {
             return Err(StunWriteError::OutOfMemory);
@@ -233,7 +277,8 @@ impl<A: Allocator + Copy> ClientEndpoint<A> {
         )
     }
 
-    /// Sends a request by another message, which has these bytes.
+    /// Makes the message with these bytes the current message of a request, which `poll` then
+    /// returns to be sent. If an allocation fails, drops the response instead.
     fn turn_to(
         &mut self,
         number: u64,
@@ -245,10 +290,14 @@ impl<A: Allocator + Copy> ClientEndpoint<A> {
         now: Instant,
     ) -> Received<'static>
         requires named { IsRequestOf spot.id bytes.items }
-        ensures { (m : Met) → answered_in message.now self.old ≡ Some m → number ≡ m.number
+        ensures acted { (m : Met) → answered_in message.now self.old ≡ Some m → number ≡ m.number
             → UnlessMemory (λ memory. turned_to memory self.old now message.now m why signed_for
             spot bytes.items)
-            message.now self.old (result, self.new) }
+            message.now (Some m) self.old (result, self.new) }
+        ensures granted { A.grants → (m : Met) → answered_in message.now self.old ≡ Some m
+            → number ≡ m.number → number_at spot.id self.old.requests.table.attached ≡ None
+            → (result, self.new) ≡ turned_to all_memory self.old now message.now m why signed_for
+            spot bytes.items }
     {
         let Ok(answered) = copied(&signed_for) else {
             return self.drop_for(number, DropReason::OutOfMemory, message);
@@ -264,11 +313,12 @@ impl<A: Allocator + Copy> ClientEndpoint<A> {
         let Some(asked) = self.requests.datum_of(number) else {
             return self.drop_for(number, DropReason::OutOfMemory, message);
         };
+        let plan = asked.plan(self.plan);
         let empty = nothing(self.alloc, asked.method());
         let response = (message.as_bytes().len(), Some(now));
         match self
             .requests
-            .again(number, response, turn.id, bytes, self.plan, empty, now)
+            .again(number, response, turn.id, bytes, plan, empty, now)
         {
             Ok(former) => {
                 let (_bytes, asked) = former.into_parts();
@@ -279,10 +329,12 @@ impl<A: Allocator + Copy> ClientEndpoint<A> {
         }
     }
 
-    /// Stores that another message is the current one of a request, in place of the one that had
-    /// this transaction ID.
+    /// Stores another message as the current one of a request, in place of the message with the
+    /// transaction ID `former`.
     fn exchange(&mut self, number: u64, former: TransactionId, asked: Asked<A>, turn: Turn<A>)
-        ensures { IsExchanged number former asked turn self.old self.new }
+        ensures exchanged { IsExchanged number former asked turn self.old self.new }
+        ensures granted { A.grants
+            → self.new ≡ exchanging all_memory number former asked turn self.old }
     {
         self.next_id = turn.next_id;
         self.earlier.remove(&turn.id);
@@ -295,22 +347,25 @@ impl<A: Allocator + Copy> ClientEndpoint<A> {
     }
 }
 
-/// Notes which request an earlier message belongs to, if the message is kept. Returns `false` if it
-/// is not kept, or an allocation fails.
-fn note<A: Allocator + Copy>(
+/// Records the number of the request that an earlier message belongs to, and returns `true`.
+/// Returns `false` and records nothing if the message is not stored (`is_kept`), or if an
+/// allocation fails.
+fn note<A: Memory>(
     earlier: &mut BTreeMap<TransactionId, u64, A>,
     is_kept: bool,
     id: TransactionId,
     number: u64,
 ) -> bool
-    ensures { earlier.new.entries ≡ if is_kept && result
+    ensures noted { earlier.new.entries ≡ if is_kept && result
         then insert_entry nat_cmp earlier.old.entries id number else earlier.old.entries }
+    ensures granted { A.grants → is_kept ≡ true → result ≡ true }
 {
-    // The end of its request would leave the ID of a message noted that is not kept.
-    is_kept && earlier.insert(id, number).is_ok()
+    // The ID of a message that is not stored would not be removed when the request ends.
+    is_kept && A::insert(earlier, id, number).is_ok()
 }
 
-/// Returns why a response is dropped for which writing a message fails.
+/// Returns the reason to drop a response after which another message should be sent, if writing
+/// that message has failed with `error`.
 fn reason_for(why: Why, error: StunWriteError) -> DropReason
     ensures memory { error ≡ StunWriteError.OutOfMemory → result ≡ DropReason.OutOfMemory }
     ensures other { (error ≡ StunWriteError.OutOfMemory) ⊎ (result ≡ unwritten why) }
@@ -321,7 +376,8 @@ fn reason_for(why: Why, error: StunWriteError) -> DropReason
     }
 }
 
-/// Returns why a response is dropped for which a message cannot be written.
+/// Returns the reason to drop a response after which another message should be sent, if no valid
+/// message can be written.
 fn unwritten(why: Why) -> DropReason
     ensures { result ≡ unwritten why }
 {

@@ -1,4 +1,4 @@
-//! Changes of what is stored of an outstanding request.
+//! Changes of the state of an outstanding request.
 ghost use Rattle.std.specs.Prelude.{◌≡◌, None, []};
 ghost use Rattle.stun_client_calls.specs.Clients.{changed_at};
 ghost use Rattle.stun_client_calls.specs.Messages.{new_asked};
@@ -10,15 +10,15 @@ use stun_client_endpoint::body::Body;
 use stun_client_requests::requests::Requests;
 use stun_types::message::Method;
 
-/// Returns what stands in a table in place of what is stored of a request, while that is changed. It
-/// does not allocate.
+/// Returns a placeholder for the state of a request, which the table holds while the state is
+/// changed. It does not allocate.
 pub(crate) fn nothing<A: Allocator + Copy>(alloc: A, method: Method) -> Asked<A>
-    ensures { result ≡ new_asked method [] 0 None }
+    ensures { result ≡ new_asked method [] None 0 None }
 {
-    Asked::new(alloc, method, Body::new(alloc), Instant::ZERO, None)
+    Asked::new(alloc, method, Body::new(alloc), None, Instant::ZERO, None)
 }
 
-/// Changes what is stored of an outstanding request, if there is one with this number. It does not
+/// Changes the state of the outstanding request with this number, if there is one. It does not
 /// allocate.
 pub(crate) fn change<A: Allocator + Copy>(
     requests: &mut Requests<A, Asked<A>, End<A>>,

@@ -14,13 +14,14 @@ use stun_client_endpoint::ended::RequestEnd;
 use stun_client_requests::requests::Polled as OfRequests;
 
 impl<A: Allocator + Copy> ClientEndpoint<A> {
-    /// Returns the next thing to do. Call it until it returns `Wait`: after each `request` and `cancel`,
-    /// and when the wait is over. It does not allocate.
+    /// Returns the next thing to do. After each `request`, `receive` and `cancel`, and when the
+    /// wait is over, call it until it returns `Wait`. It does not allocate.
     ///
-    /// First come the bytes that were not returned yet, by the numbers of their requests, then those
-    /// that are due to be sent again, by transaction ID, then the requests that have ended, by number,
-    /// and then those whose time is over, by transaction ID. A request whose bytes are due after its
-    /// first plan ends in their place.
+    /// It returns first the messages that it has not returned yet, in the order of the numbers of
+    /// their requests, and then the messages that are due to be sent again, in the order of their
+    /// transaction IDs. After these come the requests that have ended, in the order of their
+    /// numbers, and last the requests that time out, in the order of their transaction IDs. If a
+    /// message is due after the first plan of its request, the request ends instead.
     pub fn poll(&mut self, now: Instant) -> Polled<A>
         ensures { (told_of result, self.new) ≡ told now self.old }
     {
@@ -29,12 +30,13 @@ impl<A: Allocator + Copy> ClientEndpoint<A> {
             OfRequests::Ended(number, end) => Polled::Ended(number, end),
             OfRequests::TimedOut(number, asked) => self.time_out(number, asked),
             OfRequests::Wait(until) => Polled::Wait(until),
-            // There is no other one.
+            // `OfRequests` has no other variant.
             _ => Polled::Wait(None),
         }
     }
 
-    /// Hands out the bytes of a request, or ends it if its first plan is over.
+    /// Handles a request whose message is due: returns `Transmit` with its number, or ends the
+    /// request if its first plan is over.
     fn hand_out(&mut self, number: u64, now: Instant) -> Polled<A>
         ensures { (told_of result, self.new) ≡ handed_out now number self.old }
     {
@@ -44,7 +46,7 @@ impl<A: Allocator + Copy> ClientEndpoint<A> {
         if asked.is_late(now) {
             return self.give_up(number);
         }
-        change(&mut self.requests, self.alloc, number, Change::SentOut);
+        change(&mut self.requests, self.alloc, number, Change::SentOut(now));
         Polled::Transmit(number)
     }
 
@@ -59,19 +61,14 @@ impl<A: Allocator + Copy> ClientEndpoint<A> {
         }
     }
 
-    /// Notes that a request was not answered in time, and returns its end.
+    /// Ends a request that has timed out: steps back from a challenge that may be forged, forgets
+    /// the earlier messages, and returns `Polled::Ended` with `RequestEnd::TimedOut`.
     fn time_out(&mut self, number: u64, asked: Asked<A>) -> Polled<A>
         ensures { (told_of result, self.new) ≡ timed_out number asked self.old }
     {
         asked.step_back(&mut self.standing);
-        let end = RequestEnd::TimedOut(asked.drops());
+        let end = End::bare(self.alloc, RequestEnd::TimedOut(asked.drops()));
         asked.forget(&mut self.earlier);
-        Polled::Ended(
-            number,
-            End {
-                end,
-                response: Vec::new(self.alloc),
-            },
-        )
+        Polled::Ended(number, end)
     }
 }

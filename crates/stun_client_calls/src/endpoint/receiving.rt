@@ -1,14 +1,17 @@
-//! What comes of a datagram.
+//! Reads datagrams, and acts on responses.
 ghost use Rattle.std.specs.Option.{option_and_then};
 ghost use Rattle.std.specs.Prelude.{◌≡◌, false, IfOk, IsOk, None, Some};
 ghost use Rattle.stun_base.specs.MessageType.{class_in};
-ghost use Rattle.stun_client.specs.Requests.{is_answer};
+ghost use Rattle.stun_client.specs.Answers.{is_answer};
 ghost use Rattle.stun_client_calls.specs.Deciding.{decision_of, drops};
 ghost use Rattle.stun_client_calls.specs.Ids.{number_in};
+ghost use Rattle.stun_client_calls.specs.Messages.{AskedSeen};
 ghost use Rattle.stun_client_calls.specs.Receiving.{Met as MetSeen, UnlessMemory, answered_in, by_class};
 ghost use Rattle.stun_client_calls.specs.Receiving.{by_decision, by_met, current_of, decision_for};
-ghost use Rattle.stun_client_calls.specs.Receiving.{dropping, dropping_refusal, earlier_of, judge_of};
-ghost use Rattle.stun_client_calls.specs.Receiving.{IsDropped, Memory, is_heeded, met, received};
+ghost use Rattle.stun_client_calls.specs.Receiving.{dropping, dropping_refusal, earlier_of, heard_in};
+ghost use Rattle.stun_client_calls.specs.Receiving.{indicated, judge_for};
+ghost use Rattle.stun_client_calls.specs.Receiving.{IsDropped, Memory as MemoryFor, all_memory};
+ghost use Rattle.stun_client_calls.specs.Receiving.{is_heeded, met, received};
 ghost use Rattle.stun_client_calls.specs.Receiving.{takes_memory, without_memory};
 ghost use Rattle.stun_client_calls.specs.code.Acting.{DropsResponse};
 ghost use Rattle.stun_client_endpoint.specs.Settings.{is_reliable};
@@ -22,17 +25,19 @@ use std::alloc::{AllocError, Allocator};
 use std::marker::Model;
 use std::net::SocketAddr;
 use stun_base::instant::Instant;
+use stun_base::memory::Memory;
 use stun_base::transport::TransportType;
 use stun_client::challenge::Challenge;
+use stun_client::credentials::Credentials;
 use stun_client_endpoint::ended::DropReason;
 use stun_client_endpoint::reading::code_of;
 use stun_client_endpoint::told::Received;
 use stun_extra::canonical_address::is_same_address;
 use stun_types::message::{Message, MessageClass, Method, TransactionId};
 
-/// A message of an outstanding request.
+/// The message of an outstanding request that a response answers.
 ///
-/// Contracts: they see all of it.
+/// Contracts: the value is a record of all fields.
 #[derive(Drop)]
 pub(crate) struct Met<'a, A: Allocator> {
     number: u64,
@@ -54,62 +59,88 @@ impl<'a, A: Allocator> Model for Met<'a, A> {
     } };
 }
 
-impl<A: Allocator + Copy> ClientEndpoint<A> {
+impl<A: Memory> ClientEndpoint<A> {
     /// Reads a datagram that came from this address. If the result is `NotOurs`, offer the datagram
-    /// to the next client on the socket. If it is `Consumed`, `poll` returns what comes of it.
+    /// to the next client on the socket. If it is `Consumed`, call `poll`, which returns what to do
+    /// next.
     ///
     /// A response to any message of a request ends the request if it is believed (see
-    /// `Credentials::judge`). What else it comes to is decided by `deciding::decide`: it ends the
-    /// request as `Unauthorized`, another message becomes the current one, or it is dropped.
+    /// `Credentials::judge`), and comes from the address that answers the request. This is the
+    /// server's address, unless the options of the request name another one (see
+    /// `RequestOptions::from`). Otherwise `deciding::decide` decides: the request ends as
+    /// `Unauthorized`, another message becomes the current one, or the response is dropped. A
+    /// response from another address is `NotOurs`, and so is an indication that does not come from
+    /// the server.
     ///
     /// If an allocation fails, or no transaction ID is left, the response is dropped as
-    /// `OutOfMemory`. Only if the former message of a request cannot be stored that another one
-    /// takes the place of, it is forgotten, and a response to it is `NotOurs` then.
+    /// `OutOfMemory`. The one exception is that another message becomes the current one, but there
+    /// is no memory to store the former message. The former message is then forgotten, and a
+    /// response to it is `NotOurs`.
     pub fn receive<'a>(&mut self, bytes: &'a [u8], from: SocketAddr, now: Instant) -> Received<'a>
         ensures received { UnlessMemory (λ memory. received memory from bytes.now now self.old)
-            bytes.now self.old (result, self.new) }
-        ensures unheeded { is_heeded from bytes.now self.old ≡ false → (memory : Memory)
+            bytes.now (heard_in from bytes.now self.old) self.old (result, self.new) }
+        ensures unheeded { is_heeded from bytes.now self.old ≡ false → (memory : MemoryFor)
             → (result, self.new) ≡ received memory from bytes.now now self.old }
         ensures drops { IsDropped from bytes.now now self.old (result, self.new) }
+        ensures granted { A.grants
+            → (result, self.new) ≡ received all_memory from bytes.now now self.old }
     {
         let Ok(message) = Message::from_bytes(bytes) else {
             return Received::NotOurs;
         };
+        self.by_class(message, from, now)
+    }
+
+    /// Handles a message that came from this address, by its class.
+    fn by_class<'a>(&mut self, message: Message<'a>, from: SocketAddr, now: Instant) -> Received<'a>
+        ensures acted { UnlessMemory
+            (λ memory. by_class memory from self.old now message.entry (class_in message.entry))
+            message.entry (heard_in from message.entry self.old) self.old (result, self.new) }
+        ensures unheeded { heard_in from message.entry self.old ≡ None → (memory : MemoryFor)
+            → (result, self.new)
+            ≡ by_class memory from self.old now message.entry (class_in message.entry) }
+        ensures drops { DropsResponse from message.entry now self.old (result, self.new) }
+        ensures granted { A.grants → (result, self.new)
+            ≡ by_class all_memory from self.old now message.entry (class_in message.entry) }
+    {
+        match message.class() {
+            MessageClass::Request => Received::NotOurs,
+            MessageClass::Indication => self.indicated(message, from),
+            MessageClass::Success => self.respond(&message, from, now),
+            MessageClass::Error => self.respond(&message, from, now),
+        }
+    }
+
+    /// Returns `Received::Indication` if the indication came from the server, and
+    /// `Received::NotOurs` otherwise.
+    fn indicated<'a>(&self, message: Message<'a>, from: SocketAddr) -> Received<'a>
+        ensures { (result, self.now) ≡ indicated from message.entry self.now }
+    {
         if is_same_address(from, self.server) {
-            self.by_class(message, now)
+            Received::Indication(message)
         } else {
             Received::NotOurs
         }
     }
 
-    /// Reads a message from the server.
-    fn by_class<'a>(&mut self, message: Message<'a>, now: Instant) -> Received<'a>
+    /// Judges a response that came from this address, and acts on the judgement. Returns `NotOurs`
+    /// if it answers no message of an outstanding request.
+    fn respond(
+        &mut self,
+        message: &Message<'_>,
+        from: SocketAddr,
+        now: Instant,
+    ) -> Received<'static>
         ensures acted { UnlessMemory
-            (λ memory. by_class memory self.old now message.entry (class_in message.entry))
-            message.entry self.old (result, self.new) }
-        ensures unheeded { answered_in message.entry self.old ≡ None → (memory : Memory)
-            → (result, self.new)
-            ≡ by_class memory self.old now message.entry (class_in message.entry) }
-        ensures drops { DropsResponse message.entry now self.old (result, self.new) }
-    {
-        match message.class() {
-            MessageClass::Request => Received::NotOurs,
-            MessageClass::Indication => Received::Indication(message),
-            MessageClass::Success => self.respond(&message, now),
-            MessageClass::Error => self.respond(&message, now),
-        }
-    }
-
-    /// Acts upon a response from the server.
-    fn respond(&mut self, message: &Message<'_>, now: Instant) -> Received<'static>
-        ensures acted { UnlessMemory
-            (λ memory. by_met memory self.old now message.now (answered_in message.now self.old))
-            message.now self.old (result, self.new) }
-        ensures unheeded { answered_in message.now self.old ≡ None
+            (λ memory. by_met memory self.old now message.now (heard_in from message.now self.old))
+            message.now (heard_in from message.now self.old) self.old (result, self.new) }
+        ensures unheeded { heard_in from message.now self.old ≡ None
             → (result, self.new) ≡ without_memory message.now self.old None }
-        ensures drops { DropsResponse message.now now self.old (result, self.new) }
+        ensures drops { DropsResponse from message.now now self.old (result, self.new) }
+        ensures granted { A.grants → (result, self.new)
+            ≡ by_met all_memory self.old now message.now (heard_in from message.now self.old) }
     {
-        let Some(met) = self.answered(message) else {
+        let Some(met) = self.heard(message, from) else {
             return Received::NotOurs;
         };
         let number = met.number;
@@ -120,7 +151,21 @@ impl<A: Allocator + Copy> ClientEndpoint<A> {
         }
     }
 
-    /// Returns the message that a response answers.
+    /// Returns the message that a response answers. Returns `None` if it answers no message of an
+    /// outstanding request, or if `from` is not the address that answers the request.
+    fn heard(&self, message: &Message<'_>, from: SocketAddr) -> Option<Met<'_, A>>
+        ensures { result ≡ heard_in from message.now self.now }
+    {
+        let met = self.answered(message)?;
+        if is_same_address(from, met.asked.address(self.server)) {
+            Some(met)
+        } else {
+            None
+        }
+    }
+
+    /// Returns the message that a response answers, whatever address the response comes from.
+    /// Returns `None` if it answers no message of an outstanding request.
     fn answered(&self, message: &Message<'_>) -> Option<Met<'_, A>>
         ensures { result ≡ answered_in message.now self.now }
     {
@@ -132,7 +177,7 @@ impl<A: Allocator + Copy> ClientEndpoint<A> {
         }
     }
 
-    /// Returns the message with this transaction ID.
+    /// Returns the current or earlier message with this transaction ID, or `None` if there is none.
     fn met(&self, id: TransactionId) -> Option<Met<'_, A>>
         ensures { result ≡ met id self.now }
     {
@@ -142,7 +187,8 @@ impl<A: Allocator + Copy> ClientEndpoint<A> {
         }
     }
 
-    /// Returns the current message of a request.
+    /// Returns the current message of a request, or `None` if no outstanding request has this
+    /// number.
     fn current(&self, number: u64) -> Option<Met<'_, A>>
         ensures { result ≡ current_of self.now number }
     {
@@ -155,7 +201,7 @@ impl<A: Allocator + Copy> ClientEndpoint<A> {
         })
     }
 
-    /// Returns the earlier message with this transaction ID.
+    /// Returns the earlier message with this transaction ID, or `None` if there is none.
     fn earlier(&self, id: TransactionId) -> Option<Met<'_, A>>
         ensures { result ≡ option_and_then (earlier_of id self.now) (number_in id self.now.earlier) }
     {
@@ -176,7 +222,8 @@ impl<A: Allocator + Copy> ClientEndpoint<A> {
         }
     }
 
-    /// Returns what a response to a message comes to. Fails if an allocation fails.
+    /// Judges a response to a message, and decides what happens to the request. Fails if an
+    /// allocation fails.
     fn decide(
         &self,
         met: &Met<'_, A>,
@@ -186,8 +233,11 @@ impl<A: Allocator + Copy> ClientEndpoint<A> {
         ensures decided { IfOk result (λ decision. decision_of decision
             ≡ decision_for self.now now message.now met.now) }
         ensures no_memory { takes_memory self.now message.now met.now ≡ false → IsOk result }
+        ensures granted { A.grants → IsOk result }
     {
-        let judged = self.credentials.judge(
+        let unsigned = Credentials::Unsigned;
+        let credentials = met.asked.credentials(&unsigned, &self.credentials);
+        let judged = credentials.judge(
             self.alloc,
             self.requires_fingerprint,
             met.is_current,
@@ -198,9 +248,9 @@ impl<A: Allocator + Copy> ClientEndpoint<A> {
         decide(met.asked, &self.standing, self.limits(), judged, now)
     }
 
-    /// Returns how often a request may be sent by another message.
+    /// Returns the limits on the messages of a request.
     fn limits(&self) -> Limits
-        ensures { result ≡ (judge_of self.now).limits }
+        ensures { (a : AskedSeen) → result ≡ (judge_for self.now a).limits }
     {
         Limits {
             turns: self.turns,
@@ -222,7 +272,7 @@ impl<A: Allocator + Copy> ClientEndpoint<A> {
         Received::Dropped(why)
     }
 
-    /// Drops the challenge that a message is signed for already.
+    /// Drops a response that repeats the challenge that the current message is signed for.
     fn refuse(&mut self, number: u64, message: &Message<'_>) -> Received<'static>
         ensures { (result, self.new) ≡ dropping_refusal number message.now self.old }
     {
@@ -231,7 +281,7 @@ impl<A: Allocator + Copy> ClientEndpoint<A> {
         Received::Dropped(DropReason::Refused)
     }
 
-    /// Acts upon what a response to a message comes to.
+    /// Acts on the decision about a response to a message.
     fn act(
         &mut self,
         number: u64,
@@ -244,9 +294,13 @@ impl<A: Allocator + Copy> ClientEndpoint<A> {
             → number ≡ m.number → is_current ≡ m.is_current
             → UnlessMemory
             (λ memory. by_decision memory self.old now message.now m (decision_of decision))
-            message.now self.old (result, self.new) }
+            message.now (Some m) self.old (result, self.new) }
         ensures drops { (why : DropReason) → decision_of decision ≡ drops why
             → (result, self.new) ≡ dropping number why message.now self.old }
+        ensures granted { A.grants → (m : MetSeen) → answered_in message.now self.old ≡ Some m
+            → number ≡ m.number → is_current ≡ m.is_current
+            → (result, self.new)
+            ≡ by_decision all_memory self.old now message.now m (decision_of decision) }
     {
         match decision {
             Decision::Answered(by) => self.end_answered(number, is_current, by, message, now),
@@ -272,7 +326,7 @@ fn is_answer(method: Method, message: &Message<'_>) -> bool
     }
 }
 
-/// Returns whether nothing is sent again over a transport.
+/// Returns whether a transport is reliable, so that messages are not retransmitted over it.
 fn is_reliable(transport: TransportType) -> bool
     ensures { result ≡ is_reliable transport }
 {

@@ -1,4 +1,4 @@
--- What always holds of the three indices by number.
+-- What always holds for the three indices by number.
 use Rattle.std.specs.Prelude.{◌≡◌, ◌≤◌, ◌+◌, ◌==◌, ℕ, Bool, true, false, List, count_by}
 use Rattle.std.specs.Prelude.{if◌then◌else◌, length}
 use Rattle.std.specs.BTreeMap.{is_at}
@@ -25,8 +25,8 @@ has_ended all number = option_map_or is_ended (known_at number all) false
 abbrev pub is_open : {E : Type 0} → AllKnown E → ℕ → Bool
 is_open all number = option_map_or is_outstanding (known_at number all) false
 
--- the heap has each request that has ended once, and nothing else, and there is room in it for the
--- outstanding ones, which are counted. Those whose bytes were not handed out are outstanding
+-- the heap has each request that has ended once, and nothing else, and has room for the outstanding
+-- ones, which are counted. Those whose bytes were not returned yet are outstanding
 pub record AreIndices {E : Type 0} (known : AllKnown E) (unsent : List ℕ) (items : List (Reverse ℕ))
     (ended room outstanding : ℕ) : Type 0 where
   pub in_order : IsHeap later items

@@ -1,7 +1,7 @@
 -- The security bits of a server as the code spells them.
 use Rattle.std.specs.Prelude.{ℕ, List, Bool, true, false, codes}
 
--- by whether HMAC-SHA256 is supported, and whether users may be named by a hash
+-- the text for whether HMAC-SHA256 is supported, and whether users may be named by a hash
 abbrev pub bits_text : Bool → Bool → List ℕ
 bits_text true true = codes "wAAA"
 bits_text true false = codes "gAAA"

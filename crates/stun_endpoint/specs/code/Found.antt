@@ -1,4 +1,4 @@
--- What the code finds of a request that waits, and of the user who was found for it.
+-- What the code finds out about a request that waits, and about the user who was found for it.
 use Rattle.std.specs.Prelude.{◌≡◌, ℕ, List, if◌then◌else◌, Option, Some, None}
 use Rattle.std.specs.declared.net.socket_addr.SocketAddr.{SocketAddr}
 use Rattle.std.specs.declared.result.Result.TheVariants.{Ok, Err}
@@ -9,14 +9,12 @@ use Rattle.stun_auth.specs.Reading.{Reading, reading_of}
 use Rattle.stun_auth.specs.Registered.{RegisteredUser, key_at}
 use Rattle.stun_auth.specs.Server.{verdict}
 use Rattle.stun_base.specs.declared.keys.algorithm.IntegrityAlgorithm.{IntegrityAlgorithm}
-use Rattle.stun_endpoint.specs.Answers.{Signature}
 use Rattle.stun_endpoint.specs.Judged.{Realm, judged_in, realm_of_user}
 use Rattle.stun_endpoint.specs.Lookups.{accepted_nonces, has_one_of}
 use Rattle.stun_endpoint.specs.Nonces.{nonce_in}
-use Rattle.stun_endpoint.specs.Received.{signature_for}
 use Rattle.stun_endpoint.specs.Settings.{Settings, registered_of}
 
--- what a request claims that waits in an epoch
+-- the claim of a request that waits in an epoch
 abbrev pub waiting_claim : Settings → SocketAddr → ℕ → List ℕ → Option ClaimSeen
 waiting_claim s from epoch bytes =
     if has_one_of (reading_of bytes) (accepted_nonces s from epoch)
@@ -26,17 +24,15 @@ waiting_claim s from epoch bytes =
 abbrev pub realm_of_found : Settings → RegisteredUser → Realm
 realm_of_found s user = realm_of_user s (Some (just (registered_of s) (Some user)))
 
--- a request is accepted from the user with this algorithm, and its responses are signed by this
--- signature
-pub record IsAcceptedBySignature (s : Settings) (user : RegisteredUser) (from : SocketAddr)
-    (epoch : ℕ) (bytes : List ℕ) (algorithm : IntegrityAlgorithm) (signature : Signature) : Type 0
-  where
-    pub judged : judged_in s (realm_of_found s user) from epoch (reading_of bytes)
-        ≡ Ok (record { name = user.username; algorithm = algorithm })
-    pub key : key_at (realm_of_found s user).users user.username algorithm ≡ Some signature.key
-    pub signs : signature_for signature.key bytes ≡ Some signature
+-- a request is accepted from the user with this algorithm, for which the user has this key
+pub record IsAcceptedByKey (s : Settings) (user : RegisteredUser) (from : SocketAddr) (epoch : ℕ)
+    (r : Reading) (algorithm : IntegrityAlgorithm) (key : List ℕ) : Type 0 where
+  pub judged : judged_in s (realm_of_found s user) from epoch r
+      ≡ Ok (record { name = user.username; algorithm = algorithm })
+  pub has : key_at (realm_of_found s user).users user.username algorithm ≡ Some key
 
--- a request is refused for the reason that the current nonce gives a server without users
+-- a request is refused for the reason for which a server without users refuses it under the current
+-- nonce
 pub record IsRefusedAsNobody (s : Settings) (user : RegisteredUser) (from : SocketAddr)
     (epoch : ℕ) (r : Reading) : Type 0 where
   pub why : VerdictRefusal
@@ -45,9 +41,8 @@ pub record IsRefusedAsNobody (s : Settings) (user : RegisteredUser) (from : Sock
       (Some s.algorithms) r
       ≡ Err why
 
--- what the code finds of a request is by what it is accepted, or nothing if it is refused
-abbrev pub IsFoundKey : Settings → RegisteredUser → SocketAddr → ℕ → List ℕ
-    → Option (IntegrityAlgorithm × Signature) → Type 0
-IsFoundKey s user from epoch bytes (Some found) =
-    IsAcceptedBySignature s user from epoch bytes found.0 found.1
-IsFoundKey s user from epoch bytes None = IsRefusedAsNobody s user from epoch (reading_of bytes)
+-- the key that the code finds is the one by which the request is accepted, or none if it is refused
+abbrev pub IsFoundKey : Settings → RegisteredUser → SocketAddr → ℕ → Reading
+    → Option (IntegrityAlgorithm × List ℕ) → Type 0
+IsFoundKey s user from epoch r (Some found) = IsAcceptedByKey s user from epoch r found.0 found.1
+IsFoundKey s user from epoch r None = IsRefusedAsNobody s user from epoch r

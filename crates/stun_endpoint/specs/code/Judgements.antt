@@ -1,4 +1,4 @@
--- What a request comes to by the verdict that the code found.
+-- The outcome of a request by the verdict that the code found.
 use Rattle.std.specs.Prelude.{ℕ, List}
 use Rattle.std.specs.declared.net.socket_addr.SocketAddr.{SocketAddr}
 use Rattle.std.specs.declared.result.Result.{Result}

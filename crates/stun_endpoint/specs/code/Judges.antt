@@ -1,4 +1,4 @@
--- By what the code judges a request.
+-- What the code judges a request by.
 use Rattle.stun_endpoint.specs.Judged.{Realm, realm_of_table}
 use Rattle.stun_endpoint.specs.declared.server.judges.Judges.{Judges}
 use Rattle.stun_endpoint.specs.declared.server.judges.Judges.TheVariants.{Table, User}

@@ -1,5 +1,5 @@
--- How the code finds the cause of a refusal: by the refusal under the nonces of the server, and by the
--- verdict under the empty nonce, which no client is ever sent.
+-- How the code finds the cause of a refusal: by the refusal under the nonces of the server, and by
+-- the verdict under the empty nonce, which no client is ever sent.
 use Rattle.std.specs.Prelude.{ℕ, List, [], Bool, true, false, ◌||◌, if◌then◌else◌, Option, Some}
 use Rattle.std.specs.Prelude.{None}
 use Rattle.std.specs.Str.{bytes_eq}
@@ -24,14 +24,14 @@ use Rattle.stun_endpoint.specs.declared.server.causes.Cause.TheVariants.{OtherFe
 use Rattle.stun_endpoint.specs.declared.server.causes.Cause.TheVariants.{WrongCredentials}
 use Rattle.stun_endpoint.specs.declared.server.causes.Cause.TheVariants.{UnknownAttribute}
 
--- whether a verdict says that nobody is authorized
+-- whether a verdict says that the request is unauthorized
 abbrev pub is_unauthorized : Result ClientSeen VerdictRefusal → Bool
 is_unauthorized (Ok client) = false
 is_unauthorized (Err refused.Unauthorized) = true
 is_unauthorized (Err refused.BadRequest) = false
 is_unauthorized (Err refused.StaleNonce) = false
 
--- the verdict under the empty nonce, where there are no users
+-- the verdict under the empty nonce, at a server without users
 abbrev pub verdict_under_none : Settings → Reading → Result ClientSeen VerdictRefusal
 verdict_under_none s r = verdict (registered_of s) s.feature [] (Some s.algorithms) r
 
@@ -40,14 +40,14 @@ abbrev pub bad_cause : Reading → Cause
 bad_cause r =
     if is_malformed r || bytes_eq (their_nonce r) [] then Incomplete else OtherAlgorithms
 
--- the cause where nobody is authorized
+-- the cause if the request is unauthorized
 abbrev pub unauthorized_cause : Settings → List ℕ → Reading → Cause
 unauthorized_cause s ours r =
     if is_unauthorized (verdict_under_none s r) then NoSignature
     else if bytes_eq (their_nonce r) ours then WrongCredentials
     else OtherFeatures
 
--- the cause of what a client is told
+-- the cause of the refusal that a client is sent
 abbrev pub cause_told : Settings → List ℕ → Reading → VerdictRefusal → Cause
 cause_told s ours r refused.Unauthorized = unauthorized_cause s ours r
 cause_told s ours r refused.StaleNonce = StaleNonce
@@ -57,7 +57,7 @@ cause_told s ours r refused.BadRequest = bad_cause r
 abbrev pub cause_by_refusal : Settings → List ℕ → Reading → VerdictRefusal → Cause
 cause_by_refusal s ours r refusal = cause_told s ours r (told_refusal ours r refusal)
 
--- the cause where a request is refused after it was accepted: for its attributes
+-- the cause if a request is refused after it was accepted, because of its attributes
 abbrev pub unknown_among : Option Refusal → Option Cause
 unknown_among None = None
 unknown_among (Some told.UnknownAttribute) = Some UnknownAttribute

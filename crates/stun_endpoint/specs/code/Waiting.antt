@@ -1,4 +1,4 @@
--- What the code knows of a request that waits: it is one that is judged.
+-- What the code knows about a request that waits: it is one that is judged.
 use Rattle.std.specs.Prelude.{◌≡◌, ℕ, List, false, None}
 use Rattle.stun_base.specs.MessageType.{class_in}
 use Rattle.stun_base.specs.declared.wire.message_type.MessageClass.TheVariants.{Request}

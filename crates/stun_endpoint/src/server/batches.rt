@@ -1,6 +1,6 @@
-//! A batch of datagrams, received at once.
+//! Batches of datagrams that are received at once.
 
-ghost use Rattle.std.specs.Prelude.{◌≡◌, ◌++◌, IfOk, OnErr, OnOk, length, slice_range, take};
+ghost use Rattle.std.specs.Prelude.{◌≡◌, ◌++◌, IfOk, IsOk, OnErr, OnOk, length, slice_range, take};
 ghost use Rattle.stun_endpoint.specs.Batches.{FollowOneAnother, TakesRoom, outcome_at, outcomes_at};
 ghost use Rattle.stun_endpoint.specs.Batches.{received_all, received_one};
 ghost use Rattle.stun_endpoint.specs.Judged.{realm_of_table};
@@ -9,22 +9,25 @@ use crate::batch::{Answers, Datagram, ReceivedAt};
 use crate::server::Server;
 use crate::unix_time::UnixTime;
 use crate::users::Users;
-use std::alloc::{AllocError, Allocator};
+use std::alloc::AllocError;
+use stun_base::memory::Memory;
 
-impl<A: Allocator + Copy> Server<A> {
-    /// Judges the datagrams of a batch, each like `receive`, and writes the responses into one buffer.
+impl<A: Memory> Server<A> {
+    /// Judges the datagrams of a batch, each like `receive`, and writes the responses into one
+    /// buffer.
     ///
-    /// The results are those of `receive` for one datagram after another, at one time. Both results
-    /// and answers are put in place of what the two have, and their memory is used again: a batch
-    /// allocates what `receive_into` does for its datagrams, if both have grown to its size.
+    /// Each result is what `receive` returns for its datagram at this time. The results replace the
+    /// contents of `results`, and the responses replace the contents of `answers`. The memory of
+    /// both is used again. So once both have grown to the size of a batch, a batch allocates only
+    /// what `receive_into` allocates for its datagrams.
     ///
-    /// It saves a buffer for each response that has not been sent yet, for a socket that takes
-    /// several at once. If you send each response before you receive the next datagram, call
-    /// `receive_into`, which does the same work.
+    /// If your socket sends several datagrams at once, a batch spares you a separate buffer for
+    /// each response that has not been sent yet. If you send each response before you receive the
+    /// next datagram, call `receive_into`, which does the same work.
     ///
-    /// Fails if an allocation fails. The results that there are then belong to the first datagrams,
-    /// and their responses are in the buffer. Send them, and pass the remaining datagrams again, or
-    /// drop them, because their clients send again.
+    /// Fails if an allocation fails. The results then cover only the first datagrams, whose
+    /// responses are in the buffer. Send these responses, and pass the remaining datagrams again,
+    /// or drop these datagrams, because their clients send again.
     pub fn receive_many<'a>(
         &self,
         datagrams: &[Datagram<'a>],
@@ -33,25 +36,26 @@ impl<A: Allocator + Copy> Server<A> {
         answers: &mut Answers<A>,
         results: &mut Vec<ReceivedAt<'a, A>, A>,
     ) -> Result<(), AllocError>
-        // As many datagrams as there are results came to what `receive` returns for each alone.
+        // Each result is what `receive` returns for its datagram alone.
         ensures received { outcomes_at answers.new results.new.items
             ≡ received_all self.now (realm_of_table users.now) now
             (take (length results.new.items) datagrams.now) }
         ensures all { OnOk result (length results.new.items ≡ length datagrams.now) }
         ensures ranges { FollowOneAnother 0 results.new.items (length answers.new) }
+        ensures granted { A.grants → IsOk result }
     {
         answers.clear();
         results.clear();
-        results.reserve(datagrams.len())?;
         for datagram in datagrams {
+            A::reserve(results, 1)?;
             let received = self.receive_onto(datagram, now, users, answers)?;
             results.push_reserved(received);
         }
         Ok(())
     }
 
-    /// Judges a datagram, and appends its response to the answers. They are unchanged if the call
-    /// fails.
+    /// Judges a datagram, and appends its response to `answers`. If the call fails, `answers` is
+    /// unchanged.
     fn receive_onto<'a>(
         &self,
         datagram: &Datagram<'a>,
@@ -67,11 +71,12 @@ impl<A: Allocator + Copy> Server<A> {
         ensures kept { IfOk result (λ one. answers.new
             ≡ answers.old ++ slice_range answers.new one.start one.end) }
         ensures err { OnErr result (answers.new ≡ answers.old) }
+        ensures granted { A.grants → IsOk result }
     {
         let page = &mut answers.page;
         let received = self.receive_into(datagram.bytes, datagram.from, now, users, page)?;
         let start = answers.bytes.len();
-        answers.bytes.extend_from_slice(answers.page.as_slice())?;
+        A::extend(&mut answers.bytes, answers.page.as_slice())?;
         let end = answers.bytes.len();
         Ok(ReceivedAt {
             received,

@@ -1,23 +1,24 @@
-//! What a datagram comes to, and why it is refused, by one judgement.
+//! The calls that return the outcome of a datagram together with the cause of its refusal.
 
 ghost use Rattle.std.specs.Option.{option_copied};
-ghost use Rattle.std.specs.Prelude.{◌≡◌, IfOk, IsOk, Some, false};
+ghost use Rattle.std.specs.Prelude.{◌≡◌, ◌≤◌, IfOk, IsOk, Some, false, length};
 ghost use Rattle.stun_auth.specs.Algorithms.{contains};
 ghost use Rattle.stun_auth.specs.Nonces.{asks_for_algorithms};
 ghost use Rattle.stun_auth.specs.Reading.{reading_of};
-ghost use Rattle.stun_base.specs.MessageType.{class_in, is_request};
+ghost use Rattle.stun_base.specs.MessageType.{class_in};
 ghost use Rattle.stun_base.specs.declared.keys.algorithm.IntegrityAlgorithm.TheVariants.{Sha256};
 ghost use Rattle.stun_endpoint.specs.Answers.{is_fingerprinted};
-ghost use Rattle.stun_endpoint.specs.Causes.{cause_by_class, cause_of, credential_cause};
-ghost use Rattle.stun_endpoint.specs.Causes.{or_unknown};
+ghost use Rattle.stun_endpoint.specs.Causes.{cause_of, credential_cause, or_unknown};
 ghost use Rattle.stun_endpoint.specs.Judged.{judged, realm_of_table, realm_of_user};
 ghost use Rattle.stun_endpoint.specs.Outcomes.{outcome_of};
-ghost use Rattle.stun_endpoint.specs.Received.{by_class, by_verdict, outcome_of_accepted};
-ghost use Rattle.stun_endpoint.specs.Received.{received_by, refused_with};
+ghost use Rattle.stun_endpoint.specs.Received.{by_verdict, outcome_of_accepted, received_by};
+ghost use Rattle.stun_endpoint.specs.Received.{refused_with};
 ghost use Rattle.stun_endpoint.specs.Responding.{is_undropped_request};
 ghost use Rattle.stun_endpoint.specs.code.Judges.{realm_of};
 ghost use Rattle.stun_endpoint.specs.code.Refusing.{cause_by_refusal, unknown_in};
+ghost use Rattle.stun_types.specs.Limits.{TEXT_LIMIT};
 
+use crate::arrived::Arrived;
 use crate::received::{Received, Refusal};
 use crate::server::Server;
 use crate::server::causes::Cause;
@@ -27,15 +28,16 @@ use crate::users::Users;
 use std::alloc::{AllocError, Allocator};
 use std::net::SocketAddr;
 use stun_auth::auth::{Accepted, LongTermServerUser, ReadMessage, VerdictRefusal};
-use stun_types::message::{Message, MessageClass};
+use stun_base::memory::Memory;
+use stun_types::message::MessageClass;
 
-impl<A: Allocator + Copy> Server<A> {
+impl<A: Memory> Server<A> {
     /// Judges a datagram like `receive`, and also returns why it is refused, as `cause` does, or
-    /// `None` if it is not. The datagram is judged once for both, so a server that counts or logs
-    /// each refusal needs no second call.
+    /// `None` if it is not. The datagram is judged only once, so a server that counts or logs each
+    /// refusal needs no second call.
     ///
-    /// Fails if an allocation fails. Nothing is lost then, because the client sends again. Memory is
-    /// allocated for requests alone.
+    /// Fails if an allocation fails, which can happen only for a request. Over UDP nothing is lost
+    /// then, because the client sends its request again.
     ///
     /// Contracts: law `causes_have_their_codes`.
     pub fn receive_with_cause<'a>(
@@ -51,15 +53,16 @@ impl<A: Allocator + Copy> Server<A> {
             ≡ cause_of self.now (realm_of_table users.now) from now bytes.now) }
         ensures no_memory { is_undropped_request self.now.requires_fingerprint bytes.now
             ≡ false → IsOk result }
+        ensures granted { A.grants → IsOk result }
     {
         self.received_with_cause(bytes, from, now, &Judges::Table(&users.auth))
     }
 
     /// Judges a datagram like `receive_for`, and also returns why it is refused, as `cause_for`
-    /// does, or `None` if it is not. The datagram is judged once for both.
+    /// does, or `None` if it is not. The datagram is judged only once.
     ///
-    /// Fails if an allocation fails. Nothing is lost then, because the client sends again. Memory is
-    /// allocated for requests alone.
+    /// Fails if an allocation fails, which can happen only for a request. Over UDP nothing is lost
+    /// then, because the client sends its request again.
     ///
     /// Contracts: law `causes_have_their_codes`.
     pub fn receive_for_with_cause<'a>(
@@ -77,11 +80,13 @@ impl<A: Allocator + Copy> Server<A> {
             bytes.now) }
         ensures no_memory { is_undropped_request self.now.requires_fingerprint bytes.now
             ≡ false → IsOk result }
+        ensures granted { A.grants → IsOk result }
     {
         self.received_with_cause(bytes, from, now, &self.judges(user))
     }
 
-    /// What a datagram comes to, and why it is refused, if it is.
+    /// Returns the outcome of a datagram, and the cause of its refusal, or `None` if it is not
+    /// refused.
     fn received_with_cause<'a>(
         &'a self,
         bytes: &'a [u8],
@@ -95,44 +100,21 @@ impl<A: Allocator + Copy> Server<A> {
             ≡ cause_of self.now (realm_of judges.now) from now bytes.now) }
         ensures no_memory { is_undropped_request self.now.requires_fingerprint bytes.now
             ≡ false → IsOk result }
+        ensures granted { A.grants → IsOk result }
     {
         match self.read(bytes) {
-            Ok((message, has_fingerprint)) => {
-                self.class_with_cause(message, from, now, judges, has_fingerprint)
-            }
-            Err(reason) => Ok((Received::Dropped(reason), None)),
-        }
-    }
-
-    /// What a message comes to, and why it is refused, if it is.
-    fn class_with_cause<'a>(
-        &'a self,
-        message: Message<'a>,
-        from: SocketAddr,
-        now: UnixTime,
-        judges: &Judges<'a, A>,
-        has_fingerprint: bool,
-    ) -> Result<(Received<'a, A>, Option<Cause>), AllocError>
-        requires { has_fingerprint ≡ is_fingerprinted message }
-        ensures received { IfOk result (λ both. outcome_of both.0
-            ≡ by_class self.now (realm_of judges.now) from now message.entry (class_in message.entry)) }
-        ensures cause { IfOk result (λ both. both.1
-            ≡ cause_by_class self.now (realm_of judges.now) from now message.entry
-            (class_in message.entry)) }
-        ensures no_memory { is_request (class_in message.entry) ≡ false → IsOk result }
-    {
-        match message.class() {
-            MessageClass::Request => {
+            Arrived::Request(message, has_fingerprint) => {
                 let read = ReadMessage::of(&message);
                 self.request_with_cause(&read, from, now, judges, has_fingerprint)
             }
-            MessageClass::Indication => Ok((self.indication(message), None)),
-            MessageClass::Success => Ok((Received::Response(message), None)),
-            MessageClass::Error => Ok((Received::Response(message), None)),
+            Arrived::Indication(message) => Ok((self.indication(message), None)),
+            Arrived::Response(message) => Ok((Received::Response(message), None)),
+            Arrived::Dropped(reason) => Ok((Received::Dropped(reason), None)),
         }
     }
 
-    /// What a request comes to, and why it is refused, if it is.
+    /// Returns the outcome of a request, and the cause of its refusal, or `None` if it is not
+    /// refused.
     fn request_with_cause<'a>(
         &'a self,
         read: &ReadMessage<'a, '_>,
@@ -141,13 +123,15 @@ impl<A: Allocator + Copy> Server<A> {
         judges: &Judges<'a, A>,
         has_fingerprint: bool,
     ) -> Result<(Received<'a, A>, Option<Cause>), AllocError>
-        requires { has_fingerprint ≡ is_fingerprinted read.now }
+        requires fingerprint { has_fingerprint ≡ is_fingerprinted read.now }
+        requires request { class_in read.now ≡ MessageClass.Request }
         ensures received { IfOk result (λ both. outcome_of both.0
             ≡ by_verdict self.now (realm_of judges.now) from now read.now
             (judged self.now (realm_of judges.now) from now (reading_of read.now))) }
         ensures cause { IfOk result (λ both. both.1
             ≡ or_unknown self.now read.now
             (credential_cause self.now (realm_of judges.now) from now (reading_of read.now))) }
+        ensures granted { A.grants → IsOk result }
     {
         let mut buffer = self.responder.buffer();
         let epoch = self.epoch(now);
@@ -163,7 +147,8 @@ impl<A: Allocator + Copy> Server<A> {
         }
     }
 
-    /// What an accepted request comes to, and why it is refused after all, if it is.
+    /// Returns the outcome of a request whose user is accepted. The cause is `UnknownAttribute` if
+    /// the outcome is a 420, and `None` otherwise.
     fn accepted_with_cause<'a>(
         &self,
         read: &ReadMessage<'a, '_>,
@@ -172,20 +157,22 @@ impl<A: Allocator + Copy> Server<A> {
         has_fingerprint: bool,
         buffer: &mut Vec<u8, A>,
     ) -> Result<(Received<'a, A>, Option<Cause>), AllocError>
-        requires { has_fingerprint ≡ is_fingerprinted read.now }
+        requires fingerprint { has_fingerprint ≡ is_fingerprinted read.now }
+        requires request { class_in read.now ≡ MessageClass.Request }
         ensures received { IfOk result (λ both. outcome_of both.0
             ≡ outcome_of_accepted self.now accepted.entry.key from read.now
             accepted.entry.client) }
         ensures cause { IfOk result (λ both. both.1
             ≡ unknown_in (outcome_of_accepted self.now accepted.entry.key from read.now
             accepted.entry.client)) }
+        ensures granted { A.grants → IsOk result }
     {
         let received = self.accepted(read, from, accepted, has_fingerprint, buffer)?;
         let cause = unknown_in(&received);
         Ok((received, cause))
     }
 
-    /// What a refused request comes to, and why it is refused.
+    /// Returns the outcome of a refused request, and the cause of the refusal.
     fn refused_with_cause<'a>(
         &'a self,
         read: &ReadMessage<'a, '_>,
@@ -197,10 +184,12 @@ impl<A: Allocator + Copy> Server<A> {
     ) -> Result<(Received<'a, A>, Option<Cause>), AllocError>
         requires fingerprint { has_fingerprint ≡ is_fingerprinted read.now }
         requires offer { asks_for_algorithms nonce.now ≡ contains Sha256 self.now.algorithms }
+        requires short { length nonce.now ≤ TEXT_LIMIT }
         ensures received { IfOk result (λ both. outcome_of both.0
             ≡ refused_with self.now nonce.now from read.now refusal) }
         ensures cause { IfOk result (λ both. both.1
             ≡ Some (cause_by_refusal self.now nonce.now (reading_of read.now) refusal)) }
+        ensures granted { A.grants → IsOk result }
     {
         let cause = self.refused_cause(read, nonce, refusal);
         let received = self.refused(read, from, nonce, refusal, has_fingerprint, buffer)?;
@@ -208,7 +197,7 @@ impl<A: Allocator + Copy> Server<A> {
     }
 }
 
-/// Why an accepted request is refused after all, if it is: by a 420.
+/// Returns `UnknownAttribute` if this outcome is a 420, and `None` otherwise.
 fn unknown_in<A: Allocator>(received: &Received<'_, A>) -> Option<Cause>
     ensures { result ≡ unknown_in (outcome_of received.now) }
 {

@@ -3,9 +3,8 @@
 ghost use Rattle.std.specs.Option.{option_copied};
 ghost use Rattle.std.specs.Prelude.{◌≡◌, IfOk, IsOk, None, Some, false, if◌then◌else◌};
 ghost use Rattle.stun_auth.specs.Reading.{reading_of};
-ghost use Rattle.stun_base.specs.MessageType.{class_in, is_request};
-ghost use Rattle.stun_endpoint.specs.Causes.{cause_by_class, cause_of, code_of_cause};
-ghost use Rattle.stun_endpoint.specs.Causes.{credential_cause, or_unknown};
+ghost use Rattle.stun_endpoint.specs.Causes.{cause_of, code_of_cause, credential_cause};
+ghost use Rattle.stun_endpoint.specs.Causes.{or_unknown};
 ghost use Rattle.stun_endpoint.specs.Judged.{realm_of_table, realm_of_user};
 ghost use Rattle.stun_endpoint.specs.Responding.{is_empty, is_undropped_request};
 ghost use Rattle.stun_endpoint.specs.code.Judges.{realm_of};
@@ -13,14 +12,16 @@ ghost use Rattle.stun_endpoint.specs.code.Refusing.{bad_cause, cause_by_refusal,
 ghost use Rattle.stun_endpoint.specs.code.Refusing.{unauthorized_cause, verdict_under_none};
 ghost use Rattle.stun_extra.specs.Unknown.{unknown_types};
 
+use crate::arrived::Arrived;
 use crate::server::Server;
 use crate::server::judges::Judges;
 use crate::unix_time::UnixTime;
 use crate::users::Users;
-use std::alloc::{AllocError, Allocator};
+use std::alloc::AllocError;
 use std::net::SocketAddr;
 use stun_auth::auth::{LongTermServerUser, ReadMessage, VerdictRefusal, has_nonce, told_refusal};
-use stun_types::message::{Message, MessageClass};
+use stun_base::memory::Memory;
+use stun_types::message::Message;
 
 /// Why a server with long-term credentials refuses a request: the first check that the request
 /// fails. The nonce is checked before the user.
@@ -38,20 +39,22 @@ pub enum Cause {
     /// missing. An attacker in between may have changed the list.
     OtherAlgorithms,
     /// 401: the nonce has other security bits than the server's nonces (RFC 8489, section 9.2), and
-    /// the algorithms agree. An attacker may have changed the bits, or the nonce was sent before a
-    /// change of settings. A nonce without such bits counts as `StaleNonce`, so this does not count
-    /// each attempt to bid a client down.
+    /// the algorithms of the request agree with it. An attacker may have changed the bits, or the
+    /// nonce was sent before a change of settings. A nonce without security bits counts as
+    /// `StaleNonce`, so this cause does not reveal every attempt to bid a client down.
     OtherFeatures,
-    /// 438: the nonce is not valid any more, was sent to another address, is of another secret or
-    /// other settings, or was never made by this server. If the nonce is of the period before, or of
-    /// the previous secret, this is also the cause if the algorithms or the credentials are wrong.
-    /// The client continues with the nonce of the 438, so another cause follows if they still are.
+    /// 438: the nonce is no longer valid, was sent to another address, was made with another secret
+    /// or other settings, or was never made by this server. If the nonce is of the epoch before, or
+    /// was made with the previous secret, this is also the cause for wrong algorithms or
+    /// credentials. The client then repeats the request with the nonce of the 438. If the
+    /// algorithms or the credentials are still wrong, that request is refused for `OtherAlgorithms`
+    /// or `WrongCredentials`.
     StaleNonce,
     /// 401: the nonce is the current one, but the request names no registered user, the user has no
     /// key for the algorithm, or the signature is not valid under the user's key.
     WrongCredentials,
-    /// 420: a user has signed the request, but it has an attribute that must be understood and is
-    /// not.
+    /// 420: a user has signed the request, but it has an attribute that the server must understand,
+    /// and does not.
     UnknownAttribute,
 }
 
@@ -72,16 +75,16 @@ impl Cause {
     }
 }
 
-impl<A: Allocator + Copy> Server<A> {
-    /// Returns why `receive` refuses a datagram, or `None` if it does not: if the datagram is
-    /// dropped, is no request, or is accepted. Pass what you passed to `receive`, with the same time
-    /// and the same users.
+impl<A: Memory> Server<A> {
+    /// Returns why `receive` refuses a datagram. Pass the arguments of `receive`, with the same
+    /// time and the same users. Returns `None` if `receive` does not refuse the datagram: it is
+    /// dropped, is not a request, or is accepted.
     ///
-    /// It judges the request again, so call it only for an answer that refuses, to count or to log
-    /// why, or call `receive_with_cause` in place of `receive`. The cause is never sent: a client
-    /// learns no more than the code of the response.
+    /// This call judges the request again, so make it only for an answer that refuses the request,
+    /// or call `receive_with_cause` in place of `receive`. The cause is never sent: the client
+    /// learns only the code of the response.
     ///
-    /// Fails if an allocation fails. Memory is allocated for requests alone.
+    /// Fails if an allocation fails. Memory is allocated only for requests.
     ///
     /// Contracts: law `causes_have_their_codes`.
     pub fn cause<'a>(
@@ -95,14 +98,15 @@ impl<A: Allocator + Copy> Server<A> {
             ≡ cause_of self.now (realm_of_table users.now) from now bytes.now) }
         ensures no_memory { is_undropped_request self.now.requires_fingerprint bytes.now
             ≡ false → IsOk result }
+        ensures granted { A.grants → IsOk result }
     {
         self.cause_by(bytes, from, now, &Judges::Table(&users.auth))
     }
 
-    /// Returns why `receive_for` refuses a datagram, or `None` if it does not. It is also why
-    /// `resume` refuses the request of a look-up, if you pass the time at which that arrived.
+    /// Returns why `receive_for` refuses a datagram, or `None` if `receive_for` does not refuse it.
+    /// For a request that `resume` refuses, pass the time at which the request arrived.
     ///
-    /// Fails if an allocation fails. Memory is allocated for requests alone.
+    /// Fails if an allocation fails. Memory is allocated only for requests.
     ///
     /// Contracts: law `causes_have_their_codes`.
     pub fn cause_for<'a>(
@@ -117,11 +121,12 @@ impl<A: Allocator + Copy> Server<A> {
             bytes.now) }
         ensures no_memory { is_undropped_request self.now.requires_fingerprint bytes.now
             ≡ false → IsOk result }
+        ensures granted { A.grants → IsOk result }
     {
         self.cause_by(bytes, from, now, &self.judges(user))
     }
 
-    /// Why a datagram is refused, if it is.
+    /// Returns why a datagram is refused, or `None` if it is not refused.
     fn cause_by<'a>(
         &'a self,
         bytes: &'a [u8],
@@ -133,37 +138,15 @@ impl<A: Allocator + Copy> Server<A> {
             ≡ cause_of self.now (realm_of judges.now) from now bytes.now) }
         ensures no_memory { is_undropped_request self.now.requires_fingerprint bytes.now
             ≡ false → IsOk result }
+        ensures granted { A.grants → IsOk result }
     {
-        match self.read(bytes) {
-            Ok((message, _)) => self.cause_by_class(&message, from, now, judges),
-            Err(_) => Ok(None),
-        }
+        let Arrived::Request(message, _) = self.read(bytes) else {
+            return Ok(None);
+        };
+        self.request_cause(&ReadMessage::of(&message), from, now, judges)
     }
 
-    /// Why a message is refused, if it is.
-    fn cause_by_class<'a>(
-        &'a self,
-        message: &Message<'a>,
-        from: SocketAddr,
-        now: UnixTime,
-        judges: &Judges<'a, A>,
-    ) -> Result<Option<Cause>, AllocError>
-        ensures cause { IfOk result (λ cause. cause
-            ≡ cause_by_class self.now (realm_of judges.now) from now message.now
-            (class_in message.now)) }
-        ensures no_memory { is_request (class_in message.now) ≡ false → IsOk result }
-    {
-        match message.class() {
-            MessageClass::Request => {
-                self.request_cause(&ReadMessage::of(message), from, now, judges)
-            }
-            MessageClass::Indication => Ok(None),
-            MessageClass::Success => Ok(None),
-            MessageClass::Error => Ok(None),
-        }
-    }
-
-    /// Why a request is refused, if it is.
+    /// Returns why a request is refused, or `None` if it is accepted.
     fn request_cause<'a>(
         &'a self,
         read: &ReadMessage<'a, '_>,
@@ -171,9 +154,10 @@ impl<A: Allocator + Copy> Server<A> {
         now: UnixTime,
         judges: &Judges<'a, A>,
     ) -> Result<Option<Cause>, AllocError>
-        ensures { IfOk result (λ cause. cause
+        ensures cause { IfOk result (λ cause. cause
             ≡ or_unknown self.now read.now
             (credential_cause self.now (realm_of judges.now) from now (reading_of read.now))) }
+        ensures granted { A.grants → IsOk result }
     {
         let epoch = self.epoch(now);
         let nonce = self.nonce_in(&self.secret, from, epoch)?;
@@ -183,7 +167,8 @@ impl<A: Allocator + Copy> Server<A> {
         }
     }
 
-    /// Why an accepted request is refused, if it is.
+    /// Returns `UnknownAttribute` if a request whose user is accepted has an attribute that must be
+    /// understood but is not, and `None` otherwise.
     fn unknown_cause(&self, request: &Message<'_>) -> Option<Cause>
         ensures { result ≡ (if is_empty (unknown_types self.now.known request.now) then None
             else Some Cause.UnknownAttribute) }
@@ -195,8 +180,8 @@ impl<A: Allocator + Copy> Server<A> {
         }
     }
 
-    /// Why a request is refused that is not accepted under any nonce, of which the current one is
-    /// given.
+    /// Returns the cause of the verdict `refusal` on a request. `nonce` is the current nonce of the
+    /// request's source.
     pub(super) fn refused_cause<'a>(
         &'a self,
         read: &ReadMessage<'a, '_>,
@@ -213,8 +198,9 @@ impl<A: Allocator + Copy> Server<A> {
         }
     }
 
-    /// Why nobody is authorized by a request. One that is not signed is unauthorized under any nonce,
-    /// and all others are not so under the empty one, which no request has that comes here.
+    /// Returns why a request is unauthorized. A request that is not signed is unauthorized under
+    /// any nonce, including the empty one. Every other request that is judged here is not
+    /// unauthorized under the empty nonce, because its own nonce is not empty.
     fn unauthorized_cause<'a>(&'a self, read: &ReadMessage<'a, '_>, nonce: &str) -> Cause
         ensures { result ≡ unauthorized_cause self.now nonce.now (reading_of read.now) }
     {
@@ -227,7 +213,7 @@ impl<A: Allocator + Copy> Server<A> {
         }
     }
 
-    /// Whether nobody is authorized by a request under the empty nonce.
+    /// Returns whether a request is unauthorized under the empty nonce.
     fn is_unauthorized<'a>(&'a self, read: &ReadMessage<'a, '_>) -> bool
         ensures { result
             ≡ is_unauthorized (verdict_under_none self.now (reading_of read.now)) }
@@ -241,8 +227,8 @@ impl<A: Allocator + Copy> Server<A> {
     }
 }
 
-/// Why a request is a bad one. The empty nonce, which no request has that is refused for its
-/// algorithms, tells one that is malformed.
+/// Returns why a request gets a 400. Under the empty nonce, only a malformed request gets a 400,
+/// because a request that is refused for its algorithms has a nonce that is not empty.
 fn bad_cause(read: &ReadMessage<'_, '_>) -> Cause
     ensures { result ≡ bad_cause (reading_of read.now) }
 {

@@ -1,4 +1,5 @@
-//! The two steps of a server whose users are looked up elsewhere (RFC 8489, section 9.2.4).
+//! The calls for a server whose users are in a database: one before the look-up of a user, and one
+//! after it (RFC 8489, section 9.2.4).
 
 ghost use Rattle.std.specs.Option.{is_some, option_copied, option_map};
 ghost use Rattle.std.specs.Prelude.{◌≡◌, ◌&&◌, [], IfOk, IsOk, None, OnErr, Some, false, not};
@@ -6,7 +7,6 @@ ghost use Rattle.stun_auth.specs.Handed.{named_seen};
 ghost use Rattle.stun_auth.specs.Judged.{client_judged};
 ghost use Rattle.stun_auth.specs.Reading.{reading_of};
 ghost use Rattle.stun_auth.specs.Server.{verdict};
-ghost use Rattle.stun_base.specs.MessageType.{class_in, is_request};
 ghost use Rattle.stun_endpoint.specs.Answers.{is_fingerprinted};
 ghost use Rattle.stun_endpoint.specs.Buffered.{LeavesNothing, outcome_in};
 ghost use Rattle.stun_endpoint.specs.Buffered.{LeavesNothingKnown, identification_in};
@@ -14,7 +14,7 @@ ghost use Rattle.stun_endpoint.specs.Identified.{identification_of};
 ghost use Rattle.stun_endpoint.specs.Judged.{realm_of_table, realm_of_user};
 ghost use Rattle.stun_endpoint.specs.Lookups.{accepted_nonces, has_one_of, identified_as};
 ghost use Rattle.stun_endpoint.specs.Lookups.{identified_by, nonces_of, previous_nonces};
-ghost use Rattle.stun_endpoint.specs.Lookups.{waiting_by_class, waits_for};
+ghost use Rattle.stun_endpoint.specs.Lookups.{waits_for};
 ghost use Rattle.stun_endpoint.specs.Nonces.{epoch_of, nonce_in};
 ghost use Rattle.stun_endpoint.specs.Outcomes.{outcome_of};
 ghost use Rattle.stun_endpoint.specs.Received.{received_by};
@@ -24,6 +24,7 @@ ghost use Rattle.stun_endpoint.specs.code.Judges.{realm_of};
 ghost use Rattle.stun_endpoint.specs.code.Found.{waiting_claim};
 ghost use Rattle.stun_endpoint.specs.code.Waiting.{IsWaiting};
 
+use crate::arrived::Arrived;
 use crate::buffered::{IdentifiedInto, ReceivedInto};
 use crate::lookup::{Identified, Lookup};
 use crate::received::{DropReason, Received};
@@ -31,30 +32,31 @@ use crate::server::Server;
 use crate::server::judges::Judges;
 use crate::unix_time::UnixTime;
 use crate::users::Users;
-use std::alloc::{AllocError, Allocator};
+use std::alloc::AllocError;
 use std::net::SocketAddr;
 use stun_auth::auth::{
     Accepted, LongTermServerUser, NamedUser, ReadMessage, UserClaim, VerdictRefusal,
 };
+use stun_base::memory::Memory;
 use stun_base::prepared_key::PreparedKey;
-use stun_types::message::{Message, MessageClass};
 
 mod found;
 
-impl<A: Allocator + Copy> Server<A> {
-    /// Judges a datagram as far as that is possible without its user, for a server that looks its
-    /// users up in a database.
+impl<A: Memory> Server<A> {
+    /// Judges a datagram as far as that is possible without its user, for a server whose users are
+    /// in a database.
     ///
-    /// - `Done` is what `receive_for` returns, whoever the user is.
-    /// - `Lookup` is a request that carries a nonce which is accepted for its source at this time,
-    ///   is signed, and names a user. Look that user up, and pass both to `resume`.
+    /// - `Done` has the outcome. `receive_for` would return the same, whichever user it is given.
+    /// - `Lookup` is a request that is signed, names a user, and carries a nonce that is accepted
+    ///   for its source at this time. Look the user up, and pass the `Lookup` and the user to
+    ///   `resume`.
     ///
     /// So an attacker who invents a nonce causes no look-up. The nonces of an address are only sent
-    /// to that address: one who forges a source address causes look-ups only after having seen a
-    /// nonce of it, and while that nonce is accepted.
+    /// to that address, so an attacker who forges a source address causes look-ups only after
+    /// seeing a nonce that is still accepted for that address.
     ///
-    /// Fails if an allocation fails. Nothing is lost then, because the client sends again. Memory is
-    /// allocated for requests alone.
+    /// Fails if an allocation fails, which can happen only for a request. Over UDP nothing is lost
+    /// then, because the client sends its request again.
     ///
     /// Contracts: laws `identify_needs_no_user`, `lookups_have_accepted_nonces` and
     /// `resume_is_receive_with_all_users`.
@@ -68,17 +70,18 @@ impl<A: Allocator + Copy> Server<A> {
             ≡ identified_by self.now from now bytes.now) }
         ensures no_memory { is_undropped_request self.now.requires_fingerprint bytes.now
             ≡ false → IsOk result }
+        ensures granted { A.grants → IsOk result }
     {
         let mut buffer = Vec::new(self.alloc);
         self.identified_in(bytes, from, now, &mut buffer)
     }
 
-    /// Judges a datagram like `identify`, and writes the response into a buffer, in place of what it
-    /// has. The buffer is empty afterwards if there is no response, or if the call fails. Its memory
-    /// is used again, so that a response that it has the capacity for needs no other.
+    /// Judges a datagram like `identify`, and writes the response into a buffer, replacing its
+    /// contents. If the buffer has the capacity for the response, no memory is allocated for it.
+    /// The buffer is empty afterwards if there is no response, or if the call fails.
     ///
-    /// Fails if an allocation fails. Nothing is lost then, because the client sends again. Memory is
-    /// allocated for requests alone.
+    /// Fails if an allocation fails, which can happen only for a request. Over UDP nothing is lost
+    /// then, because the client sends its request again.
     pub fn identify_into<'a>(
         &'a self,
         bytes: &'a [u8],
@@ -86,13 +89,14 @@ impl<A: Allocator + Copy> Server<A> {
         now: UnixTime,
         buffer: &mut Vec<u8, A>,
     ) -> Result<IdentifiedInto<'a, A>, AllocError>
-        // With the bytes in the buffer, the result is that of `identify`.
+        // With the bytes in the buffer, the result is what `identify` returns.
         ensures identified { IfOk result (λ identified.
             identification_in identified buffer.new.items
             ≡ identified_by self.now from now bytes.now) }
         ensures rest { IfOk result (λ identified. LeavesNothingKnown identified buffer.new.items) }
         ensures no_memory { is_undropped_request self.now.requires_fingerprint bytes.now
             ≡ false → IsOk result }
+        ensures granted { A.grants → IsOk result }
         ensures err { OnErr result (buffer.new.items ≡ []) }
     {
         match self.identified_in(bytes, from, now, buffer) {
@@ -104,8 +108,9 @@ impl<A: Allocator + Copy> Server<A> {
         }
     }
 
-    /// Judges a datagram as far as that is possible without its user. A response has the memory of
-    /// the buffer.
+    /// Judges a datagram as far as that is possible without its user. A response takes over the
+    /// memory of the buffer.
+    #[tactic(auto, using(crate::proofs::DroppedLemmas::undropped_anywhere))]
     fn identified_in<'a>(
         &'a self,
         bytes: &'a [u8],
@@ -117,104 +122,88 @@ impl<A: Allocator + Copy> Server<A> {
             ≡ identified_by self.now from now bytes.now) }
         ensures no_memory { is_undropped_request self.now.requires_fingerprint bytes.now
             ≡ false → IsOk result }
+        ensures granted { A.grants → IsOk result }
     {
         match self.read(bytes) {
-            Ok((message, has_fingerprint)) => {
-                self.identified(message, from, now, has_fingerprint, buffer)
+            Arrived::Request(message, has_fingerprint) => {
+                let read = ReadMessage::of(&message);
+                self.identified_request(&read, from, now, has_fingerprint, buffer)
             }
-            Err(reason) => Ok(Identified::Done(Received::Dropped(reason))),
+            Arrived::Indication(message) => Ok(Identified::Done(self.indication(message))),
+            Arrived::Response(message) => Ok(Identified::Done(Received::Response(message))),
+            Arrived::Dropped(reason) => Ok(Identified::Done(Received::Dropped(reason))),
         }
     }
 
-    /// Judges the request of a look-up by the user that you found, or by nobody if there is no such
-    /// user. The result is that of `receive_for` at the time at which the request arrived.
+    /// Judges the request of a look-up with the user that you found, or with no user if there is
+    /// none. The result is what `receive_for` returns at the time at which the request arrived.
     ///
-    /// If the user has another name than the one in `user_id`, as after a look-up that ignores case,
-    /// the client gets a 401. You may resume at another server with the same secret, for example
-    /// after a change of settings.
+    /// If the name of the user differs from the name in `user_id`, as after a look-up that ignores
+    /// case, the client gets a 401. You may resume at another server with the same secret, for
+    /// example after a change of settings.
     ///
-    /// Fails if an allocation fails. Nothing is lost then, because the client sends again.
+    /// Fails if an allocation fails. Over UDP nothing is lost then, because the client sends its
+    /// request again.
     pub fn resume<'a>(
         &'a self,
         lookup: Lookup<'a>,
         user: Option<&'a LongTermServerUser<A>>,
     ) -> Result<Received<'a, A>, AllocError>
-        ensures { IfOk result (λ received. outcome_of received
+        ensures received { IfOk result (λ received. outcome_of received
             ≡ received_by self.now (realm_of_user self.now (option_copied user.entry))
             lookup.entry.from lookup.entry.arrived lookup.entry.message) }
+        ensures granted { A.grants → IsOk result }
     {
         let mut buffer = Vec::new(self.alloc);
         self.resumed(lookup, &self.judges(user), &mut buffer)
     }
 
-    /// Judges the request of a look-up like `resume`, by the one of these users whom it names, or by
-    /// nobody if there is no such user. The result is that of `receive` at the time at which the
+    /// Judges the request of a look-up like `resume`, with the user of this table whom it names, or
+    /// with no user if there is none. The result is what `receive` returns at the time at which the
     /// request arrived.
     ///
-    /// Fails if an allocation fails. Nothing is lost then, because the client sends again.
+    /// Fails if an allocation fails. Over UDP nothing is lost then, because the client sends its
+    /// request again.
     pub fn resume_among<'a>(
         &'a self,
         lookup: Lookup<'a>,
         users: &'a Users<A>,
     ) -> Result<Received<'a, A>, AllocError>
-        ensures { IfOk result (λ received. outcome_of received
+        ensures received { IfOk result (λ received. outcome_of received
             ≡ received_by self.now (realm_of_table users.now) lookup.entry.from lookup.entry.arrived
             lookup.entry.message) }
+        ensures granted { A.grants → IsOk result }
     {
         let mut buffer = Vec::new(self.alloc);
         self.resumed(lookup, &Judges::Table(&users.auth), &mut buffer)
     }
 
-    /// Judges the request of a look-up like `resume`, and writes the response into a buffer, in place
-    /// of what it has. The buffer is empty afterwards if there is no response, or if the call fails.
-    /// Its memory is used again, so that a response that it has the capacity for needs no other.
+    /// Judges the request of a look-up like `resume`, and writes the response into a buffer,
+    /// replacing its contents. If the buffer has the capacity for the response, no memory is
+    /// allocated for it. The buffer is empty afterwards if there is no response, or if the call
+    /// fails.
     ///
-    /// Fails if an allocation fails. Nothing is lost then, because the client sends again.
+    /// Fails if an allocation fails. Over UDP nothing is lost then, because the client sends its
+    /// request again.
     pub fn resume_into<'a>(
         &'a self,
         lookup: Lookup<'a>,
         user: Option<&'a LongTermServerUser<A>>,
         buffer: &mut Vec<u8, A>,
     ) -> Result<ReceivedInto<'a, A>, AllocError>
-        // With the bytes in the buffer, the result is that of `resume`.
+        // With the bytes in the buffer, the result is what `resume` returns.
         ensures received { IfOk result (λ received. outcome_in received buffer.new.items
             ≡ received_by self.now (realm_of_user self.now (option_copied user.entry))
             lookup.entry.from lookup.entry.arrived lookup.entry.message) }
         ensures rest { IfOk result (λ received. LeavesNothing received buffer.new.items) }
         ensures err { OnErr result (buffer.new.items ≡ []) }
+        ensures granted { A.grants → IsOk result }
     {
         self.resumed_into(lookup, &self.judges(user), buffer)
     }
 
-    /// What a message comes to that is not dropped. A response has the memory of the buffer.
-    #[tactic(auto, using(crate::proofs::DroppedLemmas::undropped_anywhere))]
-    fn identified<'a>(
-        &'a self,
-        message: Message<'a>,
-        from: SocketAddr,
-        now: UnixTime,
-        has_fingerprint: bool,
-        buffer: &mut Vec<u8, A>,
-    ) -> Result<Identified<'a, A>, AllocError>
-        requires undropped { drop_reason self.now.requires_fingerprint message ≡ None }
-        requires fingerprint { has_fingerprint ≡ is_fingerprinted message }
-        ensures identified { IfOk result (λ identified. identification_of identified
-            ≡ identified_as self.now from now message.entry
-            (waiting_by_class self.now from now message.entry (class_in message.entry))) }
-        ensures no_memory { is_request (class_in message.entry) ≡ false → IsOk result }
-    {
-        match message.class() {
-            MessageClass::Request => {
-                let read = ReadMessage::of(&message);
-                self.identified_request(&read, from, now, has_fingerprint, buffer)
-            }
-            MessageClass::Indication => Ok(Identified::Done(self.indication(message))),
-            MessageClass::Success => Ok(Identified::Done(Received::Response(message))),
-            MessageClass::Error => Ok(Identified::Done(Received::Response(message))),
-        }
-    }
-
-    /// What a request comes to, or whom it waits for. A response has the memory of the buffer.
+    /// Returns the outcome of a request, or `Lookup` if the request waits for its user. A response
+    /// takes over the memory of the buffer.
     fn identified_request<'a>(
         &'a self,
         read: &ReadMessage<'a, '_>,
@@ -226,9 +215,10 @@ impl<A: Allocator + Copy> Server<A> {
         requires undropped { drop_reason self.now.requires_fingerprint read.now ≡ None }
         requires waits { IsWaiting read.now }
         requires fingerprint { has_fingerprint ≡ is_fingerprinted read.now }
-        ensures { IfOk result (λ identified. identification_of identified
+        ensures identified { IfOk result (λ identified. identification_of identified
             ≡ identified_as self.now from now read.now
             (waits_for self.now from (epoch_of self.now now) (reading_of read.now))) }
+        ensures granted { A.grants → IsOk result }
     {
         let epoch = self.epoch(now);
         let nonce = self.nonce_in(&self.secret, from, epoch)?;
@@ -239,7 +229,7 @@ impl<A: Allocator + Copy> Server<A> {
                 Ok(Identified::Lookup(lookup))
             }
             None => {
-                // No other nonce is the request's, so that the current one tells what it comes to.
+                // The request has no other accepted nonce, so the current one decides its outcome.
                 let verdict = self.judged_by_nobody(read, &nonce);
                 let received = self.judged_into(
                     read,
@@ -254,7 +244,7 @@ impl<A: Allocator + Copy> Server<A> {
         }
     }
 
-    /// Whom a request waits for, if it does.
+    /// Returns the user whom a request waits for, or `None` if it does not wait.
     #[tactic(auto, using(crate::proofs::ReadyLemmas::claim_is_awaited, crate::proofs::ReadyLemmas::nobody_is_awaited))]
     fn awaited<'a>(
         &self,
@@ -264,8 +254,9 @@ impl<A: Allocator + Copy> Server<A> {
         nonce: &str,
     ) -> Result<Option<NamedUser<'a>>, AllocError>
         requires { nonce.now ≡ nonce_in self.now self.now.secret from epoch }
-        ensures { IfOk result (λ user. option_map named_seen user
+        ensures user { IfOk result (λ user. option_map named_seen user
             ≡ waits_for self.now from epoch (reading_of read.now)) }
+        ensures granted { A.grants → IsOk result }
     {
         match self.waiting(read, from, epoch, nonce)? {
             Some(claim) => Ok(Some(claim.user())),
@@ -273,8 +264,9 @@ impl<A: Allocator + Copy> Server<A> {
         }
     }
 
-    /// What a request claims that waits for its user: only nonce, user and signature are left to look
-    /// at, and it has a nonce that is accepted.
+    /// Returns the claim of a request that waits for its user, or `None` if it does not wait. A
+    /// request waits if its nonce is accepted in this epoch, and the server has only its user and
+    /// signature left to check.
     #[tactic(auto, using(crate::proofs::ReadyLemmas::no_claim_waits_not, crate::proofs::ReadyLemmas::unaccepted_waits_not, crate::proofs::ReadyLemmas::claim_waits))]
     fn waiting<'a, 'm, 'r>(
         &self,
@@ -284,8 +276,9 @@ impl<A: Allocator + Copy> Server<A> {
         nonce: &str,
     ) -> Result<Option<UserClaim<'a, 'm, 'r>>, AllocError>
         requires { nonce.now ≡ nonce_in self.now self.now.secret from epoch }
-        ensures { IfOk result (λ claim. claim
+        ensures claim { IfOk result (λ claim. claim
             ≡ waiting_claim self.now from epoch read.now) }
+        ensures granted { A.grants → IsOk result }
     {
         let Some(claim) = self.auth.claim_in(read) else {
             return Ok(None);
@@ -309,7 +302,8 @@ impl<A: Allocator + Copy> Server<A> {
         self.auth.judge_read(read, nonce)
     }
 
-    /// Whether a request has a nonce that is accepted, of which the current one is given.
+    /// Returns whether a request has a nonce that is accepted in an epoch. `nonce` is the nonce of
+    /// this epoch under the secret.
     #[tactic(auto, using(crate::proofs::ReadyLemmas::accepted_parts))]
     fn has_accepted_nonce(
         &self,
@@ -319,8 +313,9 @@ impl<A: Allocator + Copy> Server<A> {
         nonce: &str,
     ) -> Result<bool, AllocError>
         requires { nonce.now ≡ nonce_in self.now self.now.secret from epoch }
-        ensures { IfOk result (λ has. has
+        ensures has { IfOk result (λ has. has
             ≡ has_one_of (reading_of claim.now.message) (accepted_nonces self.now from epoch)) }
+        ensures granted { A.grants → IsOk result }
     {
         if self.has_nonce_of(claim, &self.secret, from, epoch, nonce)? {
             return Ok(true);
@@ -328,16 +323,18 @@ impl<A: Allocator + Copy> Server<A> {
         self.has_previous_nonce(claim, from, epoch)
     }
 
-    /// Whether a request has a nonce of the previous secret that is accepted.
+    /// Returns whether a request has a nonce of the previous secret that is accepted in an epoch.
+    /// Returns `false` if there is no previous secret.
     fn has_previous_nonce(
         &self,
         claim: &UserClaim<'_, '_, '_>,
         from: SocketAddr,
         epoch: u64,
     ) -> Result<bool, AllocError>
-        ensures { IfOk result (λ has. has
+        ensures has { IfOk result (λ has. has
             ≡ has_one_of (reading_of claim.now.message)
             (previous_nonces self.now self.now.previous from epoch)) }
+        ensures granted { A.grants → IsOk result }
     {
         let Some(secret) = &self.previous else {
             return Ok(false);
@@ -347,8 +344,8 @@ impl<A: Allocator + Copy> Server<A> {
         Ok(has)
     }
 
-    /// Whether a request has a nonce of a secret that is accepted, of which that of the epoch is
-    /// given.
+    /// Returns whether a request has the nonce of an epoch or of the epoch before, under a secret.
+    /// `nonce` is the nonce of the epoch itself.
     #[tactic(auto, using(crate::proofs::ReadyLemmas::has_current, crate::proofs::ReadyLemmas::has_only_current, crate::proofs::ReadyLemmas::has_before))]
     fn has_nonce_of(
         &self,
@@ -359,9 +356,10 @@ impl<A: Allocator + Copy> Server<A> {
         nonce: &str,
     ) -> Result<bool, AllocError>
         requires { nonce.now ≡ nonce_in self.now secret.now from epoch }
-        ensures { IfOk result (λ has. has
+        ensures has { IfOk result (λ has. has
             ≡ has_one_of (reading_of claim.now.message)
             (nonces_of self.now secret.now from epoch)) }
+        ensures granted { A.grants → IsOk result }
     {
         if claim.has_nonce(nonce) {
             return Ok(true);
@@ -373,7 +371,8 @@ impl<A: Allocator + Copy> Server<A> {
         Ok(claim.has_nonce(&before))
     }
 
-    /// What the request of a look-up comes to. A response has the memory of the buffer.
+    /// Returns the outcome of the request of a look-up. A response takes over the memory of the
+    /// buffer.
     #[tactic(auto, using(crate::proofs::JudgementLemmas::resumed_received, crate::proofs::JudgementLemmas::resumed_dropped))]
     fn resumed<'a>(
         &self,
@@ -381,15 +380,16 @@ impl<A: Allocator + Copy> Server<A> {
         judges: &Judges<'a, A>,
         buffer: &mut Vec<u8, A>,
     ) -> Result<Received<'a, A>, AllocError>
-        ensures { IfOk result (λ received. outcome_of received
+        ensures received { IfOk result (λ received. outcome_of received
             ≡ received_by self.now (realm_of judges.now) lookup.entry.from lookup.entry.arrived
             lookup.entry.message) }
+        ensures granted { A.grants → IsOk result }
     {
         let from = lookup.source();
         let now = lookup.arrived();
         let has_fingerprint = lookup.has_fingerprint();
         let message = lookup.into_message();
-        // The server that made the look-up may not have required it.
+        // The server that made the look-up may not have required FINGERPRINT.
         if self.lacks_fingerprint(has_fingerprint) {
             return Ok(Received::Dropped(DropReason::MissingFingerprint));
         }
@@ -397,7 +397,8 @@ impl<A: Allocator + Copy> Server<A> {
         self.request_into(&read, from, now, judges, has_fingerprint, buffer)
     }
 
-    /// What the request of a look-up comes to, with the bytes of a response in the buffer.
+    /// Returns the outcome of the request of a look-up, and writes the bytes of a response into the
+    /// buffer.
     fn resumed_into<'a>(
         &self,
         lookup: Lookup<'a>,
@@ -409,6 +410,7 @@ impl<A: Allocator + Copy> Server<A> {
             lookup.entry.message) }
         ensures rest { IfOk result (λ received. LeavesNothing received buffer.new.items) }
         ensures err { OnErr result (buffer.new.items ≡ []) }
+        ensures granted { A.grants → IsOk result }
     {
         match self.resumed(lookup, judges, buffer) {
             Ok(received) => Ok(received.into_buffer(buffer)),
@@ -419,7 +421,7 @@ impl<A: Allocator + Copy> Server<A> {
         }
     }
 
-    /// Whether a message is dropped because it has no FINGERPRINT.
+    /// Returns whether a message is dropped because it has no FINGERPRINT.
     fn lacks_fingerprint(&self, has_fingerprint: bool) -> bool
         ensures { result ≡ (self.now.requires_fingerprint && not has_fingerprint) }
     {

@@ -1,6 +1,6 @@
-//! Judging a request under the nonces that are accepted (RFC 8489, section 9.2.4).
+//! Judges a request under the nonces that are accepted (RFC 8489, section 9.2.4).
 
-ghost use Rattle.std.specs.Prelude.{◌≡◌, IfOk, Err};
+ghost use Rattle.std.specs.Prelude.{◌≡◌, Err, IfOk, IsOk};
 ghost use Rattle.stun_auth.specs.Epochs.{or_before};
 ghost use Rattle.stun_auth.specs.Judged.{HasVerifyingKey, client_judged};
 ghost use Rattle.stun_auth.specs.Reading.{reading_of};
@@ -11,13 +11,16 @@ ghost use Rattle.stun_endpoint.specs.Nonces.{nonce_in};
 
 use crate::server::Server;
 use crate::server::judges::Judges;
-use std::alloc::{AllocError, Allocator};
+use std::alloc::AllocError;
 use std::net::SocketAddr;
 use stun_auth::auth::{Accepted, ReadMessage, VerdictRefusal, has_nonce};
+use stun_base::memory::Memory;
 use stun_base::prepared_key::PreparedKey;
 
-impl<A: Allocator + Copy> Server<A> {
-    /// Judges a request from an address in an epoch, whose nonce is given.
+impl<A: Memory> Server<A> {
+    /// Judges a request from an address in an epoch: under the nonces of the secret, and if it is
+    /// stale under them, under those of the previous secret. `nonce` is the nonce of this epoch
+    /// under the secret.
     #[tactic(auto, using(crate::proofs::PreviousLemmas::accepted_stays, crate::proofs::PreviousLemmas::unauthorized_stays, crate::proofs::PreviousLemmas::bad_stays))]
     pub(super) fn judged_in<'a>(
         &self,
@@ -32,6 +35,7 @@ impl<A: Allocator + Copy> Server<A> {
             ≡ judged_in self.now (realm_of judges.now) from epoch (reading_of read.now)) }
         ensures key { IfOk result (λ verdict. IfOk verdict
             (HasVerifyingKey (realm_of judges.now).users (reading_of read.now))) }
+        ensures granted { A.grants → IsOk result }
     {
         match self.judged_under(judges, read, &self.secret, from, epoch, nonce)? {
             Ok(accepted) => Ok(Ok(accepted)),
@@ -41,7 +45,9 @@ impl<A: Allocator + Copy> Server<A> {
         }
     }
 
-    /// Judges a request whose nonce is stale, by the nonces of the previous secret.
+    /// Judges a request under the nonces of the previous secret, after it was stale under those of
+    /// the secret. Returns `StaleNonce` if there is no previous secret, or if the request is not
+    /// accepted.
     fn judged_by_previous<'a>(
         &self,
         judges: &Judges<'a, A>,
@@ -54,6 +60,7 @@ impl<A: Allocator + Copy> Server<A> {
             (Err VerdictRefusal.StaleNonce)) }
         ensures key { IfOk result (λ verdict. IfOk verdict
             (HasVerifyingKey (realm_of judges.now).users (reading_of read.now))) }
+        ensures granted { A.grants → IsOk result }
     {
         let Some(secret) = &self.previous else {
             return Ok(Err(VerdictRefusal::StaleNonce));
@@ -65,7 +72,8 @@ impl<A: Allocator + Copy> Server<A> {
         }
     }
 
-    /// Judges a request by the nonces of a secret, of which that of the epoch is given.
+    /// Judges a request under the nonces of a secret: under `nonce`, which is the nonce of this
+    /// epoch, and if the request is stale under it, under the nonce of the epoch before.
     fn judged_under<'a>(
         &self,
         judges: &Judges<'a, A>,
@@ -80,6 +88,7 @@ impl<A: Allocator + Copy> Server<A> {
             ≡ judged_under self.now (realm_of judges.now) secret.now from epoch (reading_of read.now)) }
         ensures key { IfOk result (λ verdict. IfOk verdict
             (HasVerifyingKey (realm_of judges.now).users (reading_of read.now))) }
+        ensures granted { A.grants → IsOk result }
     {
         match judges.judge(read, nonce) {
             Err(VerdictRefusal::StaleNonce) if epoch > 0 => {
@@ -89,7 +98,8 @@ impl<A: Allocator + Copy> Server<A> {
         }
     }
 
-    /// Judges a request whose nonce is stale, by the nonce of the epoch before.
+    /// Judges a request under the nonce of the epoch `before`. Returns `StaleNonce` unless the
+    /// request is accepted.
     #[tactic(auto, using(crate::proofs::PreviousLemmas::other_nonce_is_stale))]
     fn judged_before<'a>(
         &self,
@@ -104,9 +114,10 @@ impl<A: Allocator + Copy> Server<A> {
             (nonce_in self.now secret.now from before) (reading_of read.now))) }
         ensures key { IfOk result (λ verdict. IfOk verdict
             (HasVerifyingKey (realm_of judges.now).users (reading_of read.now))) }
+        ensures granted { A.grants → IsOk result }
     {
         let nonce = self.nonce_in(secret, from, before)?;
-        // Only the acceptance counts here, so nothing else is looked at under another nonce.
+        // Only an acceptance counts here, so a request with another nonce is not judged further.
         if !has_nonce(read, &nonce) {
             return Ok(Err(VerdictRefusal::StaleNonce));
         }

@@ -1,27 +1,30 @@
-//! What a datagram comes to (RFC 8489, sections 6.3 and 9.2.4).
+//! Judges datagrams (RFC 8489, sections 6.3 and 9.2.4).
 
 ghost use Rattle.std.specs.Option.{option_copied};
-ghost use Rattle.std.specs.Prelude.{◌≡◌, [], IfErr, IfOk, IsOk, None, OnErr, Some, false};
-ghost use Rattle.std.specs.Prelude.{if◌then◌else◌};
+ghost use Rattle.std.specs.Prelude.{◌≡◌, ◌≤◌, [], IfOk, IsOk, OnErr, false};
+ghost use Rattle.std.specs.Prelude.{if◌then◌else◌, length};
 ghost use Rattle.stun_auth.specs.Algorithms.{contains};
 ghost use Rattle.stun_auth.specs.Nonces.{asks_for_algorithms};
 ghost use Rattle.stun_auth.specs.Reading.{reading_of};
-ghost use Rattle.stun_base.specs.MessageType.{class_in, is_request};
+ghost use Rattle.stun_base.specs.MessageType.{class_in};
 ghost use Rattle.stun_base.specs.declared.keys.algorithm.IntegrityAlgorithm.TheVariants.{Sha256};
 ghost use Rattle.stun_endpoint.specs.Answers.{is_fingerprinted};
 ghost use Rattle.stun_endpoint.specs.Buffered.{LeavesNothing, outcome_in};
 ghost use Rattle.stun_endpoint.specs.Judged.{judged, realm_of_table, realm_of_user};
 ghost use Rattle.stun_endpoint.specs.Nonces.{epoch_of};
 ghost use Rattle.stun_endpoint.specs.Outcomes.{outcome_of};
-ghost use Rattle.stun_endpoint.specs.Received.{by_class, by_verdict, dropped, indicated};
+ghost use Rattle.stun_endpoint.specs.Received.{by_verdict, dropped, indicated};
 ghost use Rattle.stun_endpoint.specs.Received.{is_empty, outcome_of_accepted, received_by};
 ghost use Rattle.stun_endpoint.specs.Received.{responding_of, signature_for};
 ghost use Rattle.stun_endpoint.specs.Responding.{drop_reason, is_undropped_request, own_answer};
 ghost use Rattle.stun_endpoint.specs.Responding.{reply_by};
+ghost use Rattle.stun_endpoint.specs.code.Arriving.{IsByClass, dropped_in};
 ghost use Rattle.stun_endpoint.specs.code.Judgements.{by_judgement};
 ghost use Rattle.stun_endpoint.specs.code.Judges.{realm_of};
 ghost use Rattle.stun_extra.specs.Unknown.{unknown_types};
+ghost use Rattle.stun_types.specs.Limits.{TEXT_LIMIT};
 
+use crate::arrived::Arrived;
 use crate::buffered::ReceivedInto;
 use crate::received::{Answer, DropReason, Received, Request};
 use crate::reply::{Reply, Signature};
@@ -29,30 +32,40 @@ use crate::server::Server;
 use crate::server::judges::Judges;
 use crate::unix_time::UnixTime;
 use crate::users::Users;
-use std::alloc::{AllocError, Allocator};
+use std::alloc::AllocError;
 use std::net::SocketAddr;
 use stun_auth::auth::{Accepted, LongTermServerUser, ReadMessage, VerdictRefusal};
+use stun_base::algorithm::IntegrityAlgorithm;
+use stun_base::memory::Memory;
 use stun_base::prepared_key::PreparedKey;
 use stun_types::message::{Message, MessageClass};
 
-impl<A: Allocator + Copy> Server<A> {
-    /// Judges a datagram, and writes the response if it gets one at once.
+impl<A: Memory> Server<A> {
+    /// Judges a datagram, and writes the response if the server itself responds.
     ///
-    /// `from` is the address that it came from. An IPv4 address is the same in both spellings,
-    /// `a.b.c.d` and `::ffff:a.b.c.d`. `users` are the users at this time.
+    /// `from` is the address that the datagram came from. The two forms of an IPv4 address,
+    /// `a.b.c.d` and `::ffff:a.b.c.d`, count as the same address. `users` are the users at this
+    /// time.
     ///
-    /// - Bytes are dropped that are no message, whose FINGERPRINT is wrong, is not the last attribute
-    ///   or does not have 4 bytes, or that have no FINGERPRINT if the settings require one.
-    /// - A request is judged first, and its attributes are looked at then. It gets a 401 if it is not
-    ///   signed, or not by one of these users; a 438 if its nonce is not accepted, or a 401 if that
-    ///   has other security bits; a 400 if it is malformed, or its algorithms are not those that were
-    ///   offered with the current nonce; a 420, which is signed, if it has an attribute that is not
-    ///   understood; and the answer to Binding if the server is to give it. All others are for you.
-    /// - An indication with an attribute that is not understood is dropped. Others, and responses,
-    ///   are for you.
+    /// - Bytes that are not a message are dropped. So are messages whose FINGERPRINT is wrong, is
+    ///   not the last attribute or does not have 4 bytes, and messages without FINGERPRINT if the
+    ///   settings require one.
+    /// - A request gets the response of the first of these lines that applies. All other requests
+    ///   are returned to you.
+    ///   - 401: it is not signed.
+    ///   - 400: it has no REALM, NONCE or user name, or it has the current nonce, but not the
+    ///     algorithms that were offered with it.
+    ///   - 438: its nonce is not accepted, or it has an earlier nonce that is still accepted, but
+    ///     wrong algorithms or credentials. The code is 401 instead if the nonce has other security
+    ///     bits than the server's nonces, and the algorithms agree with it.
+    ///   - 401: it is not signed by one of these users.
+    ///   - 420, which is signed: it has an attribute that is not understood.
+    ///   - Success: it is a Binding request, and `answers_binding` is set.
+    /// - An indication with an attribute that is not understood is dropped. Other indications, and
+    ///   responses, are returned to you.
     ///
-    /// Fails if an allocation fails. Nothing is lost then, because the client sends again. Memory is
-    /// allocated for requests alone.
+    /// Fails if an allocation fails, which can happen only for a request. Over UDP nothing is lost
+    /// then, because the client sends its request again.
     pub fn receive<'a>(
         &self,
         bytes: &'a [u8],
@@ -64,17 +77,18 @@ impl<A: Allocator + Copy> Server<A> {
             ≡ received_by self.now (realm_of_table users.now) from now bytes.now) }
         ensures no_memory { is_undropped_request self.now.requires_fingerprint bytes.now
             ≡ false → IsOk result }
+        ensures granted { A.grants → IsOk result }
     {
         let mut buffer = Vec::new(self.alloc);
         self.received(bytes, from, now, &Judges::Table(&users.auth), &mut buffer)
     }
 
-    /// Judges a datagram like `receive`, by the one user that you looked up, or by nobody if there is
-    /// no such user. The result is that of `receive` with a table of all users, if the user is the
-    /// one whom the request names.
+    /// Judges a datagram like `receive`, with the one user that you looked up, or with no user if
+    /// there is none. If the request names this user, the result is what `receive` returns with a
+    /// table of all users.
     ///
-    /// Fails if an allocation fails. Nothing is lost then, because the client sends again. Memory is
-    /// allocated for requests alone.
+    /// Fails if an allocation fails, which can happen only for a request. Over UDP nothing is lost
+    /// then, because the client sends its request again.
     pub fn receive_for<'a>(
         &'a self,
         bytes: &'a [u8],
@@ -87,17 +101,18 @@ impl<A: Allocator + Copy> Server<A> {
             bytes.now) }
         ensures no_memory { is_undropped_request self.now.requires_fingerprint bytes.now
             ≡ false → IsOk result }
+        ensures granted { A.grants → IsOk result }
     {
         let mut buffer = Vec::new(self.alloc);
         self.received(bytes, from, now, &self.judges(user), &mut buffer)
     }
 
-    /// Judges a datagram like `receive`, and writes the response into a buffer, in place of what it
-    /// has. The buffer is empty afterwards if there is no response, or if the call fails. Its memory
-    /// is used again, so that a response that it has the capacity for needs no other.
+    /// Judges a datagram like `receive`, and writes the response into a buffer, replacing its
+    /// contents. If the buffer has the capacity for the response, no memory is allocated for it.
+    /// The buffer is empty afterwards if there is no response, or if the call fails.
     ///
-    /// Fails if an allocation fails. Nothing is lost then, because the client sends again. Memory is
-    /// allocated for requests alone.
+    /// Fails if an allocation fails, which can happen only for a request. Over UDP nothing is lost
+    /// then, because the client sends its request again.
     pub fn receive_into<'a>(
         &self,
         bytes: &'a [u8],
@@ -106,23 +121,24 @@ impl<A: Allocator + Copy> Server<A> {
         users: &'a Users<A>,
         buffer: &mut Vec<u8, A>,
     ) -> Result<ReceivedInto<'a, A>, AllocError>
-        // With the bytes in the buffer, the result is that of `receive`.
+        // With the bytes in the buffer, the result is what `receive` returns.
         ensures received { IfOk result (λ received. outcome_in received buffer.new.items
             ≡ received_by self.now (realm_of_table users.now) from now bytes.now) }
         ensures rest { IfOk result (λ received. LeavesNothing received buffer.new.items) }
         ensures no_memory { is_undropped_request self.now.requires_fingerprint bytes.now
             ≡ false → IsOk result }
+        ensures granted { A.grants → IsOk result }
         ensures err { OnErr result (buffer.new.items ≡ []) }
     {
         self.received_into(bytes, from, now, &Judges::Table(&users.auth), buffer)
     }
 
-    /// Judges a datagram like `receive_for`, and writes the response into a buffer, in place of what
-    /// it has. The buffer is empty afterwards if there is no response, or if the call fails. Its
-    /// memory is used again, so that a response that it has the capacity for needs no other.
+    /// Judges a datagram like `receive_for`, and writes the response into a buffer, replacing its
+    /// contents. If the buffer has the capacity for the response, no memory is allocated for it.
+    /// The buffer is empty afterwards if there is no response, or if the call fails.
     ///
-    /// Fails if an allocation fails. Nothing is lost then, because the client sends again. Memory is
-    /// allocated for requests alone.
+    /// Fails if an allocation fails, which can happen only for a request. Over UDP nothing is lost
+    /// then, because the client sends its request again.
     pub fn receive_for_into<'a>(
         &'a self,
         bytes: &'a [u8],
@@ -131,19 +147,20 @@ impl<A: Allocator + Copy> Server<A> {
         user: Option<&'a LongTermServerUser<A>>,
         buffer: &mut Vec<u8, A>,
     ) -> Result<ReceivedInto<'a, A>, AllocError>
-        // With the bytes in the buffer, the result is that of `receive_for`.
+        // With the bytes in the buffer, the result is what `receive_for` returns.
         ensures received { IfOk result (λ received. outcome_in received buffer.new.items
             ≡ received_by self.now (realm_of_user self.now (option_copied user.entry)) from now
             bytes.now) }
         ensures rest { IfOk result (λ received. LeavesNothing received buffer.new.items) }
         ensures no_memory { is_undropped_request self.now.requires_fingerprint bytes.now
             ≡ false → IsOk result }
+        ensures granted { A.grants → IsOk result }
         ensures err { OnErr result (buffer.new.items ≡ []) }
     {
         self.received_into(bytes, from, now, &self.judges(user), buffer)
     }
 
-    /// What a datagram comes to, with the bytes of a response in the buffer.
+    /// Returns the outcome of a datagram, and writes the bytes of a response into the buffer.
     fn received_into<'a>(
         &self,
         bytes: &'a [u8],
@@ -157,6 +174,7 @@ impl<A: Allocator + Copy> Server<A> {
         ensures rest { IfOk result (λ received. LeavesNothing received buffer.new.items) }
         ensures no_memory { is_undropped_request self.now.requires_fingerprint bytes.now
             ≡ false → IsOk result }
+        ensures granted { A.grants → IsOk result }
         ensures err { OnErr result (buffer.new.items ≡ []) }
     {
         match self.received(bytes, from, now, judges, buffer) {
@@ -168,19 +186,16 @@ impl<A: Allocator + Copy> Server<A> {
         }
     }
 
-    /// Reads a datagram. Returns the message and whether it has a right FINGERPRINT, or why the
-    /// datagram is dropped.
-    pub(crate) fn read<'a>(&self, bytes: &'a [u8]) -> Result<(Message<'a>, bool), DropReason>
-        ensures read { IfOk result (λ read. (read.0 ≡ bytes.now)
-            × (read.1 ≡ is_fingerprinted bytes.now)
-            × (drop_reason self.now.requires_fingerprint bytes.now ≡ None)) }
-        ensures dropped { IfErr result (λ reason.
-            drop_reason self.now.requires_fingerprint bytes.now ≡ Some reason) }
+    /// Reads a datagram, which must have a FINGERPRINT if the settings require one.
+    pub(super) fn read<'a>(&self, bytes: &'a [u8]) -> Arrived<'a>
+        ensures dropped { drop_reason self.now.requires_fingerprint bytes.now
+            ≡ dropped_in result }
+        ensures class { IsByClass bytes.now result }
     {
         self.responder.read(bytes)
     }
 
-    /// What a datagram comes to. A response has the memory of the buffer.
+    /// Returns the outcome of a datagram. A response takes over the memory of the buffer.
     fn received<'a>(
         &self,
         bytes: &'a [u8],
@@ -193,42 +208,20 @@ impl<A: Allocator + Copy> Server<A> {
             ≡ received_by self.now (realm_of judges.now) from now bytes.now) }
         ensures no_memory { is_undropped_request self.now.requires_fingerprint bytes.now
             ≡ false → IsOk result }
+        ensures granted { A.grants → IsOk result }
     {
         match self.read(bytes) {
-            Ok((message, has_fingerprint)) => {
-                self.by_class(message, from, now, judges, has_fingerprint, buffer)
-            }
-            Err(reason) => Ok(Received::Dropped(reason)),
-        }
-    }
-
-    /// What a message comes to.
-    fn by_class<'a>(
-        &self,
-        message: Message<'a>,
-        from: SocketAddr,
-        now: UnixTime,
-        judges: &Judges<'a, A>,
-        has_fingerprint: bool,
-        buffer: &mut Vec<u8, A>,
-    ) -> Result<Received<'a, A>, AllocError>
-        requires { has_fingerprint ≡ is_fingerprinted message }
-        ensures received { IfOk result (λ received. outcome_of received
-            ≡ by_class self.now (realm_of judges.now) from now message.entry (class_in message.entry)) }
-        ensures no_memory { is_request (class_in message.entry) ≡ false → IsOk result }
-    {
-        match message.class() {
-            MessageClass::Request => {
+            Arrived::Request(message, has_fingerprint) => {
                 let read = ReadMessage::of(&message);
                 self.request_into(&read, from, now, judges, has_fingerprint, buffer)
             }
-            MessageClass::Indication => Ok(self.indication(message)),
-            MessageClass::Success => Ok(Received::Response(message)),
-            MessageClass::Error => Ok(Received::Response(message)),
+            Arrived::Indication(message) => Ok(self.indication(message)),
+            Arrived::Response(message) => Ok(Received::Response(message)),
+            Arrived::Dropped(reason) => Ok(Received::Dropped(reason)),
         }
     }
 
-    /// What an indication comes to.
+    /// Returns the outcome of an indication.
     pub(super) fn indication<'a>(&self, message: Message<'a>) -> Received<'a, A>
         ensures { outcome_of result
             ≡ (if is_empty (unknown_types self.now.known message.entry)
@@ -241,7 +234,7 @@ impl<A: Allocator + Copy> Server<A> {
         }
     }
 
-    /// What a request comes to. A response has the memory of the buffer.
+    /// Returns the outcome of a request. A response takes over the memory of the buffer.
     pub(super) fn request_into<'a>(
         &self,
         read: &ReadMessage<'a, '_>,
@@ -251,10 +244,12 @@ impl<A: Allocator + Copy> Server<A> {
         has_fingerprint: bool,
         buffer: &mut Vec<u8, A>,
     ) -> Result<Received<'a, A>, AllocError>
-        requires { has_fingerprint ≡ is_fingerprinted read.now }
-        ensures { IfOk result (λ received. outcome_of received
+        requires fingerprint { has_fingerprint ≡ is_fingerprinted read.now }
+        requires request { class_in read.now ≡ MessageClass.Request }
+        ensures received { IfOk result (λ received. outcome_of received
             ≡ by_verdict self.now (realm_of judges.now) from now read.now
             (judged self.now (realm_of judges.now) from now (reading_of read.now))) }
+        ensures granted { A.grants → IsOk result }
     {
         let epoch = self.epoch(now);
         let nonce = self.nonce_in(&self.secret, from, epoch)?;
@@ -262,26 +257,8 @@ impl<A: Allocator + Copy> Server<A> {
         self.judged_into(read, from, &nonce, verdict, has_fingerprint, buffer)
     }
 
-    /// What a judged request comes to. The nonce is the one to send with a refusal.
-    pub(super) fn judged<'a>(
-        &self,
-        read: &ReadMessage<'a, '_>,
-        from: SocketAddr,
-        nonce: &str,
-        verdict: Result<Accepted<'a, A>, VerdictRefusal>,
-        has_fingerprint: bool,
-    ) -> Result<Received<'a, A>, AllocError>
-        requires fingerprint { has_fingerprint ≡ is_fingerprinted read.now }
-        requires offer { asks_for_algorithms nonce.now ≡ contains Sha256 self.now.algorithms }
-        ensures { IfOk result (λ received. outcome_of received
-            ≡ by_judgement self.now nonce.now from read.now verdict.entry) }
-    {
-        let mut buffer = Vec::new(self.alloc);
-        self.judged_into(read, from, nonce, verdict, has_fingerprint, &mut buffer)
-    }
-
-    /// What a judged request comes to. The nonce is the one to send with a refusal. A response has
-    /// the memory of the buffer.
+    /// Returns the outcome of a request with this verdict. A 401 or a 438 has the nonce `nonce`. A
+    /// response takes over the memory of the buffer.
     pub(super) fn judged_into<'a>(
         &self,
         read: &ReadMessage<'a, '_>,
@@ -292,9 +269,12 @@ impl<A: Allocator + Copy> Server<A> {
         buffer: &mut Vec<u8, A>,
     ) -> Result<Received<'a, A>, AllocError>
         requires fingerprint { has_fingerprint ≡ is_fingerprinted read.now }
+        requires request { class_in read.now ≡ MessageClass.Request }
         requires offer { asks_for_algorithms nonce.now ≡ contains Sha256 self.now.algorithms }
-        ensures { IfOk result (λ received. outcome_of received
+        requires short { length nonce.now ≤ TEXT_LIMIT }
+        ensures received { IfOk result (λ received. outcome_of received
             ≡ by_judgement self.now nonce.now from read.now verdict.entry) }
+        ensures granted { A.grants → IsOk result }
     {
         match verdict {
             Ok(accepted) => self.accepted(read, from, accepted, has_fingerprint, buffer),
@@ -302,14 +282,15 @@ impl<A: Allocator + Copy> Server<A> {
         }
     }
 
-    /// The epoch of a time.
+    /// Returns the epoch of a time: the number of whole nonce lifetimes since the beginning of
+    /// 1970.
     pub(super) fn epoch(&self, now: UnixTime) -> u64
         ensures { result ≡ epoch_of self.now now }
     {
         now.epoch(self.lifetime)
     }
 
-    /// What an accepted request comes to.
+    /// Returns the outcome of an accepted request.
     pub(super) fn accepted<'a>(
         &self,
         read: &ReadMessage<'a, '_>,
@@ -318,25 +299,52 @@ impl<A: Allocator + Copy> Server<A> {
         has_fingerprint: bool,
         buffer: &mut Vec<u8, A>,
     ) -> Result<Received<'a, A>, AllocError>
-        requires { has_fingerprint ≡ is_fingerprinted read.now }
-        ensures { IfOk result (λ received. outcome_of received
+        requires fingerprint { has_fingerprint ≡ is_fingerprinted read.now }
+        requires request { class_in read.now ≡ MessageClass.Request }
+        ensures received { IfOk result (λ received. outcome_of received
             ≡ outcome_of_accepted self.now accepted.entry.key from read.now
             accepted.entry.client) }
+        ensures granted { A.grants → IsOk result }
     {
-        let signature = signature_for(read, accepted.key())?;
+        let key = accepted.key().clone()?;
+        let name = accepted.name();
+        let algorithm = accepted.algorithm();
+        self.accepted_from(read, from, name, algorithm, key, has_fingerprint, buffer)
+    }
+
+    /// Returns the outcome of a request that is accepted from the user with this name and this key.
+    /// A response has the memory of the buffer.
+    pub(super) fn accepted_from<'a>(
+        &self,
+        read: &ReadMessage<'a, '_>,
+        from: SocketAddr,
+        name: &'a str,
+        algorithm: IntegrityAlgorithm,
+        key: PreparedKey<A>,
+        has_fingerprint: bool,
+        buffer: &mut Vec<u8, A>,
+    ) -> Result<Received<'a, A>, AllocError>
+        requires fingerprint { has_fingerprint ≡ is_fingerprinted read.now }
+        requires request { class_in read.now ≡ MessageClass.Request }
+        ensures received { IfOk result (λ received. outcome_of received
+            ≡ outcome_of_accepted self.now key from read.now
+            (record { name = name.entry.now; algorithm = algorithm })) }
+        ensures granted { A.grants → IsOk result }
+    {
+        let signature = signature_for(read, key);
         let message = read.message();
         match self.own_answer(message, from, &signature, has_fingerprint, buffer)? {
             Some(answer) => Ok(Received::Answer(answer)),
             None => {
                 let reply = self.reply(message, from, signature, has_fingerprint)?;
                 let message = message.clone()?;
-                let request = Request::new(message, accepted.name(), accepted.algorithm(), reply);
+                let request = Request::new(message, name, algorithm, reply);
                 Ok(Received::Request(request))
             }
         }
     }
 
-    /// Writes the response to an accepted request, if the server is to give it.
+    /// Writes the response to an accepted request. Returns `None` if the caller has to respond.
     fn own_answer(
         &self,
         request: &Message<'_>,
@@ -345,15 +353,17 @@ impl<A: Allocator + Copy> Server<A> {
         has_fingerprint: bool,
         buffer: &mut Vec<u8, A>,
     ) -> Result<Option<Answer<A>>, AllocError>
-        requires { has_fingerprint ≡ is_fingerprinted request.now }
-        ensures { IfOk result (λ answer. answer
+        requires fingerprint { has_fingerprint ≡ is_fingerprinted request.now }
+        requires request { class_in request.now ≡ MessageClass.Request }
+        ensures answer { IfOk result (λ answer. answer
             ≡ own_answer (responding_of self.now) signature.now from request.now) }
+        ensures granted { A.grants → IsOk result }
     {
         self.responder
             .own_answer(request, from, signature, has_fingerprint, buffer)
     }
 
-    /// The means to respond to an accepted request.
+    /// Returns the handle with which you respond to an accepted request.
     fn reply(
         &self,
         request: &Message<'_>,
@@ -362,24 +372,22 @@ impl<A: Allocator + Copy> Server<A> {
         has_fingerprint: bool,
     ) -> Result<Reply<A>, AllocError>
         requires { has_fingerprint ≡ is_fingerprinted request.now }
-        ensures { IfOk result (λ reply. reply
+        ensures reply { IfOk result (λ reply. reply
             ≡ reply_by (responding_of self.now) signature from request.now) }
+        ensures granted { A.grants → IsOk result }
     {
         self.responder
             .reply(request, from, signature, has_fingerprint)
     }
 }
 
-/// What the responses to an accepted request are signed by: the integrity attribute that the request
-/// has, under the key of its user.
-fn signature_for<A: Allocator + Copy>(
-    read: &ReadMessage<'_, '_>,
-    key: &PreparedKey<A>,
-) -> Result<Option<Signature<A>>, AllocError>
-    ensures { IfOk result (λ signature. signature ≡ signature_for key.now read.now) }
+/// Returns the signature for the responses to an accepted request: the algorithm of its integrity
+/// attribute, and the key of its user. Returns `None` if the request has no integrity attribute.
+fn signature_for<A: Memory>(read: &ReadMessage<'_, '_>, key: PreparedKey<A>) -> Option<Signature<A>>
+    ensures { result ≡ signature_for key read.now }
 {
     match read.deciding_algorithm() {
-        Some(algorithm) => Ok(Some(Signature::new(algorithm, key.clone()?))),
-        None => Ok(None),
+        Some(algorithm) => Some(Signature::new(algorithm, key)),
+        None => None,
     }
 }

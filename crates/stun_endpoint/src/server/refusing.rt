@@ -1,6 +1,6 @@
 //! The responses to a refused request (RFC 8489, sections 9.2.4 and 14.8).
 
-ghost use Rattle.std.specs.Prelude.{◌≡◌, ◌≤◌, ◌∷◌, IfOk, length};
+ghost use Rattle.std.specs.Prelude.{◌≡◌, ◌≤◌, ◌∷◌, IfOk, IsOk, length};
 ghost use Rattle.stun_auth.specs.AddedAttribute as added;
 ghost use Rattle.stun_auth.specs.Algorithms.{contains};
 ghost use Rattle.stun_auth.specs.Nonces.{asks_for_algorithms};
@@ -12,23 +12,25 @@ ghost use Rattle.stun_endpoint.specs.Received.{answer_to_refused, challenge_answ
 ghost use Rattle.stun_endpoint.specs.Received.{responding_of};
 ghost use Rattle.stun_endpoint.specs.Refusals.{code_of, phrase_of};
 ghost use Rattle.stun_endpoint.specs.Responding.{refusal_by};
-ghost use Rattle.stun_types.specs.Writing.{IsOpen};
+ghost use Rattle.stun_endpoint.specs.code.Room.{HasRoom, IsEndable, LATER};
+ghost use Rattle.stun_types.specs.Limits.{TEXT_LIMIT};
 
 use crate::pages::error_page;
 use crate::received::{Answer, Received, Refusal};
 use crate::server::Server;
-use std::alloc::{AllocError, Allocator};
+use std::alloc::AllocError;
 use std::net::SocketAddr;
 use stun_auth::auth::{ReadMessage, VerdictRefusal, told_refusal};
+use stun_base::memory::Memory;
 use stun_buffer::writer::BufferWriter;
 use stun_types::attribute::attribute_length;
 use stun_types::message::{Message, StunWriteError};
 
-/// How many bytes an algorithm has in PASSWORD-ALGORITHMS (RFC 8489, section 14.11).
+/// The number of bytes of an algorithm in PASSWORD-ALGORITHMS (RFC 8489, section 14.11).
 const ALGORITHM_LENGTH: usize = 4;
 
-impl<A: Allocator + Copy> Server<A> {
-    /// What a refused request comes to.
+impl<A: Memory> Server<A> {
+    /// Returns the outcome of a refused request.
     pub(super) fn refused<'a>(
         &self,
         read: &ReadMessage<'_, '_>,
@@ -40,8 +42,10 @@ impl<A: Allocator + Copy> Server<A> {
     ) -> Result<Received<'a, A>, AllocError>
         requires fingerprint { has_fingerprint ≡ is_fingerprinted read.now }
         requires offer { asks_for_algorithms nonce.now ≡ contains Sha256 self.now.algorithms }
-        ensures { IfOk result (λ received. outcome_of received
+        requires short { length nonce.now ≤ TEXT_LIMIT }
+        ensures received { IfOk result (λ received. outcome_of received
             ≡ refused_with self.now nonce.now from read.now refusal) }
+        ensures granted { A.grants → IsOk result }
     {
         let told = told_refusal(refusal, read, nonce);
         let request = read.message();
@@ -49,7 +53,7 @@ impl<A: Allocator + Copy> Server<A> {
         Ok(Received::Answer(answer))
     }
 
-    /// Writes the response to a refused request.
+    /// Writes the response for the refusal `told`: a 401 or a 438 with the challenge, or a 400.
     fn answer_to_refused(
         &self,
         request: &Message<'_>,
@@ -61,8 +65,10 @@ impl<A: Allocator + Copy> Server<A> {
     ) -> Result<Answer<A>, AllocError>
         requires fingerprint { has_fingerprint ≡ is_fingerprinted request.now }
         requires offer { asks_for_algorithms nonce.now ≡ contains Sha256 self.now.algorithms }
-        ensures { IfOk result (λ answer. answer
+        requires short { length nonce.now ≤ TEXT_LIMIT }
+        ensures answer { IfOk result (λ answer. answer
             ≡ answer_to_refused self.now nonce.now from request.now told) }
+        ensures granted { A.grants → IsOk result }
     {
         match told {
             VerdictRefusal::Unauthorized => self.challenge_answer(
@@ -94,13 +100,14 @@ impl<A: Allocator + Copy> Server<A> {
         buffer: &mut Vec<u8, A>,
     ) -> Result<Answer<A>, AllocError>
         requires { has_fingerprint ≡ is_fingerprinted request.now }
-        ensures { IfOk result (λ answer. answer
+        ensures answer { IfOk result (λ answer. answer
             ≡ refusal_by (responding_of self.now) Refusal.BadRequest from request.now) }
+        ensures granted { A.grants → IsOk result }
     {
         self.responder.refusal(request, from, Refusal::BadRequest, has_fingerprint, buffer)
     }
 
-    /// Writes a 401 or a 438.
+    /// Writes a 401 or a 438, which challenges the client with `nonce`.
     #[tactic(auto, unfolding(crate::specs::Received::challenge_answer))]
     fn challenge_answer(
         &self,
@@ -113,8 +120,10 @@ impl<A: Allocator + Copy> Server<A> {
     ) -> Result<Answer<A>, AllocError>
         requires fingerprint { has_fingerprint ≡ is_fingerprinted request.now }
         requires offer { asks_for_algorithms nonce.now ≡ contains Sha256 self.now.algorithms }
-        ensures { IfOk result (λ answer. answer
+        requires short { length nonce.now ≤ TEXT_LIMIT }
+        ensures answer { IfOk result (λ answer. answer
             ≡ challenge_answer self.now refusal nonce.now from request.now) }
+        ensures granted { A.grants → IsOk result }
     {
         let more = self.challenge_length(nonce, has_fingerprint);
         let page = self.challenge(request, nonce, refusal, more, buffer)?;
@@ -122,10 +131,13 @@ impl<A: Allocator + Copy> Server<A> {
         Ok(Answer::new(from, Some(refusal), bytes))
     }
 
-    /// Returns how many bytes a 401 or a 438 has after its ERROR-CODE. They are reserved before it is
-    /// written, so that it takes one allocation. If they were fewer, it would take two, and its bytes
-    /// would be the same.
-    fn challenge_length(&self, nonce: &str, has_fingerprint: bool) -> usize {
+    /// Returns how many bytes a 401 or a 438 has after its ERROR-CODE. The memory for them is
+    /// reserved before the response is written, so that it takes one allocation. With less memory
+    /// it would take two allocations, and have the same bytes.
+    fn challenge_length(&self, nonce: &str, has_fingerprint: bool) -> usize
+        requires { length nonce.now ≤ TEXT_LIMIT }
+        ensures { result ≤ 5000 }
+    {
         let algorithms = match (self.hmac_sha1, self.hmac_sha256) {
             (true, true) => attribute_length(2 * ALGORITHM_LENGTH),
             (false, true) => attribute_length(ALGORITHM_LENGTH),
@@ -137,8 +149,8 @@ impl<A: Allocator + Copy> Server<A> {
             .saturating_add(self.responder.end_length(&None, has_fingerprint))
     }
 
-    /// Begins an error response that tells a client how to sign, and reserves this many bytes for
-    /// what comes after its ERROR-CODE.
+    /// Begins a 401 or a 438 with ERROR-CODE and the challenge, and reserves `more` bytes for all
+    /// attributes after ERROR-CODE.
     fn challenge(
         &self,
         request: &Message<'_>,
@@ -147,32 +159,38 @@ impl<A: Allocator + Copy> Server<A> {
         more: usize,
         buffer: &mut Vec<u8, A>,
     ) -> Result<BufferWriter<A>, AllocError>
-        requires { asks_for_algorithms nonce.now ≡ contains Sha256 self.now.algorithms }
+        requires offer { asks_for_algorithms nonce.now ≡ contains Sha256 self.now.algorithms }
+        requires short { length nonce.now ≤ TEXT_LIMIT }
         ensures bytes { IfOk result (λ page. page.bytes
             ≡ challenge_page self.now nonce.now request.now (code_of refusal) (phrase_of refusal)) }
         ensures header { IfOk result (λ page. 20 ≤ length page.bytes) }
+        ensures room { IfOk result (λ page. IsEndable page.bytes) }
+        ensures granted { A.grants → more ≤ 5000 → IsOk result }
     {
         let page = error_page(buffer, request, refusal.code(), refusal.phrase(), more)?;
         match self.challenged(page, nonce) {
             Ok(page) => Ok(page),
-            // The settings leave room in each response, so that an allocation failed.
+            // The settings ensure that these attributes fit into a response, so an allocation has
+            // failed.
             Err(_) => Err(AllocError),
         }
     }
 
-    /// Adds NONCE, REALM and PASSWORD-ALGORITHMS. The last is offered if and only if HMAC-SHA256 is
-    /// supported.
+    /// Adds NONCE, REALM and, if and only if HMAC-SHA256 is supported, PASSWORD-ALGORITHMS.
     fn challenged(
         &self,
         page: BufferWriter<A>,
         nonce: &str,
     ) -> Result<BufferWriter<A>, StunWriteError>
-        requires page { IsOpen page.bytes }
+        requires page { HasRoom LATER 1000 page.bytes }
         requires offer { asks_for_algorithms nonce.now ≡ contains Sha256 self.now.algorithms }
+        requires short { length nonce.now ≤ TEXT_LIMIT }
         ensures bytes { IfOk result (λ challenged. challenged.bytes
             ≡ with_attributes page.bytes (added.nonce nonce.now
             ∷ added.realm self.now.realm ∷ offered self.now.algorithms)) }
         ensures header { IfOk result (λ challenged. 20 ≤ length challenged.bytes) }
+        ensures room { IfOk result (λ challenged. IsEndable challenged.bytes) }
+        ensures granted { A.grants → IsOk result }
     {
         self.auth.add_challenge(page, nonce)
     }

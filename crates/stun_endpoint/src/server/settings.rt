@@ -2,12 +2,13 @@
 
 ghost use Rattle.std.specs.FinMap as map;
 ghost use Rattle.std.specs.Option.{option_map};
-ghost use Rattle.std.specs.Prelude.{◌≡◌, ◌<◌, ◌++◌, [], None, IfOk, IsOkUnless, MatchOption, Err};
-ghost use Rattle.std.specs.Prelude.{true, false};
+ghost use Rattle.std.specs.Prelude.{◌≡◌, ◌<◌, ◌≤◌, ◌++◌, [], None, IfOk, IsOk, IsOkUnless, MatchOption, Err};
+ghost use Rattle.std.specs.Prelude.{true, false, length, unwrap_or};
 ghost use Rattle.std.specs.String.{string_bytes};
 ghost use Rattle.stun_endpoint.specs.Built.{build_refusal};
 ghost use Rattle.stun_endpoint.specs.Realm.{algorithms_for, empty_realm, feature_for};
 ghost use Rattle.stun_endpoint.specs.Settings.{registered_of};
+ghost use Rattle.stun_types.specs.Limits.{TEXT_LIMIT};
 
 use crate::responder::{Responder, text_length, with_stun_attributes};
 use crate::server::Server;
@@ -15,18 +16,19 @@ use std::alloc::{AllocError, Allocator, Global};
 use stun_auth::auth::{Feature, LongTermServerAuth};
 use stun_base::attribute_type::AttributeType;
 use stun_base::key::IntegrityKey;
+use stun_base::memory::Memory;
 use stun_base::prepared_key::PreparedKey;
 use stun_types::limits::TEXT_LIMIT;
 use stun_types::message::IntegrityAlgorithm;
 use thiserror::Error;
 
-/// The fewest seconds of a nonce lifetime.
+/// The shortest nonce lifetime, in seconds.
 pub const SHORTEST_NONCE_LIFETIME: u64 = 30;
 
-/// The seconds of a nonce lifetime, unless another is set.
+/// The default nonce lifetime, in seconds.
 pub const DEFAULT_NONCE_LIFETIME: u64 = 3600;
 
-/// The types of STUN's own attributes that must be understood. Each server understands them.
+/// The types of STUN's own attributes that must be understood. Every server understands them.
 pub const STUN_ATTRIBUTES: [AttributeType; 11] = [
     AttributeType(0x0001),
     AttributeType::USERNAME,
@@ -41,41 +43,44 @@ pub const STUN_ATTRIBUTES: [AttributeType; 11] = [
     AttributeType::XOR_MAPPED_ADDRESS,
 ];
 
-/// The settings of a server with long-term credentials (RFC 8489, section 9.2). `new` sets both
-/// algorithms, allows hashed names, and has nonces of one hour.
+/// The settings of a server with long-term credentials (RFC 8489, section 9.2). `new` enables both
+/// algorithms and hashed names, and sets a nonce lifetime of one hour.
 #[derive(Drop)]
 pub struct LongTerm<A: Allocator = Global> {
     /// The realm, of at most 763 bytes (section 14.9).
     pub realm: String<A>,
-    /// 32 random bytes. Whoever has them can make nonces that are accepted. Servers with the same
-    /// secret, algorithms, `user_hashes` and nonce lifetime accept each other's nonces, if the nonce
-    /// is of the epoch that each has on its own clock, or of the epoch before. So a server refuses a
-    /// nonce of an epoch that has not begun on its clock, as when the clock of the server that sent
-    /// it is ahead. A server that starts again with this secret serves its old clients at once if
-    /// its clock goes on, as that of the wall does.
+    /// 32 random bytes. Anybody who has them can make nonces that are accepted. Servers with the
+    /// same secret, algorithms, `user_hashes` and nonce lifetime accept each other's nonces, if
+    /// their clocks agree. Time is divided into epochs of one nonce lifetime, and a server accepts
+    /// a nonce only in the epoch of the nonce and in the next epoch, by its own clock. So it
+    /// refuses a nonce of an epoch that has not begun on its clock, for example if the clock of the
+    /// server that sent the nonce is ahead. A server that restarts with this secret accepts the
+    /// nonces of its earlier run at once, if its clock has kept running meanwhile, as the wall
+    /// clock does.
     pub secret: [u8; 32],
-    /// A secret whose nonces are accepted too, but never sent. Set it to the secret before when you
-    /// change the secret, and remove it two nonce lifetimes later.
+    /// A second secret, whose nonces are accepted too, but never sent. When you change the secret,
+    /// set this to the old secret, and remove it two nonce lifetimes later.
     pub previous_secret: Option<[u8; 32]>,
-    /// Whether HMAC-SHA1 is supported, whose keys are made by MD5.
+    /// Whether HMAC-SHA1 is supported. Its keys are made with MD5.
     pub hmac_sha1: bool,
-    /// Whether HMAC-SHA256 is supported, whose keys are made by SHA-256.
+    /// Whether HMAC-SHA256 is supported. Its keys are made with SHA-256.
     pub hmac_sha256: bool,
     /// Whether clients may send a hash in place of a name (section 14.4).
     pub user_hashes: bool,
-    /// How many seconds a nonce is sent. It is accepted for one to two times as long.
+    /// The nonce lifetime, in seconds, of at least 30: how long the server sends the same nonce to
+    /// an address. After it is sent, a nonce is accepted for one to two lifetimes.
     pub nonce_lifetime: u64,
-    /// The types of attributes that you understand, beside those of STUN.
+    /// The types of attributes that you understand, in addition to `STUN_ATTRIBUTES`.
     pub understood: Vec<AttributeType, A>,
     /// The text of SOFTWARE in each response, of at most 763 bytes (section 14.14).
     pub software: Option<String<A>>,
-    /// Whether an accepted Binding request gets its response without you.
+    /// Whether the server itself responds to each accepted Binding request.
     pub answers_binding: bool,
     /// Whether a message without FINGERPRINT is dropped (section 7.3).
     pub requires_fingerprint: bool,
 }
 
-/// Why a server is not built.
+/// Why a server could not be built.
 #[derive(Clone, Copy, Debug, PartialEq, Eq, Error)]
 #[non_exhaustive]
 pub enum BuildError {
@@ -85,7 +90,7 @@ pub enum BuildError {
     /// The text of SOFTWARE has more than 763 bytes, so no response could carry it.
     #[error("the text of SOFTWARE has more than 763 bytes")]
     SoftwareTooLong,
-    /// A nonce would last for less than 30 seconds.
+    /// The nonce lifetime is less than 30 seconds.
     #[error("a nonce lasts for less than 30 seconds")]
     NonceLifetime,
     /// No algorithm is supported.
@@ -97,8 +102,9 @@ pub enum BuildError {
 }
 
 impl<A: Allocator + Copy> LongTerm<A> {
-    /// Returns the settings of a realm with this secret: both algorithms, hashed names, nonces of one
-    /// hour, no further attributes, no SOFTWARE, Binding requests for you, and no FINGERPRINT required.
+    /// Returns the settings of a server for this realm, with this secret: both algorithms, hashed
+    /// names, a nonce lifetime of one hour, no further attributes and no SOFTWARE. Binding requests
+    /// are returned to you, and no FINGERPRINT is required.
     pub fn new(alloc: A, realm: String<A>, secret: [u8; 32]) -> LongTerm<A>
         ensures realm { result.realm ≡ realm }
         ensures secret { result.secret ≡ secret }
@@ -125,7 +131,7 @@ impl<A: Allocator + Copy> LongTerm<A> {
         }
     }
 
-    /// Why no server is built of these settings, if none is.
+    /// Returns why no server can be built from these settings, or `None` if one can be built.
     fn refusal(&self) -> Option<BuildError>
         ensures { result ≡ build_refusal (string_bytes self.now.realm)
             (option_map string_bytes self.now.software) self.now.nonce_lifetime
@@ -147,7 +153,8 @@ impl<A: Allocator + Copy> LongTerm<A> {
     }
 }
 
-/// A realm without users.
+/// Returns an empty table of users for a realm. The flags say which algorithms are supported, and
+/// whether names may be hashed.
 pub(super) fn empty_realm<A: Allocator + Copy>(
     alloc: A,
     realm: String<A>,
@@ -176,7 +183,7 @@ pub(super) fn empty_realm<A: Allocator + Copy>(
     auth
 }
 
-/// A secret, prepared for HMAC-SHA1.
+/// Returns a secret, prepared for HMAC-SHA1.
 fn prepared<A: Allocator + Copy>(alloc: A, secret: &[u8; 32]) -> PreparedKey<A>
     ensures { result ≡ secret.now }
 {
@@ -184,7 +191,7 @@ fn prepared<A: Allocator + Copy>(alloc: A, secret: &[u8; 32]) -> PreparedKey<A>
     PreparedKey::new(key, IntegrityAlgorithm::Sha1)
 }
 
-/// The secret before, prepared, if there is one.
+/// Returns the previous secret, prepared for HMAC-SHA1, or `None` if there is none.
 fn prepared_if<A: Allocator + Copy>(alloc: A, secret: &Option<[u8; 32]>) -> Option<PreparedKey<A>>
     ensures { result ≡ secret.now }
 {
@@ -194,8 +201,8 @@ fn prepared_if<A: Allocator + Copy>(alloc: A, secret: &Option<[u8; 32]>) -> Opti
     }
 }
 
-impl<A: Allocator + Copy> Server<A> {
-    /// Builds a server. Of the reasons to fail, the first that holds is returned: `RealmTooLong`,
+impl<A: Memory> Server<A> {
+    /// Builds a server. Fails with the first of these errors that applies: `RealmTooLong`,
     /// `SoftwareTooLong`, `NonceLifetime`, `NoAlgorithm`, and then `OutOfMemory` if an allocation
     /// fails.
     pub fn new(alloc: A, settings: LongTerm<A>) -> Result<Server<A>, BuildError>
@@ -218,6 +225,9 @@ impl<A: Allocator + Copy> Server<A> {
           answers_binding = settings.answers_binding;
           requires_fingerprint = settings.requires_fingerprint;
         }) }
+        ensures granted { A.grants → build_refusal (string_bytes settings.realm)
+            (option_map string_bytes settings.software) settings.nonce_lifetime
+            settings.hmac_sha1 settings.hmac_sha256 ≡ None → IsOk result }
     {
         if let Some(refusal) = settings.refusal() {
             return Err(refusal);
@@ -228,9 +238,12 @@ impl<A: Allocator + Copy> Server<A> {
         }
     }
 
-    /// Builds a server of settings that were checked.
+    /// Builds a server from settings that were checked.
     fn built_of(alloc: A, settings: LongTerm<A>) -> Result<Server<A>, AllocError>
-        requires { 0 < settings.nonce_lifetime }
+        requires lifetime { 0 < settings.nonce_lifetime }
+        requires realm { length (string_bytes settings.realm) ≤ TEXT_LIMIT }
+        requires software { length (unwrap_or (option_map string_bytes settings.software) [])
+            ≤ TEXT_LIMIT }
         ensures built { IfOk result (λ server. server ≡ record {
           realm = string_bytes settings.realm;
           algorithms = algorithms_for settings.hmac_sha1 settings.hmac_sha256;
@@ -243,6 +256,7 @@ impl<A: Allocator + Copy> Server<A> {
           answers_binding = settings.answers_binding;
           requires_fingerprint = settings.requires_fingerprint;
         }) }
+        ensures granted { A.grants → IsOk result }
     {
         let known = with_stun_attributes(settings.understood)?;
         let responder = Responder::of(

@@ -1,7 +1,7 @@
-//! Who has signed a message with short-term credentials (RFC 8489, section 9.1.3).
+//! The signer of a message with short-term credentials (RFC 8489, section 9.1.3).
 
 ghost use Rattle.std.specs.FinMap as map;
-ghost use Rattle.std.specs.Prelude.{◌≡◌, Err, IfErr, IfOk, Ok, Some};
+ghost use Rattle.std.specs.Prelude.{◌≡◌, Err, IfErr, IfOk, IsOk, Ok, Some};
 ghost use Rattle.stun_endpoint.specs.ShortTerm.{by_key, named_by, signature_of, signer_of};
 
 use crate::received::Refusal;
@@ -10,11 +10,12 @@ use crate::short_term::users::ShortTermUsers;
 use std::alloc::{AllocError, Allocator};
 use std::marker::Model;
 use stun_base::error::StunParseError;
+use stun_base::memory::Memory;
 use stun_base::prepared_key::PreparedKey;
 use stun_types::attribute::Username;
 use stun_types::message::{IntegrityAlgorithm, Message};
 
-/// A user whose key signed a message, and by which algorithm.
+/// A user whose key signed a message, and the algorithm of the signature.
 #[derive(Drop)]
 pub(super) struct Signer<'a, A: Allocator> {
     name: &'a str,
@@ -34,14 +35,14 @@ impl<'a, A: Allocator> Model for Signer<'a, A> {
 }
 
 impl<'a, A: Allocator> Signer<'a, A> {
-    /// The user's name.
+    /// Returns the user's name.
     pub(super) fn name(&self) -> &'a str
         ensures { result.now ≡ self.now.client.name }
     {
         self.name
     }
 
-    /// The algorithm of the signature.
+    /// Returns the algorithm of the signature.
     pub(super) fn algorithm(&self) -> IntegrityAlgorithm
         ensures { result ≡ self.now.client.algorithm }
     {
@@ -49,16 +50,20 @@ impl<'a, A: Allocator> Signer<'a, A> {
     }
 }
 
-impl<'a, A: Allocator + Copy> Signer<'a, A> {
-    /// What a response is signed by: the same key and algorithm.
+impl<'a, A: Memory> Signer<'a, A> {
+    /// Returns the signature for the response to the message: the same algorithm and the same key.
     pub(super) fn signature(&self) -> Result<Option<Signature<A>>, AllocError>
-        ensures { IfOk result (λ signature. signature ≡ Some (signature_of self.now)) }
+        ensures signature { IfOk result (λ signature. signature
+            ≡ Some (signature_of self.now)) }
+        ensures granted { A.grants → IsOk result }
     {
         Ok(Some(Signature::new(self.algorithm, self.key.clone()?)))
     }
 }
 
-/// Who has signed a message, or the first reason that holds against it.
+/// Returns the user who has signed a message. Otherwise fails with `BadRequest` if the message has
+/// no integrity attribute or no USERNAME, and with `Unauthenticated` if the name or the signature
+/// is wrong.
 pub(super) fn signer_of<'a, A: Allocator + Copy>(
     users: &'a ShortTermUsers<A>,
     message: &Message<'a>,
@@ -74,7 +79,8 @@ pub(super) fn signer_of<'a, A: Allocator + Copy>(
     }
 }
 
-/// The name in the first visible USERNAME, or how a message without a name is refused.
+/// Returns the name in the first visible USERNAME. Fails with `BadRequest` if there is no USERNAME,
+/// and with `Unauthenticated` if USERNAME is malformed.
 fn named_by<'a>(message: &Message<'a>) -> Result<&'a str, Refusal>
     ensures ok { IfOk result (λ name. named_by message.now ≡ Ok name.now) }
     ensures err { IfErr result (λ refusal. named_by message.now ≡ Err refusal) }
@@ -86,7 +92,8 @@ fn named_by<'a>(message: &Message<'a>) -> Result<&'a str, Refusal>
     }
 }
 
-/// The user of a name, if the user's key has signed a message.
+/// Returns the user `name`, if the signature of a message is valid under the user's key. Fails with
+/// `Unauthenticated` otherwise.
 fn signer_named<'a, A: Allocator + Copy>(
     users: &'a ShortTermUsers<A>,
     message: &Message<'a>,

@@ -3,7 +3,7 @@
 ghost use Rattle.std.specs.Fmt.{WritesOnOk, WritesStyledOnOk};
 ghost use Rattle.std.specs.FinMap as map;
 ghost use Rattle.std.specs.Option.{option_copied};
-ghost use Rattle.std.specs.Prelude.{◌≡◌, OnErr, OnOk, Some, codes};
+ghost use Rattle.std.specs.Prelude.{◌≡◌, IsOk, OnErr, OnOk, Some, codes};
 ghost use Rattle.std.specs.String.{string_bytes};
 
 use std::alloc::{AllocError, Allocator, Global};
@@ -11,17 +11,18 @@ use std::collections::BTreeMap;
 use std::fmt;
 use std::marker::Model;
 use stun_base::credentials::ShortTermCredentials;
+use stun_base::memory::Memory;
 use stun_base::prepared_key::PreparedKey;
 use stun_types::message::IntegrityAlgorithm;
 
-/// The users of a server with short-term credentials: the key of each, by name. A look-up takes
-/// logarithmic time.
+/// The users of a server with short-term credentials: the key of each user, by name. A look-up
+/// takes logarithmic time.
 ///
-/// Judging takes `&self` and changing takes `&mut self`. Keep a table in an `Arc`, and to load users
-/// anew swap that for another.
+/// The calls of a server only read the table, so you can share it in an `Arc`. To reload the users,
+/// replace the `Arc` by one with a new table.
 ///
-/// Contracts see the key of each user, which is the password (RFC 8489, section 9.1.1). `Debug`
-/// shows none of it.
+/// Contracts: a table is a map from the name of each user to the key, which is the password (RFC
+/// 8489, section 9.1.1). `Debug` shows none of it.
 #[derive(Drop)]
 pub struct ShortTermUsers<A: Allocator = Global> {
     keys: BTreeMap<String<A>, PreparedKey<A>, A>,
@@ -45,7 +46,7 @@ impl<A: Allocator> fmt::Debug for ShortTermUsers<A> {
         ensures writes { WritesOnOk W.write_str_gives f.old result
             (codes "ShortTermUsers { .. }") f.new }
 
-        // It writes the same with every width, precision and other option.
+        // The text does not depend on the width, the precision or any other option.
         ensures styled { WritesStyledOnOk W.write_str_gives f.old result
             (codes "ShortTermUsers { .. }") f.new }
     {
@@ -53,7 +54,7 @@ impl<A: Allocator> fmt::Debug for ShortTermUsers<A> {
     }
 }
 
-impl<A: Allocator + Copy> ShortTermUsers<A> {
+impl<A: Memory> ShortTermUsers<A> {
     /// Returns an empty table.
     pub fn new(alloc: A) -> Self
         ensures { result ≡ map.empty }
@@ -63,8 +64,8 @@ impl<A: Allocator + Copy> ShortTermUsers<A> {
         }
     }
 
-    /// Adds a user with this password. A user of that name gets this password in place of the one
-    /// before.
+    /// Adds a user with a password. If the table already has a user of that name, this password
+    /// replaces the old one.
     ///
     /// Fails if an allocation fails. The table is then unchanged.
     pub fn add(
@@ -75,22 +76,23 @@ impl<A: Allocator + Copy> ShortTermUsers<A> {
         ensures ok { OnOk result (self.new
             ≡ map.insert self.old (string_bytes name) credentials) }
         ensures err { OnErr result (self.new ≡ self.old) }
+        ensures granted { A.grants → IsOk result }
     {
         let key = PreparedKey::new(credentials.make_key()?, IntegrityAlgorithm::Sha1);
-        match self.keys.insert(name, key) {
+        match A::insert(&mut self.keys, name, key) {
             Ok(_) => Ok(()),
             Err(_) => Err(AllocError),
         }
     }
 
-    /// Removes a user, so that messages of that name are refused from now on.
+    /// Removes the user of this name, so that messages that name this user are refused from now on.
     pub fn remove(&mut self, name: &str)
         ensures { self.new ≡ map.remove self.old name.now }
     {
         self.keys.remove(name);
     }
 
-    /// The key of a user.
+    /// Returns the key of a user, or `None` if the table has no user of this name.
     pub(super) fn key(&self, name: &str) -> Option<&PreparedKey<A>>
         ensures { option_copied result ≡ map.get self.now name.now }
     {

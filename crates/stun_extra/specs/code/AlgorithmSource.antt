@@ -1,4 +1,4 @@
--- Where the entries of a PASSWORD-ALGORITHMS are: in a program's own list, or in the bytes of a
+-- The source of the entries of a PASSWORD-ALGORITHMS: a program's own list, or the bytes of a
 -- message, from an offset on.
 use Rattle.std.specs.Prelude.{◌≡◌, ◌+◌, List, length}
 use Rattle.stun_types.specs.Attribute.{TypedValue}
@@ -11,7 +11,7 @@ abbrev pub source_entries : Source → List TypedValue
 source_entries (Listed list) = list.now
 source_entries (Received bytes place) = attributes_of (walk_from place bytes.now)
 
--- what is received ends with the bytes
+-- the received entries end where the bytes end
 abbrev pub IsFilled : Source → Type 0
 IsFilled (Listed list) = Unit {0}
 IsFilled (Received bytes place) =

@@ -1,5 +1,5 @@
--- Where the types of an UNKNOWN-ATTRIBUTES are: in a message that has attributes of them, or in a
--- message that has the attribute.
+-- The source of the types of an UNKNOWN-ATTRIBUTES: a message that has attributes of these types,
+-- or a message that has the attribute.
 use Rattle.std.specs.Prelude.{◌≡◌, ◌%◌, List, length}
 use Rattle.stun_base.specs.declared.wire.attribute_type.AttributeType.{AttributeType}
 use Rattle.stun_extra.specs.Unknown.{types_in, unknown_types}
@@ -11,7 +11,7 @@ abbrev pub source_types : Source → List AttributeType
 source_types (OfMessage message known) = unknown_types known.now message.now
 source_types (Received bytes) = types_in bytes.now
 
--- what is received has 2 bytes for each type
+-- the received bytes have 2 bytes for each type
 abbrev pub IsEven : Source → Type 0
 IsEven (OfMessage message known) = Unit {0}
 IsEven (Received bytes) = length bytes.now % 2 ≡ 0

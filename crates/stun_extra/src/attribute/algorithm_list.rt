@@ -1,4 +1,5 @@
-//! PASSWORD-ALGORITHMS with every algorithm and its parameters (RFC 8489, section 14.11).
+//! PASSWORD-ALGORITHMS with any algorithms, including unknown ones, and with their parameters
+//! (RFC 8489, section 14.11).
 ghost use Rattle.std.specs.Prelude.{◌≡◌, ◌≤◌, ◌<◌, ◌+◌, ◌-◌, ◌^◌, ◌++◌, ◌↔◌, ℕ, [], IsTrue, true};
 ghost use Rattle.std.specs.Prelude.{false, IfNone, IfSome, OnSome, drop, length, min, slice_index};
 ghost use Rattle.std.specs.Prelude.{⊤};
@@ -23,8 +24,8 @@ const PARAMETERS_LIMIT: usize = 65535;
 /// An entry of a PASSWORD-ALGORITHMS (RFC 8489, section 14.11): the number of an algorithm and its
 /// parameters, which are borrowed.
 ///
-/// Contracts: the value has the form of an attribute: its kind is the number, and its value are
-/// the parameters.
+/// Contracts: the value has the form of an attribute. Its kind is the number of the algorithm, and
+/// its value is the parameters.
 #[derive(Debug, Drop)]
 pub struct AlgorithmEntry<'a> {
     number: u16,
@@ -42,7 +43,7 @@ impl<'a> Model for AlgorithmEntry<'a> {
     ghost invariant = { λ entry. (entry.number < 2 ^ 16) × (length entry.parameters.now < 2 ^ 16) };
 }
 
-/// Copies the reference. This does not allocate and never fails.
+/// Copies the reference, not the parameters. This does not allocate and never fails.
 impl<'a> Clone for AlgorithmEntry<'a> {
     ghost is_clone = { λ it copy. copy ≡ it };
 
@@ -85,7 +86,7 @@ impl<'a> AlgorithmEntry<'a> {
         self.parameters
     }
 
-    /// Returns the entry in the form of an attribute.
+    /// Returns the entry as a raw attribute, which has the same encoding.
     fn raw(&self) -> RawAttribute<'a>
         ensures same { result ≡ self.now }
         ensures fits { IsSpellable self.now }
@@ -97,17 +98,17 @@ impl<'a> AlgorithmEntry<'a> {
 /// Where the entries come from.
 #[derive(Clone, Copy, Debug)]
 enum Source<'a> {
-    /// A program's own list.
+    /// A list that the caller passed.
     Listed(&'a [AlgorithmEntry<'a>]),
-    /// The value of an attribute that was parsed, from an offset on.
+    /// The value of an attribute that was parsed, and the offset of the next entry.
     Received(&'a [u8], usize),
 }
 
-/// PASSWORD-ALGORITHMS (RFC 8489, section 14.11) with all its entries: also those of algorithms
-/// that are unknown here, and with their parameters. It borrows a list, or the bytes of a message.
+/// PASSWORD-ALGORITHMS (RFC 8489, section 14.11) with all its entries, including those of unknown
+/// algorithms, and with their parameters. It borrows a list, or the bytes of a message.
 ///
-/// `PasswordAlgorithms` has only the algorithms that the authenticators know. Parse this one to
-/// print or to forward the list of a server.
+/// `PasswordAlgorithms` can be parsed only if the authenticators know all its algorithms. Use
+/// `AlgorithmList` to print or to forward the list of a server.
 ///
 /// Contracts: the value is the list of the entries.
 #[derive(Debug, Drop)]
@@ -149,12 +150,12 @@ impl<'a> Model for AlgorithmEntries<'a> {
     ghost invariant = { λ entries. IsFilled entries.left };
 }
 
-/// Bytes are below 256.
+/// States that every byte is less than 256. Only the proof uses this call.
 fn bytes_fit(bytes: &[u8])
     ensures { (i : ℕ) → slice_index bytes.now i < 2 ^ 8 }
 {}
 
-/// Returns the entry at an offset, or `None` if no whole entry is there.
+/// Returns the entry at an offset, or `None` if there is no whole entry at the offset.
 fn entry_at<'a>(bytes: &'a [u8], place: usize) -> Option<AlgorithmEntry<'a>>
     ensures none { IfNone result (has_attribute (drop place bytes.now) ≡ false) }
     ensures whole { OnSome result (has_attribute (drop place bytes.now) ≡ true) }
@@ -169,7 +170,7 @@ fn entry_at<'a>(bytes: &'a [u8], place: usize) -> Option<AlgorithmEntry<'a>>
     })
 }
 
-/// Returns `true` if entries fill the bytes.
+/// Returns `true` if the bytes consist of whole entries.
 fn are_filled(bytes: &[u8]) -> bool
     ensures { result ≡ are_filled bytes.now }
 {
@@ -245,7 +246,7 @@ impl<'a> AlgorithmList<'a> {
         total
     }
 
-    /// Appends the entries.
+    /// Appends the entries to `writer`.
     fn append_entries<W: MessageWrite>(&self, writer: &mut W)
         requires fits { length (spelled_attributes self.now) ≤ max_length }
         requires reserved { length (spelled_attributes self.now) ≤ W.reserved writer.old }

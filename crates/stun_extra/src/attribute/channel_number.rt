@@ -15,9 +15,9 @@ const LENGTH: usize = 4;
 
 /// CHANNEL-NUMBER (RFC 8656, section 18.1): the number of a channel.
 ///
-/// RFC 8656 has the channels 0x4000 to 0x4FFF, and [`new`](ChannelNumber::new) accepts only these.
-/// All of 0x4000 to 0x7FFF are parsed, because RFC 5766 allowed them, and its clients still bind
-/// them.
+/// RFC 8656 allows the channels 0x4000 to 0x4FFF, and [`new`](ChannelNumber::new) accepts only
+/// these. All of 0x4000 to 0x7FFF can be parsed, because RFC 5766 allowed them and clients of that
+/// RFC still bind them.
 ///
 /// Contracts: the value is the number.
 ///
@@ -49,14 +49,14 @@ impl Model for ChannelNumber {
     ghost inverse = { λ channel. record { channel = channel } };
 }
 
-/// Returns `true` if a number is one of a channel of RFC 8656.
+/// Returns `true` if RFC 8656 allows a channel with this number.
 fn is_channel_number(number: u16) -> bool
     ensures { result ≡ is_channel_number number }
 {
     0x4000 <= number && number < 0x5000
 }
 
-/// Returns `true` if a number is one of a channel of RFC 5766.
+/// Returns `true` if RFC 5766 allows a channel with this number.
 fn is_any_channel_number(number: u16) -> bool
     ensures { result ≡ is_any_channel_number number }
 {

@@ -9,7 +9,7 @@ use stun_base::error::StunParseError;
 use stun_types::attribute::{AttributeType, RawAttribute};
 use stun_types::prelude::*;
 
-/// An attribute of type `KIND` whose value is a number of 32 bits, the highest byte first.
+/// An attribute of type `KIND` whose value is a number of 32 bits, in network order.
 ///
 /// Contracts: the value is the number.
 #[derive(Clone, Copy, Debug, PartialEq, Eq)]

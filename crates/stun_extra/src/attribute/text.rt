@@ -30,7 +30,7 @@ impl<'a, const KIND: u16, const LIMIT: usize> Model for Text<'a, KIND, LIMIT> {
     ghost invariant = { λ attribute. length attribute.text.now ≤ LIMIT };
 }
 
-/// Copies the reference. This does not allocate and never fails.
+/// Copies the reference, not the text. This does not allocate and never fails.
 impl<'a, const KIND: u16, const LIMIT: usize> Clone for Text<'a, KIND, LIMIT> {
     ghost is_clone = { λ it copy. copy ≡ it };
 
@@ -41,7 +41,7 @@ impl<'a, const KIND: u16, const LIMIT: usize> Clone for Text<'a, KIND, LIMIT> {
     }
 }
 
-/// Attributes are equal if and only if their texts have the same bytes.
+/// Two attributes are equal if their texts have the same bytes.
 impl<'a, const KIND: u16, const LIMIT: usize> PartialEq for Text<'a, KIND, LIMIT> {
     ghost eq = { same_text };
 
@@ -128,8 +128,8 @@ impl<'a, const KIND: u16, const LIMIT: usize> AttributeFromRaw<'a> for Text<'a, 
     }
 }
 
-/// Reads the bytes as a text. Fails with `InvalidAttributeData` if there are more than `most`
-/// bytes, or if they are not UTF-8.
+/// Reads the bytes as a text. Fails with `InvalidAttributeData` if there are more than `most` bytes
+/// or if they are not UTF-8.
 #[tactic(auto, using(stun_types::proofs::ReadingLemmas::short_text_read, stun_types::proofs::ReadingLemmas::short_text_not_read))]
 fn read_short_text(bytes: &[u8], most: usize) -> Result<&str, StunParseError>
     ensures ok { IfOk result (λ text. short_text most bytes.now ≡ Some text.now) }

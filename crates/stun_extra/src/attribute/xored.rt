@@ -19,12 +19,12 @@ use stun_types::attribute::{
 use stun_types::message::MessageWriteMutSlice;
 use stun_types::prelude::*;
 
-/// The most bytes of XOR-MAPPED-ADDRESS with its type and its length.
+/// The largest number of bytes of an XOR-MAPPED-ADDRESS, with its type and its length.
 const LONGEST: usize = 24;
 
 /// An attribute of type `KIND` whose value is an address, XORed as in XOR-MAPPED-ADDRESS.
 ///
-/// Contracts: the value is the XORed parts.
+/// Contracts: the value is a record of the family, the XORed port and the XORed octets.
 #[derive(Clone, Copy, Debug, PartialEq, Eq)]
 pub struct XorAddress<const KIND: u16> {
     hidden: XorMappedAddress,
@@ -51,9 +51,9 @@ impl<const KIND: u16> XorAddress<KIND> {
         }
     }
 
-    /// Returns the address. `id` must be the transaction ID of the message that the attribute is
-    /// in: with any other ID the result may be a different address. The flow information and the
-    /// scope of an IPv6 address are 0.
+    /// Returns the address. `id` must be the transaction ID of the message that contains the
+    /// attribute: with any other ID the result may be a different address. The flow information and
+    /// the scope of an IPv6 address are 0.
     pub fn addr(&self, id: TransactionId) -> SocketAddr
         ensures ip { IsHidden id self.now (socket_ip result) }
         ensures port { IsPlainSocket result (xor_port self.now.port) }
@@ -105,7 +105,7 @@ impl<'a, const KIND: u16> AttributeFromRaw<'a> for XorAddress<KIND> {
     }
 }
 
-/// Parses the XORed address in a raw attribute with this type. Fails with `InvalidAttributeData` if
+/// Parses the XORed address in a raw attribute of this type. Fails with `InvalidAttributeData` if
 /// the attribute has another type or its value is malformed.
 fn read_xored(
     raw: &RawAttribute<'_>,

@@ -1,9 +1,10 @@
-//! Refuses a request with unknown types at a server, and judges a response that has them at a
-//! client (RFC 8489, sections 6.3.1, 6.3.3 and 6.3.4).
+//! Answers a request with unknown attributes at a server, and handles a response with unknown
+//! attributes at a client (RFC 8489, sections 6.3.1, 6.3.3 and 6.3.4).
 ghost use Rattle.std.specs.Prelude.{◌≡◌, ◌≤◌, ◌<◌, ◌↔◌, [], Ok, None, IfOk, IfSome};
-ghost use Rattle.std.specs.Prelude.{IsErrOf, IsOkUnless, IsSome, IsTrue, length};
+ghost use Rattle.std.specs.Prelude.{IsErrOf, IsOk, IsOkUnless, IsSome, IsTrue, length};
 ghost use Rattle.stun_base.specs.Attributes.{ERROR_CODE};
 ghost use Rattle.stun_types.specs.Integrity.{first_of};
+ghost use Rattle.stun_types.specs.Limits.{LENGTH_LIMIT};
 ghost use Rattle.stun_types.specs.Visible.{visible};
 ghost use Rattle.stun_types.specs.Writing.{IsOpen};
 ghost use Rattle.stun_extra.specs.Unknown.{EndsFailed, IsRefused, refusing_answer};
@@ -18,24 +19,24 @@ use stun_types::attribute::{ErrorCode, RawAttribute, attribute_length};
 use stun_types::message::Message;
 use stun_types::prelude::*;
 
-/// The code of the error response to a request with unknown types (RFC 8489, section 14.8).
+/// The code of the error response to a request with unknown attributes (RFC 8489, section 14.8).
 pub const UNKNOWN_ATTRIBUTE: u16 = 420;
 
 /// The number of bytes of an ERROR-CODE with this code and its reason phrase.
 const ERROR_LENGTH: usize = 28;
 
-/// Writes the error response to a request with unknown attributes into an empty writer: it has the
-/// code 420 and UNKNOWN-ATTRIBUTES (RFC 8489, section 6.3.1). You can add attributes to it and sign
-/// it.
+/// Writes the error response to a request with unknown attributes: it has the code 420 and
+/// UNKNOWN-ATTRIBUTES (RFC 8489, section 6.3.1). `writer` must be empty. You can add attributes to
+/// the response and sign it.
 ///
-/// Returns `None`, and drops the writer, if the message is not a request, or if it has no visible
-/// attribute that the server must understand and whose type is not in `known`.
+/// Returns `None`, and drops the writer, if the message is not a request, or if `known` has the
+/// types of all its visible attributes that the server must understand.
 ///
 /// # Errors
 ///
 /// The first of these that applies. The writer is then dropped.
 ///
-/// - [`StunWriteError::TooSmall`]: the writer has no room for the response.
+/// - [`StunWriteError::TooSmall`]: the writer does not have enough room for the response.
 /// - [`StunWriteError::OutOfMemory`]: an allocation failed.
 pub fn answer_unknown<W: MessageWrite>(
     request: &Message<'_>,
@@ -53,6 +54,8 @@ pub fn answer_unknown<W: MessageWrite>(
         × (W.room writer < length (refusing_answer known.now request.now))) }
     ensures otherwise_memory { length (refusing_answer known.now request.now) ≤ W.room writer
         → IsOkUnless result StunWriteError.OutOfMemory }
+    ensures granted { W.grants → length (refusing_answer known.now request.now) ≤ W.room writer
+        → IsOk result }
 {
     if !request.has_class(MessageClass::Request) || !has_unknown(request, known) {
         return Ok(None);
@@ -60,7 +63,7 @@ pub fn answer_unknown<W: MessageWrite>(
     Ok(Some(write_refusal(request, known, writer)?))
 }
 
-/// Writes the response to a request with unknown types.
+/// Writes the error response to a request with unknown attributes.
 fn write_refusal<W: MessageWrite>(
     request: &Message<'_>,
     known: &[AttributeType],
@@ -73,18 +76,17 @@ fn write_refusal<W: MessageWrite>(
         ↔ (W.room writer < length (refusing_answer known.now request.now)) }
     ensures otherwise_memory { length (refusing_answer known.now request.now) ≤ W.room writer
         → IsOkUnless result StunWriteError.OutOfMemory }
+    ensures granted { W.grants → length (refusing_answer known.now request.now) ≤ W.room writer
+        → IsOk result }
 {
     if writer.room() < refusal_length(request, known) {
         return Err(StunWriteError::TooSmall);
     }
-    match write_parts(request, known, writer) {
-        Ok(answer) => Ok(answer),
-        // There is room for all of it, so that an allocation failed.
-        Err(_) => Err(StunWriteError::OutOfMemory),
-    }
+    write_parts(request, known, writer)
 }
 
-/// Writes the header, ERROR-CODE and UNKNOWN-ATTRIBUTES.
+/// Writes the header, ERROR-CODE and UNKNOWN-ATTRIBUTES of the response. If they fit, only an
+/// allocation can fail.
 fn write_parts<W: MessageWrite>(
     request: &Message<'_>,
     known: &[AttributeType],
@@ -93,6 +95,11 @@ fn write_parts<W: MessageWrite>(
     requires { W.bytes writer ≡ [] }
     ensures bytes { IfOk result (λ built. W.bytes built ≡ refusing_answer known.now request.now) }
     ensures open { IfOk result (λ built. IsOpen (W.bytes built)) }
+    ensures otherwise_memory { length (refusing_answer known.now request.now) ≤ W.room writer
+        → length (refusing_answer known.now request.now) ≤ LENGTH_LIMIT
+        → IsOkUnless result StunWriteError.OutOfMemory }
+    ensures granted { W.grants → length (refusing_answer known.now request.now) ≤ W.room writer
+        → length (refusing_answer known.now request.now) ≤ LENGTH_LIMIT → IsOk result }
 {
     let error = ErrorCode::builder(UNKNOWN_ATTRIBUTE)
         .reason("Unknown Attribute")
@@ -105,16 +112,17 @@ fn write_parts<W: MessageWrite>(
 
 /// Returns the number of bytes of the response that `write_refusal` writes.
 fn refusal_length(request: &Message<'_>, known: &[AttributeType]) -> usize
-    ensures { result ≡ length (refusing_answer known.now request.now) }
+    ensures value { result ≡ length (refusing_answer known.now request.now) }
+    ensures short { result ≤ LENGTH_LIMIT }
 {
     HEADER_LENGTH + ERROR_LENGTH + attribute_length(2 * unknown_count(request, known))
 }
 
-/// Returns `true` if a response ends its request as failed, whatever else it says (RFC 8489,
+/// Returns `true` if a response makes its request fail, whatever else it contains (RFC 8489,
 /// sections 6.3.3 and 6.3.4).
 ///
-/// This is so if it has a visible attribute that the client must understand and whose type is not
-/// in `known`, or if it is an error response without ERROR-CODE.
+/// A response does so if it has a visible attribute that the client must understand and whose type
+/// is not in `known`, or if it is an error response without ERROR-CODE.
 pub fn ends_failed(response: &Message<'_>, known: &[AttributeType]) -> bool
     ensures { IsTrue result ↔ EndsFailed known.now response.now }
 {

@@ -22,15 +22,16 @@ const TYPE_LENGTH: usize = 2;
 /// Where the types come from.
 #[derive(Clone, Copy, Debug)]
 enum Source<'a> {
-    /// The types of a message that a receiver must understand and that are not in a list.
+    /// A message, and the list of the known types. The types come from the attributes of the
+    /// message: those that a receiver must understand and that are not in the list.
     OfMessage(&'a Message<'a>, &'a [AttributeType]),
     /// The value of an attribute that was parsed.
     Received(&'a [u8]),
 }
 
 /// UNKNOWN-ATTRIBUTES (RFC 8489, section 14.13): the types of a request's attributes that the
-/// server must understand and does not know. A server finds them in the request, and a client reads
-/// them in the response with the code 420.
+/// server must understand but does not know. A server creates it from the request, and a client
+/// parses it from the response with the code 420.
 ///
 /// Contracts: the value is the list of the types.
 ///
@@ -68,7 +69,7 @@ impl<'a> Model for UnknownAttributes<'a> {
     ghost invariant = { λ attribute. IsEven attribute.source };
 }
 
-/// Returns the type at an index, counted from 0, or `None` if there are no more types.
+/// Returns the type at index `i`, counted from 0, or `None` if there are fewer types.
 fn type_at(bytes: &[u8], i: usize) -> Option<AttributeType>
     ensures { result ≡ slice_get (types_in bytes.now) i }
 {
@@ -78,12 +79,13 @@ fn type_at(bytes: &[u8], i: usize) -> Option<AttributeType>
     Some(AttributeType::new(BigEndian::read_u16(&bytes[TYPE_LENGTH * i..])))
 }
 
-/// Bytes are below 256.
+/// States that every byte is less than 256. Only the proof uses this call.
 fn bytes_fit(bytes: &[u8])
     ensures { (i : ℕ) → slice_index bytes.now i < 2 ^ 8 }
 {}
 
-/// Returns the number of types of a message that are not known.
+/// Returns the number of types of a message that the receiver must understand and that are not in
+/// `known`.
 pub(super) fn unknown_count(message: &Message<'_>, known: &[AttributeType]) -> usize
     ensures value { result ≡ length (unknown_types known.now message.now) }
     ensures few { result < 2 ^ 14 }
@@ -95,7 +97,7 @@ pub(super) fn unknown_count(message: &Message<'_>, known: &[AttributeType]) -> u
     unknown_types(message, known).count()
 }
 
-/// Returns the number of types that bytes spell.
+/// Returns the number of types that are encoded in the bytes.
 fn type_count(bytes: &[u8]) -> usize
     ensures value { result ≡ length (types_in bytes.now) }
     ensures fit { AreTypes (types_in bytes.now) }
@@ -105,7 +107,7 @@ fn type_count(bytes: &[u8]) -> usize
 
 impl<'a> UnknownAttributes<'a> {
     /// Creates the attribute from the types of a message that the receiver must understand and that
-    /// are not in `known`, as `unknown_types` returns them. It does not allocate.
+    /// are not in `known`, in the order of `unknown_types`. This does not allocate.
     pub fn of(message: &'a Message<'a>, known: &'a [AttributeType]) -> Self
         ensures { result ≡ unknown_types known.now message.now }
     {
@@ -135,9 +137,9 @@ impl<'a> UnknownAttributes<'a> {
         }
     }
 
-    /// Returns the type at an index, counted from 0, or `None` if there are no more types. In an
-    /// attribute that was parsed this takes constant time. In one that was created by
-    /// [`of`](UnknownAttributes::of) it goes through the message.
+    /// Returns the type at index `i`, counted from 0, or `None` if there are fewer types. This
+    /// takes constant time if the attribute was parsed. If it was created by
+    /// [`of`](UnknownAttributes::of), the call walks over the message.
     pub fn get(&self, i: usize) -> Option<AttributeType>
         ensures { result ≡ slice_get self.now i }
     {
@@ -147,7 +149,7 @@ impl<'a> UnknownAttributes<'a> {
         }
     }
 
-    /// Appends the types.
+    /// Appends the types to `writer`.
     fn append_types<W: MessageWrite>(&self, writer: &mut W)
         requires { 2 * length self.now ≤ W.reserved writer.old }
         ensures bytes { W.bytes writer.new ≡ W.bytes writer.old ++ spelled_types self.now }
@@ -161,7 +163,7 @@ impl<'a> UnknownAttributes<'a> {
     }
 }
 
-/// Appends the types of a message that are not known.
+/// Appends the types of a message that the receiver must understand and that are not in `known`.
 fn append_unknown<W: MessageWrite>(message: &Message<'_>, known: &[AttributeType], writer: &mut W)
     requires { 2 * length (unknown_types known.now message.now) ≤ W.reserved writer.old }
     ensures bytes { W.bytes writer.new
@@ -176,7 +178,7 @@ fn append_unknown<W: MessageWrite>(message: &Message<'_>, known: &[AttributeType
     }
 }
 
-/// Appends the types that bytes spell.
+/// Appends the types that are encoded in the bytes.
 fn append_received<W: MessageWrite>(bytes: &[u8], writer: &mut W)
     requires even { length bytes.now % 2 ≡ 0 }
     requires reserved { 2 * length (types_in bytes.now) ≤ W.reserved writer.old }

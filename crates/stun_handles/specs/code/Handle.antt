@@ -1,4 +1,4 @@
--- What a handle owns: nothing where it is empty, and else the block of a box.
+-- What a handle owns: nothing if it is empty, and otherwise the block of a box.
 use Rattle.std.specs.Prelude.{Bool, true, false, Option, Some, None}
 use base.Fml.{Fml, ftrue, ffalse, fex}
 use denote.RattleType.{RattleType}
@@ -11,7 +11,7 @@ use Rattle.std_heap.specs.contracts.GlobalAllocator.TheImpl.{ghosts}
 abbrev pub box_at : (R : RattleType) → Global → Ptr → R.Denot → Fml
 box_at R g p x = box_owns (ghosts.dealloc_token g) R p x
 
--- what the flag tells of is at the pointer, or nothing
+-- the value that the flag stands for is at the pointer, or nothing
 unfoldable pub full_or_empty : {X : Type 0} → (Global → Ptr → X → Fml) → Bool → Ptr → Option X → Fml
 full_or_empty kept true p (Some x) = fex Global (λ g. kept g p x)
 full_or_empty kept true p None = ffalse

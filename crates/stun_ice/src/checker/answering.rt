@@ -2,8 +2,11 @@
 
 ghost use Rattle.std.specs.Net.Socket.{socket_ip, socket_port};
 ghost use Rattle.std.specs.Option.{option_map};
-ghost use Rattle.std.specs.Prelude.{◌≡◌, ◌≤◌, [], IfOk, OnOk, Some, length, codes};
-ghost use Rattle.stun_extra.specs.Unknown.{refusing_answer};
+ghost use Rattle.std.specs.Prelude.{◌≡◌, ◌≤◌, [], IfOk, IsOk, None, OnOk, Some, length, codes};
+ghost use Rattle.stun_extra.specs.Unknown.{IsRefused, refusing_answer};
+ghost use Rattle.stun_types.specs.ErrorCode.{error_refusal};
+ghost use Rattle.stun_types.specs.Writing.{IsOpen};
+ghost use Rattle.stun_ice.specs.code.Answerable.{IsAnswerable};
 ghost use Rattle.stun_ice.specs.Answers.{answer_of, conflict_answer, error_page, mapped_page};
 ghost use Rattle.stun_ice.specs.Answers.{refused_answer, success_answer, with_end};
 ghost use Rattle.stun_ice.specs.Answers.{with_signature};
@@ -13,9 +16,10 @@ use crate::checker::Checker;
 use crate::checker::judging::Verdict;
 use crate::parts::UNDERSTOOD;
 use crate::received::Refusal;
-use std::alloc::Allocator;
 use std::net::SocketAddr;
 use stun_base::header::HEADER_LENGTH;
+use stun_base::memory::Memory;
+use stun_buffer::writer::BufferWriter;
 use stun_extra::canonical_address::mapped_address;
 use stun_extra::fingerprint::{FINGERPRINT_LENGTH, finish_with_fingerprint};
 use stun_extra::unknown::answer_unknown;
@@ -23,18 +27,19 @@ use stun_types::attribute::{AttributeType, ErrorCode, attribute_length};
 use stun_types::message::{IntegrityAlgorithm, Message, StunWriteError};
 use stun_types::prelude::*;
 
-impl<A: Allocator> Checker<A> {
-    /// Writes the answer to a check that came from an address.
-    pub(super) fn answer<W: MessageWrite>(
+impl<A: Memory> Checker<A> {
+    /// Writes the answer to a check that came from the address `from`.
+    pub(super) fn answer(
         &self,
         check: &Message<'_>,
         from: SocketAddr,
         verdict: Verdict,
-        writer: W,
-    ) -> Result<W::Output, StunWriteError>
-        requires { W.bytes writer ≡ [] }
-        ensures { IfOk result (λ answer. W.Output.contents answer
+        writer: BufferWriter<A>,
+    ) -> Result<Vec<u8, A>, StunWriteError>
+        requires { writer.bytes ≡ [] }
+        ensures bytes { IfOk result (λ answer. answer.items
             ≡ answer_of self.now from check.now verdict) }
+        ensures granted { A.grants → IsAnswerable check.now verdict → IsOk result }
     {
         match verdict {
             Verdict::Accepted(accepted) => self.success(check, from, accepted.algorithm, writer),
@@ -43,50 +48,54 @@ impl<A: Allocator> Checker<A> {
         }
     }
 
-    /// Writes the success response.
-    fn success<W: MessageWrite>(
+    /// Writes the success response, and signs it with `algorithm`.
+    fn success(
         &self,
         check: &Message<'_>,
         from: SocketAddr,
         algorithm: IntegrityAlgorithm,
-        writer: W,
-    ) -> Result<W::Output, StunWriteError>
-        requires { W.bytes writer ≡ [] }
-        ensures { IfOk result (λ answer. W.Output.contents answer
+        writer: BufferWriter<A>,
+    ) -> Result<Vec<u8, A>, StunWriteError>
+        requires { writer.bytes ≡ [] }
+        ensures bytes { IfOk result (λ answer. answer.items
             ≡ success_answer self.now from check.now algorithm) }
+        ensures granted { A.grants → IsOk result }
     {
-        // The answer is written in one block.
+        // One block of memory of this size is enough for the answer.
         let end = attribute_length(algorithm.digest_length()).saturating_add(FINGERPRINT_LENGTH);
         let page = mapped_page(check, from, end, writer)?;
         let answer = self.end(page, Some(algorithm))?;
         Ok(answer)
     }
 
-    /// Writes the 487.
-    fn conflict<W: MessageWrite>(
+    /// Writes the error response 487, and signs it with `algorithm`.
+    fn conflict(
         &self,
         check: &Message<'_>,
         algorithm: IntegrityAlgorithm,
-        writer: W,
-    ) -> Result<W::Output, StunWriteError>
-        requires { W.bytes writer ≡ [] }
-        ensures { IfOk result (λ answer. W.Output.contents answer
+        writer: BufferWriter<A>,
+    ) -> Result<Vec<u8, A>, StunWriteError>
+        requires { writer.bytes ≡ [] }
+        ensures bytes { IfOk result (λ answer. answer.items
             ≡ conflict_answer self.now check.now algorithm) }
+        ensures granted { A.grants → IsOk result }
     {
         self.error(check, 487, "Role Conflict", Some(algorithm), writer)
     }
 
     /// Writes the response to a check that is refused.
-    fn refused<W: MessageWrite>(
+    fn refused(
         &self,
         check: &Message<'_>,
         refusal: Refusal,
         signature: Option<IntegrityAlgorithm>,
-        writer: W,
-    ) -> Result<W::Output, StunWriteError>
-        requires { W.bytes writer ≡ [] }
-        ensures { IfOk result (λ answer. W.Output.contents answer
+        writer: BufferWriter<A>,
+    ) -> Result<Vec<u8, A>, StunWriteError>
+        requires { writer.bytes ≡ [] }
+        ensures bytes { IfOk result (λ answer. answer.items
             ≡ refused_answer self.now check.now refusal signature) }
+        ensures granted { A.grants → IsAnswerable check.now (Verdict.Refused refusal signature)
+            → IsOk result }
     {
         match refusal {
             Refusal::BadRequest => self.error(check, 400, "Bad Request", signature, writer),
@@ -97,65 +106,71 @@ impl<A: Allocator> Checker<A> {
         }
     }
 
-    /// Writes an error response with ERROR-CODE alone.
-    fn error<W: MessageWrite>(
+    /// Writes an error response whose only attribute before its signature is ERROR-CODE.
+    fn error(
         &self,
         check: &Message<'_>,
         code: u16,
         reason: &str,
         signature: Option<IntegrityAlgorithm>,
-        writer: W,
-    ) -> Result<W::Output, StunWriteError>
-        requires { W.bytes writer ≡ [] }
-        ensures { IfOk result (λ answer. W.Output.contents answer
+        writer: BufferWriter<A>,
+    ) -> Result<Vec<u8, A>, StunWriteError>
+        requires { writer.bytes ≡ [] }
+        ensures bytes { IfOk result (λ answer. answer.items
             ≡ with_end self.now signature (error_page check.now code reason.now)) }
+        ensures granted { A.grants
+            → error_refusal (record { code = code; reason = reason.now }) ≡ None → IsOk result }
     {
         let page = error_page(check, code, reason, writer)?;
         let answer = self.end(page, signature)?;
         Ok(answer)
     }
 
-    /// Writes the 420.
-    fn unknown<W: MessageWrite>(
+    /// Writes the error response 420, with UNKNOWN-ATTRIBUTES.
+    fn unknown(
         &self,
         check: &Message<'_>,
         signature: Option<IntegrityAlgorithm>,
-        writer: W,
-    ) -> Result<W::Output, StunWriteError>
-        requires { W.bytes writer ≡ [] }
-        ensures { IfOk result (λ answer. W.Output.contents answer
+        writer: BufferWriter<A>,
+    ) -> Result<Vec<u8, A>, StunWriteError>
+        requires { writer.bytes ≡ [] }
+        ensures bytes { IfOk result (λ answer. answer.items
             ≡ with_end self.now signature (refusing_answer UNDERSTOOD_TYPES check.now)) }
+        ensures granted { A.grants → IsRefused UNDERSTOOD_TYPES check.now → IsOk result }
     {
         let page = unknown_page(check, &UNDERSTOOD, writer)?;
         let answer = self.end(page, signature)?;
         Ok(answer)
     }
 
-    /// Signs a response, if it is to be signed, and adds FINGERPRINT.
-    fn end<W: MessageWrite>(
+    /// Completes a response: signs it if `signature` is an algorithm, and adds FINGERPRINT.
+    fn end(
         &self,
-        page: W,
+        page: BufferWriter<A>,
         signature: Option<IntegrityAlgorithm>,
-    ) -> Result<W::Output, StunWriteError>
-        requires { 20 ≤ length (W.bytes page) }
-        ensures { IfOk result (λ answer. W.Output.contents answer
-            ≡ with_end self.now signature (W.bytes page)) }
+    ) -> Result<Vec<u8, A>, StunWriteError>
+        requires { 20 ≤ length page.bytes }
+        ensures bytes { IfOk result (λ answer. answer.items
+            ≡ with_end self.now signature page.bytes) }
+        ensures granted { A.grants → IsOpen page.bytes → length page.bytes ≤ 60000 → IsOk result }
     {
         let mut page = page;
         self.add_signature(&mut page, signature)?;
         finish_with_fingerprint(page)
     }
 
-    /// Signs a response, if it is to be signed.
-    fn add_signature<W: MessageWrite>(
+    /// Signs a response, if `signature` is an algorithm.
+    fn add_signature(
         &self,
-        page: &mut W,
+        page: &mut BufferWriter<A>,
         signature: Option<IntegrityAlgorithm>,
     ) -> Result<(), StunWriteError>
-        requires { 20 ≤ length (W.bytes page.old) }
-        ensures bytes { OnOk result (W.bytes page.new
-            ≡ with_signature self.now signature (W.bytes page.old)) }
-        ensures header { OnOk result (20 ≤ length (W.bytes page.new)) }
+        requires { 20 ≤ length page.old.bytes }
+        ensures bytes { OnOk result (page.new.bytes
+            ≡ with_signature self.now signature page.old.bytes) }
+        ensures header { OnOk result (20 ≤ length page.new.bytes) }
+        ensures granted { A.grants → IsOpen page.old.bytes → length page.old.bytes ≤ 60000
+            → IsOk result }
     {
         match signature {
             Some(algorithm) => {
@@ -166,17 +181,20 @@ impl<A: Allocator> Checker<A> {
     }
 }
 
-/// Begins a success response with the address that a check came from, and reserves this many bytes
-/// for what comes after it.
-fn mapped_page<W: MessageWrite>(
+/// Begins a success response with the address that a check came from, and reserves `more` bytes for
+/// the attributes that follow.
+fn mapped_page<A: Memory>(
     check: &Message<'_>,
     from: SocketAddr,
     more: usize,
-    writer: W,
-) -> Result<W, StunWriteError>
-    requires { W.bytes writer ≡ [] }
-    ensures bytes { IfOk result (λ page. W.bytes page ≡ mapped_page from check.now) }
-    ensures header { IfOk result (λ page. 20 ≤ length (W.bytes page)) }
+    writer: BufferWriter<A>,
+) -> Result<BufferWriter<A>, StunWriteError>
+    requires { writer.bytes ≡ [] }
+    ensures bytes { IfOk result (λ page. page.bytes ≡ mapped_page from check.now) }
+    ensures header { IfOk result (λ page. 20 ≤ length page.bytes) }
+    ensures open { IfOk result (λ page. IsOpen page.bytes) }
+    ensures short { IfOk result (λ page. length page.bytes ≤ 60000) }
+    ensures granted { A.grants → more ≤ 5000 → IsOk result }
 {
     let address = mapped_address(from, check.transaction_id());
     let length = HEADER_LENGTH.saturating_add(address.padded_len());
@@ -188,15 +206,19 @@ fn mapped_page<W: MessageWrite>(
 }
 
 /// Begins an error response with a code and a reason phrase.
-fn error_page<W: MessageWrite>(
+fn error_page<A: Memory>(
     check: &Message<'_>,
     code: u16,
     reason: &str,
-    writer: W,
-) -> Result<W, StunWriteError>
-    requires { W.bytes writer ≡ [] }
-    ensures bytes { IfOk result (λ page. W.bytes page ≡ error_page check.now code reason.now) }
-    ensures header { IfOk result (λ page. 20 ≤ length (W.bytes page)) }
+    writer: BufferWriter<A>,
+) -> Result<BufferWriter<A>, StunWriteError>
+    requires { writer.bytes ≡ [] }
+    ensures bytes { IfOk result (λ page. page.bytes ≡ error_page check.now code reason.now) }
+    ensures header { IfOk result (λ page. 20 ≤ length page.bytes) }
+    ensures open { IfOk result (λ page. IsOpen page.bytes) }
+    ensures short { IfOk result (λ page. length page.bytes ≤ 60000) }
+    ensures granted { A.grants
+        → error_refusal (record { code = code; reason = reason.now }) ≡ None → IsOk result }
 {
     let error = ErrorCode::builder(code).reason(reason).build()?;
     let mut page = Message::builder_error(check, writer)?;
@@ -204,19 +226,25 @@ fn error_page<W: MessageWrite>(
     Ok(page)
 }
 
-/// Begins the 420 to a check with attributes that are not known.
-fn unknown_page<W: MessageWrite>(
+/// Begins the error response 420 to a check with attributes that are not understood.
+fn unknown_page<A: Memory>(
     check: &Message<'_>,
     known: &[AttributeType],
-    writer: W,
-) -> Result<W, StunWriteError>
-    requires { W.bytes writer ≡ [] }
-    ensures bytes { IfOk result (λ page. W.bytes page ≡ refusing_answer known.now check.now) }
-    ensures header { IfOk result (λ page. 20 ≤ length (W.bytes page)) }
+    writer: BufferWriter<A>,
+) -> Result<BufferWriter<A>, StunWriteError>
+    requires { writer.bytes ≡ [] }
+    ensures bytes { IfOk result (λ page. page.bytes ≡ refusing_answer known.now check.now) }
+    ensures header { IfOk result (λ page. 20 ≤ length page.bytes) }
+    ensures open { IfOk result (λ page. IsOpen page.bytes) }
+    ensures short { IfOk result (λ page. length page.bytes ≤ 60000) }
+    ensures granted { A.grants → IsRefused known.now check.now → IsOk result }
 {
+    // For the proof: the contract of `as_bytes` limits the length of a message, and with it the
+    // number of its attributes.
+    let _bytes = check.as_bytes();
     match answer_unknown(check, known, writer) {
         Ok(Some(page)) => Ok(page),
-        // There is an attribute that is not understood, so that this is never reached.
+        // This is never reached, because the check has an attribute that is not understood.
         Ok(None) => Err(StunWriteError::NotAllowed),
         Err(error) => Err(error),
     }

@@ -1,4 +1,4 @@
-//! What a check of the peer comes to (RFC 8489, section 9.1.3; RFC 8445, section 7.3).
+//! Judges checks of the peer (RFC 8489, section 9.1.3; RFC 8445, section 7.3).
 
 ghost use Rattle.std.specs.Prelude.{◌≡◌, ◌&&◌, Some, not};
 ghost use Rattle.stun_types.specs.Integrity.{deciding, verified_algorithm};
@@ -13,17 +13,17 @@ use std::alloc::Allocator;
 use stun_types::attribute::RawAttribute;
 use stun_types::message::{IntegrityAlgorithm, Message};
 
-/// What an accepted check says, and by which algorithm it is signed.
+/// The contents of an accepted check, and the algorithm of its signature.
 #[derive(Clone, Copy)]
 pub(crate) struct Acceptance {
     pub(crate) algorithm: IntegrityAlgorithm,
-    /// The role of the receiver from now on.
+    /// The role of the receiver after the check.
     pub(crate) role: Role,
     pub(crate) priority: u32,
     pub(crate) nominated: bool,
 }
 
-/// What a check comes to, and what its answer is signed by.
+/// The outcome of a check, and the algorithm with which its answer is signed.
 #[derive(Clone, Copy)]
 pub(crate) enum Verdict {
     Accepted(Acceptance),
@@ -32,7 +32,8 @@ pub(crate) enum Verdict {
 }
 
 impl Verdict {
-    /// Returns the verdict for a caller whose role was `before`.
+    /// Returns the outcome for the caller. `before` is the role that the agent had before the
+    /// check.
     pub(crate) fn judged(self, before: Role) -> Judged
         ensures { result ≡ judged_of before self }
     {
@@ -49,7 +50,7 @@ impl Verdict {
 }
 
 impl Verdict {
-    /// Returns the role that an agent has after the check, whose role was `before`.
+    /// Returns the role that an agent has after the check. `before` is its role before the check.
     pub(crate) fn role(self, before: Role) -> Role
         ensures { result ≡ role_of before self }
     {
@@ -72,15 +73,16 @@ impl<A: Allocator> Checker<A> {
         let Some(name) = username(check) else {
             return Verdict::Refused(Refusal::BadRequest, None);
         };
-        // Only the first half of the name counts, so that checks can be answered before the peer's
-        // credentials arrive (RFC 8445, section 7.3).
+        // Only the first half of the name is checked, so that checks can be answered before the
+        // peer's credentials arrive (RFC 8445, section 7.3).
         if peer_name(&self.name, name).is_none() {
             return Verdict::Refused(Refusal::Unauthenticated, None);
         }
         self.by_signature(check, place, &attribute)
     }
 
-    /// Judges a check with the right name, whose signature is this attribute.
+    /// Judges the signature of a check whose USERNAME is already accepted. `attribute` is the
+    /// integrity attribute that decides, and `place` is its offset.
     fn by_signature(
         &self,
         check: &Message<'_>,
@@ -97,7 +99,7 @@ impl<A: Allocator> Checker<A> {
         }
     }
 
-    /// Judges a check that is signed by the peer.
+    /// Judges a check whose signature is valid by its other attributes.
     fn by_attributes(&self, check: &Message<'_>, algorithm: IntegrityAlgorithm) -> Verdict
         ensures { result ≡ by_signature self.now check.now (Some algorithm) }
     {
@@ -110,7 +112,7 @@ impl<A: Allocator> Checker<A> {
         }
     }
 
-    /// Judges a check by the roles of both sides.
+    /// Judges a check that has a valid PRIORITY by the roles of both sides.
     fn by_role(&self, check: &Message<'_>, algorithm: IntegrityAlgorithm, priority: u32) -> Verdict
         ensures { result ≡ by_priority self.now check.now algorithm (Some priority) }
     {
@@ -127,7 +129,7 @@ impl<A: Allocator> Checker<A> {
     }
 }
 
-/// Returns whether a check nominates its pair to a receiver that has this role.
+/// Returns whether a check nominates its pair. `role` is the role of its receiver.
 fn is_nominated(role: Role, check: &Message<'_>) -> bool
     ensures { result ≡ is_nominated role check.now }
 {

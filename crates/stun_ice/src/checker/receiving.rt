@@ -1,4 +1,4 @@
-//! What a datagram comes to (RFC 8445, sections 7.2.5, 7.3 and 11).
+//! Judges datagrams (RFC 8445, sections 7.2.5, 7.3 and 11).
 
 ghost use Rattle.std.specs.Option.{option_copied};
 ghost use Rattle.std.specs.Prelude.{◌≡◌, ◌↔◌, [], IfOk, IsOk, OnErr, OnOk, false};
@@ -8,6 +8,7 @@ ghost use Rattle.stun_ice.specs.Checks.{verdict_of};
 ghost use Rattle.stun_ice.specs.Received.{by_class, by_fingerprint, by_response, given, given_of};
 ghost use Rattle.stun_ice.specs.Received.{is_check, judgement_of, no_message, of_indication};
 ghost use Rattle.stun_ice.specs.Received.{role_after_outcome, role_left};
+ghost use Rattle.stun_ice.specs.code.Answerable.{AnswersAnswerable, IsAnswerable};
 ghost use Rattle.stun_ice.specs.Told.{IsAcceptedCheck, IsValidAnswer, TellsAccepted, TellsValid};
 
 use crate::check::Check;
@@ -20,11 +21,12 @@ use crate::role::Role;
 use std::alloc::{AllocError, Allocator};
 use std::net::SocketAddr;
 use stun_base::header::MessageHeader;
+use stun_base::memory::Memory;
 use stun_buffer::writer::BufferWriter;
 use stun_extra::fingerprint::{Fingerprint, check_fingerprint};
 use stun_types::message::{Message, MessageClass};
 
-/// What a datagram comes to, before an answer is written.
+/// The outcome of a datagram, before an answer is written.
 #[derive(Drop)]
 pub(crate) enum Judgement<'a> {
     Check(Message<'a>, Verdict),
@@ -33,7 +35,7 @@ pub(crate) enum Judgement<'a> {
     Dropped(DropReason),
 }
 
-/// Returns why bytes are dropped that are not a message.
+/// Returns the reason to drop bytes that are not a message.
 fn no_message(bytes: &[u8]) -> DropReason
     ensures { result ≡ no_message bytes.now }
 {
@@ -43,7 +45,7 @@ fn no_message(bytes: &[u8]) -> DropReason
     }
 }
 
-/// Returns the role that an agent has after an outcome, whose role was `before`.
+/// Returns the role that an agent has after the outcome of a check. `role` is its role before.
 fn role_after_outcome(role: Role, outcome: &Outcome) -> Role
     ensures { result ≡ role_after_outcome role outcome.now }
 {
@@ -61,7 +63,9 @@ impl<A: Allocator> Checker<A> {
         from: SocketAddr,
         check: Option<&Check<A>>,
     ) -> Judgement<'a>
-        ensures { result ≡ judgement_of self.now (option_copied check.entry) from bytes.now }
+        ensures judgement { result
+            ≡ judgement_of self.now (option_copied check.entry) from bytes.now }
+        ensures answerable { AnswersAnswerable result }
     {
         let Ok(message) = Message::from_bytes(bytes) else {
             return Judgement::Dropped(no_message(bytes));
@@ -72,15 +76,17 @@ impl<A: Allocator> Checker<A> {
         }
     }
 
-    /// Judges a message with a right FINGERPRINT.
+    /// Judges a message with a valid FINGERPRINT by its method and its class.
     fn by_method<'a>(
         &self,
         message: Message<'a>,
         from: SocketAddr,
         check: Option<&Check<A>>,
     ) -> Judgement<'a>
-        ensures { result ≡ by_fingerprint self.now (option_copied check.entry) from message.entry
+        ensures judgement { result
+            ≡ by_fingerprint self.now (option_copied check.entry) from message.entry
             Fingerprint.Right }
+        ensures answerable { AnswersAnswerable result }
     {
         if !is_binding(&message) {
             return Judgement::Dropped(DropReason::OtherMethod);
@@ -94,8 +100,12 @@ impl<A: Allocator> Checker<A> {
     }
 
     /// Judges a check.
+    #[tactic(auto, using(crate::proofs::AnswerableLemmas::verdict_answerable))]
     fn of_check<'a>(&self, message: Message<'a>) -> Judgement<'a>
-        ensures { result ≡ Judgement.Check message.entry (verdict_of self.now message.entry) }
+        requires { class_in message ≡ MessageClass.Request }
+        ensures judgement { result
+            ≡ Judgement.Check message.entry (verdict_of self.now message.entry) }
+        ensures answerable { AnswersAnswerable result }
     {
         let verdict = self.verdict(&message);
         Judgement::Check(message, verdict)
@@ -108,7 +118,9 @@ impl<A: Allocator> Checker<A> {
         from: SocketAddr,
         check: Option<&Check<A>>,
     ) -> Judgement<'a>
-        ensures { result ≡ by_response self.now (option_copied check.entry) from message.now }
+        ensures judgement { result
+            ≡ by_response self.now (option_copied check.entry) from message.now }
+        ensures answerable { AnswersAnswerable result }
     {
         let Some(check) = check else {
             return Judgement::Dropped(DropReason::NotAsked);
@@ -125,7 +137,8 @@ impl<A: Allocator> Checker<A> {
 
 /// Judges an indication.
 fn of_indication<'a>(message: Message<'a>) -> Judgement<'a>
-    ensures { result ≡ of_indication message.entry }
+    ensures judgement { result ≡ of_indication message.entry }
+    ensures answerable { AnswersAnswerable result }
 {
     if is_understood(&message) {
         Judgement::Indication(message)
@@ -134,28 +147,29 @@ fn of_indication<'a>(message: Message<'a>) -> Judgement<'a>
     }
 }
 
-impl<A: Allocator + Copy> Checker<A> {
+impl<A: Memory> Checker<A> {
     /// Judges a datagram, and writes the answer if it is a check.
     ///
-    /// `from` is the address that it came from, and `check` is the check of this agent whose
-    /// transaction ID the datagram has, if it has one of those that you have stored. An IPv4 address
-    /// is the same in both spellings, `a.b.c.d` and `::ffff:a.b.c.d`.
+    /// `from` is the address that the datagram came from. `check` is the stored check with the same
+    /// transaction ID as the datagram, if you have one. The two forms of an IPv4 address, `a.b.c.d`
+    /// and `::ffff:a.b.c.d`, count as the same address.
     ///
-    /// - Bytes that are no message, or have no right FINGERPRINT, are dropped, and so is another
-    ///   method than Binding.
+    /// - Bytes that are not a message, messages without a valid FINGERPRINT, and methods other than
+    ///   Binding are dropped.
     /// - A check is accepted if its USERNAME begins with the name of this agent and a colon, and it
-    ///   is signed with the password of this agent. It must have no attribute that must be
-    ///   understood and is not, and it must have PRIORITY. If it says that the peer has the role of
-    ///   this agent, the one with the larger tie-breaker is to control, and this agent's counts as
-    ///   the larger if they are equal (RFC 8445, section 7.3.1.1). Either this agent switches its
-    ///   role, or the peer is told to. None of this needs the credentials of the peer.
-    /// - A response is dropped if it does not answer `check`, or is not signed by the peer. Otherwise
-    ///   it ends the check. After a 487 this agent has the other role than the one that the check was
-    ///   sent in (section 7.2.5.1).
-    /// - An indication with an attribute that must be understood and is not is dropped.
+    ///   is signed with the password of this agent. It must have PRIORITY, and no unknown
+    ///   comprehension-required attribute. If it states that the peer has the same role as this
+    ///   agent, the agent with the larger tie-breaker becomes controlling (RFC 8445, section
+    ///   7.3.1.1). If the tie-breakers are equal, this agent becomes controlling. To reach this,
+    ///   either this agent switches its role, or it answers with a 487. The answer is the same
+    ///   whether or not the credentials of the peer are known.
+    /// - A response is dropped if it does not answer `check`, or is not signed by the peer.
+    ///   Otherwise it ends the check. After a 487 this agent has the opposite of the role in which
+    ///   the check was sent (section 7.2.5.1).
+    /// - An indication is dropped if it has an unknown comprehension-required attribute.
     ///
-    /// Fails if an allocation fails. The role is then unchanged, and the peer sends its check again.
-    /// Memory is allocated for the answer to a check alone.
+    /// Fails if an allocation fails. The role is then unchanged, and the peer sends its check
+    /// again. Memory is allocated only for the answer to a check.
     pub fn receive<'a>(
         &mut self,
         bytes: &'a [u8],
@@ -178,16 +192,18 @@ impl<A: Allocator + Copy> Checker<A> {
               (judgement_of self.old (option_copied check.entry) from bytes.now);
         }) }
         ensures err { OnErr result (self.new ≡ self.old) }
+        ensures granted { A.grants → IsOk result }
     {
         let mut buffer = Vec::new(self.alloc);
         self.received(bytes, from, check, &mut buffer)
     }
 
-    /// Judges a datagram like `receive`, and writes the answer to a check into a buffer, in place
-    /// of what it has. The buffer is empty afterwards if there is no answer, or if the call fails.
-    /// Its memory is used again, so that an answer that it has the capacity for needs no other.
+    /// Judges a datagram like `receive`, and writes the answer to a check into a buffer, replacing
+    /// its contents. If the buffer has the capacity for the answer, no memory is allocated for it.
+    /// The buffer is empty afterwards if there is no answer, or if the call fails.
     ///
-    /// Fails if an allocation fails. The role is then unchanged, and the peer sends its check again.
+    /// Fails if an allocation fails. The role is then unchanged, and the peer sends its check
+    /// again.
     pub fn receive_into<'a>(
         &mut self,
         bytes: &'a [u8],
@@ -195,7 +211,8 @@ impl<A: Allocator + Copy> Checker<A> {
         check: Option<&Check<A>>,
         buffer: &mut Vec<u8, A>,
     ) -> Result<ReceivedInto<'a>, AllocError>
-        // With the bytes in the buffer, the result is that of `receive`, and so is the role.
+        // With the bytes in the buffer, the result is what `receive` returns, and the role is the
+        // same as after `receive`.
         ensures received { IfOk result (λ received. given_in received buffer.new.items
             ≡ given self.old from (judgement_of self.old (option_copied check.entry) from
             bytes.now)) }
@@ -207,6 +224,7 @@ impl<A: Allocator + Copy> Checker<A> {
               (judgement_of self.old (option_copied check.entry) from bytes.now);
         }) }
         ensures err { OnErr result ((self.new ≡ self.old) × (buffer.new.items ≡ [])) }
+        ensures granted { A.grants → IsOk result }
     {
         match self.received(bytes, from, check, buffer) {
             Ok(received) => Ok(received.into_buffer(buffer)),
@@ -217,7 +235,7 @@ impl<A: Allocator + Copy> Checker<A> {
         }
     }
 
-    /// Judges a datagram. An answer has the memory of the buffer.
+    /// Judges a datagram. The answer to a check takes over the memory of the buffer.
     fn received<'a>(
         &mut self,
         bytes: &'a [u8],
@@ -235,6 +253,7 @@ impl<A: Allocator + Copy> Checker<A> {
               (judgement_of self.old (option_copied check.entry) from bytes.now);
         }) }
         ensures err { OnErr result (self.new ≡ self.old) }
+        ensures granted { A.grants → IsOk result }
     {
         match self.judge(bytes, from, check) {
             Judgement::Check(message, verdict) => self.answered(message, from, verdict, buffer),
@@ -247,8 +266,8 @@ impl<A: Allocator + Copy> Checker<A> {
         }
     }
 
-    /// Writes the answer to a check into the memory of the buffer, and takes the role that the
-    /// check leaves.
+    /// Writes the answer to a check into the memory of the buffer, and sets the role that the agent
+    /// has after the check.
     fn answered<'a>(
         &mut self,
         message: Message<'a>,
@@ -262,6 +281,7 @@ impl<A: Allocator + Copy> Checker<A> {
           role = role_left self.old.role (Judgement.Check message.entry verdict);
         }) }
         ensures err { OnErr result (self.new ≡ self.old) }
+        ensures granted { A.grants → IsAnswerable message.entry verdict → IsOk result }
     {
         let writer = BufferWriter::over(buffer);
         let Ok(answer) = self.answer(&message, from, verdict, writer) else {

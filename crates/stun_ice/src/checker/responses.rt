@@ -1,4 +1,4 @@
-//! What a response to a check of this agent comes to (RFC 8445, section 7.2.5).
+//! Judges responses to the checks of this agent (RFC 8445, section 7.2.5).
 
 ghost use Rattle.std.specs.Prelude.{◌≡◌, [], ◌∷◌};
 ghost use Rattle.std.specs.Option.{is_some};
@@ -20,7 +20,8 @@ use stun_types::attribute::ErrorCode;
 use stun_types::message::{IntegrityAlgorithm, Message, MessageClass};
 
 impl<A: Allocator> Checker<A> {
-    /// Returns whether a response is signed by the peer, as the checks of this agent are.
+    /// Returns whether the peer has signed a response with the password and the algorithm of this
+    /// agent's checks.
     pub(super) fn is_signed(&self, response: &Message<'_>) -> bool
         ensures { result ≡ is_signed self.now response.now }
     {
@@ -34,7 +35,8 @@ impl<A: Allocator> Checker<A> {
         }
     }
 
-    /// Judges a response from an address that answers a check and is signed by the peer.
+    /// Judges a response that answers a check and that the peer has signed: first by the address
+    /// that it came from, and then by its attributes.
     pub(super) fn outcome(
         &self,
         response: &Message<'_>,

@@ -1,5 +1,5 @@
 -- How a run of a meeting ends, or goes on.
-use Rattle.std.proofs.Common.{◌≡◌, Option, Some, None, refl, sym, ◌∙◌, ap, subst, Ok, Err}
+use Rattle.std.proofs.Common.{◌≡◌, ◌≢◌, Option, Some, None, refl, sym, ◌∙◌, ap, subst, Ok, Err}
 use Rattle.std.specs.Prelude.{IfSome, IsErrAnd, MatchOption}
 use Rattle.std.specs.declared.result.Result.{Result}
 use Rattle.stun_base.specs.declared.keys.algorithm.IntegrityAlgorithm.{IntegrityAlgorithm}
@@ -90,6 +90,27 @@ module _ {client : ClientState} {server : ServerSeen} where
     memory = λ h. further (sides client server) (run.memory h);
     write = run.write;
   }
+
+-- a signing that is refused is not a failed allocation, if memory is granted
+pub not_memory : (r : Result Outcome NegotiateError) (reason : StunWriteError)
+    → IsErrAnd r (λ e. e ≡ error_of_write reason)
+    → UnlessMemory {V = Written} (Err reason) (Unit {0}) ⊥ → r ≢ Err Memory
+not_memory (Ok outcome) reason failed told = absurd failed
+not_memory (Err e) reason failed told =
+    subst (λ x. failed_with x ≢ Err Memory) (sym failed) (by_reason reason told)
+  where
+    failed_with : NegotiateError → Result Outcome NegotiateError
+    failed_with x = Err x
+
+    by_reason : (x : StunWriteError) → UnlessMemory {V = Written} (Err x) (Unit {0}) ⊥
+        → failed_with (error_of_write x) ≢ Err Memory
+    by_reason NotAllowed h = λ is. cc
+    by_reason MessageIntegrityExists h = λ is. cc
+    by_reason (AttributeExists kind) h = λ is. cc
+    by_reason TooLarge h = λ is. cc
+    by_reason TooSmall h = λ is. cc
+    by_reason IntegrityFailed h = λ is. cc
+    by_reason OutOfMemory h = absurd h
 
 -- ---- the answers that end a run, and those that do not
 module _ (m : Meeting) (state : ClientState) (server : ServerSeen) where

@@ -99,7 +99,7 @@ pub none_left : (needs : Bool) (left : PlaceSeen) (stood : Option PlaceSeen)
 none_left true left stood h = cc
 none_left false left stood h = h
 
--- bytes that are no message leave the places
+-- bytes that are not a message leave the places
 unless_here : (refused : Option StunParseError) (before after : fin.FinMap address_cmp PlaceSeen)
     (a : SocketAddr) (left : Option PlaceSeen)
     → fin.get after a ≡ left → fin.get (places_unless refused before after) a

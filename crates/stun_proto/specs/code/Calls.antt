@@ -16,7 +16,11 @@ use Rattle.stun_proto.specs.Run.{Turns, Run, IsAwaited, after_event, steps_of_ev
 abbrev pub kept_steps : {A : Type 0} → StepLog A → Option (List Step)
 kept_steps log = if log.is_lost then None else Some (steps_of log.steps.items)
 
--- the steps before and these: all of them, or they are lost
+-- the steps of a log are not lost
+abbrev pub IsKept : {A : Type 0} → StepLog A → Type 0
+IsKept log = log.is_lost ≡ false
+
+-- the earlier steps and these: all of them, or they are lost
 abbrev pub Keeps : Option (List Step) → List Step → Option (List Step) → Type 0
 Keeps before steps None = Unit {0}
 Keeps None steps (Some after) = ⊥
@@ -30,7 +34,7 @@ SendsOne now old new before after true =
 SendsOne now old new before after false =
     (sent_by_poll now old ≡ None) × (new ≡ after_poll_transmit now old) × (after ≡ before)
 
--- an end, if one is due, and else the moment to wait until
+-- an end, if one is due, and otherwise the time to wait until
 abbrev pub EndsOne : ℕ → Agent → Agent → Option (List Step) → Option (List Step) → Option ℕ → Type 0
 EndsOne now old new before after None =
     (e : ℕ × Transaction) × (ended_by_poll now old ≡ Some e) × (new ≡ after_poll now old)
@@ -39,7 +43,7 @@ EndsOne now old new before after (Some moment) =
     (ended_by_poll now old ≡ None) × (moment ≡ wake_up old.transport now old.transactions)
     × (new ≡ old) × (after ≡ before)
 
--- some calls of a turn were made, and added their steps: the turn goes on from `new` in phase q
+-- some calls of a turn were made, and added their steps: the turn continues from `new` in phase q
 pub record Leads (now : ℕ) (p q : Phase) (old new : Agent)
     (before after : Option (List Step)) : Type 0 where
   pub steps : List Step
@@ -51,12 +55,12 @@ pub record Leads (now : ℕ) (p q : Phase) (old new : Agent)
 abbrev pub HasWorked : Agent → Agent → Type 0
 HasWorked old new = work new.transport new.transactions < work old.transport old.transactions
 
--- all transmissions of a moment
+-- all transmissions of a time
 pub record SendsAll (now : ℕ) (old new : Agent) (before after : Option (List Step)) : Type 0 where
   pub leads : Leads now sending ending old new before after
   pub progress : HasWorked old new ⊎ ((new ≡ old) × IsIdle new.transport now new.transactions)
 
--- all ends of a moment, and the moment to wait until
+-- all ends of a time, and the time to wait until
 pub record EndsAll (now : ℕ) (old new : Agent) (before after : Option (List Step)) (wait : ℕ) : Type
     0 where
   pub leads : Leads now ending ending old new before after
@@ -70,11 +74,11 @@ pub record TakesTurn (now : ℕ) (old new : Agent) (before after : Option (List 
   pub added : Keeps before steps after
   pub turned : Turn now sending old steps new
 
--- no moment below this one is awaited any more, or it is past the last moment
+-- no time below this one is awaited any more, or it is past the last time
 abbrev pub HasPassed : ℕ → Agent → Type 0
 HasPassed from a = (last_moment < from) ⊎ ((moment : ℕ) → IsAwaited a moment → from ≤ moment)
 
--- the turns at awaited moments
+-- the turns at awaited times
 pub record TakesTurns (bound from : ℕ) (old new : Agent) (before after : Option (List Step)) : Type
     0 where
   pub steps : List Step
@@ -96,7 +100,7 @@ pub record TakesEvent (moment : ℕ) (event : AgentEvent) (old new : Agent)
   pub changed : new ≡ after_event moment event old
   pub added : Keeps before (steps_of_event moment event old) after
 
--- the turns before an event, the event, and the turn at its moment
+-- the turns before an event, the event, and the turn at its time
 pub record TakesWhole (from moment : ℕ) (event : AgentEvent) (old new : Agent)
     (before after : Option (List Step)) : Type 0 where
   pub between : Agent

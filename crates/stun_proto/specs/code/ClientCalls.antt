@@ -11,11 +11,12 @@ use Rattle.stun_proto.specs.Schedule.{AreInOrder}
 use Rattle.stun_proto.specs.Steps.{Step}
 use Rattle.stun_proto.specs.code.Calls.{Keeps}
 
--- no moment that a request awaits is more than `late` before `now`
+-- no time that a request awaits is more than `late` before `now`
 abbrev pub IsWithin : ℕ → ℕ → Agent → Type 0
 IsWithin late now a = (moment : ℕ) → IsAwaited a moment → now ≤ moment + late
 
--- some calls were made, at most so late, and added their steps: the loop goes on from `new` at `at`
+-- some calls were made, at most `late` late, and added their steps: the loop continues from `new`
+-- at `at`
 pub record CallsLead (late from at : ℕ) (old new : Agent) (events : List (ℕ × AgentEvent))
     (before after : Option (List Step)) : Type 0 where
   pub steps : List Step
@@ -24,7 +25,7 @@ pub record CallsLead (late from at : ℕ) (old new : Agent) (events : List (ℕ 
       (last : ℕ) (b : Agent) → Calls most at new later more last b
       → Calls most from old (events ++ later) (steps ++ more) last b
 
--- the first events of a round were taken, whose moments are in order: `left` are to come
+-- the first events of a round were taken, whose times are in order: `left` are still to come
 abbrev pub EventsReach : ℕ → Agent → Agent → List (ℕ × AgentEvent) → List (ℕ × AgentEvent)
     → Option (List Step) → Option (List Step) → Type 0
 EventsReach late old new events left before after =
@@ -39,7 +40,7 @@ EventsLead late now old new events before after =
     (from : ℕ) → AreInOrder now from events → from ≤ now → now < last_moment
     → CallsLead late from now old new events before after
 
--- the first rounds were taken: `left` are to come
+-- the first rounds were taken: `left` are still to come
 abbrev pub RoundsReach : ℕ → Agent → Agent → List Round → List Round → Option (List Step)
     → Option (List Step) → Type 0
 RoundsReach late old new rounds left before after =

@@ -1,4 +1,4 @@
--- What the sides of a meeting answer to the first messages, as the code has it (RFC 8489, sections
+-- What the sides of a meeting answer to the first messages, in the code's types (RFC 8489, sections
 -- 9.2.4 and 9.2.5).
 use Rattle.std.specs.Prelude.{Option, Some, None}
 use Rattle.std.specs.declared.result.Result.{Result}
@@ -21,18 +21,18 @@ use Rattle.stun_proto.specs.declared.replay.negotiation.Outcome.TheVariants.{Alr
 use Rattle.stun_proto.specs.declared.replay.negotiation.Outcome.TheVariants.{ServerRefused}
 use Rattle.stun_proto.specs.declared.replay.negotiation.Outcome.TheVariants.{ClientRefused}
 
--- the answer by the algorithm of an accepted request, or by the reason of a refusal
+-- the answer: the algorithm of an accepted request, or the reason of a refusal
 abbrev pub answer_of : Result IntegrityAlgorithm LongTermServerAuthErrorReason → Answer
 answer_of (Ok algorithm) = Ok (Validated algorithm)
 answer_of (Err reason) = Err reason
 
--- the outcome where a first request is not to be challenged
+-- the outcome if a first request does not need a challenge
 abbrev pub end_of_first : Result IntegrityAlgorithm LongTermServerAuthErrorReason → Option Outcome
 end_of_first (Ok algorithm) = Some (AlreadyValidated algorithm)
 end_of_first (Err Unauthorized) = None
 end_of_first (Err reason) = Some (ServerRefused reason)
 
--- the outcome where a client does not take up a challenge
+-- the outcome if a client does not accept a challenge
 abbrev pub end_of_challenge : ClientAnswer → Option Outcome
 end_of_challenge (Ok (Read.ResendRequest a)) = None
 end_of_challenge (Ok (Read.Validated a)) = Some (ClientRefused Client.Unauthorized)

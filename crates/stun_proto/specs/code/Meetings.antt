@@ -1,4 +1,4 @@
--- A meeting as the code has it.
+-- A meeting in the code's types.
 use Rattle.stun_auth.specs.Client.{ClientSettings}
 use Rattle.stun_proto.specs.Negotiation.{Meeting, Round}
 use Rattle.stun_proto.specs.declared.replay.negotiation.meeting.Meeting as code
@@ -7,7 +7,7 @@ use Rattle.stun_proto.specs.declared.replay.negotiation.meeting.Asking as code_t
 abbrev pub round_of : code_turn.Asking → Round
 round_of t = record { id = t.id; now = t.moment; words = t.words; before = t.before.now }
 
--- of a client that is set so
+-- the meeting of a client with these settings
 abbrev pub meeting_of : ClientSettings → code.Meeting → Meeting
 meeting_of settings m =
     record {

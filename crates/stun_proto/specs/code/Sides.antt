@@ -12,8 +12,8 @@ use Rattle.stun_proto.specs.declared.replay.negotiation.NegotiateError.TheVarian
 use Rattle.stun_proto.specs.declared.replay.negotiation.Outcome.{Outcome}
 use Rattle.stun_proto.specs.Sides.{Sides, sides}
 
--- where no allocation failed, the run has come to this end and has left this. Where one failed, it
--- has left both sides so. No signing is refused as out of memory
+-- if no allocation failed, the run has ended like this and has left this. If one failed, it has
+-- left both sides like this. No signing is refused as out of memory
 pub record IsRun (result : Result Outcome NegotiateError) (client : ClientState)
     (server : ServerSeen) (met : Met) (passes : Sides → Type 0) : Type 0 where
   pub steps : IfSome (met_by result client server) (λ end. end ≡ met)

@@ -1,4 +1,4 @@
--- What a writer holds that grows, as contracts of signing see it.
+-- What a growing writer holds, as contracts of signing see it.
 use Rattle.std.specs.Prelude.{ℕ, List, Result, Ok, Err}
 use Rattle.stun_base.specs.declared.wire.error.StunWriteError.{StunWriteError}
 use Rattle.stun_types.specs.WriteVec.{Written}

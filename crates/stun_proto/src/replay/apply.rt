@@ -1,8 +1,9 @@
-//! The events of a run: one call of the agent for each, and its step.
+//! Applies the events of a run: makes one call of the agent for each event, and adds its step to
+//! the log.
 ghost use Rattle.std.specs.Prelude.{◌≡◌, ◌≢◌, ◌∷◌, [], None, IfOk, IsOk, OnOk, OnErr};
 ghost use Rattle.stun_agent.specs.Agent.{request_refusal};
 ghost use Rattle.stun_agent.specs.Transactions.{with_cancellation};
-ghost use Rattle.stun_proto.specs.code.Calls.{Keeps, kept_steps, TakesEvent};
+ghost use Rattle.stun_proto.specs.code.Calls.{IsKept, Keeps, kept_steps, TakesEvent};
 ghost use Rattle.stun_proto.specs.Run.{after_change, after_sending, step_of_sending, after_asking};
 ghost use Rattle.stun_proto.specs.Run.{step_of_asking, after_receiving, step_of_receiving};
 ghost use Rattle.stun_proto.specs.Steps.{Sent, step_of};
@@ -14,12 +15,13 @@ use std::alloc::{AllocError, Allocator};
 use std::net::SocketAddr;
 use stun_agent::agent::{StunAgent, StunError};
 use stun_base::instant::Instant;
+use stun_base::memory::Memory;
 use stun_base::transaction_id::TransactionId;
 use stun_types::message::Message;
 
-/// An event, and its step. An error means that the agent's own allocation failed: then the agent is
-/// as before.
-pub(crate) fn apply<A: Allocator + Copy>(
+/// Makes the call of an event, and adds its step to `log`. Fails if an allocation of the agent
+/// fails, and the agent is then unchanged.
+pub(crate) fn apply<A: Memory>(
     alloc: A,
     agent: &mut StunAgent<A>,
     now: Instant,
@@ -29,6 +31,8 @@ pub(crate) fn apply<A: Allocator + Copy>(
     ensures whole { OnOk result (TakesEvent now event.now agent.old agent.new (kept_steps log.old)
         (kept_steps log.new)) }
     ensures broken { OnErr result (agent.new ≡ agent.old) }
+    ensures granted { A.grants → IsOk result }
+    ensures kept { A.grants → IsKept log.old → IsKept log.new }
 {
     match event {
         AgentEvent::Send { bytes, to } => send(alloc, agent, now, bytes.as_slice(), *to, log),
@@ -60,7 +64,7 @@ pub(crate) fn apply<A: Allocator + Copy>(
     Ok(())
 }
 
-/// Cancels a request, where it is outstanding.
+/// Cancels a request, if it is outstanding.
 fn cancel<A: Allocator + Copy>(agent: &mut StunAgent<A>, id: TransactionId)
     ensures { agent.new ≡ after_change with_cancellation id agent.old }
 {
@@ -69,7 +73,7 @@ fn cancel<A: Allocator + Copy>(agent: &mut StunAgent<A>, id: TransactionId)
     }
 }
 
-fn send<A: Allocator + Copy>(
+fn send<A: Memory>(
     alloc: A,
     agent: &mut StunAgent<A>,
     now: Instant,
@@ -80,6 +84,7 @@ fn send<A: Allocator + Copy>(
     ensures after { agent.new ≡ after_sending bytes.now to agent.old }
     ensures added { Keeps (kept_steps log.old) (step_of_sending now bytes.now to agent.old ∷ [])
         (kept_steps log.new) }
+    ensures granted { A.grants → IsKept log.old → IsKept log.new }
 {
     match agent.send(bytes, to, now) {
         Ok(transmit) => log.add(sent(alloc, now, transmit.to, transmit.data)),
@@ -87,21 +92,23 @@ fn send<A: Allocator + Copy>(
     }
 }
 
-/// The step of a message that wants no answer.
-fn sent<A: Allocator>(
+/// Returns the step of an indication or a response that was sent.
+fn sent<A: Memory>(
     alloc: A,
     now: Instant,
     to: SocketAddr,
     bytes: &[u8],
 ) -> Result<AgentStep<A>, AllocError>
-    ensures { IfOk result (λ step. step_of step ≡ Sent now to bytes.now) }
+    ensures step { IfOk result (λ step. step_of step ≡ Sent now to bytes.now) }
+    ensures granted { A.grants → IsOk result }
 {
-    let bytes = Vec::from_slice(alloc, bytes)?;
+    let bytes = A::copied(alloc, bytes)?;
     Ok(AgentStep::Sent { at: now, to, bytes })
 }
 
-/// Sends a request. Where the request is refused, no allocation fails.
-fn ask<A: Allocator + Copy>(
+/// Sends a request, and adds the step to `log`. A refusal by the agent is also a step. Fails only
+/// if an allocation of the agent fails, which cannot happen if the agent refuses the request.
+fn ask<A: Memory>(
     alloc: A,
     agent: &mut StunAgent<A>,
     now: Instant,
@@ -114,6 +121,8 @@ fn ask<A: Allocator + Copy>(
         (step_of_asking now bytes.now to agent.old ∷ []) (kept_steps log.new)) }
     ensures broken { OnErr result (agent.new ≡ agent.old) }
     ensures refused { request_refusal agent.old bytes.now to ≢ None → IsOk result }
+    ensures granted { A.grants → IsOk result }
+    ensures kept { A.grants → IsKept log.old → IsKept log.new }
 {
     match agent.send_request(bytes, to, now) {
         Ok(transmit) => {
@@ -128,7 +137,7 @@ fn ask<A: Allocator + Copy>(
     }
 }
 
-fn receive<A: Allocator + Copy>(
+fn receive<A: Memory>(
     agent: &mut StunAgent<A>,
     now: Instant,
     bytes: &[u8],
@@ -139,6 +148,8 @@ fn receive<A: Allocator + Copy>(
     ensures added { OnOk result (Keeps (kept_steps log.old)
         (step_of_receiving now bytes.now from agent.old ∷ []) (kept_steps log.new)) }
     ensures broken { OnErr result (agent.new ≡ agent.old) }
+    ensures granted { A.grants → IsOk result }
+    ensures kept { A.grants → IsKept log.old → IsKept log.new }
 {
     let step = match Message::from_bytes(bytes) {
         Ok(message) => AgentStep::Received {

@@ -1,4 +1,4 @@
-//! The calls of a server, and its replies.
+//! The calls to a server, and its replies.
 
 ghost use Rattle.std.specs.Prelude.{Some};
 ghost use Rattle.std.specs.Fmt.{WritesOnOk, WritesStyledOnOk};
@@ -13,9 +13,10 @@ use stun_base::algorithm::IntegrityAlgorithm;
 use stun_base::error::{StunParseError, StunWriteError};
 use stun_base::instant::Instant;
 
-/// A call of a server. See [`serve`], which takes a list of calls.
+/// A call to a server. See [`serve`], which takes a list of calls.
 ///
-/// `Debug` reveals which call it is but none of its values, because a password is one of them.
+/// `Debug` shows the name of the call but none of its arguments, because one of them can be a
+/// password.
 ///
 /// [`serve`]: crate::replay::serve
 #[derive(Drop)]
@@ -29,10 +30,10 @@ pub enum ServerCall {
         now: Instant,
         /// The bytes of the message.
         message: Vec<u8>,
-        /// The random numbers to use if a nonce is made.
+        /// The random numbers for a new nonce, if the server makes one.
         words: [u32; 16],
     },
-    /// Signs a message: writes its attributes again, and then those that signing adds.
+    /// Signs a message: writes its attributes again, followed by those that signing adds.
     Sign {
         /// The address that the message is for.
         to: SocketAddr,
@@ -54,7 +55,7 @@ pub enum ServerCall {
     SetIntegrity(IntegrityAlgorithm),
     /// Sets whether clients may send a hash (USERHASH) in place of the user name.
     SetAnonymous(Feature),
-    /// Forgets the client of this address, but keeps its nonce.
+    /// Removes the client of this address, but not its nonce.
     RemoveClient(SocketAddr),
     /// Sets how long new nonces are valid.
     SetExpiry(Duration),
@@ -70,7 +71,7 @@ impl fmt::Debug for ServerCall {
     fn fmt<W: fmt::Write>(&self, f: &mut fmt::Formatter<W>) -> fmt::Result
         ensures writes { WritesOnOk W.write_str_gives f.old result (call_shown self.now) f.new }
 
-        // It writes the same with every width, precision and other option.
+        // The options of the formatter, such as the width, do not change the text.
         ensures styled { WritesStyledOnOk W.write_str_gives f.old result
             (call_shown self.now) f.new }
     {

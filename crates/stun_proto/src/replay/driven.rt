@@ -1,6 +1,8 @@
-//! Driven runs: each event at its time, and a turn at each time that a request waits for.
-ghost use Rattle.std.specs.Prelude.{◌+◌, List, IfOk, IfErr, OnOk, OnErr};
-ghost use Rattle.stun_proto.specs.code.Calls.{kept_steps, HasPassed, TakesTurns, TakesWhole};
+//! Driven runs of an agent: each event happens at its time, and there is a turn at each time that a
+//! request waits for.
+ghost use Rattle.std.specs.Prelude.{◌+◌, List, IfOk, IfErr, IsOk, OnOk, OnErr};
+ghost use Rattle.stun_proto.specs.code.Calls.{IsKept, kept_steps, HasPassed, TakesTurns};
+ghost use Rattle.stun_proto.specs.code.Calls.{TakesWhole};
 ghost use Rattle.stun_proto.specs.Headline.{IsDrivenByPlan};
 ghost use Rattle.stun_proto.specs.Run.{IsDriven, Turns};
 ghost use Rattle.stun_proto.specs.RunLaws.{KeepPlans};
@@ -12,9 +14,10 @@ use crate::replay::apply::apply;
 use crate::replay::event::{AgentEvent, AgentStep, Stopped};
 use crate::replay::step_log::StepLog;
 use crate::replay::turn::turn;
-use std::alloc::{AllocError, Allocator};
+use std::alloc::AllocError;
 use stun_agent::agent::StunAgent;
 use stun_base::instant::Instant;
+use stun_base::memory::Memory;
 
 /// Drives an agent through a list of events, each at its time, and returns what the agent did, in
 /// order.
@@ -26,24 +29,26 @@ use stun_base::instant::Instant;
 /// 3. After the last event, there is a turn at each time up to `until` that a request waits for.
 ///
 /// Without events nothing happens. A turn calls `poll_transmit` until it returns `None`, and then
-/// `poll` until it returns `WaitUntil`, and starts again as long as the time to wait until is the
-/// time of the turn. At `Instant::MAX` there is one turn.
+/// `poll` until it returns `WaitUntil`. It repeats this as long as `WaitUntil` has the time of the
+/// turn, but not at `Instant::MAX`.
 ///
-/// A request is undisturbed if one event asks for it, and if until its end no response to it
-/// arrives from its address, and no call cancels or changes it. It is then sent at the time of its
-/// event and at the sums of its timeouts from there, and at no other time, and times out once (RFC
-/// 8489, section 6.2.1). This holds whatever other addresses send.
+/// A request is undisturbed if exactly one event sends it, and if until its end no response to it
+/// arrives from the address that it was sent to, and no event cancels or changes it. An undisturbed
+/// request is sent at the time of its event and again after each of its timeouts, at no other time,
+/// and it times out once (RFC 8489, section 6.2.1). This holds whatever arrives from other
+/// addresses.
 ///
-/// Contracts: the clause `headline` says so, and that the steps returned are exactly those that
-/// this agent made. `run` says the latter alone, and `plans` the former for IDs that are used
-/// again.
+/// Contracts: the clause `headline` states this, and that the returned steps are exactly those that
+/// the agent made. The clause `run` states only the steps. The clause `plans` states when requests
+/// are sent, even if their IDs are used again.
 ///
 /// # Errors
 ///
-/// `Stopped` if an allocation fails; the steps are lost. The agent has then had the first `done`
-/// events with their turns, and the turns before the next event, or up to `until` if no event is
-/// left. So to make the rest of the run, call `drive` with this agent and the events from `done`
-/// on: no event happens twice, and none is left out (law `stopped_runs_go_on`).
+/// `Stopped`: an allocation failed, and the steps are lost. The agent has then gone through the
+/// first `done` events, with the turns before and after each of them, and through the turns before
+/// the next event, or up to `until` if no event is left. To make the rest of the run, call `drive`
+/// with this agent and the events from `done` on: no event happens twice, and none is left out
+/// (law `stopped_runs_go_on`).
 ///
 /// # Examples
 ///
@@ -69,7 +74,7 @@ use stun_base::instant::Instant;
 /// let half_seconds = times.map(|time| time / 500_000_000);
 /// assert!(half_seconds.eq([0, 1, 3, 7, 15, 31, 63, 79])); // 0, 0.5, 1.5 .. 31.5 and 39.5 s
 /// ```
-pub fn drive<A: Allocator + Copy>(
+pub fn drive<A: Memory>(
     alloc: A,
     agent: &mut StunAgent<A>,
     events: &[(Instant, AgentEvent)],
@@ -84,9 +89,10 @@ pub fn drive<A: Allocator + Copy>(
         (steps_of steps.items)) }
     ensures stopped { IfErr result (λ stopped. HasStopped until stopped.done agent.old events.now
         agent.new) }
+    ensures granted { A.grants → IsOk result }
 {
-    // For the proof: its clause `kept` says that ids ascend, and each request is kept under its
-    // own.
+    // For the proof alone: the clause `kept` of this call states that IDs ascend, and that each
+    // request is stored under its own ID.
     let _awaited = agent.next_awaited();
     let mut log = StepLog::new(alloc);
     if events.is_empty() {
@@ -110,9 +116,9 @@ pub fn drive<A: Allocator + Copy>(
     Ok(log.steps)
 }
 
-/// The turns before an event, the event, and the turn at its moment. After an error the event has
-/// not come.
-fn take_event<A: Allocator + Copy>(
+/// Makes the turns before an event, the call of the event, and the turn at its time. If this fails,
+/// the event has not happened.
+fn take_event<A: Memory>(
     alloc: A,
     agent: &mut StunAgent<A>,
     from: u128,
@@ -126,6 +132,8 @@ fn take_event<A: Allocator + Copy>(
         (kept_steps log.new)) }
     ensures passed { OnOk result (HasPassed (now + 1) agent.new) }
     ensures broken { OnErr result ((lost : List Step) × Turns now from agent.old lost agent.new) }
+    ensures granted { A.grants → IsKept log.old → IsOk result }
+    ensures kept { A.grants → IsKept log.old → IsKept log.new }
 {
     turns(alloc, agent, from, now.as_nanos() as u128, log);
     if log.is_lost {
@@ -136,8 +144,9 @@ fn take_event<A: Allocator + Copy>(
     Ok(())
 }
 
-/// The turns at the awaited moments from one on and below another, both in nanoseconds.
-fn turns<A: Allocator + Copy>(
+/// Makes a turn at each time that a request waits for, from `from` on and before `bound`, both in
+/// nanoseconds.
+fn turns<A: Memory>(
     alloc: A,
     agent: &mut StunAgent<A>,
     from: u128,
@@ -145,7 +154,8 @@ fn turns<A: Allocator + Copy>(
     log: &mut StepLog<A>,
 )
     requires { HasPassed from agent.old }
-    ensures { TakesTurns bound from agent.old agent.new (kept_steps log.old) (kept_steps log.new) }
+    ensures turns { TakesTurns bound from agent.old agent.new (kept_steps log.old) (kept_steps log.new) }
+    ensures granted { A.grants → IsKept log.old → IsKept log.new }
 {
     let mut from = from;
     loop {

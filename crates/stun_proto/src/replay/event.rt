@@ -1,4 +1,4 @@
-//! What happens to an agent that is driven, and what it does.
+//! The events in the run of an agent, and the steps of the run.
 
 use std::alloc::{Allocator, Global};
 use std::net::SocketAddr;
@@ -8,7 +8,7 @@ use stun_base::instant::Instant;
 use stun_base::transaction_id::TransactionId;
 use thiserror::Error;
 
-/// An event in the run of an agent: a call that the agent gets, at a given time.
+/// An event in the run of an agent: a call of the agent, at a given time.
 ///
 /// See [`drive`], which takes a list of events.
 ///
@@ -86,8 +86,8 @@ pub enum AgentStep<A: Allocator = Global> {
     Received {
         /// The time of the step.
         at: Instant,
-        /// Whether the agent accepted it. A request or an indication is always accepted, and a
-        /// response if it answers an outstanding request that was sent to its source.
+        /// Whether the agent accepted the message. A request or an indication is always accepted. A
+        /// response is accepted if it answers an outstanding request that was sent to its source.
         accepted: bool,
     },
     /// A call failed. The error is `ParseError` for a datagram that is not a STUN message. It is

@@ -1,24 +1,25 @@
-//! What a server makes of one message, with the random words of a nonce that are handed in.
+//! Validates one message at a server. The random numbers for a nonce are an argument.
 
-ghost use Rattle.std.specs.Prelude.{◌≡◌, IfOk, OnOk, OnErr, IsErr, Ok, Err};
+ghost use Rattle.std.specs.Prelude.{◌≡◌, IfOk, IsOk, OnOk, OnErr, IsErr, Ok, Err};
 ghost use Rattle.stun_auth.specs.Reading.{reading_of};
 ghost use Rattle.stun_auth.specs.Reasons.{ForServerReason};
 ghost use Rattle.stun_auth.specs.Validation.{after_validation, answer, sight};
 ghost use Rattle.stun_proto.specs.code.FirstAnswers.{answer_of};
 
-use std::alloc::{AllocError, Allocator};
+use std::alloc::AllocError;
 use std::net::SocketAddr;
 use stun_auth::auth::{
     LongTermServerAuth, LongTermServerAuthErrorReason, LongTermServerValidation,
 };
 use stun_base::algorithm::IntegrityAlgorithm;
 use stun_base::instant::Instant;
+use stun_base::memory::Memory;
 use stun_base::words::WordSource;
 use stun_types::message::Message;
 
-/// Returns what a server makes of a message: the algorithm with which it is accepted, or why it is
-/// refused. The one error is that an allocation failed; the server is then as before.
-pub(crate) fn judged<A: Allocator + Copy>(
+/// Validates a message: returns the algorithm of its signature, or the reason why the server
+/// refuses it. Fails only if an allocation fails, and the server is then unchanged.
+pub(crate) fn judged<A: Memory>(
     server: &mut LongTermServerAuth<A>,
     message: &Message<'_>,
     from: SocketAddr,
@@ -30,6 +31,7 @@ pub(crate) fn judged<A: Allocator + Copy>(
     ensures server { OnOk result (server.new ≡ after_validation server.old from now words
         (reading_of message.now)) }
     ensures err { OnErr result (server.new ≡ server.old) }
+    ensures granted { A.grants → IsOk result }
 {
     let mut source = WordSource::new(words);
     match server.validate_incoming_message(message, from, now, &mut source) {
@@ -38,7 +40,7 @@ pub(crate) fn judged<A: Allocator + Copy>(
     }
 }
 
-/// Returns the algorithm with which a message is accepted.
+/// Returns the algorithm of the signature of a message that was validated.
 fn validated_algorithm(validation: LongTermServerValidation) -> IntegrityAlgorithm
     ensures { LongTermServerValidation.Validated result ≡ validation }
 {
@@ -47,7 +49,7 @@ fn validated_algorithm(validation: LongTermServerValidation) -> IntegrityAlgorit
     }
 }
 
-/// Returns a refusal of the server, unless an allocation failed.
+/// Returns the reason as a refusal by the server. Fails if the reason is that an allocation failed.
 fn server_refusal(
     reason: LongTermServerAuthErrorReason,
 ) -> Result<Result<IntegrityAlgorithm, LongTermServerAuthErrorReason>, AllocError>

@@ -1,4 +1,4 @@
-//! A client and a server that authenticate each other.
+//! A run in which a client and a server authenticate each other.
 
 ghost use Rattle.std.specs.Prelude.{◌≡◌, ◌≢◌, ◌<◌, IfSome, IsUtf8, Err, length};
 ghost use Rattle.stun_base.specs.Credentials.{NameAndPassword};
@@ -26,16 +26,17 @@ use stun_auth::auth::{
 use stun_base::algorithm::IntegrityAlgorithm;
 use stun_base::error::StunWriteError;
 use stun_base::instant::Instant;
+use stun_base::memory::Memory;
 use stun_base::transaction_id::TransactionId;
 use thiserror::Error;
 
-/// How a client and a server ended their attempt to authenticate each other.
+/// The outcome of a run in which a client and a server try to authenticate each other.
 #[derive(Clone, Copy, Debug, PartialEq, Eq)]
 pub enum Outcome {
     /// Both sides are authenticated: the server validated the second request with this algorithm,
     /// and the client validated the success response.
     Validated(IntegrityAlgorithm),
-    /// The server validated the first request already, with this algorithm.
+    /// The server validated even the first request, with this algorithm.
     AlreadyValidated(IntegrityAlgorithm),
     /// The server refused a request, for this reason.
     ServerRefused(LongTermServerAuthErrorReason),
@@ -97,14 +98,15 @@ impl From<Stopped> for NegotiateError {
 ///
 /// All of these are Binding messages. Before they are signed they have no attributes, except
 /// ERROR-CODE in the 401. Each message is signed by the side that sends it, and parsed from its
-/// bytes by the other. The server makes the first list of calls just before the client reads the
-/// 401, and the second list just before it reads the second request itself.
+/// bytes by the other side. The server makes the first list of calls just before the client reads
+/// the 401, and the second list just before the server itself reads the second request.
 ///
-/// A ready client is validated with its second request, by the strongest algorithm that both sides
-/// support, and both sides then know each other. There are two exceptions: the sides share no
-/// algorithm, or the client must send its user name as a hash and the server does not accept that.
-/// Then the client fails with `UnsupportedFeature` and stores nothing, and the server has no client
-/// at its address (RFC 8489, section 9.2). A client is ready if all of these hold:
+/// If the client is ready, the server validates its second request, with the strongest algorithm
+/// that both sides support, and both sides are then authenticated. There are two exceptions: the
+/// sides share no algorithm, or the client must send its user name as a hash and the server does
+/// not accept that. In both cases the client fails with `UnsupportedFeature` and stores nothing,
+/// and the server has no client at the client's address (RFC 8489, section 9.2). A client is ready
+/// if all of these hold:
 ///
 /// - It is new, and has the name and password of a registered user. No two registered users share a
 ///   USERHASH.
@@ -114,25 +116,27 @@ impl From<Stopped> for NegotiateError {
 /// - The calls between the steps are calls for other addresses. None of them changes users or
 ///   settings, and none is a `ForgetExpired`, which concerns every address.
 ///
-/// Nobody stands between the two, so nothing is said about a downgrade.
+/// In this run there is no attacker between the two sides, so it shows nothing about downgrade
+/// attacks.
 ///
-/// Contracts: the clause `headline` says all this. `strongest` says it without the two limits on
-/// lengths, if no signing fails, and `steps` says that both sides went through the meeting.
+/// Contracts: the clause `headline` states all this. The clause `strongest` states it without the
+/// two limits on lengths, on the condition that every message can be signed. The clause `steps`
+/// states that the two sides went through the steps of the meeting.
 ///
 /// The run ends, with an [`Outcome`], when one of these happens:
 ///
 /// - The server validates the first request.
-/// - The server refuses the first request with another reason than `Unauthorized`, or the second
-///   one with any reason.
+/// - The server refuses the first request for a reason other than `Unauthorized`, or the second
+///   request for any reason.
 /// - The client refuses a response.
-/// - The client returns another result for the 401 than `ResendRequest`.
+/// - The client reads the 401 and returns a result other than `ResendRequest`.
 /// - Both sides are authenticated.
 ///
 /// # Errors
 ///
 /// - `Write`: a message could not be signed.
-/// - `Memory`: an allocation failed. Both sides are then as the first steps of the run leave them,
-///   and another step was to follow. Each call of a list is a step.
+/// - `Memory`: an allocation failed. Both sides are then as they were before the run, or as one of
+///   its steps other than the last has left them. Each call of a list is a step of its own.
 ///
 /// # Examples
 ///
@@ -158,7 +162,7 @@ impl From<Stopped> for NegotiateError {
 /// assert!(matches!(outcome, Ok(Outcome::ServerRefused(_))));
 /// ```
 #[tactic(none)]
-pub fn negotiate<A: Allocator + Copy>(
+pub fn negotiate<A: Memory>(
     alloc: A,
     client: &mut LongTermClientAuth<A>,
     server: &mut LongTermServerAuth<A>,
@@ -184,6 +188,7 @@ pub fn negotiate<A: Allocator + Copy>(
         (lists between.entry) in result ≡ Err NegotiateError.Memory
         → Passes m client.old.state server.old (sides client.new.state server.new) }
     ensures write { result ≢ Err (NegotiateError.Write StunWriteError.OutOfMemory) }
+    ensures granted { A.grants → result ≢ Err NegotiateError.Memory }
 {
     laws::strongest_is_agreed();
     laws::short_names_are_signed();
@@ -199,7 +204,8 @@ pub fn negotiate<A: Allocator + Copy>(
     meet(alloc, client, server, &meeting)
 }
 
-/// The request at an index.
+/// Returns the first request of the meeting for the index 0, and the second request for the index
+/// 1.
 fn round_at<'a>(
     index: usize,
     ids: [TransactionId; 2],
@@ -221,20 +227,22 @@ fn round_at<'a>(
     }
 }
 
-/// A nonce is made of sixteen words. For the proof alone: the type of the words says it, and
-/// contracts do not see types.
+/// States that there are sixteen random numbers. Only the proof uses this call: the type of the
+/// numbers guarantees it, but contracts do not see types.
 fn words_are_sixteen(words: [u32; 16])
     ensures { length words ≡ 16 }
 {}
 
-/// The realm of a server is a text. For the proof alone: it brings in what a `&str` promises.
+/// States that the realm of a server is UTF-8. Only the proof uses this call, which makes known
+/// what the type `&str` promises.
 fn realm_is_text<A: Allocator + Copy>(server: &LongTermServerAuth<A>)
     ensures { IsUtf8 server.now.registered.realm }
 {
     let _realm = server.realm();
 }
 
-/// The name of a client's user is a text. For the proof alone: it brings in what a `&str` promises.
+/// States that the name of a client's user is UTF-8. Only the proof uses this call, which makes
+/// known what the type `&str` promises.
 fn name_is_text<A: Allocator>(client: &LongTermClientAuth<A>)
     ensures { IfSome client.now.settings.credentials (λ who. IsUtf8 who.username) }
 {

@@ -1,12 +1,12 @@
 //! The loop of a client that waits for datagrams, with its clock and its socket as arguments.
-ghost use Rattle.std.specs.Prelude.{◌<◌, ◌≤◌, [], ℕ, IfOk};
+ghost use Rattle.std.specs.Prelude.{◌<◌, ◌≤◌, [], ℕ, IfOk, IsOk};
 ghost use Rattle.stun_base.specs.Header.{transaction_id_field};
 ghost use Rattle.stun_base.specs.Moments.{last_moment};
 ghost use Rattle.stun_proto.specs.AnyLoop.{Calls, InTime};
 ghost use Rattle.stun_proto.specs.ClientLoop.{AreRounds, events_in, IsLeftAlone};
 ghost use Rattle.stun_proto.specs.code.ClientCalls.{CallsLead, EventsLead, EventsReach, IsWithin};
 ghost use Rattle.stun_proto.specs.code.ClientCalls.{RoundsReach};
-ghost use Rattle.stun_proto.specs.code.Calls.{kept_steps};
+ghost use Rattle.stun_proto.specs.code.Calls.{IsKept, kept_steps};
 ghost use Rattle.stun_proto.specs.Run.{after_event};
 ghost use Rattle.stun_proto.specs.Steps.{steps_of, steps_to_end};
 
@@ -19,42 +19,46 @@ use std::alloc::{AllocError, Allocator, Global};
 use std::net::SocketAddr;
 use stun_agent::agent::StunAgent;
 use stun_base::instant::Instant;
+use stun_base::memory::Memory;
 
-/// How many requests the loop sends again before it reads what has arrived.
+/// The greatest number of requests that the loop retransmits before it reads what has arrived.
 const MOST_AT_ONCE: u32 = 16;
 
-/// A round of `client_loop`.
+/// One round of `client_loop`.
 #[derive(Drop)]
 pub struct Round {
-    /// What came while the loop waited, each at the time at which the agent got it: a datagram, or
-    /// another request to send.
+    /// The events that happened while the loop waited, each with the time at which the agent was
+    /// called for it. An event is a datagram, or another request to send.
     pub events: Vec<(Instant, AgentEvent)>,
-    /// The time that the loop reads from its clock after that.
+    /// The time that the loop read from its clock after these events.
     pub time: Instant,
 }
 
-/// What `client_loop` did.
+/// The result of `client_loop`.
 #[derive(Drop)]
 pub struct ClientRun<A: Allocator = Global> {
     /// The steps after the first transmission, in order.
     pub steps: Vec<AgentStep<A>, A>,
-    /// How late the loop was, in nanoseconds: at no call was a deadline of a request longer ago.
+    /// The greatest delay of the loop, in nanoseconds: at no call was a deadline of a request
+    /// longer ago than this.
     pub late: u64,
 }
 
 /// Sends a request, and waits for its response in rounds, as the worked example of the C header
-/// `stunp_state.h` does over a socket: after what came while the loop waited, it sends again what is
-/// due, at most 16 requests at once, and asks `poll` how long to wait. Nothing is polled at the time
-/// of an event, and a round may come at any time.
+/// `stunp_state.h` does over a socket. In each round, after the events that happened while the loop
+/// waited, the loop retransmits the requests that are due, at most 16 at once, and calls `poll` to
+/// learn how long to wait. It does not poll at the time of an event, and a round may begin at any
+/// time.
 ///
 /// The times of the calls must not go back, and none may be `Instant::MAX`.
 ///
-/// Contracts: these calls are a loop of the law `any_loop_sends_in_time`, which is as late as it
-/// measured itself to be. So if nothing disturbs the request, each of its retransmissions, and its
-/// timeout, comes once it is due, and at most that much later (RFC 8489, section 6.2.1).
+/// Contracts: these calls are a loop in the sense of the law `any_loop_sends_in_time`, with the
+/// delay `late` that the call has measured. So if nothing disturbs the request, no retransmission
+/// of it and no timeout comes before it is due, or more than `late` nanoseconds after that
+/// (RFC 8489, section 6.2.1).
 ///
 /// Fails if an allocation fails.
-pub fn client_loop<A: Allocator + Copy>(
+pub fn client_loop<A: Memory>(
     alloc: A,
     agent: &mut StunAgent<A>,
     request: Vec<u8>,
@@ -71,8 +75,9 @@ pub fn client_loop<A: Allocator + Copy>(
         × InTime run.late (transaction_id_field request.items) agent.old.transport
         agent.old.settings request.items to start last 0 start
         (steps_to_end (transaction_id_field request.items) (steps_of run.steps.items))) }
+    ensures granted { A.grants → IsOk result }
 {
-    // For the proof: its clause `kept` says that ids ascend.
+    // For the proof alone: the clause `kept` of this call states that IDs ascend.
     let _awaited = agent.next_awaited();
     let asked = AgentEvent::SendRequest { bytes: request, to };
     apply(alloc, agent, start, &asked, &mut StepLog::new(alloc))?;
@@ -89,15 +94,17 @@ pub fn client_loop<A: Allocator + Copy>(
     })
 }
 
-/// All rounds. Returns how late they were.
-fn take_rounds<A: Allocator + Copy>(
+/// Makes the calls of all rounds. Returns their greatest delay, in nanoseconds.
+fn take_rounds<A: Memory>(
     alloc: A,
     agent: &mut StunAgent<A>,
     rounds: &[Round],
     log: &mut StepLog<A>,
 ) -> Result<u64, AllocError>
-    ensures { IfOk result (λ late. RoundsReach late agent.old agent.new rounds.now []
+    ensures reached { IfOk result (λ late. RoundsReach late agent.old agent.new rounds.now []
         (kept_steps log.old) (kept_steps log.new)) }
+    ensures granted { A.grants → IsOk result }
+    ensures kept { A.grants → IsKept log.old → IsKept log.new }
 {
     let mut late = 0;
     for round in rounds {
@@ -106,15 +113,17 @@ fn take_rounds<A: Allocator + Copy>(
     Ok(late)
 }
 
-/// One round. Returns how late it was.
-fn take_round<A: Allocator + Copy>(
+/// Makes the calls of one round. Returns their greatest delay, in nanoseconds.
+fn take_round<A: Memory>(
     alloc: A,
     agent: &mut StunAgent<A>,
     round: &Round,
     log: &mut StepLog<A>,
 ) -> Result<u64, AllocError>
-    ensures { IfOk result (λ late. EventsLead late round.now.time agent.old agent.new
+    ensures led { IfOk result (λ late. EventsLead late round.now.time agent.old agent.new
         round.now.events.items (kept_steps log.old) (kept_steps log.new)) }
+    ensures granted { A.grants → IsOk result }
+    ensures kept { A.grants → IsKept log.old → IsKept log.new }
 {
     let late = take_events(alloc, agent, round.events.as_slice(), log)?;
     let late = greater_of(late, lateness(agent, round.time));
@@ -124,15 +133,18 @@ fn take_round<A: Allocator + Copy>(
     Ok(late)
 }
 
-/// The events of a round, each at its time. Returns how late they were.
-fn take_events<A: Allocator + Copy>(
+/// Makes the calls for the events of a round, each at its time. Returns their greatest delay, in
+/// nanoseconds.
+fn take_events<A: Memory>(
     alloc: A,
     agent: &mut StunAgent<A>,
     events: &[(Instant, AgentEvent)],
     log: &mut StepLog<A>,
 ) -> Result<u64, AllocError>
-    ensures { IfOk result (λ late. EventsReach late agent.old agent.new events.now []
+    ensures reached { IfOk result (λ late. EventsReach late agent.old agent.new events.now []
         (kept_steps log.old) (kept_steps log.new)) }
+    ensures granted { A.grants → IsOk result }
+    ensures kept { A.grants → IsKept log.old → IsKept log.new }
 {
     let mut late = 0;
     for (now, event) in events {
@@ -142,15 +154,17 @@ fn take_events<A: Allocator + Copy>(
     Ok(late)
 }
 
-/// What is due is sent again, up to a number of requests. Returns how late that was.
-fn send_again<A: Allocator + Copy>(
+/// Retransmits the requests that are due, at most `MOST_AT_ONCE` of them. Returns the greatest
+/// delay of these calls, in nanoseconds.
+fn send_again<A: Memory>(
     alloc: A,
     agent: &mut StunAgent<A>,
     now: Instant,
     log: &mut StepLog<A>,
 ) -> u64
-    ensures { now < last_moment → CallsLead result now now agent.old agent.new []
+    ensures calls { now < last_moment → CallsLead result now now agent.old agent.new []
         (kept_steps log.old) (kept_steps log.new) }
+    ensures granted { A.grants → IsKept log.old → IsKept log.new }
 {
     let mut late = 0;
     for _ in 0..MOST_AT_ONCE {
@@ -162,7 +176,8 @@ fn send_again<A: Allocator + Copy>(
     late
 }
 
-/// How long ago the earliest deadline of a request is, in nanoseconds.
+/// Returns how many nanoseconds before `now` the earliest deadline of a request was, or 0 if no
+/// deadline has passed.
 fn lateness<A: Allocator + Copy>(agent: &StunAgent<A>, now: Instant) -> u64
     ensures { IsWithin result now agent.now }
 {
@@ -172,7 +187,7 @@ fn lateness<A: Allocator + Copy>(agent: &StunAgent<A>, now: Instant) -> u64
     }
 }
 
-/// The greater of two numbers.
+/// Returns the greater of two numbers.
 fn greater_of(one: u64, other: u64) -> u64
     ensures one { one ≤ result }
     ensures other { other ≤ result }

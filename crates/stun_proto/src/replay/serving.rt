@@ -1,4 +1,4 @@
-//! A server's run over a list of calls.
+//! Runs a server over a list of calls.
 
 ghost use Rattle.std.specs.Prelude.{◌≡◌, ◌≢◌, ◌≤◌, None, Ok, Err, IfOk};
 ghost use Rattle.std.specs.Prelude.{OnOk, OnErr, IfErr, IsOk, length, take};
@@ -25,6 +25,7 @@ use stun_auth::auth::{LongTermServerAuth, minimum_nonce_expiry_duration};
 use stun_auth::laws;
 use stun_base::credentials::LongTermCredentials;
 use stun_base::instant::Instant;
+use stun_base::memory::Memory;
 use stun_types::message::Message;
 
 /// Makes a list of calls to a server, in order, and returns the reply to each.
@@ -34,17 +35,17 @@ use stun_types::message::Message;
 /// is validated if and only if it has all of these (RFC 8489, section 9.2.4):
 ///
 /// - a realm;
-/// - the nonce that is current at its address;
-/// - algorithms that agree with those that the address was offered;
-/// - the signature under the key of the registered user whom it names.
+/// - the current nonce of its address;
+/// - algorithms that agree with those that the server offered to its address;
+/// - a valid signature under the key of the registered user whom it names.
 ///
-/// It is judged by the record that the earlier calls leave for its address.
+/// The server judges the message with the record of its address that the earlier calls have left.
 ///
 /// # Errors
 ///
-/// `Stopped` if an allocation fails. The server is then as after the first `done` calls. The call
-/// whose allocation failed counts among them only if it was complete and its reply could not be
-/// stored.
+/// `Stopped`: an allocation failed. The server is then in the state after the first `done` calls.
+/// They include the call whose allocation failed only if that call was complete and its reply could
+/// not be stored.
 ///
 /// # Examples
 ///
@@ -66,7 +67,7 @@ use stun_types::message::Message;
 /// assert!(matches!(replies[0], ServerReply::Refused(_))); // answer 401
 /// assert_eq!(replies[1], ServerReply::Done);
 /// ```
-pub fn serve<A: Allocator + Copy>(
+pub fn serve<A: Memory>(
     alloc: A,
     server: &mut LongTermServerAuth<A>,
     calls: &[ServerCall],
@@ -83,13 +84,14 @@ pub fn serve<A: Allocator + Copy>(
         (replies_of given.items)) }
     ensures stopped { IfErr result (λ e. (e.done ≤ length calls.now)
         × (server.new ≡ after_calls server.old (take e.done calls.now))) }
+    ensures granted { A.grants → IsOk result }
 {
-    // A law does nothing when it runs: this one is for the clause `accepted`.
+    // A law does nothing when it runs. This one is for the clause `accepted`.
     laws::accepted_messages_are_validated();
     let mut replies = Vec::new(alloc);
     for (done, call) in calls.iter().enumerate() {
         match serve_call(alloc, server, call) {
-            Ok(reply) => match replies.push(reply) {
+            Ok(reply) => match A::push(&mut replies, reply) {
                 Ok(()) => {}
                 Err(_) => return Err(Stopped { done: done + 1 }),
             },
@@ -99,8 +101,8 @@ pub fn serve<A: Allocator + Copy>(
     Ok(replies)
 }
 
-/// Makes one call. The one error is that an allocation fails; the server is then as before.
-fn serve_call<A: Allocator + Copy>(
+/// Makes one call. Fails only if an allocation fails; the server is then unchanged.
+fn serve_call<A: Memory>(
     alloc: A,
     server: &mut LongTermServerAuth<A>,
     call: &ServerCall,
@@ -108,6 +110,7 @@ fn serve_call<A: Allocator + Copy>(
     ensures reply { IfOk result (λ given. reply_of given ≡ reply server.old call.now) }
     ensures server { OnOk result (server.new ≡ after_call server.old call.now) }
     ensures err { OnErr result (server.new ≡ server.old) }
+    ensures granted { A.grants → IsOk result }
 {
     match call {
         ServerCall::Validate {
@@ -119,8 +122,8 @@ fn serve_call<A: Allocator + Copy>(
         ServerCall::Sign { to, message } => return sign(alloc, server, message.as_slice(), *to),
         ServerCall::SetExpiry(expiry) => return Ok(set_expiry(server, *expiry)),
         ServerCall::AddUser { name, password } => {
-            let name = String::from_str(alloc, name.as_str())?;
-            let password = String::from_str(alloc, password.as_str())?;
+            let name = A::text(alloc, name.as_str())?;
+            let password = A::text(alloc, password.as_str())?;
             server.add_user(LongTermCredentials::new(name, password))?;
         }
         ServerCall::RemoveUser(name) => server.remove_user(name.as_str()),
@@ -134,9 +137,9 @@ fn serve_call<A: Allocator + Copy>(
     Ok(ServerReply::Done)
 }
 
-/// Validates bytes that came from an address, where they are a message. Where they are none, no
-/// allocation fails.
-fn validate<A: Allocator + Copy>(
+/// Validates the message in `bytes`, which came from the address `from`. If the bytes are not a
+/// message, replies `NotAMessage`, and does not fail.
+fn validate<A: Memory>(
     server: &mut LongTermServerAuth<A>,
     bytes: &[u8],
     from: SocketAddr,
@@ -153,6 +156,7 @@ fn validate<A: Allocator + Copy>(
     }) }
     ensures err { OnErr result (server.new ≡ server.old) }
     ensures no_message { refusal bytes.now ≢ None → IsOk result }
+    ensures granted { A.grants → IsOk result }
 {
     let message = match Message::from_bytes(bytes) {
         Ok(message) => message,
@@ -164,7 +168,8 @@ fn validate<A: Allocator + Copy>(
     }
 }
 
-/// Sets how long nonces last, where that is not too short.
+/// Sets how long new nonces are valid. If that would be too short, replies `TooShort`, and changes
+/// nothing.
 fn set_expiry<A: Allocator + Copy>(
     server: &mut LongTermServerAuth<A>,
     expiry: Duration,

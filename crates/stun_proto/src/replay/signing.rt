@@ -1,4 +1,5 @@
-//! Signing a message for an address: its attributes are written anew, and then the server's.
+//! Signs a message for an address: writes the attributes of the message again, and then those that
+//! signing adds.
 
 ghost use Rattle.std.specs.Prelude.{◌≡◌, ◌≢◌, ⊤, None, OnOk, OnErr, IfOk, IsErr, IsOk, IsOkAnd};
 ghost use Rattle.stun_base.specs.Header.{type_field};
@@ -13,15 +14,17 @@ ghost use Rattle.stun_proto.specs.Signing.{if_signed, signing, written_anew};
 ghost use Rattle.stun_proto.specs.code.Signed.{signed_page, written_message};
 
 use crate::replay::call::ServerReply;
-use std::alloc::{AllocError, Allocator};
+use std::alloc::AllocError;
 use std::net::SocketAddr;
 use stun_auth::auth::LongTermServerAuth;
 use stun_base::error::StunWriteError;
+use stun_base::memory::Memory;
 use stun_types::message::{Message, MessageWriteVec};
 use stun_types::prelude::*;
 
-/// Signs bytes for an address, where they are a message. Where they are none, no allocation fails.
-pub(crate) fn sign<A: Allocator + Copy>(
+/// Signs the message in `bytes` for the address `to`. If the bytes are not a message, replies
+/// `NotAMessage`, and does not fail.
+pub(crate) fn sign<A: Memory>(
     alloc: A,
     server: &mut LongTermServerAuth<A>,
     bytes: &[u8],
@@ -37,6 +40,7 @@ pub(crate) fn sign<A: Allocator + Copy>(
     }) }
     ensures err { OnErr result (server.new ≡ server.old) }
     ensures no_message { refusal bytes.now ≢ None → IsOk result }
+    ensures granted { A.grants → IsOk result }
 {
     let message = match Message::from_bytes(bytes) {
         Ok(message) => message,
@@ -45,8 +49,8 @@ pub(crate) fn sign<A: Allocator + Copy>(
     reply_to_signing(sign_message(alloc, server, &message, to))
 }
 
-/// Returns the reply to a signing, if no allocation failed.
-fn reply_to_signing<A: Allocator>(
+/// Converts the result of a signing to a reply. Fails if the signing ran out of memory.
+fn reply_to_signing<A: Memory>(
     signed: Result<MessageWriteVec<A>, StunWriteError>,
 ) -> Result<ServerReply<A>, AllocError>
     ensures { UnlessMemory signed (IsOkAnd result
@@ -59,8 +63,8 @@ fn reply_to_signing<A: Allocator>(
     }
 }
 
-/// Writes a message anew and signs it. A refusal leaves the server.
-fn sign_message<A: Allocator + Copy>(
+/// Writes a message again and signs it. If this fails, the server is unchanged.
+fn sign_message<A: Memory>(
     alloc: A,
     server: &mut LongTermServerAuth<A>,
     message: &Message<'_>,
@@ -71,19 +75,22 @@ fn sign_message<A: Allocator + Copy>(
     ensures signed { OnOk result (server.new ≡ after_signing server.old to
         (is_response (class_in message.now))) }
     ensures refused { OnErr result (server.new ≡ server.old) }
+    ensures granted { A.grants → UnlessMemory result ⊤ ⊥ }
 {
     let writer = write_anew(alloc, message)?;
     server.sign_outgoing_message(writer, to)
 }
 
-/// Writes the attributes of a message that count after a new header with its type and id.
-fn write_anew<A: Allocator + Copy>(
+/// Writes a header with the type and the transaction ID of a message, followed by the visible
+/// attributes of the message.
+fn write_anew<A: Memory>(
     alloc: A,
     message: &Message<'_>,
 ) -> Result<MessageWriteVec<A>, StunWriteError>
     ensures answer { UnlessMemory result (written_message result ≡ written_anew message.now) ⊤ }
     ensures open { IfOk result (λ writer. IsOpen writer.bytes) }
     ensures type_is { IfOk result (λ writer. type_field writer.bytes ≡ type_field message.now) }
+    ensures granted { A.grants → UnlessMemory result ⊤ ⊥ }
 {
     let mut writer = Message::builder(
         message.get_type(),

@@ -1,28 +1,31 @@
-//! One turn of a run: what is due at a moment is sent, and what is over ends.
-ghost use Rattle.std.specs.Prelude.{◌≡◌, IfOk};
+//! One turn of a run: retransmits the requests that are due at a time, and ends those that are
+//! over.
+ghost use Rattle.std.specs.Prelude.{◌≡◌, IfOk, IsOk};
 ghost use Rattle.stun_base.specs.Header.{BeginsWithHeader, transaction_id_field};
-ghost use Rattle.stun_proto.specs.code.Calls.{kept_steps, SendsOne, EndsOne};
+ghost use Rattle.stun_proto.specs.code.Calls.{IsKept, kept_steps, SendsOne, EndsOne};
 ghost use Rattle.stun_proto.specs.code.Calls.{SendsAll, EndsAll, TakesTurn};
 ghost use Rattle.stun_proto.specs.Steps.{Transmitted, step_of};
 
 use crate::replay::event::AgentStep;
 use crate::replay::step_log::StepLog;
-use std::alloc::{AllocError, Allocator};
+use std::alloc::AllocError;
 use std::net::SocketAddr;
 use stun_agent::agent::{StunAgent, StunAgentPollRet};
 use stun_base::header::MessageHeader;
 use stun_base::instant::Instant;
+use stun_base::memory::Memory;
 
-/// One turn at a moment: what is due is sent, what is over ends, and again while the moment to wait
-/// until is this one. At the last moment there is one turn. The agent's calls allocate nothing, so
-/// a turn is always whole.
-pub(crate) fn turn<A: Allocator + Copy>(
+/// Makes one turn: retransmits the requests that are due at the time `now`, ends those that are
+/// over, and repeats this as long as `poll` returns this time. At `Instant::MAX` it does not
+/// repeat. The agent's calls do not allocate, so a turn is always complete.
+pub(crate) fn turn<A: Memory>(
     alloc: A,
     agent: &mut StunAgent<A>,
     now: Instant,
     log: &mut StepLog<A>,
 )
-    ensures { TakesTurn now agent.old agent.new (kept_steps log.old) (kept_steps log.new) }
+    ensures turn { TakesTurn now agent.old agent.new (kept_steps log.old) (kept_steps log.new) }
+    ensures granted { A.grants → IsKept log.old → IsKept log.new }
 {
     loop {
         send_all(alloc, agent, now, log);
@@ -36,14 +39,10 @@ pub(crate) fn turn<A: Allocator + Copy>(
     }
 }
 
-/// The transmissions of a moment, until there are none.
-fn send_all<A: Allocator + Copy>(
-    alloc: A,
-    agent: &mut StunAgent<A>,
-    now: Instant,
-    log: &mut StepLog<A>,
-)
-    ensures { SendsAll now agent.old agent.new (kept_steps log.old) (kept_steps log.new) }
+/// Calls `poll_transmit` at the time `now` until nothing is left to send.
+fn send_all<A: Memory>(alloc: A, agent: &mut StunAgent<A>, now: Instant, log: &mut StepLog<A>)
+    ensures sends { SendsAll now agent.old agent.new (kept_steps log.old) (kept_steps log.new) }
+    ensures granted { A.grants → IsKept log.old → IsKept log.new }
 {
     loop {
         if !send_one(alloc, agent, now, log) {
@@ -52,13 +51,10 @@ fn send_all<A: Allocator + Copy>(
     }
 }
 
-/// The ends of a moment, until there are none. Returns the moment to wait until.
-fn end_all<A: Allocator + Copy>(
-    agent: &mut StunAgent<A>,
-    now: Instant,
-    log: &mut StepLog<A>,
-) -> Instant
-    ensures { EndsAll now agent.old agent.new (kept_steps log.old) (kept_steps log.new) result }
+/// Calls `poll` at the time `now` until no more requests end. Returns the time to wait until.
+fn end_all<A: Memory>(agent: &mut StunAgent<A>, now: Instant, log: &mut StepLog<A>) -> Instant
+    ensures ends { EndsAll now agent.old agent.new (kept_steps log.old) (kept_steps log.new) result }
+    ensures granted { A.grants → IsKept log.old → IsKept log.new }
 {
     loop {
         match end_one(agent, now, log) {
@@ -68,14 +64,16 @@ fn end_all<A: Allocator + Copy>(
     }
 }
 
-/// One call of `poll_transmit`, and its step. Returns whether something was sent.
-pub(crate) fn send_one<A: Allocator + Copy>(
+/// Makes one call of `poll_transmit`. If a request must be sent, adds the step to `log` and returns
+/// `true`. Otherwise returns `false`.
+pub(crate) fn send_one<A: Memory>(
     alloc: A,
     agent: &mut StunAgent<A>,
     now: Instant,
     log: &mut StepLog<A>,
 ) -> bool
-    ensures { SendsOne now agent.old agent.new (kept_steps log.old) (kept_steps log.new) result }
+    ensures sends { SendsOne now agent.old agent.new (kept_steps log.old) (kept_steps log.new) result }
+    ensures granted { A.grants → IsKept log.old → IsKept log.new }
 {
     let step = match agent.poll_transmit(now) {
         Some(transmit) => transmitted(alloc, now, transmit.to, transmit.data),
@@ -85,13 +83,15 @@ pub(crate) fn send_one<A: Allocator + Copy>(
     true
 }
 
-/// One call of `poll`, and its step. Returns the moment to wait until, if nothing ended.
-pub(crate) fn end_one<A: Allocator + Copy>(
+/// Makes one call of `poll`. If a request ended, adds the step to `log` and returns `None`.
+/// Otherwise returns the time to wait until.
+pub(crate) fn end_one<A: Memory>(
     agent: &mut StunAgent<A>,
     now: Instant,
     log: &mut StepLog<A>,
 ) -> Option<Instant>
-    ensures { EndsOne now agent.old agent.new (kept_steps log.old) (kept_steps log.new) result }
+    ensures ends { EndsOne now agent.old agent.new (kept_steps log.old) (kept_steps log.new) result }
+    ensures granted { A.grants → IsKept log.old → IsKept log.new }
 {
     match agent.poll(now) {
         StunAgentPollRet::TransactionTimedOut(id) => {
@@ -106,19 +106,21 @@ pub(crate) fn end_one<A: Allocator + Copy>(
     }
 }
 
-/// The step of a transmission, with the id that its bytes name.
-pub(crate) fn transmitted<A: Allocator>(
+/// Returns the step of a transmission. The transaction ID in the step comes from the bytes of the
+/// request.
+pub(crate) fn transmitted<A: Memory>(
     alloc: A,
     now: Instant,
     to: SocketAddr,
     bytes: &[u8],
 ) -> Result<AgentStep<A>, AllocError>
     requires { BeginsWithHeader bytes.now }
-    ensures { IfOk result (λ step. step_of step
+    ensures step { IfOk result (λ step. step_of step
         ≡ Transmitted now (transaction_id_field bytes.now) to bytes.now) }
+    ensures granted { A.grants → IsOk result }
 {
     let id = MessageHeader::from_bytes(bytes).unwrap().transaction_id();
-    let bytes = Vec::from_slice(alloc, bytes)?;
+    let bytes = A::copied(alloc, bytes)?;
     Ok(AgentStep::Transmitted {
         at: now,
         id,

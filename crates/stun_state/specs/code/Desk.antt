@@ -1,4 +1,4 @@
--- How much of its memory a message has taken.
+-- How much of its memory a message has used.
 use Rattle.std.specs.Prelude.{ℕ, ◌≤◌}
 use Rattle.stun_types.specs.Limits.{LENGTH_LIMIT}
 

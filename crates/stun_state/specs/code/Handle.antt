@@ -30,18 +30,18 @@ kept_coded = coded_option kept_row.coded
 abbrev pub IsOfKind : ℕ → Option Kept → Type 0
 IsOfKind number handle = ForSome handle (λ k. kind_of k ≡ number)
 
--- the value ends as the agent that is left behind the reference
+-- the value is in the end the agent that is left in the reference
 abbrev pub LendsAgent : MutBor Kept → MutBor Agent → Fml
 LendsAgent k r = Lends kept_row (agent.the_row heap.the_row ghosts) k r (λ a. kind.Agent a)
 
--- as the server
+-- the value is in the end the server
 abbrev pub LendsServer : MutBor Kept → MutBor Server → Fml
 LendsServer k r = Lends kept_row server.the_row k r (λ s. kind.Server s)
 
--- as the client
+-- the value is in the end the client
 abbrev pub LendsClient : MutBor Kept → MutBor ClientSide → Fml
 LendsClient k r = Lends kept_row (client.the_row heap.the_row ghosts) k r (λ c. kind.Client c)
 
--- as the prepared user
+-- the value is in the end the prepared user
 abbrev pub LendsUser : MutBor Kept → MutBor Registered → Fml
 LendsUser k r = Lends kept_row (user.the_row heap.the_row ghosts) k r (λ u. kind.User u)

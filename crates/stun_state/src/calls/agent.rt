@@ -1,10 +1,10 @@
-//! The calls on an agent: requests and their time (RFC 8489, section 6.2).
+//! The calls on an agent, which sends requests and their retransmissions (RFC 8489, section 6.2).
 //!
 //! A call fails first with `EmptyHandle` if its handle is empty, or with `WrongHandle` if it has an
 //! object of another type; `stunp_agent_new` and `stunp_agent_new_with` fail with `FullHandle` if
-//! the handle is not empty. Bytes that are not a message fail with `Truncated`, `NotStun` or
-//! `TooLarge`. An address whose length is neither 4 nor 16, and an ID that does not have 12 bytes,
-//! fail with `BadArgument`. Times are in nanoseconds.
+//! the handle is not empty. For bytes that are not a message, a call fails with `Truncated`,
+//! `NotStun` or `TooLarge`. For an address whose length is neither 4 nor 16, and for an ID that
+//! does not have 12 bytes, it fails with `BadArgument`. Times are in nanoseconds.
 
 ghost use Rattle.std.specs.Prelude.{◌≡◌, ◌⊎◌, length, Ok};
 ghost use Rattle.std.specs.Prelude.{IfSome, IsTrue};
@@ -38,9 +38,9 @@ use stun_handles::address::Address;
 use stun_handles::kind::{AGENT, EMPTY, missing};
 use stun_numbers::refusal::Refusal;
 
-/// Creates an agent that sends over a transport, 0 for UDP and 1 for TCP, from a local address.
-/// Fails with `FullHandle`, then `BadArgument` for the transport or the address, then
-/// `OutOfMemory`.
+/// Creates an agent that sends from a local address over a transport: 0 is UDP, and 1 is TCP. Fails
+/// with `FullHandle` if the handle is not empty, then with `BadArgument` if there is no such
+/// transport or `local` is not an IPv4 or IPv6 address, then with `OutOfMemory`.
 #[unsafe(no_mangle)]
 pub extern "C" fn stunp_agent_new(
     alloc: Global,
@@ -61,11 +61,13 @@ pub extern "C" fn stunp_agent_new(
     handle.fill(alloc, Kept::Agent(agent))
 }
 
-/// Creates an agent like `stunp_agent_new`, with timeouts of the caller's, and with the only remote
-/// address that it may send to. A remote address of length 0 means any.
+/// Creates an agent like `stunp_agent_new`, but with these timeouts, and with `remote` as the only
+/// address to which the agent may send. If the length of `remote` is 0, the agent may send to any
+/// address.
 ///
-/// Fails as `stunp_agent_new` does. `BadArgument` is also for the remote address and for the size
-/// of the timeouts. After it comes `NoWait`, for timeouts without a wait.
+/// Fails like `stunp_agent_new`, and with `BadArgument` also if the length of `remote` is not 0, 4
+/// or 16, or if the size of the timeouts is wrong. After that, and before `OutOfMemory`, it fails
+/// with `NoWait` if several transmissions of a request would be due at the same time.
 #[unsafe(no_mangle)]
 pub extern "C" fn stunp_agent_new_with(
     alloc: Global,
@@ -89,8 +91,8 @@ pub extern "C" fn stunp_agent_new_with(
     handle.fill(alloc, Kept::Agent(agent))
 }
 
-/// Writes what the agent has counted. Fails with `BadArgument` if the caller's struct has another
-/// size.
+/// Writes the statistics of the agent to the caller's struct. Fails with `BadArgument` if the size
+/// of the struct is wrong.
 #[unsafe(no_mangle)]
 pub extern "C" fn stunp_agent_statistics(
     alloc: Global,
@@ -124,10 +126,15 @@ pub extern "C" fn stunp_agent_clear(alloc: Global, handle: &mut StateHandle)
 
 /// Stores a request to an address, starts its retransmission timer, and counts it.
 ///
-/// Fails with the error of the address, then with that of the message, then with
-/// `ProtocolViolation` if the message is not a request or the address is not the agent's remote
-/// one, then with `AlreadyInProgress` if a request with this ID is outstanding, and last with
-/// `OutOfMemory`.
+/// # Errors
+///
+/// The first of these that applies:
+///
+/// - `BadArgument`: `to` is not an IPv4 or IPv6 address.
+/// - `Truncated`, `NotStun` or `TooLarge`: `message` is not a message.
+/// - `ProtocolViolation`: the message is not a request, or `to` is not the agent's remote address.
+/// - `AlreadyInProgress`: a request with this transaction ID is outstanding.
+/// - `OutOfMemory`: an allocation failed.
 #[unsafe(no_mangle)]
 pub extern "C" fn stunp_agent_send_request(
     alloc: Global,
@@ -141,7 +148,7 @@ pub extern "C" fn stunp_agent_send_request(
         (at_address (socket_address to.now) (request_answer agent message.now)))
         (λ agent. left_by result agent (kept_after_request agent message.now to.now now)) }
 
-    // A failed allocation is returned only if the request would be taken.
+    // The call fails with `OutOfMemory` only if the request would otherwise be accepted.
     ensures taken { IfSome (agent_in handle.old.slot.kept) (λ agent. (result ≡ done_answer
         (at_address (socket_address to.now) (request_answer agent message.now)))
         ⊎ IsRequestTaken agent message.now (socket_address to.now)) }
@@ -154,9 +161,11 @@ pub extern "C" fn stunp_agent_send_request(
     answer
 }
 
-/// Counts a response or an indication that is sent to an address. Fails with the error of the
-/// address, then with that of the message, then with `ProtocolViolation` if the message is a
-/// request or the address is not the agent's remote one.
+/// Counts a response or an indication that is sent to an address.
+///
+/// Fails with `BadArgument` if `to` is not an IPv4 or IPv6 address, then with `Truncated`,
+/// `NotStun` or `TooLarge` if `message` is not a message, then with `ProtocolViolation` if the
+/// message is a request or `to` is not the agent's remote address.
 #[unsafe(no_mangle)]
 pub extern "C" fn stunp_agent_send(
     alloc: Global,
@@ -177,9 +186,11 @@ pub extern "C" fn stunp_agent_send(
     answer
 }
 
-/// Processes a message that arrived from an address: returns 1 if it is accepted, and 0 if it is a
-/// response to no outstanding request. Fails with the error of the address, then with that of the
-/// message, then with `OutOfMemory`.
+/// Processes a message that arrived from an address. Returns 1 if it is accepted, and 0 if it is a
+/// response to no outstanding request.
+///
+/// Fails with `BadArgument` if `from` is not an IPv4 or IPv6 address, then with `Truncated`,
+/// `NotStun` or `TooLarge` if `message` is not a message, then with `OutOfMemory`.
 #[unsafe(no_mangle)]
 pub extern "C" fn stunp_agent_handle(
     alloc: Global,
@@ -193,7 +204,7 @@ pub extern "C" fn stunp_agent_handle(
         (at_address (socket_address from.now) (receiving_answer agent message.now)))
         (λ agent. left_by result agent (kept_after_message agent message.now from.now now)) }
 
-    // If no address is added to those that are kept, no failed allocation is returned.
+    // If no address is added to the validated peers, the call does not fail with `OutOfMemory`.
     ensures no_memory { IfSome (agent_in handle.old.slot.kept) (λ agent.
         IsTrue (message_adds_none agent message.now (socket_address from.now)) →
         result ≡ number_answer
@@ -207,8 +218,9 @@ pub extern "C" fn stunp_agent_handle(
     answer
 }
 
-/// Writes the next retransmission that is due at `now`, and its destination, and returns its length
-/// in bytes, or 0 if none is due. Fails with `BufferTooSmall`.
+/// Writes to `out` the next retransmission that is due at `now`, and its destination to `to`.
+/// Returns the length of the retransmission in bytes, or 0 if none is due. Fails with
+/// `BufferTooSmall` if the retransmission does not fit into `out`.
 #[unsafe(no_mangle)]
 pub extern "C" fn stunp_agent_poll_transmit(
     alloc: Global,
@@ -222,7 +234,7 @@ pub extern "C" fn stunp_agent_poll_transmit(
     ensures answer { IfSome (agent_in handle.old.slot.kept) (λ agent. result ≡ length_answer
         (sent_again (length out.old) (sent_by_poll now agent))) }
 
-    // Too small a buffer leaves the agent, so no transmission is lost.
+    // A buffer that is too small leaves the agent unchanged, so no transmission is lost.
     ensures state { AgentBecomes handle.old handle.new (λ agent. left_by result agent
         (after_poll_transmit now agent)) }
     ensures out { IfSome (agent_in handle.old.slot.kept) (λ agent. out.new ≡ left_by result out.old
@@ -238,9 +250,10 @@ pub extern "C" fn stunp_agent_poll_transmit(
     answer
 }
 
-/// Reports a request that has ended, or how long to wait. Returns 0 and writes the time to wait
-/// until. Or returns 1 if a request has timed out, and 2 if one has been canceled, and writes its
-/// ID to the first 12 bytes of `id`. Fails with `BufferTooSmall` if `id` has fewer.
+/// Reports a request that has ended, or how long to wait. Returns 1 if a request has timed out, or
+/// 2 if one was canceled, and writes its transaction ID to the first 12 bytes of `id`. Otherwise
+/// returns 0, and writes to `until` the time to wait until. Fails with `BufferTooSmall` if `id` has
+/// fewer than 12 bytes.
 #[unsafe(no_mangle)]
 pub extern "C" fn stunp_agent_poll(
     alloc: Global,
@@ -268,8 +281,9 @@ pub extern "C" fn stunp_agent_poll(
     answer
 }
 
-/// Returns 1 if a request with this ID is outstanding, and writes the address to which it was sent;
-/// or returns 0.
+/// Returns 1 if a request with this transaction ID is outstanding, and writes to `peer` the address
+/// to which it was sent. Otherwise returns 0. Fails with `BadArgument` if `id` does not have 12
+/// bytes.
 #[unsafe(no_mangle)]
 pub extern "C" fn stunp_agent_is_outstanding(
     alloc: Global,
@@ -293,7 +307,8 @@ pub extern "C" fn stunp_agent_is_outstanding(
     answer
 }
 
-/// Cancels the request with this ID. Returns 1, or 0 if none is outstanding.
+/// Cancels the request with this transaction ID. Returns 1, or 0 if no such request is outstanding.
+/// Fails with `BadArgument` if `id` does not have 12 bytes.
 #[unsafe(no_mangle)]
 pub extern "C" fn stunp_agent_cancel(alloc: Global, handle: &mut StateHandle, id: &[u8]) -> i64
     ensures { ChangesAgent handle.old handle.new result
@@ -308,7 +323,8 @@ pub extern "C" fn stunp_agent_cancel(alloc: Global, handle: &mut StateHandle, id
     answer
 }
 
-/// Stops retransmitting the request with this ID. Returns 1, or 0 if none is outstanding.
+/// Stops retransmitting the request with this transaction ID. Returns 1, or 0 if no such request is
+/// outstanding. Fails with `BadArgument` if `id` does not have 12 bytes.
 #[unsafe(no_mangle)]
 pub extern "C" fn stunp_agent_cancel_retransmissions(
     alloc: Global,
@@ -327,9 +343,9 @@ pub extern "C" fn stunp_agent_cancel_retransmissions(
     answer
 }
 
-/// Sets the timeouts of the request with this ID. Returns 1, or 0 if none is outstanding. Fails
-/// with `BadArgument` for the ID or the size of the timeouts, then with `NoWait` for timeouts
-/// without a wait.
+/// Sets the timeouts of the request with this transaction ID. Returns 1, or 0 if no such request is
+/// outstanding. Fails with `BadArgument` if `id` does not have 12 bytes or if the size of the
+/// timeouts is wrong, then with `NoWait` if several transmissions would be due at the same time.
 #[unsafe(no_mangle)]
 pub extern "C" fn stunp_agent_configure(
     alloc: Global,
@@ -350,8 +366,8 @@ pub extern "C" fn stunp_agent_configure(
     answer
 }
 
-/// Adds an address to the validated peers. Fails with `BadArgument` for the address, then with
-/// `OutOfMemory`.
+/// Adds an address to the validated peers. Fails with `BadArgument` if `peer` is not an IPv4 or
+/// IPv6 address, then with `OutOfMemory`.
 #[unsafe(no_mangle)]
 pub extern "C" fn stunp_agent_validated_peer(
     alloc: Global,
@@ -362,7 +378,7 @@ pub extern "C" fn stunp_agent_validated_peer(
         (λ _. done_answer (done_if_given (socket_address peer.now)))
         (λ agent. left_by result agent (kept_after_naming agent peer.now)) }
 
-    // If the address is kept already, no failed allocation is returned.
+    // If the address is a validated peer already, the call does not fail with `OutOfMemory`.
     ensures there { IfSome (agent_in handle.old.slot.kept) (λ agent.
         IsTrue (naming_adds_none agent (socket_address peer.now)) →
         result ≡ done_answer (done_if_given (socket_address peer.now))) }
@@ -370,13 +386,14 @@ pub extern "C" fn stunp_agent_validated_peer(
     let Some(mut kept) = handle.take(alloc, AGENT) else {
         return missing(handle.kind);
     };
-    let answer = answers::done(agent::validated_peer(kept.agent(), peer));
+    let answer = answers::done(agent::add_validated_peer(kept.agent(), peer));
     handle.put(kept);
     answer
 }
 
 /// Returns 1 if an address is a validated peer, because a message from it was accepted or because
-/// it was added, and otherwise 0. Fails with `BadArgument` for the address.
+/// it was added, and otherwise 0. Fails with `BadArgument` if `peer` is not an IPv4 or IPv6
+/// address.
 #[unsafe(no_mangle)]
 pub extern "C" fn stunp_agent_is_validated_peer(
     alloc: Global,
@@ -412,8 +429,8 @@ pub extern "C" fn stunp_agent_peer_count(alloc: Global, handle: &mut StateHandle
     answer
 }
 
-/// Removes an address from the validated peers, if it is one. Fails with `BadArgument` for the
-/// address.
+/// Removes an address from the validated peers. Does nothing if the address is not one of them.
+/// Fails with `BadArgument` if `peer` is not an IPv4 or IPv6 address.
 #[unsafe(no_mangle)]
 pub extern "C" fn stunp_agent_forget_peer(
     alloc: Global,

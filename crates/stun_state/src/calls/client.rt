@@ -2,7 +2,7 @@
 //!
 //! A call fails first with `EmptyHandle` if its handle is empty, or with `WrongHandle` if it has an
 //! object of another type; `stunp_client_new` fails with `FullHandle` if the handle is not empty.
-//! Bytes that are not a message fail with `Truncated`, `NotStun` or `TooLarge`.
+//! For bytes that are not a message, a call fails with `Truncated`, `NotStun` or `TooLarge`.
 
 ghost use Rattle.std.specs.Prelude.{◌≡◌, ◌⊎◌, length, pos, MatchOption, Some, None};
 ghost use Rattle.std.specs.Prelude.{IfSome};
@@ -30,7 +30,8 @@ use std::alloc::Global;
 use stun_handles::kind::{CLIENT, EMPTY, missing};
 use stun_numbers::refusal::Refusal;
 
-/// Creates a client without credentials. Fails with `FullHandle`, then `OutOfMemory`.
+/// Creates a client without credentials. Fails with `FullHandle` if the handle is not empty, then
+/// with `OutOfMemory`.
 #[unsafe(no_mangle)]
 pub extern "C" fn stunp_client_new(alloc: Global, handle: &mut StateHandle) -> i64
     ensures { FillsHandle handle.old handle.new result
@@ -43,7 +44,8 @@ pub extern "C" fn stunp_client_new(alloc: Global, handle: &mut StateHandle) -> i
     handle.fill(alloc, Kept::Client(client::new(alloc)))
 }
 
-/// Sets the user name and the password. Fails with `NotText`, then `OutOfMemory`.
+/// Sets the user name and the password. Fails with `NotText` if one of them is not UTF-8, then with
+/// `OutOfMemory`.
 #[unsafe(no_mangle)]
 pub extern "C" fn stunp_client_set_credentials(
     alloc: Global,
@@ -67,8 +69,8 @@ pub extern "C" fn stunp_client_set_credentials(
     answer
 }
 
-/// Sets the algorithms that the client supports: 1 is HMAC-SHA1, 2 HMAC-SHA256, 3 both. Fails with
-/// `BadArgument` for another number.
+/// Sets the algorithms that the client supports: 1 is HMAC-SHA1, 2 is HMAC-SHA256, and 3 is both.
+/// Fails with `BadArgument` if `algorithms` is another number.
 #[unsafe(no_mangle)]
 pub extern "C" fn stunp_client_set_algorithms(
     alloc: Global,
@@ -90,8 +92,8 @@ pub extern "C" fn stunp_client_set_algorithms(
     answer
 }
 
-/// Sets whether the user name is sent as a hash: 0 if the server accepts that, 1 always, 2 never.
-/// Fails with `BadArgument` for another number.
+/// Sets when the user name is sent as a hash: 0 means if the server accepts hashes, 1 means always,
+/// and 2 means never. Fails with `BadArgument` if `feature` is another number.
 #[unsafe(no_mangle)]
 pub extern "C" fn stunp_client_set_anonymous_username(
     alloc: Global,
@@ -122,9 +124,16 @@ pub extern "C" fn stunp_client_clear(alloc: Global, handle: &mut StateHandle)
 
 /// Signs the message in the first `length` bytes of a buffer, and returns its new length in bytes.
 ///
-/// Fails with `BadArgument` for a length above the buffer's, then with the error of the message,
-/// then with `Closed`. Then come the errors of what is added, attribute by attribute, and last
-/// `BufferTooSmall`. An error leaves the buffer unchanged.
+/// # Errors
+///
+/// The first of these that applies. An error leaves the buffer unchanged.
+///
+/// - `BadArgument`: `length` exceeds the length of the buffer.
+/// - `Truncated`, `NotStun` or `TooLarge`: the bytes are not a message.
+/// - `Closed`: the message is signed or has FINGERPRINT.
+/// - `TextTooLong`, `AttributeExists` or `MessageTooLong`: the error of the first attribute that
+///   cannot be added.
+/// - `BufferTooSmall`: the signed message does not fit into the buffer.
 #[unsafe(no_mangle)]
 pub extern "C" fn stunp_client_sign(
     alloc: Global,
@@ -148,8 +157,8 @@ pub extern "C" fn stunp_client_sign(
     answer
 }
 
-/// Returns the algorithm with which a message would be signed now: 1 is HMAC-SHA1, 2 HMAC-SHA256, 0
-/// none.
+/// Returns the algorithm with which the client would sign a message now: 1 is HMAC-SHA1, 2 is
+/// HMAC-SHA256, and 0 means that the client would not sign the message.
 #[unsafe(no_mangle)]
 pub extern "C" fn stunp_client_signing_algorithm(alloc: Global, handle: &mut StateHandle) -> i64
     ensures missing { WithoutClient handle.old result (handle.new ≡ handle.old) }
@@ -165,12 +174,13 @@ pub extern "C" fn stunp_client_signing_algorithm(alloc: Global, handle: &mut Sta
     answer
 }
 
-/// Judges a response. Returns 1 or 2 if its signature is valid, with HMAC-SHA1 or HMAC-SHA256. Or
-/// returns 3 if another request is asked for, and 4 or 5 if such a response is itself signed with
-/// HMAC-SHA1 or HMAC-SHA256.
+/// Judges a response. Returns 1 or 2 if it is accepted, because its HMAC-SHA1 or HMAC-SHA256
+/// signature is valid. Returns 3 if it asks for another request. Returns 4 or 5 in place of 3 if
+/// its HMAC-SHA1 or HMAC-SHA256 signature is valid under the key that the client had before.
 ///
-/// Fails with the error of the message, then with the reasons of the authenticator, and with
-/// `OutOfMemory` only in place of 3, 4 or 5.
+/// Fails with `Truncated`, `NotStun` or `TooLarge` if `message` is not a message, then with the
+/// error with which the authenticator refuses it. It fails with `OutOfMemory` only in place of 3, 4
+/// or 5.
 #[unsafe(no_mangle)]
 pub extern "C" fn stunp_client_validate(
     alloc: Global,
@@ -183,7 +193,7 @@ pub extern "C" fn stunp_client_validate(
         (reading_answer (client_validation client message.now))
         (Some (kind.Client (client_after_validation client message.now)))) }
 
-    // A failed allocation is returned only if another request is asked for.
+    // The call fails with `OutOfMemory` only if the response asks for another request.
     ensures resend { IfSome (client_in handle.old.slot.kept) (λ client.
         (result ≡ reading_answer (client_validation client message.now))
         ⊎ AsksAgain client message.now) }

@@ -1,10 +1,12 @@
-//! The calls of a server whose users are looked up elsewhere, such as in a database: first the
-//! caller asks whom a message names, and then validates and signs with that user.
+//! The calls on a server whose users are looked up elsewhere, such as in a database. The caller
+//! first asks which user a message names, and then validates and signs with that user.
 //!
 //! A call fails first with `EmptyHandle` if its handle is empty, or with `WrongHandle` if it has an
-//! object of another type. An address and a message fail as in `calls/server.rt`. A stored key for
-//! HMAC-SHA1 has 16 bytes, and one for HMAC-SHA256 has 32. A key that is not stored has no bytes;
-//! any other length fails with `BadArgument`.
+//! object of another type. For bytes that are not a message, a call fails with `Truncated`,
+//! `NotStun` or `TooLarge`. For an address whose length is neither 4 nor 16, it fails with
+//! `BadArgument`. A stored key for HMAC-SHA1 has 16 bytes, and a stored key for HMAC-SHA256 has 32.
+//! A key that is not stored has no bytes. For a key of any other length, the call fails with
+//! `BadArgument`.
 
 ghost use Rattle.std.specs.Prelude.{◌≡◌, length, IfSome};
 ghost use Rattle.stun_handles.specs.Addresses.{socket_address};
@@ -23,12 +25,15 @@ use std::alloc::Global;
 use stun_handles::address::Address;
 use stun_handles::kind::{SERVER, missing};
 
-/// Determines with which user's key a message that arrived from an address will be verified.
-/// Returns 1 and writes the name, or 2 and writes its hash of 32 bytes, and writes the length of
-/// either; or returns 0 if the message names nobody. A message with a USERHASH names nobody if the
-/// server does not accept hashes, even if it has a USERNAME too.
+/// Determines the user with whose key a message that arrived from an address will be verified.
+/// Returns 1 and writes the name of the user to `name`, or returns 2 and writes the hash of the
+/// name, which has 32 bytes. In both cases it writes the length to `name_length`. Returns 0 if the
+/// message names nobody. A message with a USERHASH names nobody if the server does not accept
+/// hashes, even if it has a USERNAME too.
 ///
-/// Fails with the error of the address, then with that of the message, then with `BufferTooSmall`.
+/// Fails with `BadArgument` if `from` is not an IPv4 or IPv6 address, then with `Truncated`,
+/// `NotStun` or `TooLarge` if `message` is not a message, then with `BufferTooSmall` if the name or
+/// the hash does not fit into `name`.
 #[unsafe(no_mangle)]
 pub extern "C" fn stunp_server_named_user(
     alloc: Global,
@@ -47,7 +52,7 @@ pub extern "C" fn stunp_server_named_user(
         ≡ after_address (socket_address from.now) name.old
         (λ from. naming_written name.old (named_in_bytes kept.server message.now from))) }
 
-    // Also where the buffer has no room for it.
+    // The length is written even if the buffer has no room for the name or the hash.
     ensures name_length { IfSome (server_in handle.old.slot.kept) (λ kept. name_length.new
         ≡ after_address (socket_address from.now) name_length.old
         (λ from. naming_length (named_in_bytes kept.server message.now from) name_length.old)) }
@@ -56,14 +61,14 @@ pub extern "C" fn stunp_server_named_user(
     let Some(mut kept) = handle.take(alloc, SERVER) else {
         return missing(handle.kind);
     };
-    let named = handed::named_user(&kept.server().server, message, from, name, name_length);
+    let named = handed::write_named_user(&kept.server().server, message, from, name, name_length);
     let answer = answers::number(named);
     handle.put(kept);
     answer
 }
 
 /// Authenticates a message like `stunp_server_validate`, as a server whose only user has this name
-/// and password. Also fails with `NotText` for the name or the password, right after
+/// and password. It also fails with `NotText` if the name or the password is not UTF-8, right after
 /// `TooManyAddresses`. After that, `OutOfMemory` may take the place of any result.
 #[unsafe(no_mangle)]
 pub extern "C" fn stunp_server_validate_of(
@@ -90,8 +95,9 @@ pub extern "C" fn stunp_server_validate_of(
 }
 
 /// Signs a message like `stunp_server_sign`, as a server whose only user has this name and
-/// password. Before all other errors it fails with `NotText` for the name or the password. After
-/// that, `OutOfMemory` may take the place of any result.
+/// password. It fails with `NotText` if the name or the password is not UTF-8, before all other
+/// errors except the errors of the handle. After that, `OutOfMemory` may take the place of any
+/// result.
 #[unsafe(no_mangle)]
 pub extern "C" fn stunp_server_sign_of(
     alloc: Global,
@@ -124,8 +130,8 @@ pub extern "C" fn stunp_server_sign_of(
 }
 
 /// Authenticates a message like `stunp_server_validate_of`, with stored keys in place of the
-/// password. Fails with `NotText` for the name only, and right after that with `BadArgument` for
-/// the length of a key.
+/// password. Fails with `NotText` only if the name is not UTF-8, and right after that with
+/// `BadArgument` if a key has a wrong length.
 #[unsafe(no_mangle)]
 pub extern "C" fn stunp_server_validate_of_keys(
     alloc: Global,
@@ -152,8 +158,8 @@ pub extern "C" fn stunp_server_validate_of_keys(
 }
 
 /// Signs a message like `stunp_server_sign_of`, with stored keys in place of the password. Fails
-/// with `NotText` for the name only, and right after that with `BadArgument` for the length of a
-/// key.
+/// with `NotText` only if the name is not UTF-8, and right after that with `BadArgument` if a key
+/// has a wrong length.
 #[unsafe(no_mangle)]
 pub extern "C" fn stunp_server_sign_of_keys(
     alloc: Global,

@@ -1,17 +1,19 @@
-//! The release of the archive, and the meaning of its answers.
+//! The calls that return the release of the archive, and whether a result of
+//! `stunp_client_validate` asks for another request.
 
 ghost use Rattle.std.specs.Prelude.{◌≡◌, pos};
 ghost use Rattle.stun_state.specs.Numbers.{is_resend_answer};
 
 use crate::answers;
 
-/// 10000 times the first number of the release, 100 times its second, and its third.
-const VERSION: i64 = 200;
+/// The version: 10000 times the first number of the release, plus 100 times its second, plus its
+/// third.
+const VERSION: i64 = 300;
 
 /// Returns the version of the archive.
 #[unsafe(no_mangle)]
 pub extern "C" fn stunp_state_version() -> i64
-    ensures { result ≡ pos 200 }
+    ensures { result ≡ pos 300 }
 {
     VERSION
 }
@@ -19,14 +21,14 @@ pub extern "C" fn stunp_state_version() -> i64
 /// Returns the version of the archive. A program that is compiled against the header of this
 /// release refers to this name, so that it cannot be linked with another release.
 #[unsafe(no_mangle)]
-pub extern "C" fn stunp_state_release_0_2() -> i64
-    ensures { result ≡ pos 200 }
+pub extern "C" fn stunp_state_release_0_3() -> i64
+    ensures { result ≡ pos 300 }
 {
     VERSION
 }
 
-/// Returns `true` if an answer of `stunp_client_validate` asks for another request: if it is 3, 4
-/// or 5.
+/// Returns `true` if a result of `stunp_client_validate` asks for another request: if it is 3, 4 or
+/// 5.
 #[unsafe(no_mangle)]
 pub extern "C" fn stunp_is_resend(answer: i64) -> bool
     ensures { result ≡ is_resend_answer answer }

@@ -2,8 +2,8 @@
 //!
 //! A call fails first with `EmptyHandle` if its handle is empty, or with `WrongHandle` if it has an
 //! object of another type; `stunp_server_new` fails with `FullHandle` if the handle is not empty.
-//! Bytes that are not a message fail with `Truncated`, `NotStun` or `TooLarge`, and an address whose
-//! length is neither 4 nor 16 with `BadArgument`.
+//! For bytes that are not a message, a call fails with `Truncated`, `NotStun` or `TooLarge`. For an
+//! address whose length is neither 4 nor 16, it fails with `BadArgument`.
 
 ghost use Rattle.std.specs.FinMap as map;
 ghost use Rattle.std.specs.Prelude.{◌≡◌, ◌-◌, length, pos, MatchOption, Some, None, Ok};
@@ -41,7 +41,8 @@ use stun_handles::kind::{EMPTY, SERVER, missing};
 use stun_numbers::refusal::Refusal;
 
 /// Creates a server for a realm, without users and without a limit on addresses. Fails with
-/// `FullHandle`, then `NotText`, then `OutOfMemory`.
+/// `FullHandle` if the handle is not empty, then with `NotText` if the realm is not UTF-8, then
+/// with `OutOfMemory`.
 #[unsafe(no_mangle)]
 pub extern "C" fn stunp_server_new(alloc: Global, handle: &mut StateHandle, realm: &[u8]) -> i64
     ensures { FillsHandle handle.old handle.new result
@@ -67,8 +68,8 @@ pub extern "C" fn stunp_server_new(alloc: Global, handle: &mut StateHandle, real
     handle.fill(alloc, Kept::Server(kept))
 }
 
-/// Sets the algorithms that the server supports: 1 is HMAC-SHA1, 2 HMAC-SHA256, 3 both. Fails with
-/// `BadArgument` for another number.
+/// Sets the algorithms that the server supports: 1 is HMAC-SHA1, 2 is HMAC-SHA256, and 3 is both.
+/// Fails with `BadArgument` if `algorithms` is another number.
 #[unsafe(no_mangle)]
 pub extern "C" fn stunp_server_set_algorithms(
     alloc: Global,
@@ -87,8 +88,8 @@ pub extern "C" fn stunp_server_set_algorithms(
     answer
 }
 
-/// Sets whether clients may send a hash in place of the user name: 0 and 1 mean yes, 2 no. Fails
-/// with `BadArgument` for another number.
+/// Sets whether clients may send a hash in place of the user name: 0 and 1 mean yes, and 2 means
+/// no. Fails with `BadArgument` if `feature` is another number.
 #[unsafe(no_mangle)]
 pub extern "C" fn stunp_server_set_anonymous_username(
     alloc: Global,
@@ -124,7 +125,8 @@ pub extern "C" fn stunp_server_set_nonce_expiry(
     0
 }
 
-/// Limits the number of addresses that have a record. It removes none.
+/// Limits the number of addresses that have a record to `most`. If more addresses have a record
+/// already, the call removes none of them.
 #[unsafe(no_mangle)]
 pub extern "C" fn stunp_server_set_most_addresses(
     alloc: Global,
@@ -154,8 +156,8 @@ pub extern "C" fn stunp_server_clear(alloc: Global, handle: &mut StateHandle)
     let _server = handle.take(alloc, SERVER);
 }
 
-/// Adds a user, or replaces the password of an existing one. Fails with `NotText`, then
-/// `OutOfMemory`.
+/// Adds a user, or replaces the password of an existing user. Fails with `NotText` if the name or
+/// the password is not UTF-8, then with `OutOfMemory`.
 #[unsafe(no_mangle)]
 pub extern "C" fn stunp_server_add_user(
     alloc: Global,
@@ -184,7 +186,8 @@ pub extern "C" fn stunp_server_add_user(
     answer
 }
 
-/// Removes a user, if there is one of this name. Fails with `NotText`.
+/// Removes the user with this name. Does nothing if there is no such user. Fails with `NotText` if
+/// the name is not UTF-8.
 #[unsafe(no_mangle)]
 pub extern "C" fn stunp_server_remove_user(
     alloc: Global,
@@ -204,12 +207,18 @@ pub extern "C" fn stunp_server_remove_user(
 }
 
 /// Authenticates a message that arrived from an address, and returns an algorithm: 1 is HMAC-SHA1,
-/// 2 HMAC-SHA256. For a request or an indication it is that of the user's key, and for a response
-/// that of the signature. `now` is in nanoseconds, and `words` are random numbers, which are read
-/// only if a nonce is made.
+/// and 2 is HMAC-SHA256. For a request or an indication it is the algorithm of the user's key, and
+/// for a response it is the algorithm of the signature. `now` is in nanoseconds, and `words` are
+/// random numbers, which are read only if a nonce is made.
 ///
-/// Fails with the error of the address, then with that of the message, then with
-/// `TooManyAddresses`. Then come the reasons of the authenticator, `OutOfMemory` among them.
+/// # Errors
+///
+/// The first of these that applies:
+///
+/// - `BadArgument`: `from` is not an IPv4 or IPv6 address.
+/// - `Truncated`, `NotStun` or `TooLarge`: `message` is not a message.
+/// - `TooManyAddresses`: the address has no record, and the limit is reached.
+/// - The error with which the authenticator refuses the message, or `OutOfMemory`.
 #[unsafe(no_mangle)]
 pub extern "C" fn stunp_server_validate(
     alloc: Global,
@@ -219,13 +228,14 @@ pub extern "C" fn stunp_server_validate(
     now: u64,
     words: &[u32; 16],
 ) -> i64
-    // The number of what the authenticator returns, and what its call leaves.
+    // The result is the number for what the authenticator returns, and the handle has the server as
+    // the authenticator leaves it.
     ensures judged { Judges handle.old handle.new result
         (λ kept. validation_number kept message.now from.now now words.now)
         (λ kept. kept_after_validating kept message.now from.now now words.now) }
 
-    // If nothing of the server changes, as if the same client is accepted again, no failed
-    // allocation is returned.
+    // If the message does not change the server, for example because the same client is accepted
+    // again, the call does not fail with `OutOfMemory`.
     ensures unchanged { IfSome (server_in handle.old.slot.kept) (λ kept.
         LeavesServer kept message.now now words.now (socket_address from.now) →
         result ≡ validation_number kept message.now from.now now words.now) }
@@ -238,9 +248,10 @@ pub extern "C" fn stunp_server_validate(
     answer
 }
 
-/// Writes the name of the user who was validated last at an address, and its length, and returns
-/// the algorithm of the user's key, or 0 if there is no such user. Fails with `BadArgument` for the
-/// address, then with `BufferTooSmall`.
+/// Writes the name of the user who was validated last at an address to `name`, and its length to
+/// `name_length`. Returns the algorithm of the user's key, or 0 if the address has no such user.
+/// Fails with `BadArgument` if `at` is not an IPv4 or IPv6 address, then with `BufferTooSmall` if
+/// the name does not fit into `name`.
 #[unsafe(no_mangle)]
 pub extern "C" fn stunp_server_client(
     alloc: Global,
@@ -257,7 +268,7 @@ pub extern "C" fn stunp_server_client(
         ≡ after_address (socket_address at.now) name.old
         (λ at. name_written name.old (client_at kept.server at))) }
 
-    // Also where the buffer has no room for the name.
+    // The length is written even if the buffer has no room for the name.
     ensures name_length { IfSome (server_in handle.old.slot.kept) (λ kept. name_length.new
         ≡ after_address (socket_address at.now) name_length.old
         (λ at. name_length_of (client_at kept.server at) name_length.old)) }
@@ -266,17 +277,25 @@ pub extern "C" fn stunp_server_client(
     let Some(mut kept) = handle.take(alloc, SERVER) else {
         return missing(handle.kind);
     };
-    let answer = answers::found(server::client(&kept.server().server, at, name, name_length));
+    let answer = answers::found(server::write_client(&kept.server().server, at, name, name_length));
     handle.put(kept);
     answer
 }
 
-/// Signs the message in the first `length` bytes of a buffer, which is for an address, and returns
-/// its new length in bytes.
+/// Signs the message in the first `length` bytes of a buffer, which will be sent to an address, and
+/// returns its new length in bytes.
 ///
-/// Fails with the error of the address, then with `BadArgument` for a length above the buffer's.
-/// Then come the error of the message, `Closed`, `BufferTooSmall`, and the errors of what is added,
-/// attribute by attribute. An error leaves the buffer and the server unchanged.
+/// # Errors
+///
+/// The first of these that applies. An error leaves the buffer and the server unchanged.
+///
+/// - `BadArgument`: `to` is not an IPv4 or IPv6 address, or `length` exceeds the length of the
+///   buffer.
+/// - `Truncated`, `NotStun` or `TooLarge`: the bytes are not a message.
+/// - `Closed`: the message is signed or has FINGERPRINT.
+/// - `BufferTooSmall`: the signed message would not fit into the buffer.
+/// - `TextTooLong`, `AttributeExists`, `MessageTooLong` or `CannotSign`: the error of the first
+///   attribute that cannot be added.
 #[unsafe(no_mangle)]
 pub extern "C" fn stunp_server_sign(
     alloc: Global,
@@ -318,8 +337,9 @@ pub extern "C" fn stunp_server_address_count(alloc: Global, handle: &mut StateHa
     answer
 }
 
-/// Writes the latest nonce that was made for an address, and returns its length in bytes, or 0 if
-/// there is none. Fails with `BadArgument` for the address, then with `BufferTooSmall`.
+/// Writes the latest nonce that was made for an address to `nonce`, and returns its length in
+/// bytes, or 0 if none was made. Fails with `BadArgument` if `at` is not an IPv4 or IPv6 address,
+/// then with `BufferTooSmall` if the nonce does not fit into `nonce`.
 #[unsafe(no_mangle)]
 pub extern "C" fn stunp_server_nonce(
     alloc: Global,
@@ -339,12 +359,13 @@ pub extern "C" fn stunp_server_nonce(
     let Some(mut kept) = handle.take(alloc, SERVER) else {
         return missing(handle.kind);
     };
-    let answer = answers::length(server::nonce(&kept.server().server, at, nonce));
+    let answer = answers::length(server::write_nonce(&kept.server().server, at, nonce));
     handle.put(kept);
     answer
 }
 
-/// Forgets the client of an address, but keeps its nonce. Fails with `BadArgument` for the address.
+/// Removes the client of an address, but not the nonce of the address. Fails with `BadArgument` if
+/// `at` is not an IPv4 or IPv6 address.
 #[unsafe(no_mangle)]
 pub extern "C" fn stunp_server_remove_client(
     alloc: Global,
@@ -363,7 +384,8 @@ pub extern "C" fn stunp_server_remove_client(
     answer
 }
 
-/// Removes the record of an address. Fails with `BadArgument` for the address.
+/// Removes the record of an address. Fails with `BadArgument` if `at` is not an IPv4 or IPv6
+/// address.
 #[unsafe(no_mangle)]
 pub extern "C" fn stunp_server_forget(alloc: Global, handle: &mut StateHandle, at: &Address) -> i64
     ensures { ChangesServer handle.old handle.new result
@@ -378,8 +400,8 @@ pub extern "C" fn stunp_server_forget(alloc: Global, handle: &mut StateHandle, a
     answer
 }
 
-/// Removes every record that has no client and whose nonce expired more than `age` before `now`, both
-/// in nanoseconds. If `now` is less than `age` it removes none.
+/// Removes every record that has no client and whose nonce expired more than `age` before `now`,
+/// both in nanoseconds. If `now` is less than `age` it removes none.
 #[unsafe(no_mangle)]
 pub extern "C" fn stunp_server_forget_expired(
     alloc: Global,
@@ -398,10 +420,10 @@ pub extern "C" fn stunp_server_forget_expired(
     0
 }
 
-/// Removes records like `stunp_server_forget_expired`, but visits at most `most` of them, from the
-/// address `from` on, or from the first one if `from` has length 0. Returns 1 if there is more to
-/// visit, and sets `from` to the address at which to continue; or returns 0 at the end, and sets
-/// the length of `from` to 0. Fails with `BadArgument` for `from`.
+/// Removes records like `stunp_server_forget_expired`, but visits at most `most` of them, beginning
+/// at the address `from`, or at the first record if `from` has length 0. Returns 1 and sets `from`
+/// to the address at which to continue. If there are no more records, returns 0 and sets the length
+/// of `from` to 0. Fails with `BadArgument` if the length of `from` is not 0, 4 or 16.
 #[unsafe(no_mangle)]
 pub extern "C" fn stunp_server_forget_expired_within(
     alloc: Global,

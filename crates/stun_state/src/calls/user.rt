@@ -1,5 +1,6 @@
-//! The calls of a user who is prepared once, and passed along with each message: for a server whose
-//! users are looked up elsewhere, and for whom a user is worth keeping.
+//! The calls for a user who is prepared once, and whom the caller passes with each message. They
+//! are for a server whose users are looked up elsewhere, and whose caller can cache a prepared
+//! user.
 //!
 //! A call on a server fails first with `EmptyHandle` if the server's handle is empty, or with
 //! `WrongHandle` if it has an object of another type, and then likewise for the user's handle.
@@ -30,12 +31,13 @@ use stun_handles::address::Address;
 use stun_handles::kind::{EMPTY, SERVER, USER, missing};
 use stun_numbers::refusal::Refusal;
 
-/// Prepares a user of a server from a name and a password: makes the keys at the server's realm for
-/// the algorithms that the server supports now. The server is unchanged, and does not register the
-/// user.
+/// Prepares a user of a server from a name and a password: makes the user's keys for the realm of
+/// the server and for the algorithms that it supports now. The server is unchanged, and does not
+/// register the user.
 ///
-/// Fails with `FullHandle` for the user's handle, then with `EmptyHandle` or `WrongHandle` for the
-/// server's, then with `NotText`, then with `OutOfMemory`.
+/// Fails with `FullHandle` if the user's handle is not empty, then with `EmptyHandle` or
+/// `WrongHandle` if the server's handle has no server, then with `NotText` if the name or the
+/// password is not UTF-8, then with `OutOfMemory`.
 #[unsafe(no_mangle)]
 pub extern "C" fn stunp_user_new(
     alloc: Global,
@@ -55,7 +57,7 @@ pub extern "C" fn stunp_user_new(
         return missing(server.kind);
     };
     let at = kept.server();
-    let made = handed::prepared(alloc, &at.server, name, Given::Password(password));
+    let made = handed::prepare(alloc, &at.server, name, Given::Password(password));
     server.put(kept);
     match made {
         Ok(user) => handle.fill(alloc, Kept::User(user)),
@@ -64,7 +66,8 @@ pub extern "C" fn stunp_user_new(
 }
 
 /// Prepares a user like `stunp_user_new`, with stored keys in place of the password. Fails with
-/// `NotText` for the name only, and right after that with `BadArgument` for the length of a key.
+/// `NotText` only if the name is not UTF-8, and right after that with `BadArgument` if a key has a
+/// wrong length.
 #[unsafe(no_mangle)]
 pub extern "C" fn stunp_user_new_of_keys(
     alloc: Global,
@@ -85,7 +88,7 @@ pub extern "C" fn stunp_user_new_of_keys(
         return missing(server.kind);
     };
     let at = kept.server();
-    let made = handed::prepared(alloc, &at.server, name, Given::Keys(sha1, sha256));
+    let made = handed::prepare(alloc, &at.server, name, Given::Keys(sha1, sha256));
     server.put(kept);
     match made {
         Ok(user) => handle.fill(alloc, Kept::User(user)),
@@ -101,12 +104,13 @@ pub extern "C" fn stunp_user_clear(alloc: Global, handle: &mut StateHandle)
     let _user = handle.take(alloc, USER);
 }
 
-/// Authenticates a message like `stunp_server_validate`, as a server whose only user is this one.
-/// The server's own users and this one are unchanged.
+/// Authenticates a message like `stunp_server_validate`, as a server whose only user is `user`. The
+/// server's own users and this user are unchanged.
 ///
-/// Fails with `EmptyHandle` or `WrongHandle` for the server's handle, then likewise for the user's,
-/// then with `WrongHandle` if the user was prepared for another realm, or for other algorithms than
-/// the server supports now. Then it fails like `stunp_server_validate`.
+/// Fails with `EmptyHandle` or `WrongHandle` if the server's handle has no server, then likewise if
+/// the user's handle has no user, then with `WrongHandle` if the user was prepared for another
+/// realm, or for other algorithms than the server supports now. Then it fails like
+/// `stunp_server_validate`.
 #[unsafe(no_mangle)]
 pub extern "C" fn stunp_server_validate_user(
     alloc: Global,
@@ -131,8 +135,8 @@ pub extern "C" fn stunp_server_validate_user(
           server = kept_after_prepared_validation kept message.now from.now now words.now one;
         })))) }
 
-    // If nothing of the server changes, as if the same client is accepted again, no failed
-    // allocation is returned.
+    // If the message does not change the server, for example because the same client is accepted
+    // again, the call does not fail with `OutOfMemory`.
     ensures unchanged { IfUserOf handle.old user.old (λ kept one.
         LeavesServer (with_only kept one) message.now now words.now (socket_address from.now) →
         result ≡ validation_number (with_only kept one) message.now from.now now words.now) }
@@ -158,13 +162,14 @@ pub extern "C" fn stunp_server_validate_user(
     answer
 }
 
-/// Signs a message like `stunp_server_sign`, as a server whose only user is this one. The server's
-/// own users and this one are unchanged.
+/// Signs a message like `stunp_server_sign`, as a server whose only user is `user`. The server's
+/// own users and this user are unchanged.
 ///
-/// Fails with `EmptyHandle` or `WrongHandle` for the server's handle, then likewise for the user's,
-/// then with `WrongHandle` if the user was prepared for another realm, or for other algorithms than
-/// the server supports now. Then it fails like `stunp_server_sign`, and with `CannotSign` also if
-/// this user is not the client of the address, or has no key for the client's algorithm.
+/// Fails with `EmptyHandle` or `WrongHandle` if the server's handle has no server, then likewise if
+/// the user's handle has no user, then with `WrongHandle` if the user was prepared for another
+/// realm, or for other algorithms than the server supports now. Then it fails like
+/// `stunp_server_sign`, and with `CannotSign` also if this user is not the client of the address,
+/// or has no key for the client's algorithm.
 #[unsafe(no_mangle)]
 pub extern "C" fn stunp_server_sign_user(
     alloc: Global,

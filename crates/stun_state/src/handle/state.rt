@@ -1,4 +1,4 @@
-//! The handle of an agent, of a server, of a client or of a prepared user.
+//! The handle to an agent, to a server, to a client or to a prepared user.
 ghost use Rattle.std.specs.Prelude.{◌≡◌, Some, None, Option, IfSome, IfNone, is_some, pos, true};
 ghost use Rattle.std.specs.Borrow.{sem};
 ghost use Rattle.stun_handles.specs.Kinds.{EMPTY as empty_kind, is_full};
@@ -21,7 +21,7 @@ use stun_handles::handle::Loose;
 use stun_handles::kind::{AGENT, CLIENT, EMPTY, SERVER, USER};
 use stun_numbers::refusal::Refusal;
 
-/// A server, and the greatest number of addresses that may have a record.
+/// A server, and the greatest number of addresses for which it may have a record.
 #[derive(Drop)]
 pub struct Server {
     pub server: LongTermServerAuth<Global>,
@@ -100,7 +100,7 @@ impl Kept {
     }
 }
 
-/// A value on the heap or nothing, as a pointer.
+/// A pointer to a value on the heap, or nothing.
 #[repr(C)]
 pub struct StateSlot {
     at: *mut u8,
@@ -129,7 +129,7 @@ impl StateSlot {
         Loose { is_full: true, at }
     }
 
-    /// Forgets an empty slot.
+    /// Discards an empty slot, which owns nothing.
     fn discard(self)
         requires { self.kept ≡ None }
     {
@@ -137,8 +137,9 @@ impl StateSlot {
     }
 }
 
-/// The caller's handle: all zero if it is empty, and otherwise what `put` wrote. Memory that was
-/// never initialized has no value, unless it begins with one of the kinds.
+/// The caller's handle: all zero if it is empty, and otherwise as `put` wrote it. Memory that was
+/// never initialized counts as a handle without a value, unless it begins with the number of a
+/// kind.
 #[repr(C)]
 pub struct StateHandle {
     pub kind: u32,
@@ -159,7 +160,7 @@ impl StateHandle {
         }
     }
 
-    /// Creates a full handle.
+    /// Creates a handle that has this value.
     fn of(kept: Box<Kept, Global>) -> StateHandle
         ensures { result.slot.kept ≡ Some kept.value }
     {
@@ -170,8 +171,8 @@ impl StateHandle {
         }
     }
 
-    /// Takes the value out, if there is one of this kind, and leaves the handle empty. A handle
-    /// without one is left as it is.
+    /// Takes the value out of a handle that has a value of this kind, and leaves the handle empty.
+    /// For any other handle returns `None`, and leaves the handle unchanged.
     pub fn take(&mut self, alloc: Global, kind: u32) -> Option<Box<Kept, Global>>
         requires { is_full kind ≡ true }
         ensures some { IfSome result (λ kept. self.old.slot.kept ≡ Some kept.value) }
@@ -181,10 +182,13 @@ impl StateHandle {
         ensures empty { IfSome result (λ _. self.new.kind ≡ empty_kind) }
         ensures taken { IfSome result (λ _. self.new.slot.kept ≡ None) }
     {
+        // This is tested before the pointer is followed, because memory that was never a handle has
+        // another kind, and may have any pointer.
         if self.kind != kind {
             return None;
         }
         let StateHandle { kind: _, slot } = replace(self, StateHandle::none());
+        // A handle that begins with the number of a kind has a value (`tagged`).
         let Some(kept) = slot.into_loose().into_box(alloc) else {
             unreachable!()
         };
@@ -200,7 +204,7 @@ impl StateHandle {
         slot.discard();
     }
 
-    /// Moves a value to the heap and puts it into an empty handle. Returns 0, or the number of
+    /// Moves a value to the heap and puts it into an empty handle. Returns 0, or the code of
     /// `OutOfMemory`.
     pub fn fill(&mut self, alloc: Global, kept: Kept) -> i64
         requires { self.old.slot.kept ≡ None }

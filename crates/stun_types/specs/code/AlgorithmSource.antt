@@ -1,4 +1,4 @@
--- Where the algorithms of a PASSWORD-ALGORITHMS are: in a program's own list, or as entries in a
+-- The source of the algorithms of a PASSWORD-ALGORITHMS: a program's own list, or entries in a
 -- message.
 use Rattle.std.specs.Prelude.{List, IsTrue}
 use Rattle.stun_types.specs.code.PasswordAlgorithms.{are_entries, entry_list}
@@ -14,7 +14,7 @@ abbrev pub list_of : Source → List PasswordAlgorithmValue
 list_of (Listed list) = list.now
 list_of (Received bytes) = entry_list bytes.now
 
--- what is received are entries of known algorithms
+-- the received bytes are entries of known algorithms
 abbrev pub IsKnown : Source → Type 0
 IsKnown (Listed list) = Unit {0}
 IsKnown (Received bytes) = IsTrue (are_entries bytes.now)

@@ -1,4 +1,4 @@
--- A message as its struct keeps it.
+-- A message as its struct stores it.
 use Rattle.std.specs.Prelude.{◌≡◌, ◌≤◌, ℕ, List, length}
 use Rattle.stun_base.specs.Header.{HeaderFields, header_of}
 use Rattle.stun_types.specs.Limits.{LENGTH_LIMIT}

@@ -1,4 +1,4 @@
--- The entries of a list as its struct keeps them.
+-- The entries of a list as its struct stores them.
 use Rattle.std.specs.Prelude.{ℕ, Bool, List, []}
 use Rattle.std.specs.Option.{is_some, unwrap_or}
 use Rattle.stun_types.specs.declared.attribute.password_algorithm.PasswordAlgorithmValue.{

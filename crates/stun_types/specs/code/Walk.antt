@@ -1,4 +1,4 @@
--- The places of a walk.
+-- The offsets of a walk.
 use Rattle.std.specs.Prelude.{◌≤◌, ℕ, ◌+◌, List, length}
 use Rattle.stun_base.specs.Header.{HEADER_LENGTH}
 use Rattle.stun_types.specs.Attribute.{ATTRIBUTE_HEADER_LENGTH}

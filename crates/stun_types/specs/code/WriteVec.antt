@@ -2,7 +2,8 @@
 use Rattle.std.specs.Prelude.{ℕ, ◌+◌, ◌≤◌}
 use Rattle.stun_types.specs.Limits.{LENGTH_LIMIT}
 
--- so many reserved bytes after so many written ones fit the capacity and the longest message
+-- this many reserved bytes, after this many written ones, fit into the capacity and the longest
+-- message
 pub record FitsCapacity (len reserved capacity : ℕ) : Type 0 where
   pub in_capacity : len + reserved ≤ capacity
   pub in_message : len + reserved ≤ LENGTH_LIMIT

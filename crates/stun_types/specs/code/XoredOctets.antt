@@ -1,4 +1,4 @@
--- The octets of an address, xored with the key.
+-- The octets of an address, XORed with the key.
 use Rattle.std.specs.Prelude.{◌≡◌, ◌==◌, ℕ, List, length, if◌then◌else◌}
 use Rattle.std.proofs.Common.{refl}
 use Rattle.stun_types.specs.declared.attribute.xor_mapped_address.XoredOctets.{XoredOctets}
@@ -23,7 +23,7 @@ HasOctetsOfFamily (V6 octets) = length octets ≡ 16
 abbrev pub with_family : ℕ → List ℕ → XoredOctets
 with_family family octets = if family == 1 then V4 octets else V6 octets
 
--- family and octets are all there is
+-- an address consists of its family and its octets
 pub with_family-of : (xored : XoredOctets)
     → with_family (family_of_octets xored) (octets_of xored) ≡ xored
 with_family-of (V4 octets) = refl

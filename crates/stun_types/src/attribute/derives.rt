@@ -1,4 +1,5 @@
-//! What derived impls and constants of attributes do: comparisons, copies, types and codes.
+//! The derived impls and the constants of attributes, each behind a function whose contract states
+//! what it does.
 ghost use Rattle.std.specs.Prelude.{◌≡◌, ◌<◌, ◌↔◌, ◌∷◌, []};
 ghost use Rattle.std.specs.Prelude.{IsTrue, Ok, map};
 ghost use Rattle.stun_types.specs.declared.attribute.password_algorithm.PasswordAlgorithmValue.{PasswordAlgorithmValue};
@@ -10,84 +11,85 @@ use crate::attribute::{
 };
 use std::alloc::AllocError;
 
-/// Raw attributes are equal if and only if type and value are.
+/// Returns whether two raw attributes are equal: the same type, and values with the same bytes.
 pub fn is_same_attribute(one: &RawAttribute<'_>, other: &RawAttribute<'_>) -> bool
     ensures { IsTrue result ↔ (one.now ≡ other.now) }
 {
     one == other
 }
 
-/// Addresses are equal if and only if family, port and octets are, as a message has them.
+/// Returns whether two XOR-MAPPED-ADDRESS attributes are equal: the same family, and the same port
+/// and octets, as they are in the message (XORed).
 pub fn is_same_address(one: XorMappedAddress, other: XorMappedAddress) -> bool
     ensures { IsTrue result ↔ (one ≡ other) }
 {
     one == other
 }
 
-/// User names are equal if and only if their bytes are.
+/// Returns whether two USERNAME attributes are equal: they have the same bytes.
 pub fn is_same_username(one: &Username<'_>, other: &Username<'_>) -> bool
     ensures { IsTrue result ↔ (one.now ≡ other.now) }
 {
     one == other
 }
 
-/// Realms are equal if and only if their bytes are.
+/// Returns whether two REALM attributes are equal: they have the same bytes.
 pub fn is_same_realm(one: &Realm<'_>, other: &Realm<'_>) -> bool
     ensures { IsTrue result ↔ (one.now ≡ other.now) }
 {
     one == other
 }
 
-/// Nonces are equal if and only if their bytes are.
+/// Returns whether two NONCE attributes are equal: they have the same bytes.
 pub fn is_same_nonce(one: &Nonce<'_>, other: &Nonce<'_>) -> bool
     ensures { IsTrue result ↔ (one.now ≡ other.now) }
 {
     one == other
 }
 
-/// Errors are equal if and only if code and reason are.
+/// Returns whether two ERROR-CODE attributes are equal: the same code and the same reason phrase.
 pub fn is_same_error(one: &ErrorCode<'_>, other: &ErrorCode<'_>) -> bool
     ensures { IsTrue result ↔ (one.now ≡ other.now) }
 {
     one == other
 }
 
-/// Digests are equal if and only if their bytes are.
+/// Returns whether two MESSAGE-INTEGRITY-SHA256 attributes are equal: they have the same bytes.
 pub fn is_same_digest(one: &MessageIntegritySha256<'_>, other: &MessageIntegritySha256<'_>) -> bool
     ensures { IsTrue result ↔ (one.now ≡ other.now) }
 {
     one == other
 }
 
-/// Digests of HMAC-SHA1 are equal if and only if their bytes are.
+/// Returns whether two MESSAGE-INTEGRITY attributes are equal: they have the same bytes.
 pub fn is_same_sha1_digest(one: MessageIntegrity, other: MessageIntegrity) -> bool
     ensures { IsTrue result ↔ (one ≡ other) }
 {
     one == other
 }
 
-/// Hashes of user names are equal if and only if their bytes are.
+/// Returns whether two USERHASH attributes are equal: they have the same bytes.
 pub fn is_same_userhash(one: Userhash, other: Userhash) -> bool
     ensures { IsTrue result ↔ (one ≡ other) }
 {
     one == other
 }
 
-/// Choices of an algorithm are equal if and only if the algorithms are.
+/// Returns whether two PASSWORD-ALGORITHM attributes are equal: they have the same algorithm.
 pub fn is_same_choice(one: PasswordAlgorithm, other: PasswordAlgorithm) -> bool
     ensures { IsTrue result ↔ (one ≡ other) }
 {
     one == other
 }
 
-/// Algorithms of passwords are equal as values.
+/// Returns whether two `PasswordAlgorithmValue`s are the same.
 pub fn is_same_algorithm(one: PasswordAlgorithmValue, other: PasswordAlgorithmValue) -> bool
     ensures { IsTrue result ↔ (one ≡ other) }
 {
     one == other
 }
 
-/// Copies of attributes are the same values.
+/// Copies one value of each type of attribute that borrows nothing, and an algorithm.
 pub fn copies(
     address: &XorMappedAddress,
     digest: &MessageIntegrity,
@@ -115,7 +117,7 @@ pub fn copies(
     ))
 }
 
-/// The numbers of the constants `TYPE` (RFC 8489, section 18.3), in ascending order.
+/// Returns the constants `TYPE` of all attributes, by ascending numbers (RFC 8489, section 18.3).
 pub fn static_types() -> [AttributeType; 10]
     ensures { map (λ kind. kind.0) result ≡
         0x0006 ∷ 0x0008 ∷ 0x0009 ∷ 0x0014 ∷ 0x0015 ∷ 0x001C ∷ 0x001D ∷ 0x001E ∷ 0x0020
@@ -135,8 +137,8 @@ pub fn static_types() -> [AttributeType; 10]
     ]
 }
 
-/// The codes of errors of authentication: bad request, unauthorized, stale nonce (RFC 8489, section
-/// 14.8).
+/// Returns the codes of authentication errors: bad request, unauthorized and stale nonce (RFC 8489,
+/// section 14.8).
 pub fn error_codes() -> [u16; 3]
     ensures { result ≡ 400 ∷ 401 ∷ 438 ∷ [] }
 {

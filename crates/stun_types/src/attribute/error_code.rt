@@ -21,13 +21,13 @@ use std::alloc::AllocError;
 use std::marker::Model;
 use stun_base::error::{StunParseError, StunWriteError};
 
-/// The number of bytes before the reason: reserved bits, class and number.
+/// The number of bytes before the reason phrase: reserved bits, the class and the number.
 const CODE_LENGTH: usize = 4;
 
 /// ERROR-CODE (RFC 8489, section 14.8): why a request failed. It has a code from 300 to 699, and a
 /// reason phrase of at most 763 bytes.
 ///
-/// Contracts: the value is a record of the two.
+/// Contracts: the value is a record of the code and the reason phrase.
 #[derive(Debug, Drop)]
 pub struct ErrorCode<'a> {
     code: u16,
@@ -47,7 +47,7 @@ impl<'a> Model for ErrorCode<'a> {
         (300 ≤ error.code) × (error.code < 700) × (length error.reason.now ≤ TEXT_LIMIT) };
 }
 
-/// Copies the reference. This does not allocate and never fails.
+/// Copies the reference, not the reason phrase. This does not allocate and never fails.
 impl<'a> Clone for ErrorCode<'a> {
     ghost is_clone = { λ it copy. copy ≡ it };
 
@@ -61,7 +61,7 @@ impl<'a> Clone for ErrorCode<'a> {
     }
 }
 
-/// Attributes are equal if and only if their codes and their reason phrases are.
+/// Two attributes are equal if they have the same code and the same reason phrase.
 impl<'a> PartialEq for ErrorCode<'a> {
     ghost eq = { same_error };
 
@@ -79,7 +79,7 @@ impl<'a> Eq for ErrorCode<'a> {
 impl ErrorCode<'_> {
     /// 400: the request is malformed.
     pub const BAD_REQUEST: u16 = 400;
-    /// 401: the request needs the right credentials.
+    /// 401: the request does not have the correct credentials.
     pub const UNAUTHORIZED: u16 = 401;
     /// 438: the nonce of the request is no longer valid.
     pub const STALE_NONCE: u16 = 438;
@@ -88,9 +88,9 @@ impl ErrorCode<'_> {
 impl<'a> ErrorCode<'a> {
     /// Creates a builder for an attribute with this code.
     ///
-    /// Unless a reason phrase is set, it is `Bad Request` for 400, `Unauthorized` for 401, `Stale
+    /// If you set no reason phrase, it is `Bad Request` for 400, `Unauthorized` for 401, `Stale
     /// Nonce` for 438, and empty for any other code. `Unauthorized` is the phrase of RFC 5389
-    /// (section 15.6), for which RFC 8489 has `Unauthenticated` (section 14.8).
+    /// (section 15.6). RFC 8489 has `Unauthenticated` instead (section 14.8).
     pub fn builder(code: u16) -> ErrorCodeBuilder<'a>
         ensures { result ≡ record { code = code; reason = default_reason code } }
     {
@@ -118,7 +118,7 @@ impl<'a> ErrorCode<'a> {
     }
 }
 
-/// Returns the reason phrase of a code for which none was set.
+/// Returns the default reason phrase for this code.
 fn default_reason(code: u16) -> &'static str
     ensures { result.now ≡ default_reason code }
 {
@@ -130,10 +130,9 @@ fn default_reason(code: u16) -> &'static str
     }
 }
 
-/// A code and a reason phrase, from which `build` creates an ERROR-CODE if both are within their
-/// limits.
+/// A builder of an ERROR-CODE: a code and a reason phrase, whose limits `build` checks.
 ///
-/// Contracts: the value is a record of the two.
+/// Contracts: the value is a record of the code and the reason phrase.
 #[derive(Debug, Drop)]
 pub struct ErrorCodeBuilder<'a> {
     code: u16,
@@ -185,8 +184,8 @@ impl<'a> ErrorCodeBuilder<'a> {
     }
 }
 
-/// Reads the code in a value. Returns `None` if its class is not from 3 to 6 or its number is 100
-/// or more. The reserved bits are ignored.
+/// Reads the code in a value. Returns `None` if its class is not 3 to 6, or its number is 100 or
+/// more. The reserved bits are ignored.
 fn read_code(value: &[u8]) -> Option<u16>
     requires { CODE_LENGTH ≤ length value.now }
     ensures code { result ≡ code_in value.now }

@@ -1,4 +1,4 @@
-//! Laws of attributes that are written and read again, which the crates above use.
+//! Laws of writing attributes and parsing them again, on which other crates rely.
 ghost use Rattle.std.specs.Prelude.{◌≡◌, ◌<◌, ◌^◌, ℕ};
 ghost use Rattle.std.specs.Prelude.{List, slice_index};
 ghost use Rattle.std.specs.Net.Socket.{socket_flowinfo, socket_ip, socket_port, socket_scope_id};
@@ -16,20 +16,21 @@ use std::net::{IpAddr, SocketAddr};
 use stun_base::algorithm::IntegrityAlgorithm;
 use stun_base::transaction_id::TransactionId;
 
-/// An attribute is spelled with as many bytes as `attribute_length` returns for the length of its
-/// value.
+/// An attribute that was written has the number of bytes that `attribute_length` returns for the
+/// length of its value.
 pub fn takes_what_is_spelled()
     ensures { (attribute : TypedValue) → TakesWhatIsSpelled attribute }
 {}
 
-/// Each list of password algorithms has one spelling: if bytes are read as the list, they are the
-/// bytes that the list is written as.
+/// Each list of password algorithms has exactly one encoding: bytes that are parsed as a list are
+/// the bytes that this list is written as.
 pub fn entries_are_spelled()
     ensures { (bytes : List ℕ) (list : List PasswordAlgorithmValue)
         → ((i : ℕ) → slice_index bytes i < 2 ^ 8) → ReadsSpelledEntries bytes list }
 {}
 
-/// The hash function for an algorithm leads back to that algorithm.
+/// Converts an algorithm into the hash function that derives its keys, and back, and returns the
+/// same algorithm.
 pub fn same_integrity(integrity: IntegrityAlgorithm) -> IntegrityAlgorithm
     ensures { result ≡ integrity }
 {
@@ -45,15 +46,15 @@ pub fn reserved_bits()
     ensures address_written { (address : XoredAddress) → WritesFirstZero address }
 {}
 
-/// An address that is XORed with a transaction ID, and read with the same ID, is the same address,
-/// but without flow information and scope ID.
+/// XORs an address with a transaction ID and reads it again with the same ID: returns the same
+/// address and port, with the flow information and the scope ID set to 0.
 pub fn hidden_and_read(addr: SocketAddr, id: TransactionId) -> SocketAddr
     ensures ip { socket_ip result ≡ socket_ip addr }
     ensures port { socket_port result ≡ socket_port addr }
     ensures flowinfo { socket_flowinfo result ≡ 0 }
     ensures scope_id { socket_scope_id result ≡ 0 }
 {
-    // Counted for the clause `ip`: the proof needs to know how many octets there are.
+    // For the proof of the clause `ip` alone, which needs the number of octets.
     let _octets = octet_count(addr.ip());
     XorMappedAddress::new(addr, id).addr(id)
 }

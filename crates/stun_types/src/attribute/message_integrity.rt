@@ -1,7 +1,7 @@
-//! MESSAGE-INTEGRITY and MESSAGE-INTEGRITY-SHA256 (RFC 8489, sections 14.5 and 14.6), for parsing.
+//! MESSAGE-INTEGRITY and MESSAGE-INTEGRITY-SHA256 (RFC 8489, sections 14.5 and 14.6), as they are
+//! parsed.
 //!
-//! There are no constructors, because the calls of a writer that sign a message append these
-//! attributes.
+//! These attributes have no constructors: the calls of a writer that sign a message append them.
 
 ghost use Rattle.std.specs.Prelude.{◌≡◌, length, ⊤};
 ghost use Rattle.std.specs.Cmp.{partial_equiv_from_equiv};
@@ -97,9 +97,9 @@ impl<'a> AttributeFromRaw<'a> for MessageIntegrity {
     }
 }
 
-/// MESSAGE-INTEGRITY-SHA256 (RFC 8489, section 14.6): the HMAC-SHA256 of a message, from 16 to 32
-/// bytes, a multiple of 4. An HMAC that is cut short can be parsed, but the message never counts as
-/// signed by it.
+/// MESSAGE-INTEGRITY-SHA256 (RFC 8489, section 14.6): the HMAC-SHA256 of a message, 16 to 32 bytes,
+/// and a multiple of 4. A truncated HMAC can be parsed, but a message with one never counts as
+/// signed.
 ///
 /// Contracts: the value is the list of its bytes.
 #[derive(Debug, Drop)]
@@ -118,7 +118,7 @@ impl<'a> Model for MessageIntegritySha256<'a> {
     ghost invariant = { λ integrity. IsSha256Digest integrity.hmac.now };
 }
 
-/// Copies the reference. This does not allocate and never fails.
+/// Copies the reference, not the bytes. This does not allocate and never fails.
 impl<'a> Clone for MessageIntegritySha256<'a> {
     ghost is_clone = { λ it copy. copy ≡ it };
 
@@ -129,7 +129,7 @@ impl<'a> Clone for MessageIntegritySha256<'a> {
     }
 }
 
-/// Attributes are equal if and only if their bytes are.
+/// Two attributes are equal if they have the same bytes.
 impl<'a> PartialEq for MessageIntegritySha256<'a> {
     ghost eq = { same_text };
 
@@ -145,7 +145,7 @@ impl<'a> Eq for MessageIntegritySha256<'a> {
 }
 
 impl<'a> MessageIntegritySha256<'a> {
-    /// Returns the HMAC, or the part of it that the message has.
+    /// Returns the HMAC, which may be truncated.
     pub fn hmac(&self) -> &'a [u8]
         ensures bytes { result.now ≡ self.now }
         ensures lengths { IsSha256Digest result.now }

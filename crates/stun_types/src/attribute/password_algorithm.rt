@@ -1,5 +1,5 @@
-//! PASSWORD-ALGORITHM (RFC 8489, section 14.12), and the algorithms that derive keys (section
-//! 18.5).
+//! PASSWORD-ALGORITHM (RFC 8489, section 14.12), and the algorithms that derive keys from passwords
+//! (section 18.5).
 
 ghost use Rattle.std.specs.Prelude.{◌≡◌, ◌≤◌, length};
 ghost use Rattle.stun_base.specs.Attributes.{PASSWORD_ALGORITHM};
@@ -18,7 +18,7 @@ use std::marker::Model;
 use stun_base::algorithm::IntegrityAlgorithm;
 use stun_base::error::StunParseError;
 
-/// The number of bytes of an entry without parameters: the number of an algorithm, and the length
+/// The number of bytes of an entry without parameters: the number of the algorithm, and the length
 /// of its parameters.
 pub(super) const ENTRY_LENGTH: usize = 4;
 
@@ -32,7 +32,7 @@ pub enum PasswordAlgorithmValue {
 }
 
 impl PasswordAlgorithmValue {
-    /// Returns the algorithm that messages are signed with under a key of this hash function.
+    /// Returns the algorithm of signatures under a key that this hash function has derived.
     pub fn as_integrity(self) -> IntegrityAlgorithm
         ensures { result ≡ integrity_of self }
     {
@@ -42,7 +42,7 @@ impl PasswordAlgorithmValue {
         }
     }
 
-    /// Returns the hash function that derives the keys for this algorithm.
+    /// Returns the hash function that derives keys for signatures with this algorithm.
     pub fn from_integrity(integrity: IntegrityAlgorithm) -> Self
         ensures { result ≡ password_algorithm_of integrity }
     {
@@ -52,7 +52,7 @@ impl PasswordAlgorithmValue {
         }
     }
 
-    /// Returns the algorithm as an entry: its number, and no parameters.
+    /// Returns the entry of this algorithm: its number, and no parameters.
     pub(super) fn entry(self) -> [u8; ENTRY_LENGTH]
         ensures { result ≡ spelled_entry self }
     {
@@ -63,8 +63,8 @@ impl PasswordAlgorithmValue {
     }
 }
 
-/// Reads the algorithm of the entry that the bytes begin with. Returns `None` if its number is
-/// unknown or it has parameters.
+/// Reads the algorithm of the first entry in `bytes`. Returns `None` if its number is unknown, or
+/// if it has parameters.
 pub(super) fn read_entry(bytes: &[u8]) -> Option<PasswordAlgorithmValue>
     requires { ENTRY_LENGTH ≤ length bytes.now }
     ensures { result ≡ entry_at_front bytes.now }

@@ -19,12 +19,12 @@ use std::alloc::AllocError;
 use std::marker::Model;
 use stun_base::error::StunParseError;
 
-/// Where the algorithms are.
+/// Where the algorithms come from.
 #[derive(Clone, Copy, Debug)]
 enum Source<'a> {
-    /// A program's own list.
+    /// A list that the caller passed.
     Listed(&'a [PasswordAlgorithmValue]),
-    /// Entries in a message.
+    /// The entries of an attribute in a message.
     Received(&'a [u8]),
 }
 
@@ -55,7 +55,7 @@ impl<'a> Model for PasswordAlgorithms<'a> {
     ghost invariant = { λ algorithms. IsKnown algorithms.source };
 }
 
-/// Copies the reference. This does not allocate and never fails.
+/// Copies the reference, not the list. This does not allocate and never fails.
 impl<'a> Clone for PasswordAlgorithms<'a> {
     ghost is_clone = { λ it copy. copy ≡ it };
 
@@ -68,7 +68,7 @@ impl<'a> Clone for PasswordAlgorithms<'a> {
     }
 }
 
-/// Returns `true` if the bytes are entries of known algorithms without parameters.
+/// Returns `true` if the bytes consist of entries of known algorithms without parameters.
 fn are_known(bytes: &[u8]) -> bool
     ensures { result ≡ are_entries bytes.now }
 {
@@ -165,7 +165,7 @@ impl<'a> PasswordAlgorithms<'a> {
         true
     }
 
-    /// Appends the entries of the algorithms.
+    /// Appends the entries of the algorithms to `writer`.
     fn append_entries<W: MessageWrite>(&self, writer: &mut W)
         requires { ENTRY_LENGTH * length self.now ≤ W.reserved writer.old }
         ensures bytes { W.bytes writer.new ≡ W.bytes writer.old ++ spelled_entries self.now }

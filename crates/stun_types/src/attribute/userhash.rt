@@ -17,7 +17,7 @@ use stun_base::key::userhash;
 /// The number of bytes of a hash.
 const LENGTH: usize = 32;
 
-/// USERHASH (RFC 8489, section 14.4): the hash that a client sends in place of its user name, 32
+/// USERHASH (RFC 8489, section 14.4): the hash that a client sends instead of its user name, 32
 /// bytes.
 ///
 /// Contracts: the value is the list of its bytes.
@@ -37,7 +37,7 @@ impl Model for Userhash {
 }
 
 impl Userhash {
-    /// Creates the attribute from a hash, such as `compute` returns.
+    /// Creates the attribute from a hash, for example the result of `compute`.
     pub fn new(hash: [u8; 32]) -> Self
         ensures { result ≡ hash }
     {
@@ -47,7 +47,7 @@ impl Userhash {
     /// Computes the hash of a user name in a realm: SHA-256 of `user:realm` (RFC 8489, section
     /// 14.4).
     ///
-    /// The texts are used as they are: to prepare them with OpaqueString (RFC 8265, section 4.2) is
+    /// The texts are used as they are: preparing them with OpaqueString (RFC 8265, section 4.2) is
     /// up to the caller. This does not allocate.
     pub fn compute(user: &str, realm: &str) -> [u8; 32]
         ensures { result ≡ keys.userhash_of user.now realm.now }

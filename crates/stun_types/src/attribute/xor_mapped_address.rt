@@ -23,29 +23,30 @@ use stun_base::error::StunParseError;
 use stun_base::header::MAGIC_COOKIE;
 use stun_base::transaction_id::TransactionId;
 
-/// The first half of the magic cookie, which the port is XORed with.
+/// The first half of the magic cookie, with which the port is XORed.
 const PORT_KEY: u16 = (MAGIC_COOKIE >> 16) as u16;
 
-/// The number of bytes of the value before the octets.
+/// The number of bytes of the value before the octets: a reserved byte, the family and the port.
 const FAMILY_AND_PORT_LENGTH: usize = 4;
 
-/// The family of IPv4.
+/// The number of the family IPv4.
 const IPV4: u8 = 1;
 
-/// The family of IPv6.
+/// The number of the family IPv6.
 const IPV6: u8 = 2;
 
-/// The octets of an address, each XORed with a byte of the key.
+/// The octets of an address, each XORed with the byte of the key at the same index.
 #[derive(Clone, Copy, Debug, PartialEq, Eq)]
 enum XoredOctets {
     V4([u8; 4]),
     V6([u8; 16]),
 }
 
-/// XOR-MAPPED-ADDRESS (RFC 8489, section 14.2): the address that a request came from. Its port and
-/// its octets are XORed with the magic cookie and the transaction ID of its message.
+/// XOR-MAPPED-ADDRESS (RFC 8489, section 14.2): the address that a request came from. The port and
+/// the octets are XORed with the magic cookie, and the octets of an IPv6 address also with the
+/// transaction ID of the message.
 ///
-/// Contracts: the value is a record of the family and of both, XORed.
+/// Contracts: the value is a record of the family, the XORed port and the XORed octets.
 #[derive(Clone, Copy, Debug, PartialEq, Eq)]
 pub struct XorMappedAddress {
     port: u16,
@@ -76,7 +77,7 @@ impl Model for XorMappedAddress {
         record { port = address.port; octets = with_family-of address.octets i } };
 }
 
-/// XORs each octet with the byte of the key at the same index.
+/// XORs each octet with the byte of `key` at the same index.
 fn xor_with(octets: &mut [u8], key: &[u8])
     requires { length octets.old ≤ length key.now }
     ensures { octets.new ≡ xor_bytes octets.old key.now }
@@ -86,7 +87,7 @@ fn xor_with(octets: &mut [u8], key: &[u8])
     }
 }
 
-/// Returns the key of the octets: the magic cookie, and then the transaction ID.
+/// Returns the key for the octets: the magic cookie, followed by the transaction ID.
 fn xor_key(id: TransactionId) -> [u8; 16]
     ensures { result ≡ xor_key id }
 {
@@ -95,8 +96,8 @@ fn xor_key(id: TransactionId) -> [u8; 16]
     key
 }
 
-/// Reads the octets of an address of this family. Returns `None` if such an address has another
-/// number of octets.
+/// Reads the octets of an address of this family. Returns `None` if an address of this family has
+/// another number of octets, or if the family is unknown.
 fn read_octets(family: u8, octets: &[u8]) -> Option<XoredOctets>
     ensures { MatchOption result (has_octets family (length octets.now) ≡ false)
         (λ read. (has_octets family (length octets.now) ≡ true)
@@ -141,9 +142,9 @@ impl XorMappedAddress {
         }
     }
 
-    /// Returns the address. `id` must be the transaction ID of the message that the attribute is
-    /// in: with any other ID the result may be a different address. The flow information and the
-    /// scope ID of an IPv6 address are 0.
+    /// Returns the address. `id` must be the transaction ID of the message that contains the
+    /// attribute: with any other ID the result may be a different address. The flow information and
+    /// the scope ID of an IPv6 address are 0.
     pub fn addr(&self, id: TransactionId) -> SocketAddr
         ensures ip { IsHidden id self.now (socket_ip result) }
         ensures port { IsPlainSocket result (xor_port self.now.port) }
@@ -203,7 +204,8 @@ impl Attribute for XorMappedAddress {
     }
 }
 
-/// Appends the attribute of an address with this family, port and octets, which are XORed already.
+/// Appends the attribute with this family, and with this port and these octets, which must be XORed
+/// already.
 fn append_address<W: MessageWrite>(writer: &mut W, family: u8, port: u16, octets: &[u8])
     requires whole { length octets.now % 4 ≡ 0 }
     requires short { length octets.now ≤ 16 }

@@ -1,4 +1,4 @@
-//! The key of a digest: its bytes, or a prepared key.
+//! The keys with which HMACs are computed: the bytes of a key, or a prepared key.
 
 ghost use Rattle.std.specs.Prelude.{◌≡◌, ℕ, List};
 ghost use Rattle.stun_base.specs.Algorithm.{digest};
@@ -8,9 +8,9 @@ use stun_base::algorithm::IntegrityAlgorithm;
 use stun_base::hmac::{SHA1_LENGTH, SHA256_LENGTH, hmac_sha1, hmac_sha256};
 use stun_base::prepared_key::PreparedKey;
 
-/// A key that makes digests.
+/// A key with which HMACs are computed.
 pub(crate) trait DigestKey {
-    // Its bytes.
+    // The bytes of the key.
     ghost key_bytes: { Self → List ℕ };
 
     /// Returns the HMAC-SHA1 of a text.

@@ -1,26 +1,26 @@
-//! Which attributes of a message are visible (RFC 8489, sections 14.5 to 14.7).
+//! The rule that determines which attributes of a message are visible (RFC 8489, sections 14.5 to
+//! 14.7).
 
 ghost use Rattle.std.specs.Prelude.{◌≡◌};
 ghost use Rattle.stun_types.specs.Visible.{after, hider, shows};
 
 use crate::attribute::AttributeType;
 
-/// Which attributes are visible at an offset of a message. This depends on the attributes before
-/// the offset: a receiver ignores most of those that follow MESSAGE-INTEGRITY,
-/// MESSAGE-INTEGRITY-SHA256 or FINGERPRINT (RFC 8489, sections 14.5 to 14.7).
+/// The types of attributes that are visible at an offset of a message. They depend on the
+/// attributes before the offset: a receiver ignores most of the attributes that follow
+/// MESSAGE-INTEGRITY, MESSAGE-INTEGRITY-SHA256 or FINGERPRINT (RFC 8489, sections 14.5 to 14.7).
 ///
-/// A walk over a message begins with `Everything`. At each attribute, `shows` says whether it is
-/// visible, and `after` returns the visibility for the attributes that follow it.
+/// A walk over a message begins with `Everything`. At each attribute, `shows` returns whether this
+/// attribute is visible, and `after` returns the visibility for the attributes after it.
 #[derive(Debug, Clone, Copy, PartialEq, Eq)]
 pub enum Visibility {
-    /// All attributes are visible, because none of the three types came before.
+    /// All attributes are visible, because none of these three attributes came before.
     Everything,
-    /// MESSAGE-INTEGRITY came before, so that only MESSAGE-INTEGRITY-SHA256 and FINGERPRINT are
-    /// visible.
+    /// MESSAGE-INTEGRITY came before, so only MESSAGE-INTEGRITY-SHA256 and FINGERPRINT are visible.
     AfterIntegrity,
-    /// MESSAGE-INTEGRITY-SHA256 came before, so that only FINGERPRINT is visible.
+    /// MESSAGE-INTEGRITY-SHA256 came before, so only FINGERPRINT is visible.
     AfterIntegritySha256,
-    /// FINGERPRINT came before, so that no attribute is visible.
+    /// FINGERPRINT came before, so no attribute is visible.
     Nothing,
 }
 
@@ -41,7 +41,8 @@ impl Visibility {
     }
 
     /// Returns the type of the earlier attribute that hides an attribute of this type, or `None` if
-    /// the attribute is visible. If several hide it, this is the one that hides the most.
+    /// the attribute is visible. If several earlier attributes hide it, returns the type of the one
+    /// that hides the most.
     pub fn hider(self, kind: AttributeType) -> Option<AttributeType>
         ensures { result ≡ hider self kind.0 }
     {

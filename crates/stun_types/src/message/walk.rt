@@ -1,4 +1,4 @@
-//! Walks over the attributes of a message that read only their types and lengths.
+//! Searches the attributes of a message, and reads only their types and lengths.
 
 ghost use Rattle.std.specs.Prelude.{◌≡◌, ◌||◌, true, false, drop, IfSome, IfNone, OnSome};
 ghost use Rattle.std.specs.Option.{option_map};
@@ -13,8 +13,8 @@ use crate::message::visibility::Visibility;
 use byteorder::{BigEndian, ByteOrder};
 use stun_base::header::HEADER_LENGTH;
 
-/// Returns the number of bytes of an attribute with this length field, with its header and its
-/// padding.
+/// Returns the number of bytes of an attribute, with its header and its padding, whose length field
+/// is `value_length`.
 fn length_by_field(value_length: u16) -> usize
     ensures { result ≡ attribute_length value_length }
 {
@@ -72,8 +72,9 @@ pub(crate) fn has_either(message: &[u8], one: AttributeType, other: AttributeTyp
     false
 }
 
-/// Returns the offset of the first visible attribute of a type. The walk ends at the first
-/// attribute that hides the type, because none is visible after it.
+/// Returns the offset of the first visible attribute of this type, or `None` if no attribute of
+/// this type is visible. The search ends at the first attribute that hides this type, because no
+/// attribute of this type is visible after it.
 pub(crate) fn first_place(message: &[u8], kind: AttributeType) -> Option<usize>
     ensures whole { IfSome result (λ place. has_attribute (drop place message.now) ≡ true) }
     ensures first { first_of kind.0 (visible message.now)
@@ -92,9 +93,10 @@ pub(crate) fn first_place(message: &[u8], kind: AttributeType) -> Option<usize>
     None
 }
 
-/// Returns the offset of the attribute that decides whether the message is signed: the stronger
-/// one, if both are visible. The walk ends at the stronger one, and at FINGERPRINT, because neither
-/// is visible after it.
+/// Returns the offset of the attribute that decides whether the message is signed: the first
+/// visible MESSAGE-INTEGRITY-SHA256 or, without one, the first visible MESSAGE-INTEGRITY. Returns
+/// `None` if neither is visible. The search ends at MESSAGE-INTEGRITY-SHA256 and at FINGERPRINT,
+/// because no integrity attribute is visible after either of them.
 pub(crate) fn deciding_place(message: &[u8]) -> Option<usize>
     ensures whole { IfSome result (λ place. has_attribute (drop place message.now) ≡ true) }
     ensures deciding { deciding message.now

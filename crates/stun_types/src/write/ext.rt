@@ -1,4 +1,4 @@
-//! The calls that every writer has.
+//! The calls that are the same for all writers.
 
 ghost use Rattle.std.specs.Prelude.{◌≡◌, ◌≤◌, ◌<◌, ◌+◌, ◌-◌, ◌^◌, ◌↔◌, ◌++◌, false};
 ghost use Rattle.std.specs.Prelude.{min, length, IsTrue};
@@ -33,8 +33,8 @@ use stun_base::message_type::MessageClass;
 use stun_base::prepared_key::PreparedKey;
 use stun_base::transaction_id::TransactionId;
 
-/// Returns `true` for the types that `add_attribute` never writes: the integrity attributes, which
-/// only the calls that sign a message write, and FINGERPRINT.
+/// Returns `true` if `add_attribute` refuses attributes of this type: FINGERPRINT, and the
+/// integrity attributes, which only the calls that sign a message add.
 fn is_set_apart(kind: AttributeType) -> bool
     ensures { result ≡ is_set_apart kind.0 }
 {
@@ -43,12 +43,14 @@ fn is_set_apart(kind: AttributeType) -> bool
         || kind == AttributeType::FINGERPRINT
 }
 
-/// The calls that every writer has: they inspect the message in the writer, add attributes to it,
-/// and sign it.
+/// The calls that are the same for all writers: they inspect the message in the writer, add
+/// attributes to it, and sign it.
 ///
-/// The writer must hold a message without FINGERPRINT. The builders of `Message` start such a
-/// message, and these calls keep it that way. The conditions of the calls ask for less: for a
-/// header, or for as many bytes as a header has.
+/// The writer must contain a message without FINGERPRINT. The builders of `Message` start such a
+/// message, and these calls never add FINGERPRINT.
+///
+/// Contracts: the calls require less than a message. The bytes in the writer must begin with a
+/// header, or for some calls only be as many as a header has.
 pub trait MessageWriteExt: MessageWrite {
     /// Returns `true` if the message has an attribute of this type, whether it is visible or not.
     final fn has_attribute(&self, kind: AttributeType) -> bool
@@ -94,20 +96,20 @@ pub trait MessageWriteExt: MessageWrite {
     ///
     /// # Errors
     ///
-    /// The first of these that applies. After an error, the bytes and the room are unchanged, and
-    /// what was reserved stays reserved.
+    /// The first of these that applies. After an error, the bytes and the room of the writer are
+    /// unchanged, and bytes that were reserved stay reserved.
     ///
-    /// - `NotAllowed`: it is an integrity attribute or FINGERPRINT.
+    /// - `NotAllowed`: the attribute is an integrity attribute or FINGERPRINT.
     /// - `MessageIntegrityExists`: the message has an integrity attribute.
     /// - `AttributeExists`: the message has an attribute of this type.
     /// - `TooLarge`: the message would have more than 65532 bytes after its header.
-    /// - `TooSmall`: the writer has no room.
+    /// - `TooSmall`: the writer does not have enough room for the attribute.
     /// - `OutOfMemory`: an allocation failed.
     final fn add_attribute<A: Attribute>(&mut self, attribute: &A) -> Result<(), StunWriteError>
     where
         Self: Sized,
         requires { header_length ≤ length (Self.bytes self.old) }
-        ensures { AddsAttribute Self.bytes Self.room Self.reserved self.old self.new
+        ensures { AddsAttribute Self.grants Self.bytes Self.room Self.reserved self.old self.new
             (attribute_refusal (Self.bytes self.old) (Self.room self.old)
             (A.kind attribute.now) (length (A.value attribute.now)))
             (record { kind = A.kind attribute.now; value = A.value attribute.now }) result }
@@ -128,19 +130,19 @@ pub trait MessageWriteExt: MessageWrite {
     /// Adds an attribute at the end of the message, even if the message has an attribute of this
     /// type already.
     ///
-    /// A request with several attributes of one type needs this, such as CreatePermission for
-    /// several peers (RFC 8656, section 9.1). If the type may occur only once, use `add_attribute`,
-    /// which fails if it occurs already.
+    /// This is for requests that have several attributes of one type, such as a CreatePermission
+    /// for several peers (RFC 8656, section 9.1). If a type may occur only once, use
+    /// `add_attribute`, which fails if the message has an attribute of that type already.
     ///
     /// # Errors
     ///
-    /// The first of these that applies. After an error, the bytes and the room are unchanged, and
-    /// what was reserved stays reserved.
+    /// The first of these that applies. After an error, the bytes and the room of the writer are
+    /// unchanged, and bytes that were reserved stay reserved.
     ///
-    /// - `NotAllowed`: it is an integrity attribute or FINGERPRINT.
+    /// - `NotAllowed`: the attribute is an integrity attribute or FINGERPRINT.
     /// - `MessageIntegrityExists`: the message has an integrity attribute.
     /// - `TooLarge`: the message would have more than 65532 bytes after its header.
-    /// - `TooSmall`: the writer has no room.
+    /// - `TooSmall`: the writer does not have enough room for the attribute.
     /// - `OutOfMemory`: an allocation failed.
     final fn add_another_attribute<A: Attribute>(
         &mut self,
@@ -149,7 +151,7 @@ pub trait MessageWriteExt: MessageWrite {
     where
         Self: Sized,
         requires { header_length ≤ length (Self.bytes self.old) }
-        ensures { AddsAttribute Self.bytes Self.room Self.reserved self.old self.new
+        ensures { AddsAttribute Self.grants Self.bytes Self.room Self.reserved self.old self.new
             (another_refusal (Self.bytes self.old) (Self.room self.old)
             (A.kind attribute.now) (length (A.value attribute.now)))
             (record { kind = A.kind attribute.now; value = A.value attribute.now }) result }
@@ -163,20 +165,20 @@ pub trait MessageWriteExt: MessageWrite {
         add_whole(self, attribute)
     }
 
-    /// Signs the message: adds MESSAGE-INTEGRITY or MESSAGE-INTEGRITY-SHA256, depending on the
-    /// algorithm.
+    /// Signs the message: adds MESSAGE-INTEGRITY for HMAC-SHA1, or MESSAGE-INTEGRITY-SHA256 for
+    /// HMAC-SHA256.
     ///
-    /// The key is the one that the credentials have for this algorithm: the bytes of the password,
-    /// or a long-term key. No key is allocated.
+    /// The key comes from the credentials: it is the bytes of the password, or the long-term key
+    /// for this algorithm. No key is allocated.
     ///
     /// # Errors
     ///
-    /// The first of these that applies. After an error, the bytes and the room are unchanged, and
-    /// what was reserved stays reserved.
+    /// The first of these that applies. After an error, the bytes and the room of the writer are
+    /// unchanged, and bytes that were reserved stay reserved.
     ///
     /// - `MessageIntegrityExists`: the message has an integrity attribute.
     /// - `TooLarge`: the message would have more than 65532 bytes after its header.
-    /// - `TooSmall`: the writer has no room.
+    /// - `TooSmall`: the writer does not have enough room for the integrity attribute.
     /// - `OutOfMemory`: an allocation failed.
     final fn add_message_integrity<A: Allocator>(
         &mut self,
@@ -186,14 +188,14 @@ pub trait MessageWriteExt: MessageWrite {
     where
         Self: Sized,
         requires { header_length ≤ length (Self.bytes self.old) }
-        ensures { Signs Self.bytes Self.room Self.reserved self.old self.new
+        ensures { Signs Self.grants Self.bytes Self.room Self.reserved self.old self.new
             algorithm (keys_of credentials.now algorithm) result }
     {
         let key = credentials.key(algorithm);
         add_integrity(self, &key.as_bytes(), algorithm)
     }
 
-    /// Like `add_message_integrity`, with a key.
+    /// Like `add_message_integrity`, but with a key.
     ///
     /// # Errors
     ///
@@ -206,13 +208,13 @@ pub trait MessageWriteExt: MessageWrite {
     where
         Self: Sized,
         requires { header_length ≤ length (Self.bytes self.old) }
-        ensures { Signs Self.bytes Self.room Self.reserved self.old self.new
+        ensures { Signs Self.grants Self.bytes Self.room Self.reserved self.old self.new
             algorithm key.now result }
     {
         add_integrity(self, &key.as_bytes(), algorithm)
     }
 
-    /// Like `add_message_integrity`, with the bytes of a key, which may have any length.
+    /// Like `add_message_integrity`, but with the bytes of a key, which may have any length.
     ///
     /// # Errors
     ///
@@ -225,14 +227,14 @@ pub trait MessageWriteExt: MessageWrite {
     where
         Self: Sized,
         requires { header_length ≤ length (Self.bytes self.old) }
-        ensures { Signs Self.bytes Self.room Self.reserved self.old self.new
+        ensures { Signs Self.grants Self.bytes Self.room Self.reserved self.old self.new
             algorithm key.now result }
     {
         add_integrity(self, &key, algorithm)
     }
 
-    /// Like `add_message_integrity`, with a prepared key. If the key was prepared for this
-    /// algorithm, the digest hashes two blocks fewer.
+    /// Like `add_message_integrity`, but with a prepared key. If the key was prepared for this
+    /// algorithm, the HMAC hashes two blocks fewer.
     ///
     /// # Errors
     ///
@@ -245,22 +247,26 @@ pub trait MessageWriteExt: MessageWrite {
     where
         Self: Sized,
         requires { header_length ≤ length (Self.bytes self.old) }
-        ensures { Signs Self.bytes Self.room Self.reserved self.old self.new
+        ensures { Signs Self.grants Self.bytes Self.room Self.reserved self.old self.new
             algorithm key.now result }
     {
         add_integrity(self, key, algorithm)
     }
 
-    /// Signs the message like `add_message_integrity_with_key`, without a check.
+    /// Like `add_message_integrity_with_key`, but does not check first whether the message can be
+    /// signed.
     ///
-    /// The caller must know three things, because the message would be malformed otherwise: it has
-    /// no integrity attribute, with this one it has at most 65532 bytes after its header, and the
-    /// writer has room for it, which is 24 bytes for HMAC-SHA1 and 36 for HMAC-SHA256.
+    /// The caller must ensure the following, because the message would be malformed otherwise:
+    ///
+    /// - The message has no integrity attribute.
+    /// - With the new integrity attribute, the message has at most 65532 bytes after its header.
+    /// - The writer has room for the new integrity attribute: 24 bytes for HMAC-SHA1, and 36 for
+    ///   HMAC-SHA256.
     ///
     /// # Errors
     ///
-    /// `AllocError`: an allocation failed. The bytes and the room are then unchanged, and what was
-    /// reserved stays reserved.
+    /// `AllocError`: an allocation failed. The bytes and the room of the writer are then unchanged,
+    /// and bytes that were reserved stay reserved.
     final fn add_message_integrity_with_key_unchecked<A: Allocator>(
         &mut self,
         key: &IntegrityKey<A>,
@@ -272,18 +278,19 @@ pub trait MessageWriteExt: MessageWrite {
         requires unsigned { has_integrity (Self.bytes self.old) ≡ false }
         requires short { length_with (Self.bytes self.old) (digest_length algorithm) ≤ max_length }
         requires room { attribute_length (digest_length algorithm) ≤ Self.room self.old }
-        ensures { SignsUnchecked Self.bytes Self.room Self.reserved self.old self.new
+        ensures { SignsUnchecked Self.grants Self.bytes Self.room Self.reserved self.old self.new
             algorithm key.now result }
     {
         sign(self, &key.as_bytes(), algorithm)
     }
 
-    /// Like `add_message_integrity_with_key_unchecked`, with a prepared key.
+    /// Like `add_message_integrity_with_key_unchecked`, but with a prepared key. The same
+    /// conditions apply.
     ///
     /// # Errors
     ///
-    /// `AllocError`: an allocation failed. The bytes and the room are then unchanged, and what was
-    /// reserved stays reserved.
+    /// `AllocError`: an allocation failed. The bytes and the room of the writer are then unchanged,
+    /// and bytes that were reserved stay reserved.
     final fn add_message_integrity_with_prepared_key_unchecked<A: Allocator>(
         &mut self,
         key: &PreparedKey<A>,
@@ -295,7 +302,7 @@ pub trait MessageWriteExt: MessageWrite {
         requires unsigned { has_integrity (Self.bytes self.old) ≡ false }
         requires short { length_with (Self.bytes self.old) (digest_length algorithm) ≤ max_length }
         requires room { attribute_length (digest_length algorithm) ≤ Self.room self.old }
-        ensures { SignsUnchecked Self.bytes Self.room Self.reserved self.old self.new
+        ensures { SignsUnchecked Self.grants Self.bytes Self.room Self.reserved self.old self.new
             algorithm key.now result }
     {
         sign(self, key, algorithm)
@@ -324,7 +331,7 @@ fn has_integrity(message: &[u8]) -> bool
     )
 }
 
-/// Returns the message length after this many bytes are added, at most `usize::MAX`.
+/// Returns the message length after `more` bytes are added. The result is at most `usize::MAX`.
 fn length_with(message: &[u8], more: usize) -> usize
     requires { header_length ≤ length message.now }
     ensures { result ≡ min (length message.now - header_length + more) (2 ^ 64 - 1) }
@@ -332,7 +339,8 @@ fn length_with(message: &[u8], more: usize) -> usize
     (message.len() - HEADER_LENGTH).saturating_add(more)
 }
 
-/// Sets the length of a message for an attribute, and appends the attribute, if it fits.
+/// Adds an attribute: sets the length of the message, and appends the attribute. Fails if the
+/// attribute does not fit, or if an allocation fails.
 fn add_whole<W: MessageWrite, A: Attribute>(
     writer: &mut W,
     attribute: &A,
@@ -340,7 +348,7 @@ fn add_whole<W: MessageWrite, A: Attribute>(
     requires header { header_length ≤ length (W.bytes writer.old) }
     requires kind { A.kind attribute.now < 2 ^ 16 }
     requires other { is_set_apart (A.kind attribute.now) ≡ false }
-    ensures { AddsAttribute W.bytes W.room W.reserved writer.old writer.new
+    ensures { AddsAttribute W.grants W.bytes W.room W.reserved writer.old writer.new
         (size_refusal (W.bytes writer.old) (W.room writer.old) (length (A.value attribute.now)))
         (record { kind = A.kind attribute.now; value = A.value attribute.now }) result }
 {
@@ -354,21 +362,22 @@ fn add_whole<W: MessageWrite, A: Attribute>(
     Ok(())
 }
 
-/// Returns the number of bytes of the integrity attribute of an algorithm, with its header.
+/// Returns the number of bytes of the integrity attribute for this algorithm, with its header.
 fn integrity_length(algorithm: IntegrityAlgorithm) -> usize
     ensures { result ≡ attribute_length (digest_length algorithm) }
 {
     attribute_length(algorithm.digest_length())
 }
 
-/// Adds the integrity attribute of an algorithm, or fails with the first error that applies.
+/// Signs the message with this algorithm, or fails with the first error of `add_message_integrity`
+/// that applies.
 fn add_integrity<W: MessageWrite, K: DigestKey>(
     writer: &mut W,
     key: &K,
     algorithm: IntegrityAlgorithm,
 ) -> Result<(), StunWriteError>
     requires { header_length ≤ length (W.bytes writer.old) }
-    ensures { Signs W.bytes W.room W.reserved writer.old writer.new
+    ensures { Signs W.grants W.bytes W.room W.reserved writer.old writer.new
         algorithm (K.key_bytes key.now) result }
 {
     if has_integrity(writer.data()) {
@@ -385,7 +394,7 @@ fn add_integrity<W: MessageWrite, K: DigestKey>(
     Ok(())
 }
 
-/// Sets the length of a message for its integrity attribute, and appends the attribute.
+/// Signs the message: sets its length for the integrity attribute, and appends the attribute.
 fn sign<W: MessageWrite, K: DigestKey>(
     writer: &mut W,
     key: &K,
@@ -394,7 +403,7 @@ fn sign<W: MessageWrite, K: DigestKey>(
     requires header { header_length ≤ length (W.bytes writer.old) }
     requires short { length_with (W.bytes writer.old) (digest_length algorithm) ≤ max_length }
     requires room { attribute_length (digest_length algorithm) ≤ W.room writer.old }
-    ensures { SignsUnchecked W.bytes W.room W.reserved writer.old writer.new
+    ensures { SignsUnchecked W.grants W.bytes W.room W.reserved writer.old writer.new
         algorithm (K.key_bytes key.now) result }
 {
     let padded_length = integrity_length(algorithm);
@@ -407,7 +416,7 @@ fn sign<W: MessageWrite, K: DigestKey>(
     Ok(())
 }
 
-/// Appends the integrity attribute with the digest of all bytes before it.
+/// Appends the integrity attribute, whose value is the HMAC of all bytes before it.
 fn append_integrity<W: MessageWrite, K: DigestKey>(
     writer: &mut W,
     key: &K,

@@ -7,11 +7,12 @@ use byteorder::{BigEndian, ByteOrder};
 use std::marker::Model;
 use stun_base::error::StunWriteError;
 
-/// A writer that puts a message into a slice. It does not allocate.
+/// A writer that writes a message to a slice. It does not allocate.
 ///
-/// The bytes of the slice after those written may have any value.
+/// After the bytes that were written, the slice may contain any bytes.
 ///
-/// Contracts: the value is a record of the bytes written so far and of how many more fit.
+/// Contracts: the value is a record of the bytes that were written so far, and the number of bytes
+/// that can still be written.
 #[derive(Debug, Drop)]
 pub struct MessageWriteMutSlice<'a> {
     buffer: &'a mut [u8],
@@ -33,7 +34,7 @@ impl<'a> Model for MessageWriteMutSlice<'a> {
 }
 
 impl<'a> MessageWriteMutSlice<'a> {
-    /// Creates an empty writer into this slice.
+    /// Creates a writer that writes to this slice.
     pub fn new(buffer: &'a mut [u8]) -> Self
         ensures { result ≡ record { bytes = []; room = length buffer.old } }
     {
@@ -42,9 +43,14 @@ impl<'a> MessageWriteMutSlice<'a> {
 }
 
 impl<'a> MessageWrite for MessageWriteMutSlice<'a> {
+    ghost use Rattle.std.specs.Prelude.{⊤};
+
     type Output = &'a [u8];
 
     ghost bytes = { λ writer. writer.bytes };
+
+    // The writer needs no memory, so nothing can fail.
+    ghost grants = { ⊤ };
 
     ghost room = { λ writer. writer.room };
 

@@ -9,13 +9,14 @@ use byteorder::{BigEndian, ByteOrder};
 use std::alloc::{Allocator, Global};
 use std::marker::Model;
 use stun_base::error::StunWriteError;
+use stun_base::memory::Memory;
 
-/// A writer that puts a message into a `Vec`, which grows as needed.
+/// A writer that writes a message to a `Vec`, which grows as needed.
 #[derive(Drop)]
 #[derive_where(Debug)]
 pub struct MessageWriteVec<A: Allocator = Global> {
     bytes: Vec<u8, A>,
-    // How many more bytes are reserved.
+    // The number of bytes that can be appended without another reservation.
     reserved: usize,
 }
 
@@ -44,13 +45,15 @@ impl<A: Allocator> MessageWriteVec<A> {
     }
 }
 
-impl<A: Allocator> MessageWrite for MessageWriteVec<A> {
+impl<A: Memory> MessageWrite for MessageWriteVec<A> {
     ghost use Rattle.std.specs.Prelude.{◌-◌, length};
     ghost use Rattle.stun_types.specs.Limits.{LENGTH_LIMIT};
 
     type Output = Vec<u8, A>;
 
     ghost bytes = { λ writer. writer.bytes };
+
+    ghost grants = { A.grants };
 
     ghost room = { λ writer. LENGTH_LIMIT - length writer.bytes };
 
@@ -71,7 +74,7 @@ impl<A: Allocator> MessageWrite for MessageWriteVec<A> {
         if additional <= self.reserved {
             return Ok(());
         }
-        self.bytes.reserve(additional)?;
+        A::reserve(&mut self.bytes, additional)?;
         self.reserved = additional;
         Ok(())
     }

@@ -4,10 +4,11 @@
 //!     users_server CONNECTION REALM set NAME PASSWORD
 //!     users_server CONNECTION REALM remove NAME
 //!
-//! CONNECTION is what PostgreSQL takes, such as `host=localhost user=stun dbname=stun`. The table is
-//! that of docs/USERS.md. `serve` answers the users in the table with the address that the request
-//! came from; its first line of output is `port N`, and port 0 is any free one. `set` adds a user
-//! or changes the password of one, and `remove` removes one: the next request is judged by it.
+//! CONNECTION is what tokio-postgres takes, such as `host=localhost user=stun dbname=stun`; it
+//! needs `host` and `user`. The table is that of docs/USERS.md. `serve` answers the users in the
+//! table with the address that the request came from; its first line of output is `port N`, and
+//! port 0 is any free one. `set` adds a user or changes the password of one, and `remove` removes
+//! one: the next request is judged by it.
 
 use seatcrane_stun::auth::NamedUser;
 use seatcrane_stun::endpoint::{LongTerm, random_seed};

@@ -1,5 +1,5 @@
-//! What no transcript asks of an agent: polls that are counted, datagrams of other types, texts,
-//! the copy of statistics, and a request that ends while its handle is held.
+//! Tests of an agent that the transcripts do not have: counted polls, datagrams of other types,
+//! texts, copies of statistics, and a request that ends while its handle is held.
 
 use crate::api::run;
 use crate::api::support::mapped;
@@ -25,7 +25,7 @@ use std::time::Duration;
 
 type Heap = RefusingAllocator;
 
-/// What a poll answers that begins to count.
+/// Returns the result of a poll that starts a counter.
 fn counted<L: Ledger, A: Allocator + Copy>(
     agent: &mut StunAgent<A>,
     now: Instant,
@@ -35,7 +35,7 @@ fn counted<L: Ledger, A: Allocator + Copy>(
     answer
 }
 
-/// Polls, and counts what is read.
+/// Polls, and counts the reads.
 fn poll(agent: &mut StunAgent, now: Instant) -> StunAgentPollRet {
     counted::<Brand, _>(agent, now, Blank::new(2))
 }
@@ -50,7 +50,7 @@ fn ask(agent: &mut StunAgent, number: u8, now: Instant) -> Result<(), Fail> {
     Ok(())
 }
 
-/// The request of this number, to be changed.
+/// Returns a handle to the request with this number, to change it.
 fn request_of(agent: &mut StunAgent, number: u8) -> Result<StunRequestMut<'_>, Fail> {
     Ok(agent
         .mut_request_transaction(id(number)?)
@@ -80,7 +80,7 @@ fn a_counted_poll_answers_as_a_poll() {
     });
 }
 
-/// Answers a request through its handle, and changes it when it is gone.
+/// Answers a request through its handle, and then calls the methods that change the ended request.
 fn end_and_change(rt: &impl Abort, mut request: StunRequestMut<'_>) -> Result<(), Fail> {
     let bytes = mapped(1);
     let response = Message::from_bytes(&bytes)?;
@@ -158,7 +158,8 @@ fn expect_owned(rt: &impl Abort, owned: &Transmit<Data<'_, &Heap>>, bytes: &[u8]
     assert_eq!(owned.to, peer());
 }
 
-/// What is to be sent, owned or not.
+/// Converts a transmission to owned bytes, and refuses the nth allocation. Returns whether no
+/// allocation was refused.
 fn owns(rt: &impl Abort, heap: &Heap, nth: u64) -> Result<bool, Fail> {
     let bytes = [7; 4000];
     let lent = Transmit::new(Data::Borrowed(&bytes), TransportType::Udp, local(), peer());
@@ -241,7 +242,7 @@ fn texts_of_errors() {
     });
 }
 
-/// An error of an agent that passes on another one has its text.
+/// If an error of an agent contains another error, it has the text of that error.
 #[test]
 fn texts_of_other_errors_are_kept() {
     run(|rt| {

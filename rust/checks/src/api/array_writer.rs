@@ -1,4 +1,4 @@
-//! A writer of the tests' own, over an array.
+//! A writer that the tests define, over an array.
 
 use crate::exported::stun_types::data::OwnedBytes;
 use crate::exported::stun_types::message::StunWriteError;
@@ -11,7 +11,7 @@ pub struct ArrayWriter<const N: usize> {
 }
 
 impl<const N: usize> ArrayWriter<N> {
-    /// An empty message, where each byte that is not yet written is 0xff.
+    /// Creates an empty writer, in which each byte that is not written yet is 0xff.
     pub fn new() -> ArrayWriter<N> {
         ArrayWriter {
             buffer: [0xff; N],

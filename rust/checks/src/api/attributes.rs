@@ -1,5 +1,5 @@
-//! What the errors of reading, checking and writing say, the text of a type, and that attributes
-//! are equal by their values.
+//! Tests of the texts of errors of parsing, validating and writing, of the text of a type, and of
+//! the equality of attributes, which compares their values.
 use crate::api::run;
 use crate::exported::stun_base::attribute_type::AttributeType;
 use crate::exported::stun_base::error::{StunParseError, StunWriteError, ValidateError};

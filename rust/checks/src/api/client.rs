@@ -1,7 +1,7 @@
-//! What `Debug` shows of a client's authenticators, what a client signs in a writer of the test's
-//! own, and that a refusal names no digest.
+//! Tests of what `Debug` shows of a client's authenticators, of messages that a client signs in a
+//! writer that the test defines, and of refusals, which name no algorithm.
 //!
-//! The digests are those of Python's module `hmac`.
+//! Python's module `hmac` computed the digests.
 use crate::api::array_writer::ArrayWriter;
 use crate::api::run;
 use crate::api::shown::{are_silent, shown};
@@ -34,12 +34,12 @@ const PLAIN_CHALLENGE: &str =
     "01110034 2112a442 000000000000000000000001 00090010 00000401 556e617574686f72697a6564
     00150010 41414141414141414141414141414141 00140005 7265616c6d000000";
 
-/// The request after it.
+/// The request that answers `PLAIN_CHALLENGE`.
 const PLAIN_REQUEST: &str =
     "00010040 2112a442 000000000000000000000001 00150010 41414141414141414141414141414141
     00140005 7265616c6d000000 00060004 75736572 00080014 b0f2dc4f7ce5b00b393c1695d81c24a22ce5a77e";
 
-/// A success under its key.
+/// A success that is signed with the key of `PLAIN_REQUEST`.
 const SUCCESS: &str =
     "01010018 2112a442 000000000000000000000001 00080014 b03215c7060d52ab73f40ee4fffb1e125e43057e";
 
@@ -49,7 +49,7 @@ const CHALLENGE: &str = "01110050 2112a442 000000000000000000000001
     0015001d 6f624d61744a6f73327741414141414141414141414141414141414141000000
     00140005 7265616c6d000000 80020008 0002000000010000";
 
-/// The request after it, with HMAC-SHA256 and a hashed name.
+/// The request that answers `CHALLENGE`, with HMAC-SHA256 and a hashed name.
 const REQUEST: &str = "0001008c 2112a442 000000000000000000000001
     0015001d 6f624d61744a6f73327741414141414141414141414141414141414141000000
     00140005 7265616c6d000000
@@ -57,8 +57,8 @@ const REQUEST: &str = "0001008c 2112a442 000000000000000000000001
     80020008 0002000000010000
     001d0004 00020000 001c0020 a39a7c5e8b2f5a8ecfafa847561ba67c2da48ae2ab88cdc0e5015c77239cf963";
 
-/// Checks what is shown of a value, and that nothing of the secrets is, whatever the formatter asks
-/// for.
+/// Checks what `Debug` shows of a value, and that it shows no secret with any option of the
+/// formatter.
 fn expect_silent<T: Debug>(
     rt: &impl Abort,
     alloc: Global,
@@ -86,7 +86,7 @@ fn a_long_term_authenticator_is_silent() {
     });
 }
 
-/// An authenticator of short-term credentials.
+/// Returns an authenticator with short-term credentials.
 fn short_term(alloc: Global, password: String) -> Result<ShortTermAuth, Fail> {
     let mut auth = ShortTermAuth::new(alloc);
     auth.set_credentials(
@@ -104,7 +104,7 @@ fn a_short_term_authenticator_is_silent() {
     });
 }
 
-/// A client with both algorithms that has taken up the challenge of a server with both.
+/// Returns a client with both algorithms that has accepted the challenge of a server with both.
 fn challenged_client(rt: &impl Abort, alloc: Global) -> Result<LongTermClientAuth, Fail> {
     let challenge = bytes_of(alloc, CHALLENGE)?;
     let mut client = full_client(alloc, Feature::Auto)?;
@@ -124,7 +124,7 @@ fn another_writer_takes_the_signed_message() {
     });
 }
 
-/// The digest of which a server tells in its refusal of a request from the second address.
+/// Returns the algorithm in a server's refusal of a request from the second address.
 fn told_by_server(
     server: &mut LongTermServerAuth,
     request: &[u8],
@@ -137,7 +137,7 @@ fn told_by_server(
     }
 }
 
-/// The digest of which a client tells in its refusal of a challenge.
+/// Returns the algorithm in a client's refusal of a challenge.
 fn told_by_client(
     client: &mut LongTermClientAuth,
     challenge: &[u8],
@@ -149,7 +149,8 @@ fn told_by_client(
     }
 }
 
-/// No refusal tells of a digest, also where one verifies and the nonce is another address's.
+/// A server's refusal has no algorithm, even if the signature is valid and only the nonce is that
+/// of another address.
 #[test]
 fn a_servers_refusal_tells_no_digest() {
     run(|rt| {
@@ -160,7 +161,7 @@ fn a_servers_refusal_tells_no_digest() {
     });
 }
 
-/// Nor does a client's, which has no credentials.
+/// The refusal of a client without credentials has no algorithm.
 #[test]
 fn a_clients_refusal_tells_no_digest() {
     run(|rt| {

@@ -1,5 +1,5 @@
-//! A client around an agent and an authenticator, as its user writes it: ask, wait, send again,
-//! drop what is forged.
+//! A client that uses an agent and an authenticator, as an application would: it sends requests,
+//! waits, sends them again, and drops forged responses.
 use crate::api::dialogue::{
     CHALLENGE, RENEWED_REQUEST, REQUEST, SIGNED_REQUEST, STALE_NONCE, SUCCESS, Socket, arrivals,
     user,
@@ -24,22 +24,22 @@ use crate::kit::prelude::Vec;
 use crate::test_support::datagrams::{local, peer};
 use std::net::SocketAddr;
 
-/// How asking ends.
+/// The outcome of a request.
 #[derive(Clone, Copy, Debug, PartialEq, Eq)]
 enum End {
     /// The server sees the client at this address.
     Address(SocketAddr),
-    /// The server knows the key, and answers by an error.
+    /// The server, which knows the key, answers with an error.
     ServerError,
     /// The challenge cannot be answered.
     Refused(Reason),
     /// No answer came in time.
     NoAnswer,
-    /// As many requests as may be sent were challenged.
+    /// All requests that may be sent were challenged.
     Unanswered,
 }
 
-/// How many requests are sent at most, each after a challenge to the one before.
+/// The maximum number of requests, each of which answers a challenge to the request before.
 const MOST_REQUESTS: u32 = 4;
 
 /// Asks a server for the address that it sees, and answers its challenges (RFC 8489, sections 6 and
@@ -52,7 +52,7 @@ fn ask(
     rng: &mut WordSource,
 ) -> Result<End, Fail> {
     let mut agent = StunAgent::builder(alloc, TransportType::Udp, local()).build();
-    // A 401 may be forged: never ask without an end.
+    // A 401 may be forged, so the number of requests must be limited.
     for _ in 0..MOST_REQUESTS {
         let request = request(alloc, auth, rng)?;
         let sent = agent.send_request(request, server, socket.now())?;
@@ -64,8 +64,8 @@ fn ask(
     Ok(End::Unanswered)
 }
 
-/// Waits for the end of a request, which is sent again meanwhile. `None` if it was challenged, and
-/// another is to be sent.
+/// Waits until a request ends, and sends it again meanwhile. Returns `None` if the request was
+/// challenged and another one must be sent.
 fn wait_for_end(
     agent: &mut StunAgent,
     auth: &mut LongTermClientAuth,
@@ -83,14 +83,15 @@ fn wait_for_end(
         let Some((bytes, from)) = socket.receive(until) else {
             continue;
         };
-        // Dropped: what is no message, and what answers no outstanding request of this sender.
+        // Drops bytes that are not a message, and messages that answer no outstanding request to
+        // their sender.
         let Ok(message) = Message::from_bytes(bytes) else {
             continue;
         };
         if !is_answer(agent, &message, from) {
             continue;
         }
-        // The authenticator is asked before the agent, and what is forged dropped.
+        // The authenticator is called before the agent, and forged responses are dropped.
         let verdict = match auth.validate_incoming_message(&message) {
             Ok(verdict) => verdict,
             Err(error) if error.reason() == Reason::IntegrityFailed => continue,
@@ -105,7 +106,7 @@ fn wait_for_end(
     Ok(Some(End::NoAnswer))
 }
 
-/// Whether a message from an address answers an outstanding request to that address.
+/// Returns whether a message from an address answers an outstanding request to that address.
 fn is_answer(agent: &StunAgent, message: &Message<'_>, from: SocketAddr) -> bool {
     match agent.request_transaction(message.transaction_id()) {
         Some(asked) => message.is_response() && asked.peer_address() == from,
@@ -113,7 +114,7 @@ fn is_answer(agent: &StunAgent, message: &Message<'_>, from: SocketAddr) -> bool
     }
 }
 
-/// A request of a new id, signed where a challenge was taken up.
+/// Returns a request with a new ID, which is signed if a challenge was accepted.
 fn request(
     alloc: Global,
     auth: &mut LongTermClientAuth,
@@ -124,7 +125,7 @@ fn request(
     Ok(auth.sign_outgoing_message(request)?.finish())
 }
 
-/// What a validated response tells.
+/// Returns the outcome that a validated response means.
 fn end_of(message: &Message<'_>) -> Result<End, Fail> {
     if message.has_class(MessageClass::Error) {
         return Ok(End::ServerError);
@@ -133,7 +134,7 @@ fn end_of(message: &Message<'_>) -> Result<End, Fail> {
     Ok(End::Address(mapped.addr(message.transaction_id())))
 }
 
-/// A client of the user `user`, with both algorithms.
+/// Returns a client of the user `user`, with both algorithms.
 fn client(alloc: Global, password: &str) -> Result<LongTermClientAuth, Fail> {
     let mut auth = LongTermClientAuth::new(alloc);
     auth.add_supported_integrity(IntegrityAlgorithm::Sha256);
@@ -141,12 +142,13 @@ fn client(alloc: Global, password: &str) -> Result<LongTermClientAuth, Fail> {
     Ok(auth)
 }
 
-/// Words that are the numbers from 1 on.
+/// Returns a source of random numbers that yields 1, 2, 3 and so on.
 fn words() -> WordSource {
     WordSource::new([1, 2, 3, 4, 5, 6, 7, 8, 9, 10, 11, 12, 13, 14, 15, 16])
 }
 
-/// A 438 and a 401, unsigned, with an id that no request has: nonce `x`, realm `evil`.
+/// An unsigned 438 and an unsigned 401, with an ID that no request has, the nonce `x` and the realm
+/// `evil`.
 const STRAY_STALE_NONCE: &str =
     "01110024 2112a442 000000090000000900000009 0009000f 00000426 5374616c65204e6f6e636500
     00150001 78000000 00140004 6576696c";
@@ -155,32 +157,32 @@ const STRAY_CHALLENGE: &str =
     "01110024 2112a442 000000090000000900000009 00090010 00000401 556e617574686f72697a6564
     00150001 78000000 00140004 6576696c";
 
-/// A success to the signed request, with XOR-MAPPED-ADDRESS 10.0.0.66:666, signed under the
-/// password `guess`.
+/// A success that answers the signed request, with XOR-MAPPED-ADDRESS 10.0.0.66:666, signed with
+/// the password `guess`.
 const FORGED_SUCCESS: &str = "01010068 2112a442 000000040000000500000006 00200008 00012388 2b12a400
     0015001d 6f624d61744a6f73327741414142424242424242424242424242424242000000
     00140005 7265616c6d000000
     001d0004 00020000 001c0020 b1fbbdf40c60ef6bf24dade7331bfe8cb4341632e68398c04f1a1c36f29defc1";
 
-/// The challenge once more, to the signed request.
+/// The same challenge again, as an answer to the signed request.
 const CHALLENGE_AGAIN: &str =
     "01110050 2112a442 000000040000000500000006 00090010 00000401 556e617574686f72697a6564
     0015001d 6f624d61744a6f73327741414142424242424242424242424242424242000000
     00140005 7265616c6d000000
     80020008 0002000000010000";
 
-/// ERROR-CODE 500 to the signed request, signed.
+/// A signed error 500 that answers the signed request.
 const SERVER_ERROR: &str =
     "01110070 2112a442 000000040000000500000006 00090010 00000500 536572766572204572726f72
     0015001d 6f624d61744a6f73327741414142424242424242424242424242424242000000
     00140005 7265616c6d000000
     001d0004 00020000 001c0020 47a3403c2fec4d798582be3518c1d35a385eade0e6adc649d66cc6da44d34940";
 
-/// ERROR-CODE 400 to the signed request.
+/// An unsigned error 400 that answers the signed request.
 const BAD_REQUEST: &str =
     "01110014 2112a442 000000040000000500000006 0009000f 00000400 426164205265717565737400";
 
-/// A client with the password `pass` asks over a socket, and learns this.
+/// Checks that a request of a client with the password `pass` over a socket has this outcome.
 fn expect_end(
     rt: &impl Abort,
     alloc: Global,
@@ -193,7 +195,7 @@ fn expect_end(
     Ok(())
 }
 
-/// The same, and then the client has sent this, and all datagrams have come.
+/// Checks the outcome of a request, what the client has sent, and that all datagrams have arrived.
 fn expect_sent(
     rt: &impl Abort,
     alloc: Global,
@@ -205,7 +207,7 @@ fn expect_sent(
     socket.expect_sent(rt, alloc, peer(), sent)
 }
 
-/// What a client sends and learns where these datagrams come.
+/// Checks what a client sends, and the outcome of its request, if these datagrams arrive.
 fn expect_dialogue(
     rt: &impl Abort,
     alloc: Global,
@@ -241,7 +243,7 @@ fn a_client_is_answered() {
     });
 }
 
-/// What a client learns where this datagram comes after the challenge.
+/// Checks the outcome of a request if this datagram arrives after the challenge.
 fn expect_end_after(rt: &impl Abort, alloc: Global, second: &str, end: End) -> Result<(), Fail> {
     let coming = arrivals(alloc, peer(), &[(100, CHALLENGE), (200, second)])?;
     let mut socket = Socket::new(alloc, coming.as_slice());

@@ -1,4 +1,4 @@
-//! A server as one value whose users are looked up between two steps.
+//! Tests of a server as one value whose users are looked up between two calls.
 
 use crate::exported::stun_auth::auth::{LongTermClientAuth, NamedUser};
 use crate::exported::stun_endpoint::lookup::Identified;
@@ -80,7 +80,7 @@ fn code(answer: &Answer) -> u16 {
     }
 }
 
-/// What a datagram comes to without its user.
+/// Returns the answer to a datagram that needs no user.
 fn done(identified: Identified<'_>) -> Answer {
     match identified {
         Identified::Done(received) => answer(received),
@@ -88,7 +88,7 @@ fn done(identified: Identified<'_>) -> Answer {
     }
 }
 
-/// A client that has read the challenge of a server at an address.
+/// Returns a client at an address that has read the challenge of a server.
 fn challenged(server: &Server, from: SocketAddr, now: UnixTime, password: &str) -> LongTermClientAuth {
     let mut client = client(password);
     let request = binding(&mut client);
@@ -98,7 +98,7 @@ fn challenged(server: &Server, from: SocketAddr, now: UnixTime, password: &str) 
     client
 }
 
-/// The code of a request whose user is looked up.
+/// Returns the code of the answer to a request whose user is looked up.
 fn looked_up(server: &Server, request: &[u8], from: SocketAddr, now: UnixTime, knows: bool) -> u16 {
     let Ok(Identified::Lookup(lookup)) = server.identify(request, from, now) else {
         panic!("no look-up");
@@ -118,7 +118,7 @@ fn a_look_up_has_an_accepted_nonce_of_its_source() {
     let mut client = challenged(&server, from, secs(10), "wonderland");
     let request = binding(&mut client);
     let request = request.as_slice();
-    // At once, in the next lifetime, and no longer in the one after it.
+    // The nonce is accepted at once and in the next lifetime, but not in the lifetime after that.
     assert_eq!(looked_up(&server, request, from, secs(11), true), 200);
     assert_eq!(looked_up(&server, request, from, secs(HOUR + 11), true), 200);
     assert_eq!(looked_up(&server, request, from, secs(11), false), 401);
@@ -127,7 +127,7 @@ fn a_look_up_has_an_accepted_nonce_of_its_source() {
         assert_eq!(code(&answer), 438);
         assert_eq!(answer.to(), from);
     }
-    // Another secret, which knows this one as the previous or does not.
+    // Servers with another secret, with this one as their previous secret and without it.
     assert_eq!(looked_up(&long_term(2, Some(1)), request, from, secs(11), true), 200);
     let answer = done(long_term(2, None).identify(request, from, secs(11)).unwrap());
     assert_eq!(code(&answer), 438);

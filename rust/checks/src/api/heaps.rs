@@ -1,5 +1,5 @@
-//! How many bytes an agent, a server and a client take of a heap, in blocks of 16. What they tell
-//! takes none. Each text is at the heap that it came with.
+//! Tests of how many bytes of a heap an agent, a server and a client take, in blocks of 16. The
+//! values that they return take none. Each text stays on the heap on which it was allocated.
 
 use crate::exported::stun_agent::agent::{StunAgent, StunAgentPollRet};
 use crate::exported::stun_auth::auth::{Feature, LongTermClientAuth, LongTermServerAuth};
@@ -28,7 +28,7 @@ const CHALLENGE: [Part<'static>; 3] = [
     Part::Realm("realm"),
 ];
 
-/// Another nonce in place of that one.
+/// A 438 with another nonce.
 const STALE: [Part<'static>; 3] = [
     Part::Code(438),
     Part::Nonce("BBBBBBBBBBBBBBBB"),
@@ -41,7 +41,7 @@ fn ask<A: Allocator + Copy>(agent: &mut StunAgent<A>, number: u8) -> Result<(), 
     Ok(())
 }
 
-/// A server of both algorithms validates its user.
+/// Makes a server with both algorithms validate its user.
 fn accept<A: Allocator + Copy>(
     rt: &impl Abort,
     alloc: Global,
@@ -53,7 +53,7 @@ fn accept<A: Allocator + Copy>(
     Ok(())
 }
 
-/// A client takes up a challenge.
+/// Makes a client accept a challenge.
 fn take_up<A: Allocator + Copy>(
     rt: &impl Abort,
     alloc: Global,
@@ -65,7 +65,7 @@ fn take_up<A: Allocator + Copy>(
     Ok(())
 }
 
-/// A request that follows another takes its own 20 bytes, a leaf and a fork.
+/// A second request takes its 20 bytes, a leaf and a fork.
 #[test]
 fn a_request_takes_its_bytes_a_leaf_and_a_fork() {
     crate::host::run(|rt: HostRuntime| -> Result<(), Fail> {
@@ -82,7 +82,8 @@ fn a_request_takes_its_bytes_a_leaf_and_a_fork() {
     });
 }
 
-/// The IDs 1 and 2 part in the last two bits, so that each two bits before take a fork.
+/// The IDs 1 and 2 differ only in their last two bits, so each pair of bits before these takes a
+/// fork.
 #[test]
 fn two_requests_of_close_ids_take_a_fork_for_each_two_bits() {
     crate::host::run(|rt: HostRuntime| -> Result<(), Fail> {
@@ -99,7 +100,8 @@ fn two_requests_of_close_ids_take_a_fork_for_each_two_bits() {
     });
 }
 
-/// A request that ends leaves no fork behind: what one of three takes is what the first took.
+/// A request that ends leaves no fork: when two of three requests have ended, the remaining one
+/// takes as much as the first one took alone.
 #[test]
 fn requests_that_end_give_their_forks_back() {
     crate::host::run(|rt: HostRuntime| -> Result<(), Fail> {
@@ -125,7 +127,7 @@ fn requests_that_end_give_their_forks_back() {
     });
 }
 
-/// A client of a server takes its name of four bytes.
+/// A server stores the name of a client, which has four bytes.
 #[test]
 fn a_client_of_a_server_takes_its_name() {
     crate::host::run(|rt: HostRuntime| -> Result<(), Fail> {
@@ -138,8 +140,8 @@ fn a_client_of_a_server_takes_its_name() {
     });
 }
 
-/// A client who was removed and returns takes no memory. The name stays with the record, and goes
-/// with it.
+/// A client that was removed and returns takes no memory, because its name stays in the record
+/// until the record is removed.
 #[test]
 fn a_client_who_returns_takes_nothing() {
     crate::host::run(|rt: HostRuntime| -> Result<(), Fail> {
@@ -162,7 +164,7 @@ fn a_client_who_returns_takes_nothing() {
     });
 }
 
-/// A challenge that is kept takes the name, the realm and the nonce.
+/// A challenge that a client stores takes the memory of the name, the realm and the nonce.
 #[test]
 fn a_challenge_takes_its_texts() {
     crate::host::run(|rt: HostRuntime| -> Result<(), Fail> {
@@ -175,7 +177,7 @@ fn a_challenge_takes_its_texts() {
     });
 }
 
-/// What an agent tells of a request and of an address.
+/// Checks what an agent returns about a request and about an address.
 fn expect_told_by_agent(rt: &impl Abort, agent: &StunAgent<&Heap>) -> Result<(), Fail> {
     assert_eq!(agent.next_awaited(), Some(at(500)));
     assert!(agent.request_transaction(id(1)?).is_some());
@@ -197,7 +199,7 @@ fn what_an_agent_tells_takes_none() {
     });
 }
 
-/// What a server tells of itself and of an address.
+/// Checks what a server returns about itself and about an address.
 fn expect_told_by_server(rt: &impl Abort, server: &LongTermServerAuth<&Heap>) {
     assert_eq!(server.realm(), "realm");
     assert_eq!(server.supported_integrity().len(), 2);
@@ -221,7 +223,7 @@ fn what_a_server_tells_takes_none() {
     });
 }
 
-/// What a client tells of itself.
+/// Checks what a client returns about itself.
 fn expect_told_by_client(rt: &impl Abort, client: &LongTermClientAuth<&Heap>) {
     assert!(client.credentials().is_some());
     assert_eq!(client.supported_integrity().len(), 1);
@@ -243,8 +245,8 @@ fn what_a_client_tells_takes_none() {
     });
 }
 
-/// A client keeps a challenge at its own heap, and its user at another. What a stale nonce replaces
-/// is given back.
+/// Checks that a client stores a challenge on its own heap, and its user on another. The memory
+/// that a 438 replaces is freed.
 fn expect_client_at<'a>(
     rt: &impl Abort,
     alloc: Global,
@@ -269,8 +271,8 @@ fn a_client_keeps_a_challenge_at_its_heap() {
     });
 }
 
-/// A server keeps its records at its own heap, and its realm at another. Its user is at a third,
-/// with the copy of the name and the keys.
+/// Checks that a server stores its records on its own heap, and its realm on another. Its user is
+/// on a third heap, with the copy of the name and the keys.
 fn expect_server_at<'a>(
     rt: &impl Abort,
     alloc: Global,

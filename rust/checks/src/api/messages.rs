@@ -1,5 +1,5 @@
-//! What moments, algorithms and credentials are by themselves: their differences, their order, and
-//! what they are equal by.
+//! Tests of times, algorithms and credentials alone: their differences, their order, and their
+//! equality.
 use crate::api::run;
 use crate::exported::stun_base::instant::Instant;
 use crate::exported::stun_types::message::{

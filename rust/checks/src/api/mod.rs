@@ -1,6 +1,6 @@
-//! What programs can ask of the sources as they are exported: public paths, texts of errors,
-//! `Debug`, types of a test's own, and the loops of the documents.
-// The style of these tests is that of the sources, whose exported tests they were.
+//! Tests of the exported sources: public paths, texts of errors, `Debug`, types that a test
+//! defines, and the loops of the documentation.
+// These tests have the style of the sources, because they were exported with them once.
 #![allow(clippy::complexity, clippy::style, clippy::large_enum_variant)]
 
 use crate::host::{Fail, HostRuntime};
@@ -26,7 +26,7 @@ mod text_heaps;
 mod texts;
 mod writing;
 
-/// Runs a test that fails with what went wrong.
+/// Runs a test, and panics with the reason if it fails.
 fn run(test: impl FnOnce(HostRuntime) -> Result<(), Fail>) {
     crate::host::run(test);
 }

@@ -1,4 +1,4 @@
-//! Each public name is reached by its path in `stun_proto`, the door that users have.
+//! Tests that each public name has its path in `stun_proto`, the crate that users import.
 
 use crate::api::run;
 use crate::exported::stun_proto::Instant;
@@ -46,27 +46,27 @@ const REQUEST: [u8; 28] = [
     0,
 ];
 
-/// The method and the class of the request.
+/// Checks the method and the class of the request.
 fn expect_message(rt: &impl Abort, message: &Message) {
     assert_eq!(message.class(), MessageClass::Request);
     assert_eq!(Some(message.method()), Method::new(1));
 }
 
-/// The header of the request.
+/// Checks the header of the request.
 fn expect_header(rt: &impl Abort, header: &MessageHeader) {
     assert_eq!(header.data_length(), 8);
     let kind: MessageType = header.get_type();
     assert_eq!(kind.method(), BINDING);
 }
 
-/// The one attribute of the request.
+/// Checks the only attribute of the request.
 fn expect_attribute(rt: &impl Abort, place: usize, attribute: RawAttribute) {
     assert_eq!(place, 20);
     assert_eq!(attribute.get_type(), AttributeType::USERNAME);
     assert_eq!(attribute.value(), b"a".as_slice());
 }
 
-/// The attributes of the request: one, and no more.
+/// Checks that the request has one attribute.
 fn expect_attributes(rt: &impl Abort, message: &Message) {
     let mut attributes: MessageAttributesIter = message.iter_attributes();
     match attributes.next() {
@@ -90,7 +90,7 @@ fn reading() {
     });
 }
 
-// What an attribute is that is written and read: its type is fixed.
+// Returns the fixed type of an attribute that can be written and parsed.
 fn type_of<'a, A: Attribute + AttributeStaticType + AttributeFromRaw<'a>>() -> u16 {
     A::TYPE.value()
 }
@@ -127,7 +127,7 @@ fn attributes() {
     });
 }
 
-/// The key of a password alone.
+/// Checks the key of a password.
 fn expect_short_term_key(rt: &impl Abort, alloc: Global) -> Result<(), Fail> {
     let password: ShortTermCredentials =
         ShortTermCredentials::new(String::from_str(alloc, "pass")?);
@@ -136,14 +136,14 @@ fn expect_short_term_key(rt: &impl Abort, alloc: Global) -> Result<(), Fail> {
     Ok(())
 }
 
-/// A user with a password.
+/// Returns a user with a password.
 fn user(alloc: Global) -> Result<LongTermCredentials, Fail> {
     let name = String::from_str(alloc, "user")?;
     let password = String::from_str(alloc, "pass")?;
     Ok(LongTermCredentials::new(name, password))
 }
 
-/// The credentials of a user in a realm.
+/// Returns the credentials of a user in a realm.
 fn credentials_of(
     alloc: Global,
     user: LongTermCredentials,
@@ -153,7 +153,7 @@ fn credentials_of(
     Ok(MessageIntegrityCredentials::from(user))
 }
 
-/// The request has no MESSAGE-INTEGRITY that these credentials could validate.
+/// Checks that these credentials cannot validate the request, because it has no MESSAGE-INTEGRITY.
 fn expect_missing(rt: &impl Abort, credentials: &MessageIntegrityCredentials) -> Result<(), Fail> {
     let message = Message::from_bytes(&REQUEST)?;
     let missing = ValidateError::Parse(StunParseError::MissingAttribute(AttributeType::new(8)));
@@ -161,18 +161,18 @@ fn expect_missing(rt: &impl Abort, credentials: &MessageIntegrityCredentials) ->
     Ok(())
 }
 
-/// The key of a user in a realm, as it is and prepared.
+/// Checks the key of a user in a realm, and the prepared key.
 fn expect_long_term_key(rt: &impl Abort, alloc: Global) {
     let algorithm = IntegrityAlgorithm::Sha1;
     let key: IntegrityKey = long_term_key(alloc, algorithm, "user", "realm", "pass");
     assert_eq!(key.as_bytes(), MD5_KEY.as_slice());
     let prepared: PreparedKey = PreparedKey::new(key, algorithm);
     assert_eq!(prepared.key().as_bytes(), MD5_KEY.as_slice());
-    // An empty text under this key, by Python's module `hmac`.
+    // The digest of an empty text with this key, from Python's module `hmac`.
     assert_eq!(&prepared.hmac_sha1(&[])[..2], [0x87, 0xbf].as_slice());
 }
 
-/// An empty text under an empty key.
+/// Checks the digests of an empty text with an empty key.
 fn expect_digests(rt: &impl Abort) {
     assert_eq!(&hmac_sha1(&[], &[])[..2], [0xfb, 0xdb].as_slice());
     assert_eq!(&hmac_sha256(&[], &[])[..2], [0xb6, 0x13].as_slice());
@@ -190,13 +190,13 @@ fn credentials() {
     });
 }
 
-// What a writer writes: a header of a Binding request.
+// Writes the header of a Binding request with a writer, and returns what the writer returns.
 fn write_with<W: MessageWrite + MessageWriteExt>(writer: W) -> Result<W::Output, StunWriteError> {
     let id = TransactionId::from_u128(1).ok_or(StunWriteError::NotAllowed)?;
     Ok(Message::builder_request(BINDING, id, writer)?.finish())
 }
 
-/// A writer over a slice writes this too.
+/// Checks that a writer over a slice writes the same bytes.
 fn expect_written(rt: &impl Abort, written: &[u8]) -> Result<(), Fail> {
     let mut room = [0; 20];
     let writer: MessageWriteMutSlice = MessageWriteMutSlice::new(&mut room);
@@ -215,7 +215,7 @@ fn writers() {
     });
 }
 
-/// What an agent sends that is no message.
+/// Checks what an agent sends that is not a message.
 fn expect_sent(rt: &impl Abort, agent: &mut StunAgent) -> Result<(), Fail> {
     let sent: Transmit<[u8; 2]> = agent.send_data([1, 2], peer())?;
     assert_eq!(
@@ -228,7 +228,7 @@ fn expect_sent(rt: &impl Abort, agent: &mut StunAgent) -> Result<(), Fail> {
     Ok(())
 }
 
-/// An agent has no request of this id.
+/// Checks that an agent has no request with this ID.
 fn expect_no_request(rt: &impl Abort, agent: &mut StunAgent, id: TransactionId) {
     let request: Option<StunRequest> = agent.request_transaction(id);
     assert!(request.is_none());
@@ -254,7 +254,7 @@ fn agents() {
     });
 }
 
-/// A client refuses what it cannot check.
+/// Checks that a client refuses a message that it cannot check.
 fn expect_client_refuses(rt: &impl Abort, alloc: Global, message: &Message) {
     let mut client: LongTermClientAuth = LongTermClientAuth::new(alloc);
     let told: Result<LongTermClientValidation, LongTermClientAuthError> =
@@ -263,14 +263,14 @@ fn expect_client_refuses(rt: &impl Abort, alloc: Global, message: &Message) {
     assert_eq!(reason, Some(LongTermClientAuthErrorReason::IntegrityFailed));
 }
 
-/// A server of the realm `realm`.
+/// Returns a server of the realm `realm`.
 fn server(alloc: Global) -> Result<LongTermServerAuth, Fail> {
     let realm = String::from_str(alloc, "realm")?;
     let server: LongTermServerAuth = LongTermServerAuth::new(alloc, realm);
     Ok(server)
 }
 
-/// A server refuses a request of one whom it does not know.
+/// Checks that a server refuses a request of an unknown user.
 fn expect_server_refuses(rt: &impl Abort, server: &mut LongTermServerAuth, message: &Message) {
     let mut rng = WordSource::new([0; 16]);
     let judged: Result<LongTermServerValidation, LongTermServerAuthError> =
@@ -280,7 +280,7 @@ fn expect_server_refuses(rt: &impl Abort, server: &mut LongTermServerAuth, messa
     assert_eq!(server.anonymous_username(), Feature::Auto);
 }
 
-/// The nonce that it made says that names may be hashed.
+/// Checks that the nonce that the server made allows hashed names.
 fn expect_nonce(rt: &impl Abort, server: &LongTermServerAuth) -> Result<(), Fail> {
     let nonce = server.nonce_for_client(local()).ok_or("a nonce was made")?;
     assert!(nonce.starts_with(LONG_TERM_RFC8489_NONCE_COOKIE));
@@ -289,7 +289,7 @@ fn expect_nonce(rt: &impl Abort, server: &LongTermServerAuth) -> Result<(), Fail
     Ok(())
 }
 
-/// Without a password nothing is checked.
+/// Checks that an authenticator without a password verifies nothing.
 fn expect_unchecked(rt: &impl Abort, alloc: Global, message: &Message) {
     let mut short: ShortTermAuth = ShortTermAuth::new(alloc);
     assert_eq!(short.validate_incoming_message(message), Ok(None));
@@ -308,7 +308,7 @@ fn authenticators() {
     });
 }
 
-/// An agent that nothing happens to does nothing.
+/// Checks that an agent without events does nothing.
 fn expect_no_steps(rt: &impl Abort, alloc: Global) -> Result<(), Fail> {
     let events: [(Instant, AgentEvent); 0] = [];
     let mut agent = StunAgent::builder(alloc, TransportType::Udp, local()).build();
@@ -317,7 +317,7 @@ fn expect_no_steps(rt: &impl Abort, alloc: Global) -> Result<(), Fail> {
     Ok(())
 }
 
-/// A server without calls replies nothing.
+/// Checks that a server without calls gives no replies.
 fn expect_no_replies(
     rt: &impl Abort,
     alloc: Global,
@@ -329,7 +329,7 @@ fn expect_no_replies(
     Ok(())
 }
 
-/// A client without credentials refuses the challenge of this server.
+/// Checks that a client without credentials refuses the challenge of this server.
 fn expect_refusal(
     rt: &impl Abort,
     alloc: Global,

@@ -1,5 +1,5 @@
-//! `Debug` of keys and credentials writes no secret, whatever the formatter asks for, and where a
-//! write fails.
+//! Tests that `Debug` of keys and credentials writes no secret, with any option of the formatter,
+//! and even if a write fails.
 use crate::api::run;
 use crate::api::shown::{are_silent, shown};
 use crate::exported::stun_types::message::{
@@ -10,27 +10,27 @@ use crate::host::Fail;
 use crate::kit::alloc::Global;
 use crate::kit::prelude::String;
 
-/// What holds a secret.
+/// The kind of a value that contains a secret.
 #[derive(Clone, Copy)]
 enum Holder {
     ShortTerm,
-    /// The short-term credentials as those of a message.
+    /// The short-term credentials as the credentials of a message.
     ShortTermOfMessage,
-    /// The key of those.
+    /// The key that the short-term credentials of a message make.
     ShortTermKey,
     LongTerm,
     LongTermAtRealm,
-    /// The key that the user at the realm makes.
+    /// The key that the user in the realm makes.
     MadeKey,
-    /// The user at the realm as the credentials of a message.
+    /// The user in the realm as the credentials of a message.
     LongTermOfMessage,
-    /// The key of those.
+    /// The key that the long-term credentials of a message make.
     LongTermKey,
-    /// A key that is short enough to be in the value itself.
+    /// A key that is short enough to be stored in the value itself.
     ShortKey,
-    /// A key that is in memory.
+    /// A key that is allocated.
     LongKey,
-    /// The same, prepared.
+    /// An allocated key that is prepared.
     PreparedKey,
 }
 
@@ -96,7 +96,7 @@ fn shown_prepared(alloc: Global) -> Result<[String; 8], Fail> {
     )
 }
 
-/// What is written of a holder.
+/// Returns the texts that `Debug` writes of a holder.
 fn shown_of(alloc: Global, holder: Holder, texts: Texts) -> Result<[String; 8], Fail> {
     match holder {
         Holder::ShortTerm => shown(alloc, &short_term(alloc, texts)?),
@@ -113,8 +113,8 @@ fn shown_of(alloc: Global, holder: Holder, texts: Texts) -> Result<[String; 8], 
     }
 }
 
-/// Nothing of the secrets is shown: no word of them, and no byte of a key that is made of them, of
-/// the password and of the MD5 hash.
+/// `Debug` shows nothing of the secrets: no word of them, and no byte of a key that is made of them
+/// (the bytes of the password, or of the MD5 hash).
 #[test]
 fn secrets_are_not_shown() {
     run(|rt| {

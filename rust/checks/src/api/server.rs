@@ -1,7 +1,7 @@
-//! What a server signs in a writer of a test's own, the texts of the reasons of both sides, and what
-//! `Debug` shows of a server.
+//! Tests of messages that a server signs in a writer that the test defines, of the texts of the
+//! reasons of both sides, and of what `Debug` shows of a server.
 //!
-//! The digests are those of Python's module `hmac`.
+//! Python's module `hmac` computed the digests.
 use crate::api::array_writer::ArrayWriter;
 use crate::api::run;
 use crate::api::shown::{are_silent, shown};
@@ -27,7 +27,7 @@ const SUCCESS: &str = "0101005c 2112a442 000000000000000000000001
     00140005 7265616c6d000000 001d0004 00020000
     001c0020 e8f5b09d5629ab155ca941cae4fadd5ce499d03395f928b83f01830eb6543c33";
 
-/// A server that has validated a client with HMAC-SHA256 at the first address.
+/// Returns a server that has validated a client with HMAC-SHA256 at the first address.
 fn server_of_client<A: Allocator + Copy>(
     rt: &impl Abort,
     alloc: Global,
@@ -40,7 +40,7 @@ fn server_of_client<A: Allocator + Copy>(
     Ok(server)
 }
 
-/// A writer of a test's own takes the signed message.
+/// A server can sign a message in a writer that the test defines.
 #[test]
 fn another_writer_takes_the_signed_message() {
     run(|rt| {
@@ -117,7 +117,7 @@ fn a_client_names_its_reasons() {
     });
 }
 
-/// Whatever the formatter asks for, and where a write fails.
+/// `Debug` shows no secret with any option of the formatter, even if a write fails.
 #[test]
 fn debug_shows_nothing_of_a_server() {
     run(|rt| {

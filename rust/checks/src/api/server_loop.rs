@@ -1,5 +1,5 @@
-//! A server around an authenticator, as its user writes it: judge each request, and answer it
-//! signed or not.
+//! A server that uses an authenticator, as an application would: it judges each request, and
+//! answers it, signed or not.
 use crate::api::dialogue::{
     CHALLENGE, RENEWED_REQUEST, REQUEST, SIGNED_REQUEST, STALE_NONCE, SUCCESS, Socket, arrivals,
     user,
@@ -24,11 +24,11 @@ use crate::test_support::datagrams::local;
 use std::net::SocketAddr;
 use std::time::Duration;
 
-/// The seconds that a nonce lasts.
+/// The lifetime of a nonce in seconds.
 const EXPIRY_SECONDS: u64 = 3600;
 
-/// Answers requests for the address that they come from (RFC 8489, sections 6.3.1 and 9.2.4), until
-/// no datagram is left.
+/// Answers Binding requests with the address that they come from (RFC 8489, sections 6.3.1 and
+/// 9.2.4), until no datagram is left.
 fn serve(
     alloc: Global,
     auth: &mut LongTermServerAuth,
@@ -40,7 +40,7 @@ fn serve(
             break;
         };
         auth.forget_expired(before(socket.now(), Duration::from_secs(EXPIRY_SECONDS)));
-        // Dropped: what is no message, and what wants no answer.
+        // Drops bytes that are not a message, and messages that need no answer.
         let Ok(request) = Message::from_bytes(bytes) else {
             continue;
         };
@@ -54,17 +54,17 @@ fn serve(
     Ok(())
 }
 
-/// The moment so long before another one, or the first of all.
+/// Returns the time that is `span` before `now`, or `Instant::ZERO` if that would be earlier.
 fn before(now: Instant, span: Duration) -> Instant {
     Instant::ZERO + (now - (Instant::ZERO + span))
 }
 
-/// Whether a user may ask this server.
+/// Returns whether a user may use this server.
 fn is_served(name: &str) -> bool {
     name == "user"
 }
 
-/// The answer to a request, if it gets one.
+/// Returns the answer to a request, if there is one.
 fn answer(
     alloc: Global,
     auth: &mut LongTermServerAuth,
@@ -76,14 +76,14 @@ fn answer(
     let had_nonce = auth.nonce_for_client(from).is_some();
     let code = match auth.validate_incoming_message(request, from, now, rng) {
         Ok(LongTermServerValidation::Validated(_)) => {
-            // Who it is the authenticator tells, and not the message's USERNAME.
+            // The authenticator knows the user who was validated. The USERNAME may be another.
             if !auth.client(from).is_some_and(|client| is_served(client.0)) {
                 return Ok(None);
             }
             let mut success = Message::builder_success(request, writer)?;
             success.add_attribute(&XorMappedAddress::new(from, request.transaction_id()))?;
             let success = auth.sign_outgoing_message(success, from)?;
-            // Nobody is kept: who starts anew at this address is to be challenged as the first was.
+            // Without this call, a new client at this address would be challenged without a list.
             auth.remove_client(from);
             return Ok(Some(success.finish()));
         }
@@ -91,7 +91,7 @@ fn answer(
             Reason::BadRequest if had_nonce || auth.nonce_for_client(from).is_none() => {
                 ErrorCode::BAD_REQUEST
             }
-            // Where that call made the nonce, a bad request may repeat an offer that was forgotten.
+            // If that call made the nonce, a bad request may repeat an offer that was forgotten.
             Reason::BadRequest | Reason::StaleNonce => ErrorCode::STALE_NONCE,
             Reason::Unauthorized => ErrorCode::UNAUTHORIZED,
             _ => return Ok(None),
@@ -99,14 +99,14 @@ fn answer(
     };
     let mut error = Message::builder_error(request, writer)?;
     error.add_attribute(&ErrorCode::builder(code).build()?)?;
-    // A 400 tells neither nonce nor realm, and is not signed.
+    // A 400 has neither nonce nor realm, and is not signed.
     if code != ErrorCode::BAD_REQUEST {
         error = auth.sign_outgoing_message(error, from)?;
     }
     Ok(Some(error.finish()))
 }
 
-/// A server of the realm `realm` and the user `user`, with both algorithms.
+/// Returns a server of the realm `realm` with the user `user` and both algorithms.
 fn server(alloc: Global) -> Result<LongTermServerAuth, Fail> {
     let mut auth = LongTermServerAuth::new(alloc, String::from_str(alloc, "realm")?);
     auth.add_supported_integrity(IntegrityAlgorithm::Sha256);
@@ -114,28 +114,29 @@ fn server(alloc: Global) -> Result<LongTermServerAuth, Fail> {
     Ok(auth)
 }
 
-/// An indication with the id of the first request.
+/// An indication with the ID of the first request.
 const INDICATION: &str = "00110000 2112a442 000000010000000200000003";
 
-/// A request with USERNAME and MESSAGE-INTEGRITY-SHA256 under the user's key, without nonce and
-/// realm.
+/// A request with USERNAME and MESSAGE-INTEGRITY-SHA256 that is signed with the user's key, but has
+/// neither nonce nor realm.
 const HALF_SIGNED: &str = "0001002c 2112a442 000000070000000700000007 00060004 75736572
     001c0020 3c149a82842a751d99afd3d24b974c151fdf18d517b09149c541c9acb4caa192";
 
-/// Its answer: ERROR-CODE 400.
+/// The answer to `HALF_SIGNED`: ERROR-CODE 400.
 const BAD_REQUEST: &str =
     "01110014 2112a442 000000070000000700000007 0009000f 00000400 426164205265717565737400";
 
-/// A server answers what comes over a socket.
+/// Makes a server answer the datagrams that arrive at a socket.
 fn serve_all(alloc: Global, socket: &mut Socket<'_>) -> Result<(), Fail> {
     let mut auth = server(alloc)?;
-    // Each word of 1 draws the letter `B`; the zeros after them draw the letter `A`.
+    // Each random number 1 becomes the letter `B`; the zeros after them become the letter `A`.
     let mut rng = WordSource::new([1; 16]);
     serve(alloc, &mut auth, socket, &mut rng)?;
     Ok(())
 }
 
-/// The same, and then it has sent this, and all datagrams have come.
+/// Makes a server answer the datagrams, and checks what it has sent, and that all datagrams have
+/// arrived.
 fn expect_sent(
     rt: &impl Abort,
     alloc: Global,
@@ -146,7 +147,7 @@ fn expect_sent(
     socket.expect_sent(rt, alloc, local(), sent)
 }
 
-/// What a server sends where these datagrams come.
+/// Checks what a server sends if these datagrams arrive.
 fn expect_dialogue(
     rt: &impl Abort,
     alloc: Global,
@@ -158,7 +159,7 @@ fn expect_dialogue(
     expect_sent(rt, alloc, &mut socket, sent)
 }
 
-/// A nonce is current for an hour, that moment included.
+/// A nonce is current for an hour, including the end of the hour.
 #[test]
 fn a_server_answers() {
     run(|rt| {
@@ -181,16 +182,16 @@ fn a_server_answers() {
     });
 }
 
-/// The answer to a first request once `AAAA..` is the nonce of its address.
+/// The answer to the first request if `AAAA..` is the nonce of its address.
 const CHALLENGE_AGAIN: &str =
     "01110050 2112a442 000000010000000200000003 00090010 00000401 556e617574686f72697a6564
     0015001d 6f624d61744a6f73327741414141414141414141414141414141414141000000
     00140005 7265616c6d000000
     80020008 0002000000010000";
 
-/// An address whose nonce ended an hour ago is forgotten: a request that repeats what it was
-/// offered is told a new nonce, and validated with it. Who starts anew there is challenged as the
-/// first was.
+/// The record of an address whose nonce expired an hour ago is removed. A request that repeats the
+/// old offer gets a new nonce, and is validated with it. A new client at the address is challenged
+/// like the first client.
 #[test]
 fn a_server_forgets() {
     run(|rt| {

@@ -1,4 +1,4 @@
-//! Short-term credentials that sign in a writer of the test's own.
+//! Tests of short-term credentials that sign in a writer that the test defines.
 
 use crate::api::array_writer::ArrayWriter;
 use crate::api::run;
@@ -13,11 +13,11 @@ use crate::kit::prelude::String;
 use crate::test_support::parts::begin;
 use crate::test_support::spelled::bytes_of;
 
-/// The same with MESSAGE-INTEGRITY-SHA256.
+/// A Binding request with MESSAGE-INTEGRITY-SHA256.
 const SIGNED_BY_SHA256: &str = "00010024 2112a442 000000000000000000000001
     001c0020 5f4ff406377effa517968a8441aa342a7efa5c9b2c4ebb40d33900f6f1b4fd43";
 
-/// An authenticator of `password`.
+/// Returns an authenticator with the password `password`.
 fn authenticator(
     alloc: Global,
     algorithm: IntegrityAlgorithm,

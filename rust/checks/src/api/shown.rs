@@ -1,10 +1,10 @@
-//! What `Debug` writes of a value that holds a secret.
+//! Collects what `Debug` writes of a value that contains a secret.
 use crate::host::Fail;
 use crate::kit::alloc::{AllocError, Global};
 use crate::kit::prelude::String;
 use std::fmt::{self, Debug, Write};
 
-/// A writer that keeps all that it is given, and fails once it was called so often.
+/// A writer that stores all text that it is passed, and fails from the given call on.
 pub struct FailingWriter {
     text: String,
     calls: u32,
@@ -23,8 +23,8 @@ impl Write for FailingWriter {
     }
 }
 
-/// What is handed to a writer that fails after `calls` calls, under each option of a formatter in
-/// turn. What comes after the failure is part of it.
+/// Returns the text that is passed to a writer that fails after `calls` calls, with each option of
+/// a formatter in turn. The text includes what is passed after the failure.
 fn cut<T: Debug>(alloc: Global, value: &T, calls: u32) -> String {
     let mut writer = FailingWriter {
         text: String::new(alloc),
@@ -47,8 +47,8 @@ fn cut<T: Debug>(alloc: Global, value: &T, calls: u32) -> String {
     text
 }
 
-/// What is written of a value: as it is, in lines, within a width, and inside another value. Then
-/// with a writer that fails, and under each option with one that does not, whatever the answer is.
+/// Returns the texts of a value: plain, in lines, with a width, and inside another value. The other
+/// texts are those that a failing writer is passed, with each option.
 pub fn shown<T: Debug>(alloc: Global, value: &T) -> Result<[String; 8], Fail> {
     let nested = Some(value);
     Ok([
@@ -63,7 +63,7 @@ pub fn shown<T: Debug>(alloc: Global, value: &T) -> Result<[String; 8], Fail> {
     ])
 }
 
-/// Whether none of these texts has a word of the secret.
+/// Returns whether none of these texts contains a word of the secret.
 pub fn are_silent(texts: &[String], secrets: &[&str]) -> bool {
     texts
         .iter()

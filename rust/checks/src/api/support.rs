@@ -1,4 +1,4 @@
-//! What these tests share beside what the sources' tests share.
+//! Functions that these tests share, in addition to those in `test_support`.
 use crate::exported::stun_auth::auth::{Feature, LongTermClientAuth, LongTermServerAuth};
 use crate::exported::stun_types::message::{MessageHeader, StunWriteError};
 use crate::exported::stun_types::prelude::*;
@@ -6,7 +6,7 @@ use crate::host::Fail;
 use crate::kit::alloc::{Allocator, Global};
 use crate::test_support::server::{ZEROS, address, knocked, sha1_server};
 
-/// A message in a writer, signed.
+/// Signs the message in a writer.
 pub fn signed_by<A: Allocator, W: MessageWrite>(
     client: &mut LongTermClientAuth<A>,
     writer: W,
@@ -17,7 +17,7 @@ pub fn signed_by<A: Allocator, W: MessageWrite>(
     client.sign_outgoing_message(writer)
 }
 
-/// A success with a mapped address.
+/// Returns a success with XOR-MAPPED-ADDRESS.
 pub fn mapped(id: u8) -> [u8; 32] {
     [
         0x01, 0x01, 0, 12, 0x21, 0x12, 0xa4, 0x42, 0, 0, 0, 0, 0, 0, 0, 0, 0, 0, 0, id, 0x00, 0x20,
@@ -25,10 +25,10 @@ pub fn mapped(id: u8) -> [u8; 32] {
     ]
 }
 
-/// Words that draw sixteen letters `B`.
+/// Random numbers from which a nonce with sixteen letters `B` is made.
 pub const ONES: [u32; 16] = [1; 16];
 
-/// A server with HMAC-SHA1 and plain names, whose nonce is current for the first address.
+/// Returns a server with HMAC-SHA1 and plain names that has made a nonce for the first address.
 pub fn plain_server<A: Allocator + Copy>(
     alloc: Global,
     heap: A,

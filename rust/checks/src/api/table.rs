@@ -1,4 +1,4 @@
-//! A table of requests, beside an agent that makes the same calls.
+//! Compares a table of requests with an agent on which the same calls are made.
 
 use crate::api::run;
 use crate::exported::stun_agent::agent::{RequestRto, StunAgent, StunAgentPollRet, StunError};
@@ -12,12 +12,12 @@ use crate::refusing::RefusingAllocator;
 use crate::test_support::datagrams::{REQUEST, SUCCESS, at, local, message, peer};
 use std::time::Duration;
 
-/// The id of this number.
+/// Returns the ID with this number.
 fn id(number: u8) -> TransactionId {
     TransactionId::from_u128(u128::from(number)).expect("each byte is an id")
 }
 
-/// Sends the request of this number with a datum.
+/// Sends the request with this number, and stores a value with it.
 fn send<A: Allocator + Copy, D>(
     table: &mut Table<A, D>,
     alloc: A,
@@ -36,7 +36,7 @@ fn send<A: Allocator + Copy, D>(
     )
 }
 
-/// Polls both for what to send again, until neither has anything.
+/// Polls both for requests to send again, until neither returns one.
 fn transmitted(agent: &mut StunAgent, table: &mut Table<Global, u8>, millis: u64) {
     loop {
         let sent = agent
@@ -51,7 +51,7 @@ fn transmitted(agent: &mut StunAgent, table: &mut Table<Global, u8>, millis: u64
     }
 }
 
-/// Polls both once, and says whether a request has ended.
+/// Polls both once, and returns whether a request has ended.
 fn ended(agent: &mut StunAgent, table: &mut Table<Global, u8>, millis: u64) -> bool {
     match (agent.poll(at(millis)), table.poll(at(millis))) {
         (StunAgentPollRet::TransactionTimedOut(id), Ok((ended, datum))) => {

@@ -1,5 +1,5 @@
-//! Heaps of texts and of keys: each text of a user stays at the heap that it came with, and a key
-//! takes as many bytes as it has.
+//! Tests of the heaps of texts and keys: each text of a user stays on the heap on which it was
+//! allocated, and a key takes as many bytes as it has.
 
 use crate::exported::stun_types::message::{
     IntegrityAlgorithm, IntegrityKey, LongTermCredentials, LongTermKeyCredentials,
@@ -12,7 +12,7 @@ use crate::test_support::parts::MD5_KEY;
 
 type Heap = RefusingAllocator;
 
-/// Where the name, the password and the realm of a user are.
+/// The heaps of the name, the password and the realm of a user.
 #[derive(Clone, Copy)]
 struct Heaps<'a> {
     names: &'a Heap,
@@ -20,14 +20,14 @@ struct Heaps<'a> {
     realms: &'a Heap,
 }
 
-/// Checks how many names, passwords and realms there are.
+/// Checks how many names, passwords and realms are allocated now.
 fn expect_live(rt: &impl Abort, heaps: Heaps<'_>, names: u64, passwords: u64, realms: u64) {
     assert_eq!(heaps.names.live(), names);
     assert_eq!(heaps.passwords.live(), passwords);
     assert_eq!(heaps.realms.live(), realms);
 }
 
-/// A copy of a user at a realm has its texts at their heaps.
+/// Checks that a copy of a user in a realm has each text on the heap of the original.
 fn copy_at_realm(
     rt: &impl Abort,
     heaps: Heaps<'_>,
@@ -38,13 +38,13 @@ fn copy_at_realm(
     Ok(())
 }
 
-/// Checks the key of a user at a realm.
+/// Checks the key of a user in a realm.
 fn expect_key(rt: &impl Abort, at_realm: &LongTermKeyCredentials<&Heap>) {
     let key = at_realm.make_key(IntegrityAlgorithm::Sha1);
     assert_eq!(key.as_bytes(), MD5_KEY.as_slice());
 }
 
-/// A user at a realm has copies of the texts of the user.
+/// Combines a user with a realm, and checks that the result has copies of the user's texts.
 fn bring_to_realm<'a>(
     rt: &impl Abort,
     heaps: Heaps<'a>,
@@ -59,7 +59,7 @@ fn bring_to_realm<'a>(
     Ok(())
 }
 
-/// A password that cannot be copied takes the copy of the name with it.
+/// Checks that the copy of the name is freed if the password cannot be copied.
 fn refuse_copy(rt: &impl Abort, heaps: Heaps<'_>, user: &LongTermCredentials<&Heap>) {
     heaps.passwords.refuse(1);
     assert!(user.try_clone().is_err());
@@ -67,8 +67,8 @@ fn refuse_copy(rt: &impl Abort, heaps: Heaps<'_>, user: &LongTermCredentials<&He
     expect_live(rt, heaps, 1, 1, 0);
 }
 
-/// A copy of a user, and a user at a realm, have each text at the heap where the user has it. They
-/// give it back there.
+/// Checks that a copy of a user, and a user in a realm, have each text on the same heap as the
+/// user, and free it there.
 fn copy_texts(rt: &impl Abort, heaps: Heaps<'_>) -> Result<(), AllocError> {
     let name = String::from_str(heaps.names, "user")?;
     let user = LongTermCredentials::new(name, String::from_str(heaps.passwords, "pass")?);
@@ -81,7 +81,7 @@ fn copy_texts(rt: &impl Abort, heaps: Heaps<'_>) -> Result<(), AllocError> {
     Ok(())
 }
 
-/// Checks how many names, passwords and realms were allocated.
+/// Checks how many names, passwords and realms have been allocated in total.
 fn expect_allocated(rt: &impl Abort, heaps: Heaps<'_>, names: u64, passwords: u64, realms: u64) {
     assert_eq!(heaps.names.allocations(), names);
     assert_eq!(heaps.passwords.allocations(), passwords);
@@ -106,7 +106,7 @@ fn each_text_stays_at_its_heap() {
     });
 }
 
-/// A key and its copy have these bytes.
+/// Checks that a key and its copy have these bytes.
 fn expect_bytes<A: Allocator + Copy>(
     rt: &impl Abort,
     key: &IntegrityKey<A>,
@@ -117,7 +117,7 @@ fn expect_bytes<A: Allocator + Copy>(
     Ok(())
 }
 
-/// A key and its copy take as many bytes as they have, in blocks of 16. A longer key takes more.
+/// A key and its copy take as many bytes as they have, in blocks of 16.
 #[test]
 fn keys_in_a_small_heap() {
     crate::host::run(|rt: HostRuntime| -> Result<(), Fail> {

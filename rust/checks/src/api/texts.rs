@@ -1,5 +1,5 @@
-//! What the errors of runs and of authenticators say, and what `Debug` shows of calls and of plain
-//! values. A signing that a server refuses in a run.
+//! Tests of the texts of errors of runs and of authenticators, of what `Debug` shows of calls and
+//! of plain values, and of a message that a server cannot sign in a run.
 use crate::api::run;
 use crate::api::shown::{are_silent, shown};
 use crate::exported::stun_agent::stats::StunAgentStats;
@@ -26,7 +26,7 @@ use std::time::Duration;
 /// A Binding request with id 1.
 const REQUEST: &str = "000100002112a442000000000000000000000001";
 
-/// The same with a MESSAGE-INTEGRITY of zeros.
+/// A Binding request with ID 1 and a MESSAGE-INTEGRITY of zeros.
 const NAMELESS: &str =
     "000100182112a442000000000000000000000001000800140000000000000000000000000000000000000000";
 
@@ -34,13 +34,13 @@ const NAMELESS: &str =
 const REALM_ALREADY: &str = "0111001c2112a442000000000000000000000001\
     0009001000000401556e617574686f72697a65640014000461626364";
 
-/// Statistics of an agent that nothing happened to.
+/// The statistics of a new agent.
 const NO_COUNTS: &str = "StunAgentStats { requests_sent: 0, requests_received: 0, \
     responses_sent: 0, responses_received: 0, indications_sent: 0, indications_received: 0, \
     transactions_timed_out: 0, transactions_cancelled: 0, bytes_sent: 0, bytes_received: 0, \
     rtt_count: 0, rtt_min: None, rtt_max: None, rtt_total: 0 }";
 
-/// A value says this text.
+/// Checks the text of a value.
 fn expect_text(rt: &impl Abort, alloc: Global, value: &impl Display, text: &str) {
     match crate::host::format_in!(alloc; "{value}") {
         Ok(said) => assert_eq!(said.as_str(), text),
@@ -64,7 +64,7 @@ fn of_errors() {
     expect_text(&rt, alloc, &write, "the writer has too little room");
 }
 
-/// A server refuses a message, and says why.
+/// Checks that a server refuses a message, and the text of its reason.
 fn expect_server_refuses(
     rt: &impl Abort,
     alloc: Global,
@@ -82,8 +82,7 @@ fn expect_server_refuses(
     Ok(())
 }
 
-/// A server refuses a request without integrity, and one that is signed without a name, and says
-/// why.
+/// A server refuses an unsigned request, and a signed request without a name, with the right texts.
 #[test]
 fn of_a_refusal_of_a_server() {
     run(|rt| {
@@ -99,7 +98,7 @@ fn of_a_refusal_of_a_server() {
     });
 }
 
-/// A client refuses a message, and says why.
+/// Checks that a client refuses a message, and the text of its reason.
 fn expect_client_refuses(
     rt: &impl Abort,
     alloc: Global,
@@ -116,8 +115,7 @@ fn expect_client_refuses(
     Ok(())
 }
 
-/// A client cannot check a request without integrity, nor answer a challenge without a nonce, and
-/// says so.
+/// A client refuses an unsigned message and a challenge without a nonce, with the right texts.
 #[test]
 fn of_a_refusal_of_a_client() {
     run(|rt| {
@@ -136,7 +134,7 @@ fn of_a_refusal_of_a_client() {
     });
 }
 
-/// A call that adds a user.
+/// Returns a call that adds a user.
 fn add_user(alloc: Global, name: &str, password: &str) -> Result<ServerCall, Fail> {
     Ok(ServerCall::AddUser {
         name: String::from_str(alloc, name)?,
@@ -144,7 +142,7 @@ fn add_user(alloc: Global, name: &str, password: &str) -> Result<ServerCall, Fai
     })
 }
 
-/// Whatever the formatter asks for, and where a write fails.
+/// `Debug` shows no password with any option of the formatter, even if a write fails.
 #[test]
 fn debug_shows_no_password_of_a_call() {
     run(|rt| {
@@ -156,7 +154,7 @@ fn debug_shows_no_password_of_a_call() {
     });
 }
 
-/// `Debug` of a value is this text.
+/// Checks the text that `Debug` writes of a value.
 fn expect_shown(rt: &impl Abort, alloc: Global, value: &impl Debug, text: &str) {
     match crate::host::format_in!(alloc; "{value:?}") {
         Ok(said) => assert_eq!(said.as_str(), text),
@@ -164,7 +162,7 @@ fn expect_shown(rt: &impl Abort, alloc: Global, value: &impl Debug, text: &str) 
     }
 }
 
-/// A message that came.
+/// Returns a call that validates a message.
 fn validate(alloc: Global, digits: &str, words: [u32; 16]) -> Result<ServerCall, Fail> {
     Ok(ServerCall::Validate {
         from: address(1, 5000),
@@ -174,7 +172,7 @@ fn validate(alloc: Global, digits: &str, words: [u32; 16]) -> Result<ServerCall,
     })
 }
 
-/// A message that is signed.
+/// Returns a call that signs a message.
 fn sign(alloc: Global, digits: &str) -> Result<ServerCall, Fail> {
     Ok(ServerCall::Sign {
         to: address(1, 5000),
@@ -182,7 +180,7 @@ fn sign(alloc: Global, digits: &str) -> Result<ServerCall, Fail> {
     })
 }
 
-/// A call with values of an address shows its name alone.
+/// `Debug` of a call that is about an address shows only its name.
 #[test]
 fn debug_shows_the_name_of_a_call() {
     run(|rt| {
@@ -200,7 +198,7 @@ fn debug_shows_the_name_of_a_call() {
     });
 }
 
-/// A call with values of a server's settings shows its name alone.
+/// `Debug` of a call that is about settings of a server shows only its name.
 #[test]
 fn debug_shows_the_name_of_a_setting() {
     run(|rt| {
@@ -225,7 +223,7 @@ fn debug_shows_the_name_of_a_setting() {
     });
 }
 
-/// Values without a secret are shown with what they hold: a number, a reason, an end of a run.
+/// `Debug` of values without a secret shows their contents: a number, a reason, the end of a run.
 #[test]
 fn debug_shows_plain_values() {
     run(|rt| {
@@ -248,14 +246,14 @@ fn debug_shows_plain_values() {
     });
 }
 
-/// Each counter is shown by its name.
+/// `Debug` shows each counter with its name.
 #[test]
 fn debug_shows_counters() {
     let rt = HostRuntime;
     expect_shown(&rt, rt.alloc(), &StunAgentStats::default(), NO_COUNTS);
 }
 
-/// A server of a realm.
+/// Returns a server of a realm.
 fn server_of(alloc: Global, realm: &str) -> Result<LongTermServerAuth, Fail> {
     Ok(LongTermServerAuth::new(
         alloc,
@@ -263,7 +261,8 @@ fn server_of(alloc: Global, realm: &str) -> Result<LongTermServerAuth, Fail> {
     ))
 }
 
-/// A request, a response that has a REALM of its own, and a client that is forgotten.
+/// Returns three calls: validate a request, sign a response that already has a REALM, and remove a
+/// client.
 fn calls(alloc: Global) -> Result<[ServerCall; 3], Fail> {
     Ok([
         validate(alloc, REQUEST, [0; 16])?,
@@ -272,7 +271,7 @@ fn calls(alloc: Global) -> Result<[ServerCall; 3], Fail> {
     ])
 }
 
-/// The response cannot be signed, and the run goes on.
+/// Checks that the response could not be signed, and that the run went on.
 fn expect_replies(rt: &impl Abort, replies: &[ServerReply]) {
     assert_eq!(replies.len(), 3);
     let refused = ServerReply::SignRefused(StunWriteError::AttributeExists(AttributeType::REALM));
@@ -280,7 +279,7 @@ fn expect_replies(rt: &impl Abort, replies: &[ServerReply]) {
     assert_eq!(replies[2], ServerReply::Done);
 }
 
-/// A response with a REALM of its own cannot be signed, and the run goes on.
+/// A response that already has a REALM cannot be signed, and the run goes on.
 #[test]
 fn a_refused_signing_is_a_reply() {
     run(|rt| {
@@ -292,7 +291,7 @@ fn a_refused_signing_is_a_reply() {
     });
 }
 
-/// A realm that is longer than a REALM may be.
+/// Returns a realm that is too long for REALM.
 fn long_realm(alloc: Global) -> Result<String, Fail> {
     let mut realm = String::new(alloc);
     for _ in 0..764 {
@@ -301,8 +300,8 @@ fn long_realm(alloc: Global) -> Result<String, Fail> {
     Ok(realm)
 }
 
-/// A server whose realm is longer than a REALM may be cannot sign its challenge, which is no want
-/// of memory.
+/// A server whose realm is too long for REALM cannot sign its challenge. The error is not that
+/// memory ran out.
 #[test]
 fn a_refused_signing_ends_a_meeting() {
     run(|rt| {

@@ -1,4 +1,4 @@
-//! Messages in a writer of the test's own, and the room that a vector takes.
+//! Tests of messages in a writer that the test defines, and of the memory that a vector takes.
 
 use crate::api::array_writer::ArrayWriter;
 use crate::api::run;
@@ -16,11 +16,12 @@ use crate::test_support::spelled::bytes_of;
 /// A Binding request with id 1 and USERNAME `a:b`.
 const REQUEST: &str = "00010008 2112a442 000000000000000000000001 00060003 613a6200";
 
-/// The same with MESSAGE-INTEGRITY under `password`: its digest is that of Python's `hmac`.
+/// `REQUEST` with MESSAGE-INTEGRITY, signed with `password`. Python's `hmac` computed the digest.
 const SIGNED_BY_SHA1: &str = "00010020 2112a442 000000000000000000000001 00060003 613a6200
     00080014 fb93fa0884e55c50463cf2ebd61fcd00b8b7b6bd";
 
-/// The same with MESSAGE-INTEGRITY-SHA256, likewise.
+/// `REQUEST` with MESSAGE-INTEGRITY-SHA256, signed with `password`. Python's `hmac` computed the
+/// digest.
 const SIGNED_BY_SHA256: &str = "0001002c 2112a442 000000000000000000000001 00060003 613a6200
     001c0020 47bf2c9f81f3e66f459a0995abb1b1e5ca9c651a6804efe45d53a0aae7675636";
 
@@ -32,7 +33,7 @@ fn add<W: MessageWrite, A: Attribute>(writer: &mut W, attribute: &A) -> Result<(
     writer.add_attribute(attribute)
 }
 
-/// Signs under `password` after a header.
+/// Signs with `password` after a header.
 fn sign<W: MessageWrite>(
     writer: &mut W,
     algorithm: IntegrityAlgorithm,
@@ -43,8 +44,8 @@ fn sign<W: MessageWrite>(
     writer.add_message_integrity_with_key_bytes(b"password", algorithm)
 }
 
-/// Adds to another writer, which takes one name, none of the types that are set apart, and not more
-/// than it has room for.
+/// Another writer accepts only one name, no integrity attribute or FINGERPRINT, and only as much as
+/// it has room for.
 #[test]
 fn another_writer_takes_attributes() {
     run(|rt| {
@@ -70,7 +71,8 @@ fn another_writer_takes_attributes() {
     });
 }
 
-/// Signs in another writer, after which nothing is written.
+/// Checks that a message can be signed in another writer, and that nothing can be added after the
+/// signature.
 fn expect_signed(
     rt: &impl Abort,
     algorithm: IntegrityAlgorithm,

@@ -1,5 +1,5 @@
-//! Plays the transcripts that the arguments name, and prints a line for each. The status is 1 if
-//! one is not right.
+//! Plays the transcripts that the arguments name, and prints a line for each. The status is 1 if a
+//! transcript has a wrong answer.
 
 use std::process::ExitCode;
 

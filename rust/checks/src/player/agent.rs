@@ -1,4 +1,4 @@
-//! The calls of an agent: `agent NAME WORD ..`.
+//! Plays the calls of an agent: `agent NAME WORD ..`.
 
 pub mod answers;
 mod building;
@@ -16,10 +16,10 @@ use super::stage::Stage;
 use crate::exported::stun_agent::agent::StunAgent;
 use sent::{Requests, Way};
 
-/// An agent, and what the player has to know to name what it sends.
+/// An agent, with the requests that the player needs to name what the agent sends.
 pub struct Agent<'a> {
     agent: StunAgent<&'a Heap>,
-    /// The transport and the address that its messages should go by.
+    /// The transport and the address from which its messages should be sent.
     way: Way,
     /// The requests that the agent stores.
     requests: Requests,

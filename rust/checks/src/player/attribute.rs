@@ -1,4 +1,4 @@
-//! The calls on single attributes: `attribute NAME WORD ..`.
+//! Plays the calls on single attributes: `attribute NAME WORD ..`.
 
 mod making;
 mod registry;
@@ -32,7 +32,7 @@ fn first<'a>(message: &Message<'a>) -> Option<RawAttribute<'a>> {
         .map(|(_, attribute)| attribute)
 }
 
-/// Plays the calls that read an attribute, which is spelled in a request:
+/// Plays the calls that read an attribute in a request:
 ///
 /// `reads TYPE ATTRIBUTE [ID=..]` prints its value if it is read as one of this type, or why it
 /// cannot be.

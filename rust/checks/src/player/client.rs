@@ -1,4 +1,4 @@
-//! The calls of a client with long-term credentials: `client NAME WORD ..`.
+//! Plays the calls of a client with long-term credentials: `client NAME WORD ..`.
 
 use super::Answer;
 use super::names::or_none;
@@ -12,20 +12,20 @@ use crate::exported::stun_types::message::{LongTermCredentials, Message};
 /// Plays `client NAME WORD ..`.
 pub fn call(stage: &mut Stage<'_>, words: &[&str]) -> Answer {
     match words {
-        // What the client judges and signs.
+        // The calls that judge and sign messages.
         ["hears", words @ ..] => hear(stage, words),
         ["signs", words @ ..] => sign(stage, Side::Client, words),
         ["signs-length", words @ ..] => sign_length(stage, Side::Client, words),
         ["signs-in", room, words @ ..] => sign_in_slice(stage, Side::Client, room, words),
         ["signs-unchecked"] => sign_unchecked(stage, Side::Client),
-        // What it reports.
+        // The calls that report the state of the client.
         ["user"] => Some(match stage.client.credentials() {
             Some(user) => format!("{} {}", user.username(), user.password()),
             None => "none".to_string(),
         }),
         ["hashes"] => Some(format!("{:?}", stage.client.anonymous_username())),
         ["supported"] => Some(supported(stage)),
-        // How many bytes signing adds to a request.
+        // The number of bytes that signing adds to a request.
         ["size"] => Some(stage.client.message_signature_bytes().to_string()),
         ["algorithm"] => Some(or_none(stage.client.signing_algorithm())),
         words => change(stage, words),
@@ -64,7 +64,7 @@ fn change(stage: &mut Stage<'_>, words: &[&str]) -> Answer {
     Some(String::new())
 }
 
-/// The supported algorithms, in the order in which they were added.
+/// Returns the supported algorithms, in the order in which they were added.
 fn supported(stage: &Stage<'_>) -> String {
     let algorithms = stage.client.supported_integrity().iter();
     let names: Vec<String> = algorithms.map(|one| format!("{one:?}")).collect();

@@ -1,4 +1,4 @@
-//! The calls on digests, keys and hashes: `digest NAME WORD ..`.
+//! Plays the calls on digests, keys and hashes: `digest NAME WORD ..`.
 
 use super::stage::Stage;
 use super::values::algorithm;
@@ -19,13 +19,13 @@ pub fn call(stage: &mut Stage<'_>, words: &[&str]) -> Answer {
         ["hmac", key, words @ ..] => hmac(stage, key, words),
         ["key", word, user @ ..] => key(stage, algorithm(word)?, user),
         ["userhash", name, realm] => Some(hash(&text(name), &text(realm))),
-        // Whether both are the same bytes, in the comparison without an early exit.
+        // Whether both have the same bytes, by the comparison without an early exit.
         ["same", one, other] => Some(is_same_text(&bytes(one)?, &bytes(other)?).to_string()),
         _ => None,
     }
 }
 
-/// The bytes `FIRST`, `FIRST + STEP` and so on, without their carries: `LENGTH:STEP:FIRST`.
+/// Parses `LENGTH:STEP:FIRST`: the bytes `FIRST`, `FIRST + STEP` and so on, modulo 256.
 fn pattern(word: &str) -> Option<Vec<u8>> {
     let (length, rest) = word.split_once(':')?;
     let (step, first) = rest.split_once(':')?;
@@ -72,7 +72,8 @@ impl<'a> Keys<'a> {
         })
     }
 
-    /// Returns `true` if each call computes these digests of the text that these pieces are.
+    /// Returns `true` if each call computes these digests of the text that consists of these
+    /// pieces.
     fn compute(&self, pieces: &[&[u8]], digests: ([u8; 20], [u8; 32])) -> bool {
         let plain = (
             hmac_sha1(&self.bytes, pieces),
@@ -88,8 +89,8 @@ impl<'a> Keys<'a> {
 }
 
 /// Plays `digest hmac KEY TEXT`: prints HMAC-SHA1 and HMAC-SHA256 of the words after the key, with
-/// spaces between them. `otherwise` follows unless each call computes the same of the text in one,
-/// two and four pieces, and in none if it is empty.
+/// spaces between them. `otherwise` follows unless each call computes the same digests if it is
+/// passed the text in one, two and four pieces, and in none if the text is empty.
 fn hmac(stage: &mut Stage<'_>, key: &str, words: &[&str]) -> Answer {
     let key = bytes(key)?;
     let words: Vec<Vec<u8>> = words
@@ -118,7 +119,7 @@ fn hmac(stage: &mut Stage<'_>, key: &str, words: &[&str]) -> Answer {
     ))
 }
 
-/// The key of bytes, if they are texts.
+/// Returns the key of a user, realm and password in bytes, if these are texts.
 fn key_of_bytes(algorithm: IntegrityAlgorithm, user: [&[u8]; 3]) -> Option<Vec<u8>> {
     let [name, realm, password] = user;
     match algorithm {
@@ -162,7 +163,8 @@ fn key(stage: &mut Stage<'_>, algorithm: IntegrityAlgorithm, words: &[&str]) -> 
     }
 }
 
-/// The hash of a user's name and realm. `otherwise` follows if two calls compute different ones.
+/// Returns the hash of a user's name and realm. `otherwise` follows if two calls compute different
+/// hashes.
 fn hash(name: &str, realm: &str) -> String {
     let hash = Userhash::compute(name, realm);
     match userhash(name, realm) == hash {

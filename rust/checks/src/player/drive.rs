@@ -1,10 +1,10 @@
-//! Driven agents: `drive NAME WORD ..`. Events are collected, one call drives an agent by them, and
-//! then its steps are printed one by one.
+//! Plays driven agents: `drive NAME WORD ..`. Events are collected, one call drives an agent with
+//! them, and then its steps are printed one by one.
 //!
 //! A run in which an allocation is refused stops after some of its events, and its steps are lost.
 //! When the run is made again, it goes on with the events that are left. The lost steps are then
-//! those of a twin of the agent, which is driven by all events in ample memory. So the run, its
-//! last steps and the state afterwards must be as the transcript says.
+//! taken from a twin of the agent, which is driven with all events and has enough memory. So the
+//! run, its last steps and the state afterwards must be as the transcript says.
 
 mod by_hand;
 mod events;
@@ -26,19 +26,19 @@ use events::{event, step_text};
 pub struct Drive<'a> {
     transport: TransportType,
     agent: StunAgent<&'a Heap>,
-    /// The agent in ample memory, which is driven only after a run was interrupted.
+    /// An agent with enough memory, which is driven only after a run was interrupted.
     twin: StunAgent,
     events: Vec<(Instant, AgentEvent)>,
-    /// How many events the agent was driven by.
+    /// The number of events with which the agent was driven.
     done: usize,
     steps: Vec<String>,
-    /// How many steps were printed.
+    /// The number of steps that were printed.
     told: usize,
     /// Whether an allocation of the last run was refused.
     is_broken: bool,
 }
 
-/// A new agent, which keeps statistics.
+/// Creates an agent that keeps statistics.
 fn new_agent<A: Allocator + Copy>(alloc: A, transport: TransportType) -> StunAgent<A> {
     StunAgent::builder(alloc, transport, usual_local())
         .stats(true)
@@ -113,7 +113,7 @@ pub fn call(stage: &mut Stage<'_>, words: &[&str]) -> Answer {
             Some(moment) => nanos(moment.as_nanos().into()),
             None => "none".to_string(),
         }),
-        // Whether the address is a validated peer.
+        // Prints whether the address is a validated peer.
         ["is-validated", word] => {
             let is_validated = drive.agent.is_validated_peer(address(word)?);
             Some(if is_validated { "yes" } else { "no" }.to_string())
@@ -122,7 +122,7 @@ pub fn call(stage: &mut Stage<'_>, words: &[&str]) -> Answer {
     }
 }
 
-/// Plays `drive udp` or `drive tcp`: a new agent.
+/// Plays `drive udp` or `drive tcp`: creates an agent.
 fn begin(stage: &mut Stage<'_>, transport: TransportType) -> Answer {
     stage.begin();
     stage.drive = Drive::over(stage.heap, transport);
@@ -146,8 +146,8 @@ fn are_in_order(events: &[(Instant, AgentEvent)], until: Instant) -> bool {
     events.is_sorted_by_key(|(time, _)| *time) && events.iter().all(|(time, _)| *time <= until)
 }
 
-/// Plays `drive until TIME`: drives the agent by the events that are left, and prints how many
-/// steps it takes. Events out of order are not understood.
+/// Plays `drive until TIME`: drives the agent with the events that are left, and prints how many
+/// steps it takes. The line is not understood if the events are out of order.
 fn run(stage: &mut Stage<'_>, until: Instant) -> Answer {
     stage.begin();
     let own = &mut stage.drive;
@@ -166,8 +166,8 @@ fn run(stage: &mut Stage<'_>, until: Instant) -> Answer {
     }
 }
 
-/// Plays `drive by-hand until TIME`: all events are calls of a new agent, one each. It must take
-/// the same steps, keep the same statistics and wait for the same time.
+/// Plays `drive by-hand until TIME`: makes a call of a new agent for each event. The new agent must
+/// take the same steps, have the same statistics and wait for the same time.
 fn compare(drive: &Drive<'_>, until: Instant) -> Answer {
     let mut agent = new_agent(Global, drive.transport);
     let steps = by_hand::run(&mut agent, &drive.events, until)?;

@@ -1,4 +1,4 @@
-//! A server that is one value: `endpoint server NAME WORD ..`.
+//! Plays the calls of a server as one value: `endpoint server NAME WORD ..`.
 
 mod heard;
 mod respond;
@@ -16,11 +16,11 @@ use crate::exported::stun_types::message::LongTermCredentials;
 use crate::kit::alloc::Global;
 use crate::kit::prelude::String as HeapString;
 
-/// The settings so far, the server that was built from them, and what the server has returned.
+/// The settings so far, the server that was built from them, and the last reply of the server.
 pub struct Endpoint<'a> {
     settings: LongTerm,
     built: Option<Realm<'a>>,
-    /// The means to respond to the last request that was returned to the caller.
+    /// The reply to the last request that was returned to the caller.
     reply: Option<Reply<&'a Heap>>,
 }
 
@@ -62,8 +62,8 @@ pub fn call(stage: &mut Stage<'_>, words: &[&str]) -> Answer {
     }
 }
 
-/// Plays `build`: a server of the settings, without users, which replaces the one before. Prints
-/// why there is none.
+/// Plays `build`: builds a server with the settings and without users, which replaces the previous
+/// server. If it cannot be built, prints why.
 fn build(stage: &mut Stage<'_>) -> Answer {
     let settings = settings::on_heap(stage, &stage.endpoint.settings)?;
     stage.begin();
@@ -80,7 +80,7 @@ fn realm<'a>(heap: &'a Heap, settings: LongTerm<&'a Heap>) -> Result<Realm<'a>, 
     Ok(Realm { server, users })
 }
 
-/// The time of the wall clock: the whole seconds of the time of the stage.
+/// Returns the wall-clock time: the whole seconds of the time of the stage.
 fn seconds(now: Instant) -> UnixTime {
     UnixTime::from_secs(now.as_nanos() / 1_000_000_000)
 }
@@ -94,7 +94,7 @@ fn add_user(stage: &mut Stage<'_>, name: &str, password: &str) -> Answer {
     }
 }
 
-/// Plays `nonce`: prints the one that is current for the address.
+/// Plays `nonce`: prints the nonce that is current for the address.
 fn nonce(stage: &mut Stage<'_>) -> Answer {
     stage.begin();
     let server = &stage.endpoint.built.as_ref()?.server;

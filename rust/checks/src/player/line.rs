@@ -9,7 +9,7 @@ use super::{secret, serve, server, short_term, write};
 /// The answer to a line that is not understood.
 const NOT_UNDERSTOOD: &str = "?";
 
-/// Parses up to sixteen random numbers, after which zeros follow. `all` and a number is sixteen
+/// Parses up to sixteen random numbers. Missing numbers are 0. `all` and a number means sixteen
 /// times that number.
 fn draws(words: &[&str]) -> Option<[u32; 16]> {
     let number = |word: &&str| u32::try_from(number(word)?).ok();
@@ -61,8 +61,8 @@ fn is_writer(word: &str) -> bool {
     writers.contains(&word)
 }
 
-/// Plays `NAME = CALL` or `NAME = MESSAGE`: stores the message under the name. The answer to a call
-/// that writes a message is its length, and that of any other call is what it answers.
+/// Plays `NAME = CALL` or `NAME = MESSAGE`: stores the message under the name. If the call writes a
+/// message, the answer is the length of the message. Otherwise it is the answer of the call.
 fn store(stage: &mut Stage<'_>, name: &str, words: &[&str]) -> Answer {
     if let [object, words @ ..] = words {
         if is_writer(object) && !words.is_empty() {
@@ -80,7 +80,7 @@ fn store(stage: &mut Stage<'_>, name: &str, words: &[&str]) -> Answer {
     Some(String::new())
 }
 
-/// Passes to the time that a line begins with, if it begins with one. Returns the other words.
+/// Sets the time that a line begins with, if it begins with a time. Returns the other words.
 fn after_time<'w, 'a>(stage: &mut Stage<'_>, words: &'w [&'a str]) -> Option<&'w [&'a str]> {
     let Some((time, rest)) = words.split_first() else {
         return Some(words);
@@ -98,7 +98,7 @@ fn answer(stage: &mut Stage<'_>, words: &[&str]) -> Answer {
         [] => {}
         ["from", word] => stage.from = address(word)?,
         ["draw", words @ ..] => stage.draws = draws(words)?,
-        // How many blocks are given back is different for each implementation of a map.
+        // The number of freed blocks depends on the implementation of maps.
         ["memory"] => {
             let returned = if stage.work.returned == 0 {
                 "none"
@@ -114,7 +114,7 @@ fn answer(stage: &mut Stage<'_>, words: &[&str]) -> Answer {
     Some(String::new())
 }
 
-/// Plays a call. Returns its answer.
+/// Plays a call, and returns its answer.
 pub fn answer_to(stage: &mut Stage<'_>, call: &str) -> String {
     let words: Vec<&str> = call.split_whitespace().collect();
     let answer = answer(stage, &words);
@@ -122,9 +122,9 @@ pub fn answer_to(stage: &mut Stage<'_>, call: &str) -> String {
     answer.unwrap_or_else(|| NOT_UNDERSTOOD.to_string())
 }
 
-/// Passes to the time of a call that is not made.
+/// Sets the time of a call that is not made.
 pub fn pass_time(stage: &mut Stage<'_>, call: &str) {
     let words: Vec<&str> = call.split_whitespace().collect();
-    // A line whose time is not understood has no time to pass to.
+    // If the time is not understood, there is none to set.
     let _ = after_time(stage, &words);
 }

@@ -1,8 +1,8 @@
-//! A client and a server that meet: `meet NAME WORD ..`.
+//! Plays meetings of a client and a server: `meet NAME WORD ..`.
 //!
 //! A meeting in which an allocation is refused ends after some of its steps. When it is made again,
-//! a client that has stored the challenge signs its first request, and the answer to the second
-//! request of a whole meeting becomes the answer to the first. It is printed as that of the whole
+//! a client that has stored the challenge signs its first request, so this request gets the answer
+//! that the second request of a whole meeting would get. It is printed as the answer of the whole
 //! meeting. The calls between the two requests, some of which may be missing, are made once more.
 
 use super::names::write_error;
@@ -26,7 +26,7 @@ pub struct Meeting {
     before_second: Vec<ServerCall>,
     /// Whether an allocation of the last meeting was refused.
     is_broken: bool,
-    /// Whether its client accepted the challenge all the same.
+    /// Whether the client of the last meeting accepted the challenge nevertheless.
     is_challenged: bool,
 }
 
@@ -58,9 +58,9 @@ fn signs(stage: &Stage<'_>) -> bool {
     stage.client.message_signature_bytes() != 0
 }
 
-/// Plays `meet run ID ID TIME TIME`: the client and the server meet, by requests of these ids. The
-/// server reads them at these times, and each draws the random numbers of the stage. The client has
-/// the address of the stage.
+/// Plays `meet run ID ID TIME TIME`: the client and the server meet, with requests that have these
+/// IDs. The server reads them at these times, each time with the random numbers of the stage. The
+/// client has the address of the stage.
 fn run(stage: &mut Stage<'_>, ids: [TransactionId; 2], moments: [Instant; 2]) -> Answer {
     let signed = signs(stage);
     stage.begin();
@@ -82,7 +82,7 @@ fn run(stage: &mut Stage<'_>, ids: [TransactionId; 2], moments: [Instant; 2]) ->
     }
 }
 
-/// The outcome of a whole meeting, of which this one may be the rest.
+/// Returns the outcome of a whole meeting, of which the last meeting may be the rest.
 fn whole(stage: &mut Stage<'_>, outcome: Outcome) -> Option<Outcome> {
     stage.meeting.is_broken = false;
     if !stage.meeting.is_challenged {
@@ -98,9 +98,9 @@ fn whole(stage: &mut Stage<'_>, outcome: Outcome) -> Option<Outcome> {
     Some(of_second(outcome))
 }
 
-/// The outcome of a first request that is signed, as that of the second one of a whole meeting. An
-/// accepted one is accepted already. A refused one brings a challenge that the client does not
-/// answer again.
+/// Converts the outcome of a signed first request to the outcome that a whole meeting would have
+/// after its second request: an accepted first request counts as a validated second one, and a
+/// challenge that the client refuses to answer again counts as a refusal by the server.
 fn of_second(outcome: Outcome) -> Outcome {
     match outcome {
         Outcome::AlreadyValidated(algorithm) => Outcome::Validated(algorithm),
@@ -121,12 +121,12 @@ fn outcome_text(outcome: Outcome) -> String {
     }
 }
 
-/// Plays `meet pair ALGORITHMS HASHES ALGORITHMS HASHES`: a new client and a new server meet, who
-/// support these algorithms and hash names so. Both know the user `user` with the password `pass`,
-/// and the realm is `realm`. The ids are 1 and 2, and the times 0 and that at which the nonce
-/// expires.
+/// Plays `meet pair ALGORITHMS HASHES ALGORITHMS HASHES`: a new client and a new server meet, which
+/// support these algorithms and have these settings for hashed names. Both know the user `user`
+/// with the password `pass`, and the realm is `realm`. The IDs are 1 and 2, and the times are 0 and
+/// the time at which the nonce expires.
 fn pair(stage: &mut Stage<'_>, of_client: (&str, &str), of_server: (&str, &str)) -> Answer {
-    // Those who were refused memory meet again.
+    // After a refused allocation, the same client and server meet again.
     if !stage.meeting.is_broken {
         stage.client = client(stage.heap, of_client)?;
         stage.server = server(stage.heap, of_server)?;
@@ -135,7 +135,7 @@ fn pair(stage: &mut Stage<'_>, of_client: (&str, &str), of_server: (&str, &str))
     run(stage, ids, [Instant::ZERO, moment("3600s")?])
 }
 
-/// The user `user` with the password `pass`.
+/// Returns the user `user` with the password `pass`.
 fn user(heap: &Heap) -> Option<LongTermCredentials<&Heap>> {
     let text = |text| HeapString::from_str(heap, text).ok();
     Some(LongTermCredentials::new(text("user")?, text("pass")?))

@@ -1,4 +1,4 @@
-//! The calls that read messages: `message NAME WORD ..`.
+//! Plays the calls that read messages: `message NAME WORD ..`.
 
 mod header;
 mod many;

@@ -1,8 +1,8 @@
 //! Plays transcripts: text files whose lines are calls of the library, each with its answer after
 //! `->`. docs/maintainers/TRANSCRIPTS.md describes their language.
 //!
-//! Each kind of call has a module with the name of its first word. Messages are spelled without the
-//! library, by the modules that the player of `rust/tests/transcripts` has too.
+//! Each kind of call has a module with the name of its first word. Messages are built from words
+//! without the library, by modules that the player of `rust/tests/transcripts` uses too.
 
 mod agent;
 mod attribute;
@@ -42,25 +42,25 @@ use transcript::Transcript;
 /// The answer to a line: `None` if the line is not understood, which is written as `?`.
 type Answer = Option<String>;
 
-/// The heap on which the library allocates what a transcript makes.
+/// The heap on which the library allocates the values of a transcript.
 type Heap = RefusingAllocator;
 
-/// The answer of a call of the library that is refused memory.
+/// The answer if an allocation in a call of the library is refused.
 const OUT_OF_MEMORY: &str = "OutOfMemory";
 
 /// The result of a transcript.
 pub struct Report {
-    /// Whether each answer is the written one, and each refused allocation is as if the line were
-    /// not there.
+    /// Whether each answer is as written, and each line whose allocation is refused changes
+    /// nothing.
     pub is_right: bool,
-    /// How many allocations were refused.
+    /// The number of allocations that were refused.
     pub refused: usize,
-    /// What is wrong, in lines.
+    /// A text with a line for each wrong answer.
     pub wrong: String,
 }
 
-/// Plays a transcript, and then refuses each allocation of each line of the paragraphs that are
-/// right.
+/// Plays a transcript, and then refuses each allocation of each line in turn, in the paragraphs
+/// whose answers are right.
 pub fn play(text: &str) -> Report {
     let transcript = Transcript::new(text);
     let heap = Heap::new();

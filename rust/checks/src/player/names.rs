@@ -1,9 +1,9 @@
-//! How errors and types are written in answers.
+//! The texts of errors and types in answers.
 
 use crate::exported::stun_types::attribute::AttributeType;
 use crate::exported::stun_types::message::{StunParseError, StunWriteError, ValidateError};
 
-/// Returns why bytes cannot be parsed, by its name alone.
+/// Returns the name of an error of parsing.
 pub fn parse_error(error: StunParseError) -> &'static str {
     match error {
         StunParseError::Truncated => "Truncated",
@@ -14,7 +14,7 @@ pub fn parse_error(error: StunParseError) -> &'static str {
     }
 }
 
-/// Returns why bytes cannot be parsed. For a missing attribute, its type follows.
+/// Returns the name of an error of parsing, followed by the type if an attribute is missing.
 pub fn parse_error_with_type(error: StunParseError) -> String {
     match error {
         StunParseError::MissingAttribute(kind) => format!("MissingAttribute {}", type_number(kind)),
@@ -22,7 +22,7 @@ pub fn parse_error_with_type(error: StunParseError) -> String {
     }
 }
 
-/// Returns why a message is not written, by its name alone.
+/// Returns the name of an error of writing.
 pub fn write_error(error: StunWriteError) -> &'static str {
     match error {
         StunWriteError::NotAllowed => "NotAllowed",

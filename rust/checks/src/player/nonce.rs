@@ -1,4 +1,4 @@
-//! The security bits of nonces (RFC 8489, section 9.2): `nonce NAME WORD ..`.
+//! Plays the calls on security bits of nonces (RFC 8489, section 9.2): `nonce NAME WORD ..`.
 
 use super::stage::Stage;
 use super::values::phrase;
@@ -9,9 +9,9 @@ use crate::exported::stun_auth::auth::{LONG_TERM_RFC8489_NONCE_COOKIE, NonceSecu
 /// Plays `nonce NAME WORD ..`.
 pub fn call(stage: &mut Stage<'_>, words: &[&str]) -> Answer {
     match words {
-        // What a nonce with bits begins with.
+        // The text with which a nonce with security bits begins.
         ["cookie"] => Some(LONG_TERM_RFC8489_NONCE_COOKIE.to_string()),
-        // The bytes of the bits of a nonce.
+        // The bytes of the security bits of a nonce.
         ["bits", words @ ..] => Some(match NonceSecurityBits::from_nonce(&phrase(words)) {
             Some(bits) => hex(&bits.bytes()),
             None => "none".to_string(),
@@ -33,7 +33,7 @@ fn bits(word: &str) -> Option<NonceSecurityBits> {
     }
 }
 
-/// Plays `nonce text BITS`: prints what a nonce with these bits begins with.
+/// Plays `nonce text BITS`: prints the text with which a nonce with these bits begins.
 fn text(stage: &mut Stage<'_>, word: &str) -> Answer {
     let bits = bits(word)?;
     stage.begin();
@@ -43,7 +43,7 @@ fn text(stage: &mut Stage<'_>, word: &str) -> Answer {
     }
 }
 
-/// What security bits ask for.
+/// Returns the meaning of security bits.
 fn meaning(bits: NonceSecurityBits) -> &'static str {
     match (bits.password_algorithms(), bits.username_anonymity()) {
         (true, true) => "algorithms hashes",

@@ -1,22 +1,22 @@
-//! Plays a paragraph, and one of its lines in a special way.
+//! Plays a paragraph, with a refused allocation in one of its lines.
 
 use super::line::{answer_to, pass_time};
 use super::stage::Stage;
 use super::transcript::{Transcript, is_played, parts};
 use super::{Heap, OUT_OF_MEMORY};
 
-/// How the line in question is played.
+/// How the selected line is played.
 #[derive(Clone, Copy, PartialEq, Eq)]
 pub enum Turn {
-    /// Not at all.
+    /// The line is left out.
     Without,
-    /// Its nth allocation is refused.
+    /// The nth allocation of the line is refused.
     Refused,
-    /// Its nth allocation is refused, and then it is played as written.
+    /// The nth allocation of the line is refused, and then the line is played as written.
     Again,
 }
 
-/// The line in question.
+/// The selected line, and how it is played.
 #[derive(Clone, Copy)]
 pub struct Cut {
     pub line: usize,
@@ -24,18 +24,18 @@ pub struct Cut {
     pub nth: u64,
 }
 
-/// What came of the line in question.
+/// The outcome of the selected line.
 #[derive(Clone, Copy, Default)]
 pub struct Refusal {
     /// Whether an allocation was refused.
     pub is_met: bool,
-    /// Whether the answer said so.
+    /// Whether the answer reported the refusal.
     pub is_right: bool,
     /// Whether the line is a run, which stops after some of its calls.
     pub is_run: bool,
 }
 
-/// Plays the line `like NAME`: makes the calls of another paragraph, whatever they answer.
+/// Plays the line `like NAME`: makes the calls of another paragraph, whatever their answers are.
 fn repeated(stage: &mut Stage<'_>, line: &str, name: &str) -> String {
     let Some(paragraph) = stage.transcript.beginning(name) else {
         return format!("{line} -> ?");
@@ -46,7 +46,7 @@ fn repeated(stage: &mut Stage<'_>, line: &str, name: &str) -> String {
     line.to_string()
 }
 
-/// Plays a line as it is written. Returns it with the answer that came.
+/// Plays a line as it is written, and returns it with its actual answer.
 fn play_line(stage: &mut Stage<'_>, line: &str) -> String {
     if !is_played(line) {
         return line.to_string();
@@ -75,8 +75,8 @@ fn refuse(stage: &mut Stage<'_>, call: &str, nth: u64) -> Refusal {
     }
 }
 
-/// Plays a paragraph from its beginning. Returns its lines with the answers that came, and what
-/// came of the line in question.
+/// Plays a paragraph from its beginning. Returns its lines with their actual answers, and the
+/// outcome of the selected line.
 pub fn played(
     transcript: &Transcript<'_>,
     heap: &Heap,

@@ -1,30 +1,30 @@
 //! Refuses each allocation of each line in turn.
 //!
-//! A call whose allocation is refused says so, and leaves everything unchanged. If it is made
-//! again, everything goes on as the transcript says. If it is not, everything goes on as in a
-//! transcript without its line. Each play gives back all blocks that it allocated.
+//! A call whose allocation is refused reports this, and changes nothing. If the call is made again,
+//! the rest of the paragraph is as the transcript says. If it is not, the rest is as in a
+//! transcript without its line. Each play frees all blocks that it allocated.
 //!
-//! A run of many calls stops after some of them. When it is made again, it makes the others, and
-//! everything goes on as the transcript says.
+//! A run of many calls stops after some of them. When it is made again, it makes the other calls,
+//! and the rest is as the transcript says.
 
 use super::Heap;
 use super::paragraph::{Cut, Refusal, Turn, played};
 use super::transcript::Transcript;
 
-/// A call makes fewer allocations than this.
+/// An upper bound on the allocations of a call.
 const MOST_ALLOCATIONS: u64 = 400;
 
 /// The results of the refused allocations of a paragraph.
 #[derive(Default)]
 pub struct Tally {
-    /// How many allocations were refused.
+    /// The number of allocations that were refused.
     pub refused: usize,
     /// The index of the first line with a wrong result.
     pub wrong: Option<usize>,
 }
 
-/// Plays a paragraph with a refused allocation. The refusal is right only if the lines come out as
-/// wanted and the play gives back what it allocated.
+/// Plays a paragraph with a refused allocation. The result is right only if the lines are the
+/// expected ones, and the play frees what it allocated.
 fn compare(
     transcript: &Transcript<'_>,
     heap: &Heap,
@@ -40,8 +40,9 @@ fn compare(
     }
 }
 
-/// Refuses the allocations of all lines of a paragraph, which is right if none is refused. The call
-/// is made again, and, unless it is a run, also left as it is.
+/// Refuses each allocation of each line of a paragraph, whose answers must be right if none is
+/// refused. After each refusal, the call is made again. In a second play, unless it is a run, it is
+/// not made again.
 pub fn refuse_each(transcript: &Transcript<'_>, heap: &Heap, paragraph: &str) -> Tally {
     let written: Vec<String> = paragraph.lines().map(str::to_string).collect();
     let mut tally = Tally::default();

@@ -1,4 +1,4 @@
-//! The calls on keys, credentials and bytes: `secret NAME WORD ..`.
+//! Plays the calls on keys, credentials and bytes: `secret NAME WORD ..`.
 
 use super::stage::Stage;
 use super::values::{algorithm, phrase};
@@ -11,13 +11,13 @@ use crate::exported::stun_types::message::{
 use crate::kit::alloc::AllocError;
 use crate::kit::prelude::{TryClone, Vec as HeapVec};
 
-/// A key, short-term credentials and long-term credentials, as far as they were set.
+/// The key, the short-term credentials and the long-term credentials that were set.
 #[derive(Default)]
 pub struct Secrets<'a> {
     key: Option<IntegrityKey<&'a Heap>>,
     password: Option<ShortTermCredentials<&'a Heap>>,
     user: Option<LongTermCredentials<&'a Heap>>,
-    /// The user of a realm.
+    /// The long-term credentials in a realm.
     settled: Option<LongTermKeyCredentials<&'a Heap>>,
 }
 
@@ -81,7 +81,7 @@ fn set(stage: &mut Stage<'_>, words: &[&str]) -> Answer {
             let (name, password) = (stage.on_heap(name)?, stage.on_heap(password)?);
             stage.secrets.user = Some(LongTermCredentials::new(name, password));
         }
-        // The user at a realm.
+        // Combines the long-term credentials with a realm.
         ["settle", realm] => {
             let realm = stage.on_heap(realm)?;
             stage.begin();
@@ -98,7 +98,8 @@ fn set(stage: &mut Stage<'_>, words: &[&str]) -> Answer {
     Some(String::new())
 }
 
-/// What is shown of a secret: `none` if it was not set, and `OutOfMemory` if it cannot be made.
+/// Returns the text that is printed of a secret: `none` if it was not set, and `OutOfMemory` if an
+/// allocation failed.
 fn shown<T>(secret: Option<&T>, show: impl FnOnce(&T) -> Result<String, AllocError>) -> Answer {
     Some(match secret.map(show) {
         None => "none".to_string(),
@@ -149,7 +150,7 @@ fn copy(stage: &Stage<'_>, name: &str) -> Answer {
     }
 }
 
-/// The bytes of data after they are owned.
+/// Converts data to owned data, and returns its bytes.
 fn owned<'a>(stage: &Stage<'a>, data: Data<'_, &'a Heap>) -> Answer {
     match data.into_owned(stage.heap) {
         Ok(owned) => Some(hex(owned.bytes())),

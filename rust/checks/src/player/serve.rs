@@ -1,10 +1,11 @@
-//! Runs of the server: `serve NAME WORD ..`. Calls are collected, one call makes them, and then the
-//! replies are printed one by one.
+//! Plays runs of the server: `serve NAME WORD ..`. Calls are collected, one call makes them all,
+//! and then the replies are printed one by one.
 //!
 //! A run in which an allocation is refused stops after some of its calls, and its replies are lost.
-//! When the run is made again, it makes the calls that are left. The lost replies are then those of
-//! a twin of the server, which makes all calls in ample memory. So the run, its last replies and
-//! the state afterwards must be as the transcript says. The twin knows only the calls of `serve`.
+//! When the run is made again, it makes the calls that are left. The lost replies are then taken
+//! from a twin of the server, on which all calls are made with enough memory. So the run, its last
+//! replies and the state afterwards must be as the transcript says. Only the calls of `serve` are
+//! made on the twin.
 
 use super::names::{parse_error, write_error};
 use super::stage::Stage;
@@ -19,14 +20,14 @@ use crate::kit::prelude::{String as HeapString, Vec as HeapVec};
 /// The calls of a paragraph, and their replies.
 pub struct Serving {
     calls: Vec<ServerCall>,
-    /// How many calls were made.
+    /// The number of calls that were made.
     made: usize,
     replies: Vec<String>,
-    /// How many replies were printed.
+    /// The number of replies that were printed.
     told: usize,
     /// Whether an allocation of the last run was refused.
     is_broken: bool,
-    /// The server in ample memory, which makes calls only after a run was interrupted.
+    /// A server with enough memory, which is used only after a run was interrupted.
     twin: LongTermServerAuth,
 }
 
@@ -65,7 +66,7 @@ impl Serving {
     }
 }
 
-/// A reply, as `server` prints the answer to the same call.
+/// Returns the text of a reply, as `server` would print the answer to the same call.
 fn reply_text<A: Allocator>(reply: &ServerReply<A>) -> String {
     match reply {
         ServerReply::NotAMessage(error) => parse_error(*error).to_string(),
@@ -79,7 +80,7 @@ fn reply_text<A: Allocator>(reply: &ServerReply<A>) -> String {
 }
 
 /// Parses a call that is collected, which is made at the time, from the address and with the random
-/// numbers of the stage. It is spelled like a call of `server`.
+/// numbers of the stage. It has the form of a call of `server`.
 pub fn server_call(stage: &Stage<'_>, words: &[&str]) -> Option<ServerCall> {
     let owned = |word: &str| HeapString::from(text(word));
     let message = |words| HeapVec::from_slice(Global, &stage.message(words)?).ok();
@@ -113,7 +114,7 @@ pub fn server_call(stage: &Stage<'_>, words: &[&str]) -> Option<ServerCall> {
 /// Plays `serve NAME WORD ..`.
 pub fn call(stage: &mut Stage<'_>, words: &[&str]) -> Answer {
     match words {
-        // A new server, as by `server new`, and its twin.
+        // Creates a server like `server new`, and its twin.
         ["new", word] => {
             let realm = text(word);
             let copy = stage.on_heap(&realm)?;

@@ -1,4 +1,4 @@
-//! The calls of a server with long-term credentials: `server NAME WORD ..`.
+//! Plays the calls of a server with long-term credentials: `server NAME WORD ..`.
 
 use super::names::or_none;
 use super::signing::{Side, sign, sign_in_slice, sign_length};
@@ -17,13 +17,13 @@ use std::time::Duration;
 /// Plays `server NAME WORD ..`.
 pub fn call(stage: &mut Stage<'_>, words: &[&str]) -> Answer {
     match words {
-        // What the server judges and signs.
+        // The calls that judge and sign messages.
         ["hears", words @ ..] => hear(stage, words),
         ["signs", words @ ..] => sign(stage, Side::Server, words),
         ["signs-length", words @ ..] => sign_length(stage, Side::Server, words),
         ["signs-in", room, words @ ..] => sign_in_slice(stage, Side::Server, room, words),
         ["signs-unchecked"] => sign_unchecked(stage, Side::Server),
-        // What it reports.
+        // The calls that report the state of the server.
         ["nonce"] => Some(
             stage
                 .server
@@ -35,7 +35,7 @@ pub fn call(stage: &mut Stage<'_>, words: &[&str]) -> Answer {
             Some((user, algorithm)) => format!("{user} {algorithm:?}"),
             None => "none".to_string(),
         }),
-        // How many bytes signing adds to a request to the address, and to a response.
+        // The number of bytes that signing adds to a request to the address, and to a response.
         ["sizes"] => {
             let size = |is_request| stage.server.message_signature_bytes(stage.from, is_request);
             Some(format!("{} {}", size(true), size(false)))
@@ -43,7 +43,7 @@ pub fn call(stage: &mut Stage<'_>, words: &[&str]) -> Answer {
         ["supported"] => Some(supported(stage)),
         ["realm"] => Some(stage.server.realm().to_string()),
         ["hashes"] => Some(format!("{:?}", stage.server.anonymous_username())),
-        // The shortest lifetime of a nonce that there is, in nanoseconds.
+        // The shortest nonce lifetime, in nanoseconds.
         ["expiry"] => Some(minimum_nonce_expiry_duration().as_nanos().to_string()),
         words => change(stage, words),
     }
@@ -100,7 +100,7 @@ fn forget(stage: &mut Stage<'_>, words: &[&str]) -> Answer {
             stage.begin();
             stage.server.remove_client(stage.from);
         }
-        // The addresses without a client whose nonces have expired.
+        // Removes the records without a client whose nonces have expired.
         ["forget"] => {
             stage.begin();
             stage.server.forget_expired(stage.now);
@@ -110,7 +110,7 @@ fn forget(stage: &mut Stage<'_>, words: &[&str]) -> Answer {
             stage.begin();
             stage.server.forget(address);
         }
-        // `forget` for at most COUNT addresses, from an address on. Prints the address to go on at.
+        // Like `forget`, for at most COUNT records from an address on. Prints the next address.
         ["forget-some", count, from @ ..] => {
             let count = usize::try_from(number(count)?).ok()?;
             let from = match from {
@@ -153,7 +153,7 @@ fn hear(stage: &mut Stage<'_>, words: &[&str]) -> Answer {
     })
 }
 
-/// The supported algorithms, the strongest first.
+/// Returns the supported algorithms, the strongest first.
 fn supported(stage: &Stage<'_>) -> String {
     let algorithms = stage.server.supported_integrity().iter();
     let names: Vec<String> = algorithms.map(|one| format!("{one:?}")).collect();

@@ -1,4 +1,4 @@
-//! The calls of short-term credentials (RFC 8489, section 9.1): `short-term NAME WORD ..`.
+//! Plays the calls of short-term credentials (RFC 8489, section 9.1): `short-term NAME WORD ..`.
 
 use super::names::{or_none, validate_error};
 use super::signing::{Side, sign, sign_in_slice};
@@ -31,7 +31,7 @@ pub fn call(stage: &mut Stage<'_>, words: &[&str]) -> Answer {
             Some(key) => hex(key.as_bytes()),
             None => "none".to_string(),
         }),
-        // How many bytes signing adds.
+        // The number of bytes that signing adds.
         ["size"] => Some(stage.short_term.message_signature_bytes().to_string()),
         _ => None,
     }

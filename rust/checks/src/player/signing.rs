@@ -1,4 +1,4 @@
-//! Messages that are signed on the heap or in a slice: the calls that a server, a client and
+//! Plays the calls that sign messages on the heap or in a slice, which a server, a client and
 //! short-term credentials share.
 
 use super::Answer;
@@ -25,7 +25,7 @@ pub fn copied<W: MessageWrite>(message: &[u8], mut writer: W) -> Option<W> {
     Some(writer)
 }
 
-/// A message that one side signs, in an empty writer.
+/// Copies a message to an empty writer and signs it as one side.
 fn signed<W: MessageWrite>(
     stage: &mut Stage<'_>,
     side: Side,
@@ -42,7 +42,7 @@ fn signed<W: MessageWrite>(
     })
 }
 
-/// Plays `.. signs MESSAGE`: prints the bytes of a message to the other side after it is signed.
+/// Plays `.. signs MESSAGE`: signs a message to the other side, and prints its bytes.
 pub fn sign(stage: &mut Stage<'_>, side: Side, words: &[&str]) -> Answer {
     let message = stage.message(words)?;
     let writer = MessageWriteVec::new(stage.heap);
@@ -62,8 +62,8 @@ pub fn sign_length(stage: &mut Stage<'_>, side: Side, words: &[&str]) -> Answer 
     }
 }
 
-/// Plays `.. signs-in ROOM MESSAGE`, which is like `signs`, but in a slice of ROOM bytes, up to
-/// 256.
+/// Plays `.. signs-in ROOM MESSAGE`, which is like `signs`, but writes to a slice of ROOM bytes, at
+/// most 256.
 pub fn sign_in_slice(stage: &mut Stage<'_>, side: Side, room: &str, words: &[&str]) -> Answer {
     let message = stage.message(words)?;
     let mut bytes = [0xff; 256];
@@ -74,7 +74,7 @@ pub fn sign_in_slice(stage: &mut Stage<'_>, side: Side, room: &str, words: &[&st
     }
 }
 
-/// Returns why a message is not signed. If an attribute is in the way, its type follows.
+/// Returns why a message is not signed, followed by the type if an attribute exists already.
 pub fn reason(error: StunWriteError) -> String {
     match error {
         StunWriteError::AttributeExists(kind) => format!("AttributeExists {kind}"),

@@ -1,4 +1,4 @@
-//! What a paragraph is played on: the objects of the library, and what surrounds them.
+//! The state on which a paragraph is played: the objects of the library, and their context.
 
 use super::Heap;
 use super::agent::Agent;
@@ -28,7 +28,8 @@ pub struct Blocks {
 /// time and the random numbers of the messages that arrive.
 pub struct Stage<'a> {
     pub transcript: &'a Transcript<'a>,
-    /// The heap on which the library allocates, and the player what it passes to the library.
+    /// The heap on which the library allocates, and on which the player allocates what it passes to
+    /// the library.
     pub heap: &'a Heap,
     pub from: SocketAddr,
     pub now: Instant,
@@ -46,7 +47,7 @@ pub struct Stage<'a> {
     pub endpoint: Endpoint<'a>,
     /// The number of the allocation of a call that is refused, or 0 for none.
     pub nth: u64,
-    /// Whether it was refused.
+    /// Whether that allocation was refused.
     pub is_refused: bool,
     /// Whether the call is a run, which ends after some of its calls.
     pub is_run: bool,
@@ -95,7 +96,7 @@ impl<'a> Stage<'a> {
         }
     }
 
-    /// Returns the message that words spell.
+    /// Returns the message that words describe.
     pub fn message(&self, words: &[&str]) -> Option<Vec<u8>> {
         message(words, self)
     }
@@ -105,8 +106,8 @@ impl<'a> Stage<'a> {
         self.message(&[&["request"], words].concat())
     }
 
-    /// Returns a message in the words that spell it, or `bytes` and its digits if they spell
-    /// another one.
+    /// Returns the words that describe a message, or `bytes` and its digits if the words describe
+    /// another message.
     pub fn shown(&self, bytes: &[u8]) -> String {
         if bytes.len() >= 20 {
             let told = in_words(bytes);
@@ -128,7 +129,7 @@ impl<'a> Stage<'a> {
         HeapString::from_str(self.heap, text).ok()
     }
 
-    /// Copies the text that a word spells to the heap.
+    /// Copies the text that a word describes to the heap.
     pub fn text(&self, word: &str) -> Option<HeapString<&'a Heap>> {
         self.on_heap(&text(word))
     }

@@ -1,4 +1,4 @@
-//! Transcripts: paragraphs with empty lines between them, and the lines of a paragraph.
+//! Parses transcripts: paragraphs with empty lines between them, and the lines of a paragraph.
 
 use std::collections::HashMap;
 
@@ -34,8 +34,8 @@ impl<'a> Transcript<'a> {
         self.meanings.get(name).cloned()
     }
 
-    /// Returns the paragraph that begins with the line `NAME:`, if others may begin with it,
-    /// because it does not begin with another one itself.
+    /// Returns the paragraph that begins with the line `NAME:`, unless it begins with another
+    /// paragraph itself, because then no paragraph may begin with it.
     pub fn beginning(&self, name: &str) -> Option<&'a str> {
         let found = self.paragraphs().find(|paragraph| {
             let first = paragraph.lines().next().unwrap_or_default();

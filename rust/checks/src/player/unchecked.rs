@@ -1,5 +1,5 @@
-//! Messages that are signed by the calls that check nothing. A message that the checking call has
-//! signed, in ample memory, meets their conditions.
+//! Plays the calls that sign messages without checks. A message that the checking call has signed,
+//! with enough memory, meets their conditions.
 
 use super::signing::{Side, reason};
 use super::stage::Stage;
@@ -50,8 +50,8 @@ fn password_signs<'a>(stage: &mut Stage<'a>) -> Signed<'a> {
 
 /// Plays `.. signs-unchecked`: prints the bytes of a signed Binding message with transaction ID 1
 /// and no other attributes, which is a success for a server, and otherwise a request. A server must
-/// have signed one message to the address before, because a line that is refused memory may have
-/// recorded the offer that it makes.
+/// have signed one message to the address before, because a call whose allocation is refused may
+/// have recorded the offer that it makes.
 pub fn sign_unchecked(stage: &mut Stage<'_>, side: Side) -> Answer {
     stage.begin();
     let signed = match side {

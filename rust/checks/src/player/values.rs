@@ -1,4 +1,4 @@
-//! Words that are values of the library. `None` is a word that is not understood.
+//! Parses words that are values of the library. The result is `None` if a word is not understood.
 
 use super::words::{id, number, span, text};
 use crate::exported::stun_auth::auth::Feature;
@@ -81,7 +81,7 @@ pub fn transport(word: &str) -> Option<TransportType> {
     }
 }
 
-/// Joins the texts that words spell, with spaces between them.
+/// Joins the texts that words describe, with spaces between them.
 pub fn phrase(words: &[&str]) -> String {
     let texts: Vec<String> = words.iter().map(|word| text(word)).collect();
     texts.join(" ")

@@ -1,4 +1,4 @@
-//! Messages that are written step by step: `write NAME WORD ..`.
+//! Plays messages that are written step by step: `write NAME WORD ..`.
 
 mod begin;
 mod steps;
@@ -11,7 +11,7 @@ use super::{Answer, Heap};
 use crate::exported::stun_types::message::{MessageWriteMutSlice, MessageWriteVec, StunWriteError};
 use crate::exported::stun_types::prelude::*;
 
-/// The byte of a slice that is not written.
+/// The value of each byte of a slice that is not written.
 const UNTOUCHED: u8 = 0xff;
 
 /// The message that is being written.
@@ -28,8 +28,8 @@ pub struct Slice {
 }
 
 impl Slice {
-    /// Makes a call of a writer of this message, over an array, and stores what is then written.
-    /// `touched` comes before the answer if a byte after the message is not as it was.
+    /// Makes a call of a writer of this message, over an array, and stores the message. `touched`
+    /// comes before the answer if a byte after the message has changed.
     fn with<T>(
         &mut self,
         call: impl FnOnce(&mut MessageWriteMutSlice<'_>) -> Option<T>,
@@ -45,7 +45,7 @@ impl Slice {
     }
 }
 
-/// The word for bytes after a message that are not as they were.
+/// Returns `touched` if bytes after a message have changed.
 fn touched(rest: &[u8]) -> &'static str {
     match rest.iter().all(|byte| *byte == UNTOUCHED) {
         true => "",
@@ -53,8 +53,8 @@ fn touched(rest: &[u8]) -> &'static str {
     }
 }
 
-/// What a call that writes returns: nothing, or why it refuses, with the type of an attribute that
-/// is there already.
+/// Returns an empty text, or the error of a call that writes, with the type if an attribute exists
+/// already.
 fn made_text(made: Result<(), StunWriteError>) -> String {
     match made {
         Ok(()) => String::new(),

@@ -1,5 +1,4 @@
-//! What the tests of the client share. None of these functions has a contract, so that a test knows
-//! nothing of their inside.
+//! Functions that the tests of the client share.
 
 use crate::exported::stun_auth::auth::{
     Feature, LongTermClientAuth, LongTermClientAuthErrorReason, LongTermClientValidation,
@@ -8,7 +7,7 @@ use crate::exported::stun_types::message::{IntegrityAlgorithm, Message, StunPars
 use crate::kit::alloc::{AllocError, Allocator};
 use crate::test_support::server::user;
 
-/// What a client answers.
+/// The result of passing a message to a client.
 #[derive(Clone, Copy, Debug, PartialEq, Eq)]
 pub enum Answer {
     Resend(Option<IntegrityAlgorithm>),
@@ -20,7 +19,7 @@ pub const RESEND: Answer = Answer::Resend(None);
 
 pub const SHA1: Answer = Answer::Validated(IntegrityAlgorithm::Sha1);
 
-/// A client of the user `user` with the password `pass`, with HMAC-SHA1 alone.
+/// Returns a client of the user `user` with the password `pass`, which supports only HMAC-SHA1.
 pub fn sha1_client<A: Allocator + Copy>(
     alloc: A,
     feature: Feature,
@@ -31,7 +30,7 @@ pub fn sha1_client<A: Allocator + Copy>(
     Ok(client)
 }
 
-/// The same with both algorithms, the weaker first.
+/// Returns a client like `sha1_client`, but with both algorithms, the weaker first.
 pub fn full_client<A: Allocator + Copy>(
     alloc: A,
     feature: Feature,
@@ -41,7 +40,7 @@ pub fn full_client<A: Allocator + Copy>(
     Ok(client)
 }
 
-/// What a client answers to bytes.
+/// Passes a message to a client, and returns the result.
 pub fn told<A: Allocator + Copy>(
     client: &mut LongTermClientAuth<A>,
     bytes: &[u8],

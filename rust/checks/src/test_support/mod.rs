@@ -1,5 +1,5 @@
-//! What the tests of several crates share: messages, moments and words, and
-//! the calls of both sides.
+//! Functions that the tests of several crates share: messages, times, random numbers, and the calls
+//! of both sides.
 
 pub mod client;
 pub mod datagrams;

@@ -1,4 +1,4 @@
-//! Messages that the writers make of the attributes that a test names.
+//! Builds messages from lists of attributes.
 
 use crate::exported::stun_types::attribute::{
     AttributeType, ErrorCode, Nonce, PasswordAlgorithm, PasswordAlgorithmValue, PasswordAlgorithms,
@@ -17,16 +17,16 @@ pub const MD5_KEY: [u8; 16] = [
     0x84, 0x93, 0xfb, 0xc5, 0x3b, 0xa5, 0x82, 0xfb, 0x4c, 0x04, 0x4c, 0x45, 0x6b, 0xdc, 0x40, 0xeb,
 ];
 
-/// SHA-256 of `user:realm:pass`, by Python's module `hashlib`.
+/// SHA-256 of `user:realm:pass`, from Python's module `hashlib`.
 pub const SHA256_KEY: [u8; 32] = [
     0x07, 0xe9, 0x34, 0x11, 0x7a, 0xbd, 0x40, 0x83, 0x6e, 0x7c, 0x63, 0x29, 0xb5, 0x47, 0x31, 0xb2,
     0xb2, 0xd2, 0xa5, 0xf9, 0xa7, 0x1f, 0x54, 0x49, 0x22, 0xd7, 0x5e, 0x07, 0x30, 0xd8, 0x25, 0x1b,
 ];
 
-/// The nonce of zero words at a server with HMAC-SHA1 alone and plain names.
+/// The nonce that a server with only HMAC-SHA1 and plain names makes of random numbers 0.
 pub const PLAIN_NONCE: &str = "AAAAAAAAAAAAAAAA";
 
-/// The nonce of zero words at a server with both algorithms where names may be hashed.
+/// The nonce that a server with both algorithms and hashed names makes of random numbers 0.
 pub const FULL_NONCE: &str = "obMatJos2wAAAAAAAAAAAAAAAAAAA";
 
 /// The list that a server with both algorithms offers.
@@ -45,13 +45,13 @@ pub enum Part<'a> {
     Choice(PasswordAlgorithmValue),
     /// Any type with any value.
     Raw(u16, &'a [u8]),
-    /// MESSAGE-INTEGRITY under a key.
+    /// MESSAGE-INTEGRITY with a key.
     Sha1(&'a [u8]),
-    /// MESSAGE-INTEGRITY-SHA256 under a key.
+    /// MESSAGE-INTEGRITY-SHA256 with a key.
     Sha256(&'a [u8]),
 }
 
-/// A message of a class with id 1, in an empty writer.
+/// Begins a message of a class with ID 1 in an empty writer.
 pub fn begin<W: MessageWrite>(class: MessageClass, writer: W) -> Result<W, StunWriteError> {
     let id = TransactionId::from_u128(1).ok_or(StunWriteError::NotAllowed)?;
     Message::builder(MessageType::from_class_method(class, BINDING), id, writer)
@@ -101,7 +101,7 @@ pub fn with_parts<W: MessageWrite>(writer: W, parts: &[Part<'_>]) -> Result<W, S
     Ok(writer)
 }
 
-/// A message of a class with id 1 and these attributes.
+/// Returns a message of a class with ID 1 and these attributes.
 pub fn message(
     alloc: Global,
     class: MessageClass,

@@ -1,5 +1,4 @@
-//! What the tests of the server share. None of these functions has a contract, so that a test knows
-//! nothing of their inside.
+//! Functions that the tests of the server share.
 
 use crate::exported::stun_auth::auth::{
     Feature, LongTermServerAuth, LongTermServerAuthErrorReason, LongTermServerValidation,
@@ -21,15 +20,15 @@ use crate::test_support::parts::{
 };
 use std::net::{IpAddr, Ipv4Addr, SocketAddr};
 
-/// What a server answers.
+/// The verdict of a server.
 pub type Answer = Result<IntegrityAlgorithm, LongTermServerAuthErrorReason>;
 
 pub const SHA256: Answer = Ok(IntegrityAlgorithm::Sha256);
 
-/// Words that draw sixteen letters `A`.
+/// Random numbers from which a nonce with sixteen letters `A` is made.
 pub const ZEROS: [u32; 16] = [0; 16];
 
-/// A request that the offering server validates.
+/// The attributes of a request that `offering_server` validates.
 pub const FULL_REQUEST: [Part<'static>; 6] = [
     Part::Nonce(FULL_NONCE),
     Part::Realm("realm"),
@@ -39,12 +38,12 @@ pub const FULL_REQUEST: [Part<'static>; 6] = [
     Part::Sha256(&SHA256_KEY),
 ];
 
-/// An address of 10.0.0.0/24.
+/// Returns an address in 10.0.0.0/24.
 pub fn address(last: u8) -> SocketAddr {
     SocketAddr::new(IpAddr::V4(Ipv4Addr::new(10, 0, 0, last)), 12345)
 }
 
-/// The user `user` with a password.
+/// Returns the user `user` with a password.
 pub fn user<A: Allocator + Copy>(
     alloc: A,
     password: &str,
@@ -56,8 +55,8 @@ pub fn user<A: Allocator + Copy>(
     ))
 }
 
-/// A server of the realm `realm` with the user `user`, who has the password `pass`, and with
-/// HMAC-SHA1 alone.
+/// Returns a server of the realm `realm` with only HMAC-SHA1 and the user `user`, who has the
+/// password `pass`.
 pub fn sha1_server<A: Allocator + Copy>(
     alloc: A,
     feature: Feature,
@@ -68,7 +67,7 @@ pub fn sha1_server<A: Allocator + Copy>(
     Ok(server)
 }
 
-/// The same with both algorithms.
+/// Returns a server like `sha1_server`, but with both algorithms.
 pub fn full_server<A: Allocator + Copy>(
     alloc: A,
     feature: Feature,
@@ -78,7 +77,7 @@ pub fn full_server<A: Allocator + Copy>(
     Ok(server)
 }
 
-/// What a server answers to bytes.
+/// Passes a message to a server, and returns the verdict.
 pub fn asked<A: Allocator + Copy>(
     server: &mut LongTermServerAuth<A>,
     bytes: &[u8],
@@ -94,7 +93,7 @@ pub fn asked<A: Allocator + Copy>(
     }
 }
 
-/// An unsigned request at the first moment.
+/// Passes an unsigned request to a server at time 0.
 pub fn knocked<A: Allocator + Copy>(
     alloc: Global,
     server: &mut LongTermServerAuth<A>,
@@ -105,7 +104,7 @@ pub fn knocked<A: Allocator + Copy>(
     Ok(asked(server, bytes.as_slice(), (from, 0), words)?)
 }
 
-/// A message in a writer, signed for the first address.
+/// Signs the message in a writer for the first address.
 pub fn signed_for<A: Allocator + Copy, W: MessageWrite>(
     server: &mut LongTermServerAuth<A>,
     writer: W,
@@ -116,7 +115,7 @@ pub fn signed_for<A: Allocator + Copy, W: MessageWrite>(
     server.sign_outgoing_message(writer, address(1))
 }
 
-/// A message of a class with these attributes, signed for the first address.
+/// Returns a message of a class with these attributes, signed for the first address.
 pub fn signed_bytes<A: Allocator + Copy>(
     alloc: Global,
     server: &mut LongTermServerAuth<A>,
@@ -127,7 +126,7 @@ pub fn signed_bytes<A: Allocator + Copy>(
     Ok(signed_for(server, writer)?.finish())
 }
 
-/// A challenge to the first address.
+/// Returns a challenge to the first address.
 pub fn signed_challenge<A: Allocator + Copy>(
     alloc: Global,
     server: &mut LongTermServerAuth<A>,
@@ -135,8 +134,8 @@ pub fn signed_challenge<A: Allocator + Copy>(
     signed_bytes(alloc, server, MessageClass::Error, &[Part::Code(401)])
 }
 
-/// A server with both algorithms and hashed names, whose nonce is current for the first address and
-/// whose list was offered to it.
+/// Returns a server with both algorithms and hashed names that has made a nonce for the first
+/// address, and has offered its list to this address.
 pub fn offering_server<A: Allocator + Copy>(
     alloc: Global,
     heap: A,

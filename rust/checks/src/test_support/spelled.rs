@@ -1,9 +1,9 @@
-//! Bytes and messages from hexadecimal digits, for tables.
+//! Parses bytes from hexadecimal digits, for the tables of tests.
 use crate::host::Fail;
 use crate::kit::alloc::Global;
 use crate::kit::prelude::Vec;
 
-/// The bytes that the digits spell, with white space between them.
+/// Parses hexadecimal digits, with white space between them.
 pub fn bytes_of(alloc: Global, digits: &str) -> Result<Vec<u8>, Fail> {
     let mut pairs = Vec::new(alloc);
     for byte in digits.as_bytes() {

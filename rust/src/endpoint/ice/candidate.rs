@@ -64,8 +64,9 @@ impl CandidateKind {
 
 /// Returns the priority of a candidate (RFC 8445, section 5.1.2.1).
 ///
-/// `preference` ranks the addresses of this side: 65535 for the best, and for the only one.
-/// `component` is the number of the component, from 1 on. It is tested, and not proved.
+/// `preference` ranks the addresses of this side: 65535 is for the best address, or for the only
+/// one. `component` is the number of the component, from 1 on. This function is tested, and not
+/// proved.
 ///
 /// # Examples
 ///
@@ -83,10 +84,10 @@ pub fn priority(kind: CandidateKind, preference: u16, component: u8) -> u32 {
         + (256 - u32::from(component))
 }
 
-/// Returns the priority of a pair, which both agents compute alike (RFC 8445, section 6.1.2.3).
-/// `controlling` is the priority of the candidate of the controlling agent, and `controlled` that
-/// of the other. A priority above 2147483647, which no candidate may have, counts as that number.
-/// It is tested, and not proved.
+/// Returns the priority of a pair (RFC 8445, section 6.1.2.3), which is the same number at both
+/// agents. `controlling` is the priority of the candidate of the controlling agent, and
+/// `controlled` is the priority of the other agent's candidate. A priority above 2147483647, which
+/// no candidate may have, counts as 2147483647. This function is tested, and not proved.
 ///
 /// # Examples
 ///
@@ -102,12 +103,12 @@ pub fn pair_priority(controlling: u32, controlled: u32) -> u64 {
     (u64::from(one.min(other)) << 32) + 2 * u64::from(one.max(other)) + u64::from(one > other)
 }
 
-/// A candidate over UDP, as SDP has it (RFC 8839, section 5.1).
+/// A candidate over UDP, as in SDP (RFC 8839, section 5.1).
 ///
-/// It is parsed from the value of an `a=candidate` line, which is what browsers have in
-/// `RTCIceCandidate.candidate`, with or without `a=` in front, and displayed without it. The
-/// extensions at the end of the line, whatever their names are, are stored and displayed too. Reading
-/// and writing are tested, and not proved.
+/// `FromStr` parses the value of an `a=candidate` line, with or without `a=` in front, which is
+/// what browsers have in `RTCIceCandidate.candidate`. `Display` writes it without `a=`. The
+/// extensions at the end of the line, whatever their names are, are stored and displayed too.
+/// Parsing and writing are tested, and not proved.
 ///
 /// # Examples
 ///
@@ -123,7 +124,8 @@ pub fn pair_priority(controlling: u32, controlled: u32) -> u64 {
 /// # Ok::<(), Box<dyn std::error::Error>>(())
 /// ```
 ///
-/// A browser adds extensions, of which `ufrag` names the session that the candidate belongs to:
+/// A browser adds extensions. One of them, `ufrag`, names the session to which the candidate
+/// belongs:
 ///
 /// ```
 /// use seatcrane_stun::endpoint::ice::Candidate;
@@ -137,27 +139,29 @@ pub fn pair_priority(controlling: u32, controlled: u32) -> u64 {
 /// ```
 #[derive(Clone, Debug, PartialEq, Eq, Hash)]
 pub struct Candidate {
-    /// How it was found.
+    /// How the candidate was found.
     pub kind: CandidateKind,
-    /// Equal for candidates of one kind, base and server (RFC 8445, section 5.1.1.3).
+    /// The foundation, which is equal for candidates of the same kind, base and server (RFC 8445,
+    /// section 5.1.1.3).
     pub foundation: String,
     /// The number of the component, from 1 on.
     pub component: u8,
     /// The [`priority`].
     pub priority: u32,
-    /// Where the peer sends checks to.
+    /// The address to which the peer sends checks.
     pub address: SocketAddr,
-    /// The base of a reflexive candidate, or the mapped address of a relayed one.
+    /// The base of a reflexive candidate, or the mapped address of a relayed candidate.
     pub related: Option<SocketAddr>,
-    /// The names and the values at the end of the line, in their order. Neither may be empty or have
-    /// a space in it.
+    /// The names and the values at the end of the line, in their order. They must not be empty or
+    /// contain a space.
     pub extensions: Vec<(String, String)>,
 }
 
 impl Candidate {
-    /// Returns the value of the first extension with this name. `ufrag` has the username fragment of
-    /// the agent that the candidate belongs to, which tells a candidate of a restarted session from
-    /// one of the session before (RFC 8840).
+    /// Returns the value of the first extension with this name, or `None` if the candidate has no
+    /// such extension. `ufrag` has the username fragment of the agent that the candidate belongs
+    /// to, which distinguishes a candidate of a restarted session from a candidate of the session
+    /// before (RFC 8840).
     #[must_use]
     pub fn extension(&self, name: &str) -> Option<&str> {
         let mut extensions = self.extensions.iter();
@@ -185,7 +189,7 @@ impl fmt::Display for Candidate {
     }
 }
 
-/// Why a line is no candidate of use.
+/// Why a line is not a candidate that can be used.
 ///
 /// # Examples
 ///
@@ -198,8 +202,8 @@ impl fmt::Display for Candidate {
 #[derive(Clone, Copy, Debug, PartialEq, Eq, Hash)]
 #[non_exhaustive]
 pub enum CandidateError {
-    /// The line does not begin with `candidate:` and its eight words, or its foundation does not
-    /// have 1 to 32 letters, digits, `+` and `/`.
+    /// The line does not begin with `candidate:` and the eight words of a candidate, or its
+    /// foundation does not have 1 to 32 letters, digits, `+` and `/`.
     NotCandidate,
     /// The transport is not UDP.
     Transport,
@@ -240,7 +244,7 @@ fn address(ip: &str, port: &str) -> Option<SocketAddr> {
     Some(SocketAddr::new(ip, number(port)?))
 }
 
-/// Whether a text may be a foundation.
+/// Returns `true` if a text may be a foundation.
 fn is_foundation(text: &str) -> bool {
     let is_of_ice = |byte: u8| byte.is_ascii_alphanumeric() || byte == b'+' || byte == b'/';
     (1..=32).contains(&text.len()) && text.bytes().all(is_of_ice)
@@ -278,7 +282,7 @@ impl FromStr for Candidate {
             related: None,
             extensions: Vec::new(),
         };
-        // The related address stands before the extensions, which are pairs of words too.
+        // The related address comes before the extensions, which are pairs of words too.
         let mut rest = words.clone();
         let related = match [rest.next(), rest.next(), rest.next(), rest.next()] {
             [Some("raddr"), Some(ip), Some("rport"), Some(port)] => {

@@ -16,16 +16,17 @@ use core::fmt;
 use core::net::{Ipv4Addr, SocketAddr};
 use core::time::Duration;
 
-/// The checks of a session with their timers: a [`Checker`], and for each check of this agent when
-/// to send it again and when to give up.
+/// The checks of a session with their timers: a [`Checker`], and the times at which to retransmit
+/// each check of this agent and to give it up.
 ///
-/// Each check that is started ends exactly once: [`receive`](Self::receive) returns how its answer
-/// ends it, or [`poll`](Self::poll) that no answer came, or [`cancel`](Self::cancel) takes it back.
-/// Call [`poll`](Self::poll) until it returns [`ChecksOutput::Wait`]: after any other call, and when
-/// that time has come.
+/// Each check that is started ends exactly once: [`receive`](Self::receive) returns the outcome of
+/// its answer, [`poll`](Self::poll) reports that no answer came in time, or
+/// [`cancel`](Self::cancel) ends it. After any other call, and when a wait is over, call
+/// [`poll`](Self::poll) until it returns [`ChecksOutput::Wait`].
 ///
-/// Candidates, pairs, their order, the pace of new checks (at most one every 50 ms, RFC 8445, section
-/// 14.2) and nomination are yours. This is tested, and not proved; what it is made of is.
+/// Candidates, pairs, their order, the pace of new checks (at most one every 50 ms, RFC 8445,
+/// section 14.2) and nomination are up to you. This type is tested, and not proved, but the calls
+/// that it makes are proved.
 ///
 /// # Examples
 ///
@@ -70,10 +71,10 @@ use core::time::Duration;
 /// ```
 pub struct Checks {
     checker: Checker,
-    /// It has the timers of the checks alone: its own address says nothing.
+    /// The agent is used only for the timers of the checks, so its own address does not matter.
     timers: StunAgent,
     sent: BTreeMap<TransactionId, Sent>,
-    /// Those that were not sent yet.
+    /// The checks that were not sent yet.
     unsent: VecDeque<TransactionId>,
 }
 
@@ -130,12 +131,13 @@ pub struct NewCheck {
 }
 
 impl NewCheck {
-    /// Returns a check from an address of this agent to one of the peer. `from` is the base of the
-    /// local candidate: its own address, or for a relayed candidate the relayed address. It only has
-    /// to be what you pass to [`Checks::receive`] as `at` when a datagram arrives there, so for a
-    /// socket that is bound to all addresses any one of them will do. The transaction ID must be
-    /// random and new. `priority` is the one that a peer-reflexive candidate would have that the peer
-    /// learns from this check (RFC 8445, section 7.1.1).
+    /// Returns a check from an address of this agent to an address of the peer. `from` is the base
+    /// of the local candidate: its own address, or for a relayed candidate the relayed address. The
+    /// only condition is that you pass the same address to [`Checks::receive`] as `at` when a
+    /// datagram arrives there. So for a socket that is bound to all addresses, you can choose any
+    /// of its addresses. The transaction ID must be random and new. If the peer learns a new
+    /// peer-reflexive candidate from this check, the candidate has the priority `priority` (RFC
+    /// 8445, section 7.1.1).
     pub fn new(id: TransactionId, from: SocketAddr, to: SocketAddr, priority: u32) -> NewCheck {
         NewCheck {
             id,
@@ -148,23 +150,23 @@ impl NewCheck {
         }
     }
 
-    /// Sets whether the check nominates its pair, if this agent controls. It does not, unless you
-    /// call this.
+    /// Sets whether the check nominates its pair, if this agent has the controlling role. By
+    /// default it does not.
     pub fn nominate(mut self, nominates: bool) -> NewCheck {
         self.nominates = nominates;
         self
     }
 
-    /// Sets when the check is sent again, and how long its answer is awaited: as RFC 8489, section
-    /// 6.2.1, says, unless you call this. The wait after the first transmission grows with the number
-    /// of pairs (RFC 8445, section 14.3).
+    /// Sets when the check is sent again, and how long to wait for its answer. The default is the
+    /// plan of RFC 8489, section 6.2.1. By RFC 8445, section 14.3, the wait after the first
+    /// transmission grows with the number of pairs.
     pub fn retransmission(mut self, retransmission: Retransmission) -> NewCheck {
         self.retransmission = retransmission;
         self
     }
 
-    /// Adds an attribute beside those of ICE, such as NETWORK-COST (0xC057). The peer refuses the
-    /// check if it does not know the type, and that is below 0x8000.
+    /// Adds an attribute to those of ICE, such as NETWORK-COST (0xC057). The peer refuses the check
+    /// if it does not know the type, and the type is below 0x8000.
     pub fn attribute(mut self, kind: AttributeType, value: impl Into<Vec<u8>>) -> NewCheck {
         self.attributes.push((kind, value.into()));
         self
@@ -260,16 +262,17 @@ impl From<CheckError> for NewCheckError {
 pub struct EndedCheck {
     /// The check.
     pub check: Check,
-    /// The address of this agent that it was sent from.
+    /// The address of this agent from which the check was sent.
     pub from: SocketAddr,
-    /// How the answer ends it. After a [`Outcome::RoleConflict`] set a new tie-breaker
+    /// How the answer ends the check. After [`Outcome::RoleConflict`], set a new tie-breaker
     /// ([`Checker::set_tie_breaker`]), and start another check on the pair.
     pub outcome: Outcome,
-    /// The time since the check was started: the round trip, if it was sent once.
+    /// The time from the start of the check to its answer. This is the round-trip time if the check
+    /// was sent only once.
     pub elapsed: Duration,
 }
 
-/// What a datagram comes to.
+/// The outcome of a datagram.
 ///
 /// # Examples
 ///
@@ -292,7 +295,8 @@ pub struct EndedCheck {
 #[derive(Debug)]
 #[non_exhaustive]
 pub enum ChecksInput<'a, B = Vec<u8>> {
-    /// A check of the peer. Send the answer from where the check arrived to where it came from.
+    /// A check of the peer. Send the answer from the address at which the check arrived to the
+    /// address from which it came.
     Check {
         /// The check, for its other attributes.
         message: Message<'a>,
@@ -300,14 +304,14 @@ pub enum ChecksInput<'a, B = Vec<u8>> {
         fragment: Option<&'a [u8]>,
         /// The bytes to send.
         answer: B,
-        /// What the check comes to.
+        /// The outcome of the check.
         judged: Judged,
     },
     /// A check of this agent was answered, and has ended.
     Ended(EndedCheck),
     /// A Binding indication, as peers send to keep a path open.
     Indication(Message<'a>),
-    /// The datagram is dropped, for this reason. A check that it may belong to goes on.
+    /// The datagram is dropped, for this reason. If it belongs to a check, that check continues.
     Dropped(DropReason),
 }
 
@@ -357,15 +361,16 @@ pub enum ChecksOutput<'a> {
     TimedOut {
         /// The check.
         check: Check,
-        /// The address of this agent that it was sent from.
+        /// The address of this agent from which the check was sent.
         from: SocketAddr,
     },
-    /// Wait until a datagram arrives, or until this time if there is one.
+    /// Wait until a datagram arrives, or until this time. The time is `None` if no check is
+    /// outstanding.
     Wait(Option<Instant>),
 }
 
 impl Checks {
-    /// Creates the checks of a session, of which there are none yet.
+    /// Creates the checks of a session, without any outstanding check.
     #[must_use]
     pub fn new(checker: Checker) -> Checks {
         let nowhere = SocketAddr::from((Ipv4Addr::UNSPECIFIED, 0));
@@ -382,8 +387,8 @@ impl Checks {
         &self.checker
     }
 
-    /// Returns the agent that writes and judges checks, to set the credentials of the peer, the role
-    /// or the tie-breaker.
+    /// Returns the agent that writes and judges checks, to set the credentials of the peer, the
+    /// role or the tie-breaker.
     pub fn checker_mut(&mut self) -> &mut Checker {
         &mut self.checker
     }
@@ -393,7 +398,7 @@ impl Checks {
         self.sent.len()
     }
 
-    /// Returns the check with this transaction ID, if it has not ended.
+    /// Returns the check with this transaction ID, or `None` if it has ended or was never started.
     pub fn check(&self, id: TransactionId) -> Option<&Check> {
         self.sent.get(&id).map(|sent| &sent.check)
     }
@@ -402,15 +407,14 @@ impl Checks {
     ///
     /// # Errors
     ///
-    /// The first of these that applies. Nothing has changed then.
+    /// Returns the first of these errors that applies. A call that fails changes nothing.
     ///
-    /// - [`NewCheckError::NoRemote`]: the credentials of the peer are not known yet. Set them by
+    /// - [`NewCheckError::NoRemote`]: the credentials of the peer are not known yet. Set them with
     ///   [`Checker::set_remote`].
-    /// - [`NewCheckError::Attribute`]: one of the further attributes cannot be added, such as one of a
-    ///   type that each check has.
-    /// - [`NewCheckError::IdInUse`]: a check with this transaction ID is outstanding, or was canceled
-    ///   since the last [`poll`](Self::poll). Use a new
-    ///   random one.
+    /// - [`NewCheckError::Attribute`]: one of the further attributes cannot be added, for example
+    ///   because the agent itself writes an attribute of this type into each check.
+    /// - [`NewCheckError::IdInUse`]: a check with this transaction ID is outstanding, or was
+    ///   canceled since the last [`poll`](Self::poll). Use a new random ID.
     /// - [`NewCheckError::OutOfMemory`]: an allocation failed.
     pub fn start(&mut self, new: &NewCheck, now: Instant) -> Result<(), NewCheckError> {
         let (id, from, to) = (new.id, new.from, new.to);
@@ -438,9 +442,10 @@ impl Checks {
         Ok(())
     }
 
-    /// Stops sending a check again, although its answer still ends it: for one that has become
-    /// pointless, as when a triggered check takes its place (RFC 8445, section 7.3.1.4). Without an
-    /// answer it ends when it would have anyway. Returns `false` if there is no such check.
+    /// Stops retransmitting a check. Its answer still ends it. Call it for a check that is no
+    /// longer needed, for example because a triggered check takes its place (RFC 8445, section
+    /// 7.3.1.4). If no answer arrives, the check still ends at the same time. Returns `false` if
+    /// there is no such check.
     pub fn stop_sending(&mut self, id: TransactionId) -> bool {
         self.unsent.retain(|unsent| *unsent != id);
         if let Some(mut request) = self.timers.mut_request_transaction(id) {
@@ -449,13 +454,14 @@ impl Checks {
         self.sent.contains_key(&id)
     }
 
-    /// Ends a check, of which nothing more is returned. Returns it, or `None` if there is no such
-    /// check.
+    /// Ends a check, and returns it, or `None` if there is no such check. No later call returns
+    /// anything about this check.
     pub fn cancel(&mut self, id: TransactionId) -> Option<Check> {
         self.end(id).map(|sent| sent.check)
     }
 
-    /// Ends a check. Its timer is gone at the next poll.
+    /// Ends a check and returns it, or returns `None` if there is no such check. The next poll
+    /// removes its timer.
     fn end(&mut self, id: TransactionId) -> Option<Sent> {
         let sent = self.sent.remove(&id)?;
         self.unsent.retain(|unsent| *unsent != id);
@@ -465,13 +471,14 @@ impl Checks {
         Some(sent)
     }
 
-    /// Judges a datagram that arrived at an address of this agent (`at`), from another address, and
-    /// writes the answer if it is a check. An IPv4 address is the same in both spellings, `a.b.c.d`
-    /// and `::ffff:a.b.c.d`.
+    /// Judges a datagram that was sent from the address `from` and arrived at this agent's address
+    /// `at`, and writes the answer if it is a check. The two forms of an IPv4 address, `a.b.c.d`
+    /// and `::ffff:a.b.c.d`, count as the same address.
     ///
-    /// The answer to a check must come from where the check went, to where it was sent from:
-    /// otherwise the check has failed, by [`OtherPath`](super::Failure::OtherPath) (RFC 8445, section
-    /// 7.2.5.2.1). All else is as [`Checker::receive`] says.
+    /// The answer to a check must come from the address that the check was sent to, and arrive at
+    /// the address from which the check was sent. If the peer's answer took another path, the check
+    /// fails with [`OtherPath`](super::Failure::OtherPath) (RFC 8445, section 7.2.5.2.1). In all
+    /// other respects this is like [`Checker::receive`].
     pub fn receive<'a>(
         &mut self,
         bytes: &'a [u8],
@@ -487,7 +494,7 @@ impl Checks {
     }
 
     /// Judges a datagram like [`receive`](Self::receive), and writes the answer into a buffer that
-    /// you keep between datagrams, in place of what it has. The buffer is empty afterwards if there
+    /// you keep between datagrams, replacing its contents. The buffer is empty afterwards if there
     /// is no answer.
     pub fn receive_into<'a, 'b>(
         &mut self,
@@ -552,7 +559,7 @@ impl Checks {
         }
     }
 
-    /// Returns the next check to send.
+    /// Returns the next check to send, or `None` if no check is due.
     fn due(&mut self, now: Instant) -> Option<TransactionId> {
         if let Some(id) = self.unsent.pop_front() {
             return Some(id);
@@ -566,13 +573,13 @@ impl Checks {
         }
     }
 
-    /// Ends the next check that nobody answered in time.
+    /// Ends the next check that was not answered in time.
     fn timed_out(&mut self, now: Instant) -> ChecksOutput<'static> {
         loop {
             match self.timers.poll(now) {
                 StunAgentPollRet::TransactionTimedOut(id)
                 | StunAgentPollRet::TransactionCancelled(id) => {
-                    // One that has ended before is not there any more.
+                    // A check that has ended before is no longer stored.
                     if let Some(Sent { check, from, .. }) = self.sent.remove(&id) {
                         return ChecksOutput::TimedOut { check, from };
                     }
@@ -585,16 +592,18 @@ impl Checks {
     }
 }
 
-/// Returns the check that a response may answer.
+/// Returns the outstanding check that a response may answer. Returns `None` if there is no such
+/// check, or if the datagram is not a response.
 fn awaited<'a>(sent: &'a BTreeMap<TransactionId, Sent>, bytes: &[u8]) -> Option<&'a Sent> {
     let header = MessageHeader::from_bytes(bytes).ok()?;
     let is_response = header.get_type().is_response();
     sent.get(&header.transaction_id()).filter(|_| is_response)
 }
 
-/// Returns where a datagram is judged to come from. An answer that arrived at another address than
-/// its check was sent from is judged as one from another address than its check was sent to, so that
-/// the check fails before anything else that the answer says (RFC 8445, section 7.2.5.2.1).
+/// Returns the address from which a datagram is judged to come. If an answer arrived at an address
+/// from which the check was not sent, it is judged like an answer from an address to which the
+/// check was not sent. So the check fails before anything else in the answer is read (RFC 8445,
+/// section 7.2.5.2.1).
 fn source_of(sent: Option<&Sent>, at: SocketAddr, from: SocketAddr) -> SocketAddr {
     match sent {
         Some(sent) if canonical(sent.from) != canonical(at) => {

@@ -6,14 +6,14 @@ use core::time::Duration;
 /// How long consent lasts (RFC 7675, section 5.1).
 const LASTS: Duration = Duration::from_secs(30);
 
-/// The timers of consent on a selected pair (RFC 7675, section 5.1): a check every 4 to 6 seconds,
-/// and the end if no check was answered for 30 seconds. Then nothing may be sent to the peer any
-/// more.
+/// The timers of consent on a selected pair (RFC 7675, section 5.1): you send a check every 4 to 6
+/// seconds, and consent ends if no check was answered for 30 seconds. After that you must send
+/// nothing more to the peer.
 ///
 /// Create it when a pair is selected, and call [`poll`](Self::poll) until it returns
 /// [`ConsentStep::Wait`]. Send the checks once each, and call [`answered`](Self::answered) when the
-/// answer to any of them is [`Outcome::Valid`](super::Outcome::Valid). Checks for consent keep the
-/// path open too, so that no [`keepalive`](super::Checker::keepalive) is needed. It is tested, and
+/// answer to any of them is [`Outcome::Valid`](super::Outcome::Valid). Checks for consent also keep
+/// the path open, so you need no [`keepalive`](super::Checker::keepalive). This type is tested, and
 /// not proved.
 ///
 /// # Examples
@@ -55,7 +55,7 @@ pub struct Consent {
 /// let step = ConsentStep::Over;
 /// assert!(matches!(step, ConsentStep::Over)); // send nothing more to the peer
 /// ```
-#[must_use = "a check is to be sent, or nothing more"]
+#[must_use = "send a check, or nothing more, as it says"]
 #[derive(Clone, Copy, Debug, PartialEq, Eq)]
 pub enum ConsentStep {
     /// Send a check on the pair, once.
@@ -67,8 +67,9 @@ pub enum ConsentStep {
 }
 
 impl Consent {
-    /// Creates the timers. The answer that made the pair valid was the first consent. `random` is a
-    /// random number, by which the first check is sent in 4 to 6 seconds.
+    /// Creates the timers. The answer that made the pair valid counts as the first consent.
+    /// `random` is a random number, which decides when the first check is due: 4 to 6 seconds after
+    /// `now`.
     #[must_use]
     pub fn new(now: Instant, random: u32) -> Consent {
         Consent {
@@ -90,8 +91,8 @@ impl Consent {
         }
     }
 
-    /// Renews consent for 30 seconds, because the answer to a check has arrived. Does nothing if
-    /// consent is over.
+    /// Renews consent for 30 seconds. Call it when a check on the pair has succeeded
+    /// ([`Outcome::Valid`](super::Outcome::Valid)). Does nothing if consent is over.
     pub fn answered(&mut self, now: Instant) {
         if now < self.until {
             self.until = self.until.max(now + LASTS);
@@ -99,7 +100,7 @@ impl Consent {
     }
 }
 
-/// The time to the next check: 0.8 to 1.2 times 5 seconds.
+/// Returns the time to the next check: 0.8 to 1.2 times 5 seconds.
 fn wait(random: u32) -> Duration {
     Duration::from_nanos(4_000_000_000 + ((2_000_000_000 * u64::from(random)) >> 32))
 }

@@ -5,8 +5,8 @@ use crate::kit::alloc::Allocator;
 use crate::kit::string::String;
 use core::net::SocketAddr;
 
-/// A key of a map. It has a number, its head, which is in the order of the keys: of two keys, the
-/// lesser one has a head that is less or equal. A key and what it is borrowed as have the same head.
+/// A key of a map. Each key has a number, its head. The head of the lesser of two keys is less than
+/// or equal to the head of the other key. A key and its borrowed form have the same head.
 pub trait Key: Ord {
     /// Returns the head.
     fn head(&self) -> u64;

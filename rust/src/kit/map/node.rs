@@ -16,10 +16,10 @@ const STEP: usize = 4;
 /// The number of bits of an index in a path.
 const INDEX_BITS: u32 = 6;
 
-/// The path from the root to an entry. It holds the index of the child to follow in each node, then
-/// the index of the entry. Each index is stored plus one in six bits, beginning with the lowest.
-/// Indices that no longer fit are dropped, so the caller must compare the row at the end of the
-/// path.
+/// The path from the root to an entry. The path has the index of the child to follow in each node,
+/// and then the index of the entry. Each index is stored plus one in six bits, beginning with the
+/// lowest. Indices that no longer fit are dropped, so the caller must compare the row at the end of
+/// the path.
 #[derive(Clone, Copy)]
 pub(super) struct Way {
     pub(super) indices: usize,
@@ -45,7 +45,8 @@ impl Way {
     }
 }
 
-/// What a search looks for: the head of a key, and the order of the key of a row and that key.
+/// What a search looks for: the head of a key, and a function that compares the key of a row with
+/// that key.
 pub(super) struct Sought<'a> {
     head: u64,
     order: &'a dyn Fn(usize) -> Ordering,
@@ -57,7 +58,7 @@ impl<'a> Sought<'a> {
         Sought { head, order }
     }
 
-    /// Returns the order of the key of an entry and the key that is sought.
+    /// Compares the key of an entry with the key that is sought.
     fn order(&self, entry: Entry) -> Ordering {
         let order = entry.head.cmp(&self.head);
         order.then_with(|| (self.order)(entry.row))
@@ -88,7 +89,7 @@ impl Spot<'_> {
         self.node.entries[self.at].row
     }
 
-    /// Returns the next entry, if it is in the same leaf.
+    /// Returns the next entry, or `None` if it is not in the same leaf.
     pub(super) fn next_in_leaf(self) -> Option<Self> {
         let Spot { node, at } = self;
         let at = at + 1;
@@ -164,8 +165,8 @@ impl Node {
         self.children.is_empty()
     }
 
-    /// Returns the index of a key, or else the index of the first entry after it, which is also the
-    /// index of the child in which the key would be.
+    /// Returns `Ok` with the index of a key, or `Err` with the index of the first entry after it,
+    /// which is also the index of the child in which the key would be.
     pub(super) fn search(&self, sought: &Sought<'_>) -> Result<usize, usize> {
         let (entries, head) = (self.entries.as_slice(), sought.head);
         // A processor can load the next heads of these loops ahead of time. In a binary search each
@@ -181,13 +182,14 @@ impl Node {
         if alike == 0 {
             return Err(at);
         }
-        // Only keys with this head are looked at, and there are seldom two.
+        // Only the keys with the same head are compared, and there is seldom more than one.
         let alike = &entries[at..at + alike];
         let found = alike.binary_search_by(|e| (sought.order)(e.row));
         found.map(|more| at + more).map_err(|more| at + more)
     }
 
-    /// Returns the row of a key, and the path to it.
+    /// Returns the row of a key, and the path to it, or `None` if neither this node nor a node
+    /// below it has the key.
     pub(super) fn find(&self, sought: &Sought<'_>) -> Option<(usize, Way)> {
         let (mut node, mut way) = (self, Way::ROOT);
         loop {
@@ -204,8 +206,9 @@ impl Node {
         }
     }
 
-    /// Follows a path to an entry, if it has this row. Also returns, if the node at its end is a
-    /// leaf, the path to the entry after that one.
+    /// Follows a path, and returns the entry at its end, or `None` if there is no entry or the
+    /// entry does not have the given row. Also returns the path to the next entry, which is correct
+    /// only if the entry is in a leaf.
     pub(super) fn follow(&self, way: usize, row: usize) -> Option<(Spot<'_>, usize)> {
         let (mut node, mut step) = (self, 1_usize);
         let (mut at, mut rest) = Way::first(way);
@@ -230,7 +233,8 @@ impl Node {
             };
             way.push(at);
             if at < node.len() {
-                // This is the entry unless the child before it has one.
+                // This entry is the result, unless the child before it has an entry that is not
+                // before `start`.
                 (found, found_way) = (Some(Spot { node, at }), way);
             }
             let Some(child) = node.children.get(at) else {
@@ -253,8 +257,9 @@ impl Node {
         }
     }
 
-    /// Returns the row at the index of a key, or else inserts the key with a row at the index where
-    /// it can be. The node is not full then.
+    /// Returns the row of a key that a search has found (`Ok`). For a key that the search has not
+    /// found (`Err`), inserts the key with `row` at the index where it can be, and returns `None`;
+    /// the node must then not be full.
     pub(super) fn row_or_put(
         &mut self,
         place: Result<usize, usize>,
@@ -271,7 +276,7 @@ impl Node {
         }
     }
 
-    /// Makes a node the first child of this one, which has none.
+    /// Makes a node the first child of this node, which must have no child.
     pub(super) fn adopt(&mut self, child: Node) {
         self.children.push(child);
     }
@@ -291,9 +296,9 @@ impl Node {
         &mut self.children[at]
     }
 
-    /// Moves entries of a full leaf to the neighbor with more room, so that both have about as
-    /// many, and returns `true`. If the child is no leaf, or no neighbor has room for two entries,
-    /// no entry moves, and it returns `false`.
+    /// Moves entries of a full leaf to the neighbor with more room, so that both have about the
+    /// same number, and returns `true`. If the child is not a leaf, or no neighbor has room for two
+    /// entries, no entry moves, and the call returns `false`.
     pub(super) fn share(&mut self, at: usize) -> bool {
         let room = |child: Option<&Self>| child.map_or(0, |child| MOST - child.len());
         let before = at
@@ -307,7 +312,8 @@ impl Node {
         let middle = if before < after { at } else { at - 1 };
         let (upper, lower) = self.children.split_at_mut(middle + 1);
         let (left, right) = (&mut upper[middle], &mut lower[0]);
-        // The entry between the two goes to one of them, and one of the other takes its place.
+        // The entry between the two leaves moves to the leaf that gets entries, and an entry of the
+        // other leaf takes its place.
         let between = &mut self.entries[middle];
         if middle == at {
             right.entries.insert(0, *between);
@@ -323,8 +329,8 @@ impl Node {
         true
     }
 
-    /// Splits a child that is full, so that the key can be inserted in it. This node is not full.
-    /// If the allocation fails, no entry moves.
+    /// Splits a child that is full, so that the key can be inserted in it. This node must not be
+    /// full. If the allocation fails, no entry moves.
     pub(super) fn split(
         &mut self,
         at: usize,
@@ -334,7 +340,8 @@ impl Node {
         let is_last = at == self.len();
         let child = &mut self.children[at];
         let mut next = Node::new(child.is_leaf(), alloc)?;
-        // If the keys are inserted in ascending order, the nodes are left nearly full.
+        // If the keys seem to be inserted in ascending order, the child keeps nearly all entries,
+        // because then probably no more keys are inserted in it.
         let last = child.entries.last();
         let is_ascending = is_last && last.is_some_and(|e| sought.order(*e).is_lt());
         let middle = if is_ascending { MOST - 2 } else { MOST / 2 };
@@ -379,7 +386,8 @@ impl Node {
         }
     }
 
-    /// Removes the last entry of this node and those below it.
+    /// Removes and returns the entry with the greatest key in this node and the nodes below it, or
+    /// returns `None` if they have no entries.
     fn pop(&mut self, alloc: &dyn Allocator) -> Option<Entry> {
         if let Some(last) = self.children.last_mut() {
             if let Some(entry) = last.pop(alloc) {
@@ -394,7 +402,8 @@ impl Node {
         self.entries.pop()
     }
 
-    /// Removes and returns the child of a node that has no entries, if it has one.
+    /// Removes and returns the only child of a node that has no entries. Returns `None` if the node
+    /// has entries or no child.
     pub(super) fn only_child(&mut self) -> Option<Node> {
         if self.entries.is_empty() {
             self.children.pop()
@@ -403,8 +412,8 @@ impl Node {
         }
     }
 
-    /// Removes the entry at an index of a node that is no leaf. If there are entries below the
-    /// child before it, the last of them replaces it.
+    /// Removes the entry at an index of a node that is not a leaf. If the child before the entry,
+    /// or a node below that child, has entries, the last of them takes its place.
     fn take_between(&mut self, at: usize, alloc: &dyn Allocator) -> Entry {
         if let Some(entry) = self.children[at].pop(alloc) {
             return mem::replace(&mut self.entries[at], entry);
@@ -413,7 +422,8 @@ impl Node {
         self.entries.remove(at)
     }
 
-    /// Removes a key and returns its row.
+    /// Removes a key and returns its row, or returns `None` if neither this node nor a node below
+    /// it has the key.
     pub(super) fn remove(&mut self, sought: &Sought<'_>, alloc: &dyn Allocator) -> Option<usize> {
         let (at, row) = match self.search(sought) {
             Ok(at) if self.is_leaf() => return Some(self.entries.remove(at).row),
@@ -424,7 +434,7 @@ impl Node {
         Some(row)
     }
 
-    /// Sets the row of a key that this node or one below it has.
+    /// Sets the row of a key that is in this node or in a node below it.
     pub(super) fn renumber(&mut self, sought: &Sought<'_>, row: usize) {
         let mut node = self;
         loop {
@@ -441,7 +451,7 @@ impl Node {
         }
     }
 
-    /// Calls `change` with the row of each entry, in no order.
+    /// Calls `change` with the row of each entry, in no particular order.
     pub(super) fn renumber_all(&mut self, change: &mut dyn FnMut(usize) -> usize) {
         for entry in &mut self.entries {
             entry.row = change(entry.row);
@@ -451,8 +461,8 @@ impl Node {
         }
     }
 
-    /// Retains only the entries for whose rows `condition` returns `true`. It is called in the order
-    /// of the keys.
+    /// Retains only the entries for whose rows `condition` returns `true`. The function is called
+    /// in the order of the keys.
     pub(super) fn retain(
         &mut self,
         condition: &mut dyn FnMut(usize) -> bool,

@@ -7,10 +7,11 @@ use core::mem;
 /// The number of entries of a block of memory.
 const MOST: usize = 32;
 
-/// The last block is freed if there are this many free entries beside its own.
+/// The last block is freed if the blocks before it have room for this many entries.
 const SPARE: usize = MOST / 2;
 
-/// A block of memory with the capacity for `MOST` entries. The first one may have less, or none.
+/// A block of memory with the capacity for `MOST` entries. The first block may have a smaller
+/// capacity, or none.
 struct Block<K, V> {
     entries: Vec<(K, V)>,
     // A bit for each entry that was dismissed.
@@ -31,7 +32,8 @@ impl<K, V> Block<K, V> {
     }
 }
 
-/// The entries of a map. Each has a number, its row. All blocks but the last ones are full.
+/// The entries of a map. Each entry has a number, its row. The rows are 0, 1, 2 and so on, so only
+/// blocks at the end can have room.
 pub(super) struct Rows<K, V> {
     // A map of few entries has no list of blocks.
     first: Block<K, V>,
@@ -53,7 +55,7 @@ impl<K, V> Rows<K, V> {
         self.len
     }
 
-    /// Returns the block of a row that has an entry, or the memory for one.
+    /// Returns the block of a row. The row must have an entry, or memory for an entry.
     fn block_mut(&mut self, row: usize) -> &mut Block<K, V> {
         match (row / MOST).checked_sub(1) {
             None => &mut self.first,
@@ -61,7 +63,7 @@ impl<K, V> Rows<K, V> {
         }
     }
 
-    /// Returns an entry, if there is one in this row.
+    /// Returns the entry in this row, or `None` if there is none.
     pub(super) fn find(&self, row: usize) -> Option<&(K, V)> {
         let block = match (row / MOST).checked_sub(1) {
             None => &self.first,
@@ -87,7 +89,8 @@ impl<K, V> Rows<K, V> {
         self.len == self.first.entries.capacity() + self.more.len() * MOST
     }
 
-    /// Allocates another block. The first one grows before, so that a map of few entries is small.
+    /// Makes room for another entry. The first block grows to the capacity of `MOST` entries, so
+    /// that a map of few entries is small. After that, another block is allocated.
     #[inline(never)]
     pub(super) fn grow(&mut self, alloc: &impl Allocator) -> Result<(), AllocError> {
         let before = self.first.entries.capacity();
@@ -108,13 +111,13 @@ impl<K, V> Rows<K, V> {
         Ok(())
     }
 
-    /// Appends an entry. There is room.
+    /// Appends an entry. There must be room for it.
     pub(super) fn push(&mut self, key: K, value: V) {
         self.block_mut(self.len).entries.push((key, value));
         self.len += 1;
     }
 
-    /// Removes an entry. The last entry gets its row.
+    /// Removes an entry, and moves the last entry to its row.
     pub(super) fn swap_remove(&mut self, row: usize, alloc: &impl Allocator) -> (K, V) {
         self.len -= 1;
         let last = self.len % MOST;
@@ -128,7 +131,8 @@ impl<K, V> Rows<K, V> {
         entry
     }
 
-    /// Frees the blocks at the end that are empty, except one whose neighbor is more than half full.
+    /// Frees the empty blocks at the end, but leaves one of them if the block before it is more
+    /// than half full.
     fn shrink(&mut self, alloc: &impl Allocator) {
         while self.more.len() * MOST >= self.len + SPARE {
             self.more.pop();
@@ -140,13 +144,13 @@ impl<K, V> Rows<K, V> {
         }
     }
 
-    /// Marks an entry as one that `settle` and `cut` remove.
+    /// Marks an entry that `settle` and `cut` then remove.
     pub(super) fn dismiss(&mut self, row: usize) {
         self.block_mut(row).dismissed |= 1 << (row % MOST);
     }
 
     /// Moves an entry to the first row at or after `free` whose entry was dismissed, and returns
-    /// that row, which is before the one of the entry.
+    /// that row, which is before the row of the entry.
     pub(super) fn settle(&mut self, row: usize, mut free: usize) -> usize {
         while self.block_mut(free).dismissed & 1 << (free % MOST) == 0 {
             free += 1;

@@ -1,19 +1,20 @@
-//! Walks by single keys, which the map speeds up, the memory of a map of scattered keys, and the
-//! heads of keys.
+//! Tests of walks by single keys, which the map speeds up, of the memory of a map of scattered
+//! keys, and of the heads of keys.
 
 extern crate std;
 
 use super::BTreeMap;
 use super::key::Key;
 use crate::exported::stun_base::transaction_id::TransactionId;
+use crate::kit::alloc::Global;
 use crate::kit::prelude::String;
 use crate::kit::tests::{Dice, Sparse, play};
 use core::net::SocketAddr;
 use core::ops::Bound;
-use std::{collections, format, string, vec};
+use std::{collections, format, string, thread, vec};
 
-/// Successive calls are about one key, or about a key and the next one. Their results are those of
-/// the standard map.
+/// Successive calls are about one key, or about a key and the next one. Their results are the same
+/// as those of the standard map.
 #[test]
 fn a_walk_by_single_keys_is_as_the_standard_one() {
     play(4, |heap, dice, turns| {
@@ -40,7 +41,7 @@ fn a_walk_by_single_keys_is_as_the_standard_one() {
                     3 => assert_eq!(ours.get_mut(&key), other.get_mut(&key)),
                     4 => assert_eq!(ours.remove(&(key + 1)), other.remove(&(key + 1))),
                     5 if key > 0 => {
-                        // The entries behind this one move in their node.
+                        // The entries after this one move in their node.
                         assert_eq!(ours.remove(&(key - 1)), other.remove(&(key - 1)));
                     }
                     _ => {}
@@ -59,8 +60,27 @@ fn a_walk_by_single_keys_is_as_the_standard_one() {
     });
 }
 
-/// A full leaf moves entries to a neighbor with room before it is split. So the memory of the nodes
-/// is less than 1.3 times that of the entries.
+/// Threads that walk over one map at the same time share what it remembers of the last step, and
+/// each of them gets its own next key.
+#[test]
+fn walks_by_threads_do_not_mix() {
+    let mut map = BTreeMap::new(Global);
+    let count = 4_000_u64;
+    for key in 0..count {
+        map.insert(key, ()).unwrap();
+    }
+    let walk = || {
+        for key in (0..count - 1).cycle().take(400_000) {
+            let rest = (Bound::Excluded(key), Bound::Unbounded);
+            let next = map.range(rest).next().map(|e| *e.0);
+            assert_eq!(next, Some(key + 1));
+        }
+    };
+    thread::scope(|scope| (0..4).for_each(|_| drop(scope.spawn(walk))));
+}
+
+/// A full leaf moves entries to a neighbor with room before it is split. So the nodes need less
+/// than 1.3 times the memory of the entries.
 #[test]
 fn a_map_of_scattered_keys_has_full_nodes() {
     let heap = Sparse::new(0);
@@ -73,7 +93,7 @@ fn a_map_of_scattered_keys_has_full_nodes() {
     assert!(heap.bytes() * 10 < count as usize * size_of::<[u64; 16]>() * 13);
 }
 
-/// Addresses of which many differ in a single byte, and of both families.
+/// Returns an address of either family. Many of these addresses differ in a single byte.
 fn address(dice: &mut Dice) -> SocketAddr {
     let mut octets = [0; 16];
     for _ in 0..dice.roll(3) {
@@ -88,7 +108,7 @@ fn address(dice: &mut Dice) -> SocketAddr {
     }
 }
 
-/// Texts of which many begin alike, with zeros too.
+/// Returns a text. Many of these texts begin alike, and some of them have zero bytes.
 fn text(dice: &mut Dice) -> string::String {
     let beginnings = ["", "a", "user", "user0000", "user00000000", "\0", "\u{ff}"];
     let beginning = beginnings[dice.roll(7) as usize];
@@ -130,7 +150,7 @@ fn the_head_of_a_lesser_key_is_no_greater() {
     });
 }
 
-/// Keys with one head are found by a look at the keys, and in their order.
+/// Keys with the same head are found by comparing the keys themselves, and are in order.
 #[test]
 fn a_map_of_keys_that_begin_alike_is_as_the_standard_one() {
     play(6_000, |heap, dice, turns| {
@@ -175,8 +195,7 @@ fn a_map_of_keys_that_begin_alike_is_as_the_standard_one() {
     });
 }
 
-/// The entries that are left after a retain are moved together, and all memory behind them is given
-/// back.
+/// The entries that are left after a retain are moved together, and all memory after them is freed.
 #[test]
 fn what_is_retained_is_in_few_blocks() {
     for rest in 0..70 {

@@ -10,10 +10,10 @@ use core::sync::atomic::{AtomicUsize, Ordering};
 pub(super) struct Tree {
     // It has no memory until the first entry is inserted.
     root: Node,
-    // The row of the entry that was last inserted, replaced or borrowed mutably, or with which a
-    // range with an excluded start began, and the path to it. Successive calls are often about one
-    // key, or about a key and the next one. The row may have another entry since, and the path may
-    // lead to another row, so both must be compared.
+    // The recent entry: its row, and the path to it. This is the entry that was last inserted,
+    // replaced or borrowed mutably, or with which a range with an excluded start began. Successive
+    // calls are often about one key, or about a key and the next one. The row may have another
+    // entry since, and the path may lead to another row, so both must be compared.
     recent: AtomicUsize,
     way: AtomicUsize,
 }
@@ -33,12 +33,13 @@ impl Tree {
         self.recent.load(Ordering::Relaxed)
     }
 
-    /// Returns the row of a key.
+    /// Returns the row of a key, or `None` if the tree does not have it.
     pub(super) fn find(&self, sought: &Sought<'_>) -> Option<usize> {
         self.root.find(sought).map(|(row, _)| row)
     }
 
-    /// Returns the row of a key, which is the recent one from now on.
+    /// Returns the row of a key, and makes its entry the recent one. Returns `None` if the tree
+    /// does not have the key.
     pub(super) fn visit(&mut self, sought: &Sought<'_>) -> Option<usize> {
         let (row, way) = self.root.find(sought)?;
         *self.recent.get_mut() = row;
@@ -46,9 +47,9 @@ impl Tree {
         Some(row)
     }
 
-    /// Returns the row of a key, if there is one, or else inserts the key with this row. If the
-    /// leaf for a new key is full, each full node on the path to it is split, so that there is room
-    /// in each. A full leaf whose neighbor has room moves entries to it instead.
+    /// Returns the row of a key that the tree has. Inserts a new key with this row, and returns
+    /// `None`. If the leaf for a new key is full, each full node on the path to it is split, so
+    /// that there is room in each. A full leaf whose neighbor has room moves entries to it instead.
     pub(super) fn enter(
         &mut self,
         sought: &Sought<'_>,
@@ -105,14 +106,13 @@ impl Tree {
         self.root.renumber(sought, row);
     }
 
-    /// Sets each row to what `change` returns for it. The order of the calls is not that of the
-    /// keys.
+    /// Sets each row to what `change` returns for it. The calls are not in the order of the keys.
     pub(super) fn renumber_all(&mut self, change: &mut dyn FnMut(usize) -> usize) {
         self.root.renumber_all(change);
     }
 
-    /// Retains only the rows for which `condition` returns `true`. It is called in the order of the
-    /// keys. This does not allocate.
+    /// Retains only the rows for which `condition` returns `true`. The function is called in the
+    /// order of the keys. This does not allocate.
     pub(super) fn retain(
         &mut self,
         condition: &mut dyn FnMut(usize) -> bool,
@@ -127,8 +127,9 @@ impl Tree {
         self.root.seek(start)
     }
 
-    /// Returns the entry after the recent one, which is the recent one from now on, if both are in
-    /// one leaf, and the recent one has this row.
+    /// Returns the next entry after the entry of this row, and makes it the recent one. Returns
+    /// `None` if the entry of this row is not the recent one, or if the next entry is not in the
+    /// same leaf.
     pub(super) fn next_recent(&self, row: usize) -> Option<Spot<'_>> {
         let (spot, next) = self.root.follow(self.way.load(Ordering::Relaxed), row)?;
         let spot = spot.next_in_leaf()?;
@@ -137,8 +138,8 @@ impl Tree {
         Some(spot)
     }
 
-    /// Returns the first entry whose key is not before `start`. If the start is excluded, the entry
-    /// is the recent one from now on, because the caller walks over the map key by key.
+    /// Returns the first entry whose key is not before `start`. If the start is excluded, also
+    /// makes this entry the recent one, because the caller walks over the map key by key.
     pub(super) fn walk(&self, start: Bound<&Sought<'_>>) -> Option<Spot<'_>> {
         let (spot, way) = self.seek(start);
         if let (Bound::Excluded(_), Some(spot)) = (start, spot) {

@@ -1,8 +1,8 @@
-//! The times that requests await, by what is to happen then.
+//! The times that requests await: those of their next slots, and those of their ends.
 //!
-//! They are private to this module. A search under a count has two ways to look at those of a link,
-//! `is_over` and `first`, and each counts one look. The calls that need no count, and those that
-//! join times, are seen in `tree.rt` and the modules below it alone.
+//! The times are private to this module. A counted search can look at the times of a link in two
+//! ways, `is_over` and `first`, and each counts one look. The calls that do not count, and those
+//! that join times, are visible only in `tree.rt` and the modules below it.
 ghost use Rattle.std.specs.Prelude.{◌≡◌, ◌+◌, ◌||◌, false, if◌then◌else◌, Some, None};
 ghost use Rattle.stun_base.specs.Moments.{last_moment};
 ghost use Rattle.stun_agent.specs.code.Awaited.{Awaited, nothing, slot_at, end_at, cancelled_one};
@@ -13,8 +13,8 @@ use std::marker::Model;
 use std::sync::ledger::Ledger;
 use stun_base::instant::Instant;
 
-/// The earliest times that some requests await, by what is to happen then, and whether one of them
-/// is canceled. A time that is absent is the last one, so a join is two minima.
+/// The earliest slot and the earliest end of some requests, and whether one of the requests is
+/// canceled. An absent time is stored as `Instant::MAX`, so joining two values takes two minima.
 #[derive(Drop)]
 pub(crate) struct Awaited {
     slot: Instant,
@@ -55,8 +55,8 @@ impl Awaited {
         }
     }
 
-    /// Creates the value for a request whose slot is at this time. It is sent again then, unless
-    /// its retransmissions are canceled.
+    /// Creates the value for a request whose next slot is at this time. At that time it is
+    /// retransmitted, unless its retransmissions are canceled.
     pub(crate) fn slot_at(slot: Instant) -> Self
         ensures { result ≡ slot_at slot }
     {
@@ -107,8 +107,8 @@ impl Awaited {
         }
     }
 
-    /// Returns the earliest slot: the time at which one of the requests is sent again, or would be
-    /// if its retransmissions were not canceled.
+    /// Returns the earliest slot: the earliest time at which one of the requests is retransmitted,
+    /// or would be if its retransmissions were not canceled.
     fn slot(&self) -> Option<Instant>
         ensures { result ≡ self.now.slot }
     {
@@ -129,7 +129,7 @@ impl Awaited {
         earlier(self.slot(), self.end())
     }
 
-    /// Looks at the earlier of the earliest slot and the earliest end.
+    /// Returns the earlier of the earliest slot and the earliest end, and counts one look.
     pub(crate) fn first<L: Ledger>(&self, reads: &mut Reads<L>) -> Option<Instant>
         ensures first { result ≡ first_awaited self.now }
         ensures counts { reads.new ≡ record reads.old { looks = reads.old.looks + 1 } }
@@ -138,7 +138,7 @@ impl Awaited {
         self.earliest()
     }
 
-    /// Joins another value to this one, which then tells what the requests of both await.
+    /// Joins another value to this one, which then stands for the requests of both.
     pub(super) fn join(&mut self, other: &Awaited)
         ensures { self.new ≡ joined self.old other.now }
     {
@@ -149,8 +149,8 @@ impl Awaited {
         self.is_cancelled |= other.is_cancelled;
     }
 
-    /// Returns whether a time of these requests may be the earliest of all those that `all` is of.
-    /// If not, the others await the same without them.
+    /// Returns whether one of these requests may await the earliest slot or the earliest end in
+    /// `all`. If not, `all` stays the same without these requests.
     pub(super) fn may_be_first_of(&self, all: &Awaited) -> bool
         ensures { result ≡ false → (others : Awaited)
             → all.now ≡ joined others self.now → all.now ≡ others }
@@ -167,7 +167,7 @@ impl Awaited {
         self.has_slot && self.slot <= now
     }
 
-    /// Looks at whether one of the requests is over.
+    /// Returns whether one of the requests is over, and counts one look.
     pub(crate) fn is_over<L: Ledger>(&self, now: Instant, reads: &mut Reads<L>) -> bool
         ensures over { result ≡ some_over now self.now }
         ensures counts { reads.new ≡ record reads.old { looks = reads.old.looks + 1 } }
@@ -188,10 +188,10 @@ fn earlier(one: Option<Instant>, other: Option<Instant>) -> Option<Instant>
     }
 }
 
-/// Returns the earlier of two times, each of which counts only if it is there, and is otherwise the
-/// last one.
+/// Returns the earlier of two times. A time that is absent must be `Instant::MAX`.
 ///
-/// Contracts: they read whether the times are there, and the code does not.
+/// Contracts: only contracts read `_is_there` and `_is_other_there`, which state whether the times
+/// are present.
 fn earlier_of(_is_there: bool, one: Instant, _is_other_there: bool, other: Instant) -> Instant
     requires one { _is_there ≡ false → one ≡ last_moment }
     requires other { _is_other_there ≡ false → other ≡ last_moment }

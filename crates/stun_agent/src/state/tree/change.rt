@@ -1,4 +1,5 @@
-//! Changes requests in a tree: one that its user changes, and those whose slots are due.
+//! Changes requests in a tree: the request that its user changes, and the requests whose slots are
+//! due.
 ghost use Rattle.std.specs.Prelude.{◌≡◌, ℕ, true};
 ghost use Rattle.std.specs.Option.{option_map, is_some};
 ghost use Rattle.stun_agent.specs.Transactions.{with_change_at, next_sent, is_due, after_slot};
@@ -47,7 +48,8 @@ pub(crate) fn change<A: Allocator, D>(
     }
 }
 
-/// Like `change`, but for the requests below a fork. Returns what they then await.
+/// Like `change`, but for the requests below a fork. Returns the times that these requests then
+/// await.
 #[cycle(change)]
 fn change_fork<A: Allocator, D>(
     fork: &mut Fork<A, D>,
@@ -97,7 +99,7 @@ fn change_in<A: Allocator, D>(
 }
 
 impl<A: Allocator, D> Leaf<A, D> {
-    /// Changes the request, and returns what it then awaits.
+    /// Changes the request, and returns the time that it then awaits.
     fn change(&mut self, transport: TransportType, to: Change) -> Awaited
         ensures after { self.new ≡ record self.old {
           entry = (self.old.entry.0, changed_transaction to self.old.entry.1);
@@ -109,8 +111,8 @@ impl<A: Allocator, D> Leaf<A, D> {
         self.request.awaited_by(transport)
     }
 
-    /// Passes the slot that is due, and sets what the request then awaits. Returns whether the
-    /// request is still retransmitted.
+    /// Advances the request past the slot that is due, and writes to `awaited` the time that it
+    /// awaits next. Returns whether the request is still retransmitted.
     fn pass_slot(&mut self, awaited: &mut Awaited, transport: TransportType, now: Instant) -> bool
         requires { is_due transport now self.old.entry.1 ≡ true }
         ensures sent { result ≡ repeats self.old.entry.1.sending }
@@ -125,8 +127,8 @@ impl<A: Allocator, D> Leaf<A, D> {
     }
 }
 
-/// Passes the slots that are due, in order of the IDs, up to and including that of the first
-/// request that is still retransmitted. Returns whether there is such a request.
+/// Advances requests past the slots that are due, in the order of their IDs, up to and including
+/// the first request that is still retransmitted. Returns whether there is such a request.
 // Inlined into the walk of the fork above, so that a link with no slot that is due costs no call.
 #[cycle(pass_slots)]
 #[inline(always)]
@@ -163,7 +165,8 @@ pub(crate) fn pass_slots<A: Allocator, D>(
     }
 }
 
-/// Like `pass_slots`, but for the requests below a fork. Sets what they then await.
+/// Like `pass_slots`, but for the requests below a fork. Writes to `awaited` the times that these
+/// requests then await.
 #[cycle(pass_slots)]
 fn pass_fork<A: Allocator, D>(
     fork: &mut Fork<A, D>,

@@ -1,5 +1,5 @@
 //! Adds requests to a tree.
-ghost use Rattle.std.specs.Prelude.{◌≡◌, ◌≤◌, ℕ, [], ◌∷◌, None, OnOk, OnErr};
+ghost use Rattle.std.specs.Prelude.{◌≡◌, ◌≤◌, ℕ, [], ◌∷◌, None, IsOk, OnOk, OnErr};
 ghost use Rattle.stun_base.specs.declared.wire.transport.TransportType.{TransportType};
 ghost use Rattle.stun_agent.specs.Deadlines.{most_levels};
 ghost use Rattle.stun_agent.specs.Tables.{with_datum};
@@ -14,11 +14,12 @@ use crate::state::tree::awaited::Awaited;
 use crate::state::tree::{Fork, Leaf, Link, Quarter, quarter_of};
 use std::alloc::{AllocError, Allocator};
 use std::mem;
+use stun_base::memory::Memory;
 
-/// Adds a request whose ID is not in the tree. If an allocation fails, the requests stay as they
-/// were, but forks that were made before the failure stay: up to 47 of them.
+/// Adds a request whose ID is not in the tree. If an allocation fails, the requests are unchanged,
+/// but forks that were made before the failure stay: up to 47 of them.
 #[cycle(insert)]
-pub(crate) fn insert<A: Allocator + Copy, D: Drop>(
+pub(crate) fn insert<A: Memory, D: Drop>(
     link: &mut Link<A, D>,
     levels: u32,
     alloc: A,
@@ -39,6 +40,7 @@ pub(crate) fn insert<A: Allocator + Copy, D: Drop>(
     ensures timed { (transport : TransportType)
         → awaited.now ≡ awaited_by transport leaf.value.entry.1
         → IsTimed transport link.old → IsTimed transport link.new }
+    ensures granted { A.grants → IsOk result }
 {
     match link {
         Link::Empty => {
@@ -46,7 +48,8 @@ pub(crate) fn insert<A: Allocator + Copy, D: Drop>(
             Ok(())
         }
         Link::Leaf(_, _) => {
-            // If a later allocation fails, this fork stays, with the one request that was here.
+            // If a later allocation fails, this fork stays, with only the request that was here
+            // before.
             deepen(link, levels, alloc)?;
             insert_below(link, levels, alloc, awaited, leaf)
         }
@@ -56,7 +59,7 @@ pub(crate) fn insert<A: Allocator + Copy, D: Drop>(
 
 /// Like `insert`, but for a link that leads to a fork.
 #[cycle(insert)]
-fn insert_below<A: Allocator + Copy, D: Drop>(
+fn insert_below<A: Memory, D: Drop>(
     link: &mut Link<A, D>,
     levels: u32,
     alloc: A,
@@ -77,6 +80,7 @@ fn insert_below<A: Allocator + Copy, D: Drop>(
     ensures timed { (transport : TransportType)
         → awaited.now ≡ awaited_by transport leaf.value.entry.1
         → IsTimed transport link.old → IsTimed transport link.new }
+    ensures granted { A.grants → IsOk result }
 {
     let Link::Fork(before, fork) = link else {
         return Ok(());
@@ -88,7 +92,7 @@ fn insert_below<A: Allocator + Copy, D: Drop>(
 
 /// Like `insert`, but for the requests below a fork.
 #[cycle(insert)]
-fn insert_into<A: Allocator + Copy, D: Drop>(
+fn insert_into<A: Memory, D: Drop>(
     fork: &mut Fork<A, D>,
     levels: u32,
     alloc: A,
@@ -109,6 +113,7 @@ fn insert_into<A: Allocator + Copy, D: Drop>(
     ensures timed { (transport : TransportType)
         → awaited.now ≡ awaited_by transport leaf.value.entry.1
         → IsTimedFork transport fork.old → IsTimedFork transport fork.new }
+    ensures granted { A.grants → IsOk result }
 {
     let below = levels - 1;
     match quarter_of(leaf.id, levels) {
@@ -119,8 +124,8 @@ fn insert_into<A: Allocator + Copy, D: Drop>(
     }
 }
 
-/// Replaces a leaf by a fork that contains it, so that another leaf can be added.
-fn deepen<A: Allocator + Copy, D: Drop>(
+/// Replaces a leaf with a fork that contains it, so that another leaf can be added.
+fn deepen<A: Memory, D: Drop>(
     link: &mut Link<A, D>,
     levels: u32,
     alloc: A,
@@ -133,6 +138,7 @@ fn deepen<A: Allocator + Copy, D: Drop>(
     ensures ordered { (part : ℕ) → IsOrdered levels part link.old → IsOrdered levels part link.new }
     ensures timed { (transport : TransportType) → IsTimed transport link.old
         → IsTimed transport link.new }
+    ensures granted { A.grants → IsOk result }
 {
     let none = Fork {
         first: Link::Empty,
@@ -140,7 +146,7 @@ fn deepen<A: Allocator + Copy, D: Drop>(
         third: Link::Empty,
         fourth: Link::Empty,
     };
-    let mut fork = Box::new(alloc, none)?;
+    let mut fork = A::boxed(alloc, none)?;
     match mem::replace(link, Link::Empty) {
         Link::Leaf(awaited, leaf) => {
             *fork = Fork::of(levels, awaited.copied(), leaf);
@@ -152,7 +158,7 @@ fn deepen<A: Allocator + Copy, D: Drop>(
 }
 
 impl<A: Allocator, D> Fork<A, D> {
-    /// Creates a fork with one request, which is put in the quarter of its ID.
+    /// Creates a fork with one request, in the quarter to which its ID belongs.
     fn of(levels: u32, awaited: Awaited, leaf: Box<Leaf<A, D>, A>) -> Self
         requires { IsDeep levels }
         ensures items { fork_items result ≡ leaf.value.entry ∷ [] }

@@ -1,4 +1,5 @@
-//! Finds requests in a tree without a count: the one with an ID, and the one to send again.
+//! Finds requests in a tree without a count: the request with an ID, and the next request to
+//! retransmit.
 ghost use Rattle.std.specs.Prelude.{◌≡◌, length};
 ghost use Rattle.std.specs.Option.{option_map, option_copied};
 ghost use Rattle.stun_base.specs.declared.wire.transport.TransportType.{TransportType};
@@ -15,7 +16,7 @@ use std::alloc::Allocator;
 use stun_base::instant::Instant;
 use stun_base::transaction_id::TransactionId;
 
-/// Returns the request with this ID.
+/// Returns the request with this ID, if there is one.
 pub(crate) fn get<A: Allocator, D>(
     link: &Link<A, D>,
     levels: u32,
@@ -29,7 +30,7 @@ pub(crate) fn get<A: Allocator, D>(
     Some(&leaf.request)
 }
 
-/// Returns the datum of the request with this ID.
+/// Returns the datum of the request with this ID, if there is one.
 pub(crate) fn datum<A: Allocator, D>(
     link: &Link<A, D>,
     levels: u32,
@@ -43,7 +44,7 @@ pub(crate) fn datum<A: Allocator, D>(
     Some(&leaf.datum)
 }
 
-/// Returns the leaf with this ID.
+/// Returns the leaf with this ID, if there is one.
 #[cycle(leaf_at)]
 fn leaf_at<A: Allocator, D>(
     link: &Link<A, D>,
@@ -72,7 +73,8 @@ fn leaf_at<A: Allocator, D>(
     }
 }
 
-/// Returns the earliest time that a request awaits.
+/// Returns the earliest time that a request in the tree awaits, or `None` if no request awaits a
+/// time.
 pub(crate) fn next_awaited<A: Allocator, D>(link: &Link<A, D>, _leave: Uncounted) -> Option<Instant>
     ensures { (transport : TransportType) → IsTimed transport link.now
         → result ≡ first_awaited (awaited_of transport (items link.now)) }
@@ -80,7 +82,7 @@ pub(crate) fn next_awaited<A: Allocator, D>(link: &Link<A, D>, _leave: Uncounted
     link.awaited().earliest()
 }
 
-/// Returns the request to send again.
+/// Returns the next request to retransmit, if one is due.
 pub(crate) fn next_sent<A: Allocator, D>(
     link: &Link<A, D>,
     now: Instant,
@@ -94,7 +96,7 @@ pub(crate) fn next_sent<A: Allocator, D>(
     Some(&leaf.request)
 }
 
-/// Returns the ID and the number of bytes of the request to send again.
+/// Returns the ID and the number of bytes of the next request to retransmit, if one is due.
 pub(crate) fn length_sent<A: Allocator, D>(
     link: &Link<A, D>,
     now: Instant,
@@ -108,7 +110,7 @@ pub(crate) fn length_sent<A: Allocator, D>(
     Some((leaf.id, leaf.request.bytes().len()))
 }
 
-/// Returns the leaf with the least ID among those whose request is due and still retransmitted.
+/// Returns the leaf with the least ID among those whose request is due and is still retransmitted.
 // Inlined into the search of the fork above, so that a link with nothing to find costs no call.
 #[cycle(first_sent)]
 #[inline(always)]

@@ -18,8 +18,9 @@ use std::alloc::Allocator;
 use std::mem;
 use stun_base::transaction_id::TransactionId;
 
-/// Removes the request with this ID, and the forks above it that are left with one leaf or nothing.
-/// Returns the leaf of the request, and sets `gone` to what it awaited.
+/// Removes the request with this ID, and each fork above it that then has at most one leaf. Returns
+/// the leaf of the request, and writes to `gone` the times that the request awaited. Returns `None`
+/// and changes nothing if no request has this ID.
 #[cycle(remove)]
 pub(crate) fn remove<A: Allocator, D: Drop>(
     link: &mut Link<A, D>,
@@ -62,7 +63,8 @@ pub(crate) fn remove<A: Allocator, D: Drop>(
     }
 }
 
-/// Like `remove`, but for the requests below a fork, which may be left with one leaf or nothing.
+/// Like `remove`, but for the requests below a fork. The fork stays, even if it then has at most
+/// one leaf.
 #[cycle(remove)]
 fn remove_from<A: Allocator, D: Drop>(
     fork: &mut Fork<A, D>,
@@ -93,7 +95,8 @@ fn remove_from<A: Allocator, D: Drop>(
     }
 }
 
-/// Removes the request that a link leads to, and sets `gone` to what it awaited.
+/// Removes the request that a link leads to, and writes to `gone` the times that the request
+/// awaited.
 fn take_leaf<A: Allocator, D: Drop>(
     link: &mut Link<A, D>,
     gone: &mut Awaited,
@@ -145,7 +148,8 @@ impl<A: Allocator, D> Link<A, D> {
         matches!(self, Link::Empty)
     }
 
-    /// Takes out what this link leads to, if that is one leaf or nothing.
+    /// Removes and returns the leaf that this link leads to, or `Link::Empty` if it leads to
+    /// nothing. Returns `None` and changes nothing if it leads to a fork.
     fn take_lone(&mut self) -> Option<Link<A, D>>
         ensures none { MatchOption result (self.new ≡ self.old) (λ _. Unit {0}) }
         ensures link { IfSome result (λ link. link ≡ self.old) }
@@ -159,7 +163,8 @@ impl<A: Allocator, D> Link<A, D> {
 }
 
 impl<A: Allocator, D> Fork<A, D> {
-    /// Takes out what is below this fork, if that is one leaf or nothing.
+    /// Removes and returns the only leaf below this fork, or `Link::Empty` if there is none.
+    /// Returns `None` and changes nothing if there are more.
     fn take_lone(&mut self) -> Option<Link<A, D>>
         ensures none { MatchOption result (self.new ≡ self.old) (λ _. Unit {0}) }
         ensures items { IfSome result (λ link. items link ≡ fork_items self.old) }
@@ -189,9 +194,10 @@ impl<A: Allocator, D> Fork<A, D> {
         }
     }
 
-    /// Takes out what is below this fork, if that is one leaf or nothing. Otherwise joins anew what
-    /// the requests below it await, if the one that has left, which awaited `gone`, may have been
-    /// the earliest of those that `all` was of.
+    /// Removes and returns the only leaf below this fork, or `Link::Empty` if there is none. If
+    /// there are more leaves, returns `None` and updates `all`, the earliest times that the
+    /// requests below the fork await. `gone` has the times that the removed request awaited: `all`
+    /// is computed again only if one of these may have been the earliest.
     fn settle(&mut self, all: &mut Awaited, gone: &Awaited) -> Option<Link<A, D>>
         ensures same { MatchOption result (self.new ≡ self.old) (λ _. Unit {0}) }
         ensures items { IfSome result (λ link. items link ≡ fork_items self.old) }
@@ -207,7 +213,7 @@ impl<A: Allocator, D> Fork<A, D> {
         if let Some(lone) = self.take_lone() {
             return Some(lone);
         }
-        // If it awaited a later time than the others, they await the same without it.
+        // If the removed request awaited later times than the others, `all` is still correct.
         if gone.may_be_first_of(all) {
             *all = self.awaited();
         }

@@ -11,8 +11,8 @@ use std::alloc::Allocator;
 use std::mem;
 use stun_base::transaction_id::TransactionId;
 
-/// Replaces the datum of the request with this ID, and returns the one before. If there is no such
-/// request, the datum is dropped.
+/// Replaces the datum of the request with this ID, and returns the former datum. If there is no
+/// such request, drops `datum` and returns `None`.
 #[cycle(replace)]
 pub(crate) fn replace<A: Allocator, D: Drop>(
     link: &mut Link<A, D>,
@@ -68,7 +68,7 @@ fn replace_in<A: Allocator, D: Drop>(
 }
 
 impl<A: Allocator, D> Leaf<A, D> {
-    /// Replaces the datum, and returns the one before.
+    /// Replaces the datum, and returns the former datum.
     fn replace(&mut self, datum: D) -> D
         ensures before { result ≡ self.old.datum }
         ensures after { self.new ≡ record self.old { datum = datum } }

@@ -1,6 +1,6 @@
 //! The bytes of two texts of the same length, in pairs. The fields are private to this module, and
-//! only `read_pair`, which counts, returns bytes: so no pair is read without being counted, and none
-//! is read twice.
+//! `read_pair`, which counts the pairs, is the only call that returns bytes. So every pair that is
+//! read is counted, and no pair is read twice.
 ghost use Rattle.std.specs.Prelude.{◌≡◌, ◌+◌, ◌<◌, length, slice_index};
 ghost use Rattle.stun_base.specs.Pairs.{after_reads};
 
@@ -8,7 +8,7 @@ use std::marker::Model;
 
 /// Two texts of the same length, and the number of pairs of bytes that have been read.
 ///
-/// Contracts: they see a record of the texts and the number.
+/// Contracts: the value is a record of the texts and the number.
 #[derive(Drop)]
 pub struct BytePairs<'a> {
     one: &'a [u8],
@@ -28,7 +28,7 @@ impl<'a> Model for BytePairs<'a> {
 }
 
 impl<'a> BytePairs<'a> {
-    /// Creates the pairs of two texts of the same length. None has been read.
+    /// Creates the pairs of two texts of the same length, with no pair read yet.
     #[inline]
     pub fn of(one: &'a [u8], other: &'a [u8]) -> Self
         requires { length one.now ≡ length other.now }
@@ -50,7 +50,7 @@ impl<'a> BytePairs<'a> {
         self.one.len()
     }
 
-    /// Reads the next pair, and counts it. There is no other way to a byte of the texts.
+    /// Reads the next pair, and counts it. No other call returns a byte of the texts.
     #[inline]
     pub(super) fn read_pair(&mut self) -> (u8, u8)
         requires { self.old.read < length self.old.one }

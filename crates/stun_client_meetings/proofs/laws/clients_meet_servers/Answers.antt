@@ -12,15 +12,17 @@ use Rattle.stun_auth.specs.Reading.{reading_of}
 use Rattle.stun_extra.specs.CanonicalAddress.{is_same_address}
 use Rattle.stun_client.specs.Challenges.{Answered, is_one}
 use Rattle.stun_client.specs.Ids.{id_of}
-use Rattle.stun_client.specs.Judging.{Identity, anew, believed, judged, long_term, sent_for}
-use Rattle.stun_client.specs.Requests.{is_answer}
+use Rattle.stun_client.specs.Judging.{Identity, believed, judged, long_term, sent_for}
+use Rattle.stun_client.specs.Answers.{is_answer}
 use Rattle.stun_client_endpoint.specs.Bodies.{Body}
 use Rattle.stun_client_endpoint.specs.Written.{Form, request_bytes}
+use Rattle.stun_client_endpoint.proofs.WrittenLemmas.{id_fits}
 use Rattle.stun_client_requests.specs.Numbers.{id_at}
 use Rattle.stun_client_requests.specs.OneTable.{IsOneTable}
 use Rattle.stun_client_requests.specs.Requests.{datum_of}
 use Rattle.stun_client_calls.specs.Clients.{Client, started}
 use Rattle.stun_client_calls.specs.Messages.{AskedSeen}
+use Rattle.stun_client_calls.specs.Options.{Options, address_by, identity_by}
 use Rattle.stun_client_calls.specs.Runs.{Calls, Event, next_number}
 use Rattle.stun_client_runs.specs.Sent.{IsSentAs, asking}
 use Rattle.stun_client_runs.proofs.KeptLemmas.{started_is}
@@ -37,19 +39,20 @@ use Rattle.stun_sessions.proofs.SessionLemmas.{is_another}
 use Rattle.stun_requests.specs.Fitting.{IsBuiltBody, IsWritten}
 use Rattle.stun_requests.specs.ReadBack.{IsReadAsMade, added_to}
 use Rattle.stun_requests.proofs.ServedLemmas.{texts_of, undropped}
-use Rattle.stun_client_meetings.specs.Meeting.{CanMeet, ClientSide, IsClientOf, IsSignedFor}
-use Rattle.stun_client_meetings.specs.Meeting.{challenge_at}
-use Rattle.stun_client_meetings.proofs.FittingLemmas.{id_low, is_printed, short_challenge, sixteen}
+use Rattle.stun_client_meetings.specs.Meeting.{CanMeet, ClientSide, IsClientOf, IsMeetable}
+use Rattle.stun_client_meetings.specs.Meeting.{IsSignedFor, challenge_at}
+use Rattle.stun_client_meetings.proofs.FittingLemmas.{is_printed, short_challenge, sixteen}
 use Rattle.stun_client_meetings.proofs.FittingLemmas.{software_fits}
-use Rattle.stun_client_meetings.proofs.HeardLemmas.{client_with, is_there, judged_so, one_asked}
 use Rattle.stun_client_meetings.proofs.MeetingLemmas.{ends_so, sends_again}
+use Rattle.stun_client_meetings.proofs.OptionLemmas.{hears_by, signs_by}
 use Rattle.stun_client_meetings.proofs.SideLemmas.{Parts, since_start}
 use Rattle.stun_client_meetings.proofs.laws.clients_meet_servers.Goals as goal
 
 -- what is known of a request whose current message has these bytes, signed for a challenge, or for
 -- none
-record IsKnown (side : ClientSide) (c later : Client) (method : ℕ) (body : Body) (bytes : List ℕ)
-    (signed_for : Option Answered) (a : AskedSeen) : Type 0 where
+record IsKnown (side : ClientSide) (c later : Client) (method : ℕ) (body : Body)
+    (options : Option Options) (bytes : List ℕ) (signed_for : Option Answered) (a : AskedSeen)
+    : Type 0 where
   id : ℕ
   id_number : ℕ
   derived : id ≡ id_of c.seed id_number
@@ -57,6 +60,7 @@ record IsKnown (side : ClientSide) (c later : Client) (method : ℕ) (body : Bod
   id_is : transaction_id_field bytes ≡ id
   method_is : a.method ≡ method
   body_is : a.body ≡ body
+  options_are : a.options ≡ options
   written : request_bytes side.form
       (long_term side.who side.preferences side.accepts_unsigned) signed_for method id body ≡ Ok
       bytes
@@ -64,12 +68,12 @@ record IsKnown (side : ClientSide) (c later : Client) (method : ℕ) (body : Bod
 some_bytes : (x y : List ℕ) → Some x ≡ Some y → x ≡ y
 some_bytes x y is = cc
 
-known_of : (side : ClientSide) (c later : Client) (method : ℕ) (body : Body) (bytes : List ℕ)
-    (signed_for : Option Answered) → IsClientOf side c
-    → (signed : IsSignedFor (next_number c) signed_for later bytes)
-    → IsSentAs (asking c method body) signed.asked later
-    → IsKnown side c later method body bytes signed_for signed.asked
-known_of side c later method body bytes signed_for of signed is = record {
+known_of : (side : ClientSide) (c later : Client) (method : ℕ) (body : Body)
+    (options : Option Options) (bytes : List ℕ) (signed_for : Option Answered) → IsClientOf side c
+    → IsMeetable side options → (signed : IsSignedFor (next_number c) signed_for later bytes)
+    → IsSentAs (asking c method body options) signed.asked later
+    → IsKnown side c later method body options bytes signed_for signed.asked
+known_of side c later method body options bytes signed_for of meetable signed is = record {
   id = is.id;
   id_number = is.id_number;
   derived = is.derived;
@@ -77,14 +81,16 @@ known_of side c later method body bytes signed_for of signed is = record {
   id_is = ap transaction_id_field (sym same) ∙ is.named;
   method_is = is.method;
   body_is = is.body;
+  options_are = is.options;
   written = ap (λ (f : Form). request_bytes f (long_term side.who side.preferences
       side.accepts_unsigned) signed_for method is.id body) (sym of.form_is)
       ∙ ap (λ (i : Identity). request_bytes c.form i signed_for method is.id body) (sym of.identity)
       ∙ ap (λ (o : Option Answered). request_bytes c.form c.identity o method is.id body)
       (sym signed.signed)
-      ∙ subst (λ (x : List ℕ). request_bytes c.form c.identity signed.asked.signed_for method is.id
-      body
-      ≡ Ok x) same is.written;
+      ∙ ap (λ (i : Identity). request_bytes c.form i signed.asked.signed_for method is.id body)
+      (sym (signs_by side options c.identity meetable))
+      ∙ subst (λ (x : List ℕ). request_bytes c.form (identity_by options c.identity)
+      signed.asked.signed_for method is.id body ≡ Ok x) same is.written;
 }
   where
     same : is.bytes ≡ bytes
@@ -99,18 +105,28 @@ record IsLater (side : ClientSide) (later : Client) : Type 0 where
   required_is : later.requires_fingerprint ≡ side.requires_fingerprint
 
 later_of : (g : goal.After-requests_can_be_written) (side : ClientSide) (c later : Client)
-    (method : ℕ) (body : Body) (start : ℕ) (events : List Event) → IsClientOf side c
-    → Calls (started method body start c) events later → IsLater side later
-later_of g side c later method body start events of calls =
-    let same = since_start c later method body start events calls in
+    (method : ℕ) (body : Body) (options : Option Options) (start : ℕ) (events : List Event)
+    → IsClientOf side c → Calls (started method body options start c) events later
+    → IsLater side later
+later_of g side c later method body options start events of calls =
+    let same = since_start c later method body options start events calls in
     record {
-      one = (g.clients_stay_in_order.ensures.stays (started method body start c) later events
-          (started_is method body start c of.client) calls).requests.one;
+      one = (g.clients_stay_in_order.ensures.stays (started method body options start c) later
+          events (started_is method body options start c of.client) calls).requests.one;
       hears = ap (λ (x : Parts). is_same_address side.server x.0) same ∙ of.hears;
       identity = ap (λ (x : Parts). x.1) same ∙ of.identity;
       form_is = ap (λ (x : Parts). x.3) same ∙ of.form_is;
       required_is = ap (λ (x : Parts). x.2) same ∙ of.required_is;
     }
+
+-- a response is judged by this identity of the client
+judges_as : (later : Client) (asked : AskedSeen) (response : List ℕ) (identity : Identity)
+    → later.identity ≡ identity
+    → judged later.requires_fingerprint true later.identity later.standing asked.signed_for response
+    ≡ judged later.requires_fingerprint true identity later.standing asked.signed_for response
+judges_as later asked response identity is =
+    ap (λ (i : Identity). judged later.requires_fingerprint true i later.standing asked.signed_for
+    response) is
 
 -- each message for a challenge of the server can be written
 page_for : (g : goal.After-requests_can_be_written) (s : Settings) (users : UserSecrets)
@@ -154,23 +170,28 @@ signed_read g s users side a method body from time id bytes meet low built writt
     written
 
 pub returns : goal.returns
-returns g = λ s users from side a c later method body start events bytes meet of low built
-    none
-    calls out.
+returns g = λ s users from side a c later method body options start events bytes meet of meetable
+    low built none calls out.
     let ordinary = (g.requests_can_be_written.ensures.bodies body built).0 in
     let who = side.who in
     let prefers = side.preferences in
     let accepts = side.accepts_unsigned in
     let number = next_number c in
-    let begun = started method body start c in
-    let since = later_of g side c later method body start events of calls in
+    let begun = started method body options start c in
+    let since = later_of g side c later method body options start events of calls in
+    let hears_so = λ (x : AskedSeen) (same : x.options ≡ options).
+    subst (λ (o : Option Options). is_same_address side.server (address_by o later.server) ≡ true)
+    (sym same) (hears_by side options later.server meetable since.hears) in
+    let signs_so = λ (x : AskedSeen) (same : x.options ≡ options).
+    subst (λ (o : Option Options). identity_by o later.identity ≡ later.identity) (sym same)
+    (signs_by side options later.identity meetable) in
     let sent_as = λ (x : AskedSeen) (there : datum_of number later.requests ≡ Some x).
-    g.requests_are_sent_as_they_were_started.ensures.kept c later events method body start x
-    of.client
-    low none calls there in
+    g.requests_are_sent_as_they_were_started.ensures.kept c later events method body options start x
+    of.client low none calls there in
     record {
       challenged = λ time unsigned.
-          let known = known_of side c later method body bytes None of unsigned
+          let known = known_of side c later method body options bytes None of meetable
+          unsigned
           (sent_as unsigned.asked unsigned.stored) in
           g.requests_are_challenged.ensures s (realm_knowing s users) from time side.form who
           prefers
@@ -180,35 +201,31 @@ returns g = λ s users from side a c later method body start events bytes meet o
           (challenge_answer s Unauthenticated (current_nonce s from time) from bytes).bytes in
           let challenge = challenge_at s side a from time in
           let asked = unsigned.asked in
-          let known = known_of side c later method body bytes None of unsigned
+          let known = known_of side c later method body options bytes None of meetable
+          unsigned
           (sent_as asked unsigned.stored) in
           let read = g.requests_are_read_back.ensures.as_made side.form who prefers accepts None
           method
           known.id body bytes low ordinary
           (record { nonce = tt; realm = tt; username = tt; userhash = tt }) known.written in
           let short : transaction_id_field bytes < 2 ^ 96 =
-          subst (λ k. k < 2 ^ 96) (sym (known.id_is ∙ known.derived)) (id_low c.seed
+          subst (λ k. k < 2 ^ 96) (sym (known.id_is ∙ known.derived)) (id_fits c.seed
           known.id_number) in
           let sends = λ (is : later.requires_fingerprint ≡ true).
           is_printed side.form.has_fingerprint bytes read.print
           (meet.required (sym since.required_is ∙ is)) in
           let read_as = g.challenges_are_read_as_meant.ensures s Unauthenticated s.secret from from
           (epoch_of s time) later.requires_fingerprint bytes meet.built refl short sends in
-          let said = g.challenges_of_a_server_are_answered.ensures s Unauthenticated s.secret from
-          from
-          side.server (epoch_of s time) bytes (client_with later (transaction_id_field bytes) asked)
-          (one_asked asked) who prefers accepts a meet.built refl short sends meet.agree
-          since.identity
-          since.hears
-          (is_there later (transaction_id_field bytes) asked)
-          (known.method_is ∙ sym read.method_is)
-          (ap (is_one (Some challenge)) unsigned.signed) strong in
-          let says = judged_so later (transaction_id_field bytes) asked side.server response
-          (sent_for asked.signed_for response challenge) read_as.0.id said
+          let says = judges_as later asked response (long_term who prefers accepts) since.identity
+          ∙ g.challenges_of_a_server_are_answered.ensures s Unauthenticated s.secret from from
+          (epoch_of s time) bytes later.requires_fingerprint later.standing asked.signed_for who
+          prefers accepts a meet.built refl short sends meet.agree
+          (ap (is_one (Some challenge)) unsigned.signed) strong
           ∙ ap (λ (o : Option Answered). sent_for o response challenge) unsigned.signed in
           sends_again side later number known.id asked response since.one known.named
           unsigned.stored
-          read_as.0.message since.hears (read_as.0.id ∙ known.id_is)
+          read_as.0.message (hears_so asked known.options_are)
+          (signs_so asked known.options_are) (read_as.0.id ∙ known.id_is)
           (subst (λ m. is_answer m response ≡ true) (sym (known.method_is ∙ sym read.method_is))
           read_as.0.answers)
           memory now method body challenge known.method_is known.body_is since.form_is
@@ -218,18 +235,18 @@ returns g = λ s users from side a c later method body start events bytes meet o
           known.written)
           begun events calls;
       accepted = λ time now signed within.
-          let known = known_of side c later method body bytes (Some (challenge_at s side a from
-          time)) of
-          signed (sent_as signed.asked signed.stored) in
+          let known = known_of side c later method body options bytes
+          (Some (challenge_at s side a from time)) of meetable signed
+          (sent_as signed.asked signed.stored) in
           g.requests_are_accepted.ensures s users from time now side.form who prefers accepts a
           method
           known.id body bytes meet.built meet.known meet.text meet.agree within low ordinary
           meet.printed
           known.written;
       stale = λ time now signed other.
-          let known = known_of side c later method body bytes (Some (challenge_at s side a from
-          time)) of
-          signed (sent_as signed.asked signed.stored) in
+          let known = known_of side c later method body options bytes
+          (Some (challenge_at s side a from time)) of meetable signed
+          (sent_as signed.asked signed.stored) in
           let read = signed_read g s users side a method body from time known.id bytes meet low
           built
           known.written in
@@ -251,35 +268,30 @@ returns g = λ s users from side a c later method body start events bytes meet o
           (challenge_answer s StaleNonce (current_nonce s from then_at) from bytes).bytes in
           let challenge = challenge_at s side a from then_at in
           let asked = signed.asked in
-          let known = known_of side c later method body bytes (Some (challenge_at s side a from
-          time)) of
-          signed (sent_as asked signed.stored) in
+          let known = known_of side c later method body options bytes
+          (Some (challenge_at s side a from time)) of meetable signed
+          (sent_as asked signed.stored) in
           let read = signed_read g s users side a method body from time known.id bytes meet low
           built
           known.written in
           let short : transaction_id_field bytes < 2 ^ 96 =
-          subst (λ k. k < 2 ^ 96) (sym (known.id_is ∙ known.derived)) (id_low c.seed
+          subst (λ k. k < 2 ^ 96) (sym (known.id_is ∙ known.derived)) (id_fits c.seed
           known.id_number) in
           let sends = λ (is : later.requires_fingerprint ≡ true).
           is_printed side.form.has_fingerprint bytes read.print
           (meet.required (sym since.required_is ∙ is)) in
           let read_as = g.challenges_are_read_as_meant.ensures s StaleNonce s.secret from from
           (epoch_of s then_at) later.requires_fingerprint bytes meet.built refl short sends in
-          let said = g.challenges_of_a_server_are_answered.ensures s StaleNonce s.secret from from
-          side.server (epoch_of s then_at) bytes (client_with later (transaction_id_field bytes)
-          asked)
-          (one_asked asked) who prefers accepts a meet.built refl short sends meet.agree
-          since.identity
-          since.hears
-          (is_there later (transaction_id_field bytes) asked)
-          (known.method_is ∙ sym read.method_is)
+          let says = judges_as later asked response (long_term who prefers accepts) since.identity
+          ∙ g.challenges_of_a_server_are_answered.ensures s StaleNonce s.secret from from
+          (epoch_of s then_at) bytes later.requires_fingerprint later.standing asked.signed_for who
+          prefers accepts a meet.built refl short sends meet.agree
           (is_another s prefers who a from time then_at asked.signed_for signed.signed
           other.current)
           strong in
-          let says = judged_so later (transaction_id_field bytes) asked side.server response
-          (anew challenge) read_as.0.id said in
           sends_again side later number known.id asked response since.one known.named signed.stored
-          read_as.0.message since.hears (read_as.0.id ∙ known.id_is)
+          read_as.0.message (hears_so asked known.options_are)
+          (signs_so asked known.options_are) (read_as.0.id ∙ known.id_is)
           (subst (λ m. is_answer m response ≡ true) (sym (known.method_is ∙ sym read.method_is))
           read_as.0.answers)
           memory now method body challenge known.method_is known.body_is since.form_is
@@ -291,15 +303,15 @@ returns g = λ s users from side a c later method body start events bytes meet o
       ended = λ time now response memory signed answers is_signed.
           let challenge = challenge_at s side a from time in
           let asked = signed.asked in
-          let known = known_of side c later method body bytes (Some challenge) of signed
+          let known = known_of side c later method body options bytes (Some challenge) of meetable
+          signed
           (sent_as asked signed.stored) in
           let read = signed_read g s users side a method body from time known.id bytes meet low
           built
           known.written in
           let says : judged later.requires_fingerprint true later.identity later.standing
           asked.signed_for response ≡ believed (Some a) =
-          ap (λ (i : Identity). judged later.requires_fingerprint true i later.standing
-          asked.signed_for response) since.identity
+          judges_as later asked response (long_term who prefers accepts) since.identity
           ∙ ap (λ (o : Option Answered). judged later.requires_fingerprint true
           (long_term who prefers accepts) later.standing o response) signed.signed
           ∙ g.signed_answers_are_believed.ensures later.requires_fingerprint who prefers accepts
@@ -307,7 +319,8 @@ returns g = λ s users from side a c later method body start events bytes meet o
           (subst (λ b. IsSignedAnswer b response challenge.challenge.key a) (sym since.required_is)
           is_signed) in
           ends_so side later number known.id asked response since.one known.named signed.stored
-          answers.message since.hears (answers.id ∙ known.id_is)
+          answers.message (hears_so asked known.options_are)
+          (signs_so asked known.options_are) (answers.id ∙ known.id_is)
           (subst (λ m. is_answer m response ≡ true) (sym (known.method_is ∙ sym read.method_is))
           answers.answers)
           memory now a says;

@@ -14,6 +14,7 @@ use Rattle.stun_auth.specs.Signed.{plain_name}
 use Rattle.stun_client.specs.Ids.{id_of}
 use Rattle.stun_client.specs.Judging.{long_term}
 use Rattle.stun_client_calls.specs.Clients.{started}
+use Rattle.stun_client_calls.specs.NewClients.{made_of}
 use Rattle.stun_client_calls.specs.Runs.{no_call}
 use Rattle.stun_endpoint.specs.Lookups.{users_with}
 use Rattle.stun_endpoint.specs.Nonces.{current_nonce, epoch_of, words_of}
@@ -23,32 +24,30 @@ use Rattle.stun_requests.specs.Fitting.{IsBuiltBody, adds, new}
 use Rattle.stun_client_meetings.specs.Beginning.{CanBegin, allocate_body, example_client}
 use Rattle.stun_client_meetings.specs.Beginning.{example_server, side_of}
 use Rattle.stun_client_meetings.specs.Meeting.{CanMeet, challenge_at}
-use Rattle.stun_client_meetings.specs.NewClients.{made_of}
 use Rattle.stun_client_meetings.proofs.BeginningLemmas.{first_signed, goes_on, ignores_none}
 use Rattle.stun_client_meetings.proofs.BeginningLemmas.{is_client_of, starts_so}
 use Rattle.stun_client_meetings.proofs.laws.new_clients_meet_servers.Goals as goal
 
 pub returns-clause-met : goal.returns-clause-met
-returns-clause-met g = λ s users from n a method body start time now memory can low built
-    in_time.
+returns-clause-met g = λ s users from n a method body options start time now memory can meetable low
+    built in_time.
     let c = made_of n in
     let page = g.requests_can_be_written.ensures.written n.form n.who n.preferences
     n.accepts_unsigned None
     method (id_of n.seed 0) body low built can.software tt in
-    let begun = started method body start c in
-    let none = starts_so s users n a can method body page start in
-    let unsigned = first_signed s users n a can method body page start in
+    let begun = started method body options start c in
+    let none = starts_so s users n a can method body page options meetable start in
+    let unsigned = first_signed s users n a can method body page options meetable start in
     let side = side_of n in
     let client = is_client_of n
     (g.clients_stay_in_order.ensures.begins n.transport n.server n.counts n.requires_fingerprint
     (long_term n.who n.preferences n.accepts_unsigned) n.form n.understood n.turns n.plan n.seed) in
-    let meets = g.clients_meet_servers.ensures s users from side a c begun method body start []
-    page.bytes
-    can.meet client low built none (no_call begun) unsigned.sent in
+    let meets = g.clients_meet_servers.ensures s users from side a c begun method body options start
+    [] page.bytes can.meet client meetable low built none (no_call begun) unsigned.sent in
     let challenge = challenge_at s side a from time in
     let again = meets.renewed time now memory unsigned
-    (goes_on s users n a can method body page start challenge now in_time)
-    (ignores_none s users n a can method body page start challenge)
+    (goes_on s users n a can method body page options meetable start challenge now in_time)
+    (ignores_none s users n a can method body page options meetable start challenge)
     in
     record {
       starts = none;
@@ -57,8 +56,8 @@ returns-clause-met g = λ s users from n a method body start time now memory can
       challenged = meets.challenged time unsigned;
       renewed = again;
       accepted = λ later within.
-          (g.clients_meet_servers.ensures s users from side a c again.next method body start
-          again.events again.bytes can.meet client low built none again.calls
+          (g.clients_meet_servers.ensures s users from side a c again.next method body options
+          start again.events again.bytes can.meet client meetable low built none again.calls
           again.signed.sent).accepted time later again.signed within;
     }
 
@@ -150,10 +149,9 @@ returns-clause-exist g = λ hashes secret from server start time now memory in_t
     let can = example_begins g hashes secret server in
     let met = returns-clause-met g in
     record {
-      binding = met s example_users from n Sha256 1 [] start time now memory can (omega arith) new
-          in_time;
-      allocate = met s example_users from n Sha256 3 allocate_body start time now memory can (omega
-          arith)
-          built_body in_time;
+      binding = met s example_users from n Sha256 1 [] None start time now memory can tt
+          (omega arith) new in_time;
+      allocate = met s example_users from n Sha256 3 allocate_body None start time now memory can tt
+          (omega arith) built_body in_time;
       named = example_name g hashes secret from server time;
     }

@@ -7,11 +7,11 @@ use Rattle.stun_client_plans.proofs.laws.requests_are_sent_by_plan.Goals as goal
 use Rattle.std.proofs.Common.{refl, true}
 
 pub returns : goal.returns
-returns v = λ late c after method body start next said is low none calls.
+returns v = λ late c after method body options start next said is low none calls.
     let stays = v.clients_stay_in_order.ensures.stays in
-    follow stays (request_of late c start) true 0 (slots_of (request_of late c start))
-    start start next
-    (started method body start c) after said
-    (stays_one stays c (started method body start c) (starts (next_number c)) is
-    (requests c (started method body start c) method body start low none refl))
-    (begins_at late c method body start is low none) calls
+    follow stays (request_of late c options start) true 0
+    (slots_of (request_of late c options start)) start start next
+    (started method body options start c) after said
+    (stays_one stays c (started method body options start c) (starts (next_number c)) is
+    (requests c (started method body options start c) method body options start low none refl))
+    (begins_at late c method body options start is low none) calls

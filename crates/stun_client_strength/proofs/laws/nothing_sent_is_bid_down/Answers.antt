@@ -1,24 +1,29 @@
 -- What holds of the challenges of a client holds over any calls.
-use Rattle.std.proofs.Common.{◌≡◌, ◌∙◌, ℕ, Bool, true, List, [], ◌∷◌, Option, Some, None}
+use Rattle.std.proofs.Common.{◌≡◌, ◌∙◌, ℕ, Bool, true, false, List, [], ◌∷◌, Option, Some, None}
 use Rattle.std.proofs.Common.{Ok, ap, arith, refl, sym}
 use Rattle.std.specs.Bool.{⊤}
 use Rattle.std.specs.Prelude.{IsUtf8}
 use Rattle.std.specs.Option.{IfSome}
 use Rattle.stun_auth.specs.Signed.{IsText}
 use Rattle.stun_client.specs.Challenges.{Answered}
-use Rattle.stun_client.specs.Clients.{confirming}
-use Rattle.stun_client.specs.Judging.{Identity, long_term}
+use Rattle.stun_client.specs.Standing.{confirming}
+use Rattle.stun_client.specs.Judging.{Identity, long_term, unsigned as unsigned_identity}
 use Rattle.stun_client.specs.Rule.{IsChosen}
 use Rattle.stun_client.specs.Standing.{after_success, confirmed}
 use Rattle.stun_client.proofs.ChosenLemmas.{chosen_of_rule}
 use Rattle.stun_base.specs.MessageType.{class_in}
+use Rattle.stun_client_endpoint.specs.Bodies.{Body}
 use Rattle.stun_client_endpoint.specs.Written.{Form, request_bytes}
 use Rattle.stun_client_calls.specs.Receiving.{is_success_class}
 use Rattle.stun_client_requests.specs.Numbers.{id_at}
 use Rattle.stun_client_requests.specs.Requests.{datum_of}
 use Rattle.stun_client_calls.specs.Clients.{Client, Told, ends, started, told, transmit}
 use Rattle.stun_client_calls.specs.Deciding.{DecisionSeen}
+use Rattle.stun_client_calls.specs.Endpoints.{bare_end}
 use Rattle.stun_client_calls.specs.Messages.{AskedSeen}
+use Rattle.stun_client_calls.specs.NewClients.{NewClient, made_of}
+use Rattle.stun_client_calls.specs.OptionLaws.{is_unsigned}
+use Rattle.stun_client_calls.specs.Options.{Options, identity_by}
 use Rattle.stun_client_calls.specs.Receiving.{Answer, Memory, Met, by_decision, received}
 use Rattle.stun_client_calls.specs.Runs.{Call, Calls, Event, call, changes_nothing, ends_one}
 use Rattle.stun_client_calls.specs.Runs.{next_number, no_call, polled, polls, receives, requests}
@@ -26,19 +31,20 @@ use Rattle.stun_client_calls.specs.Runs.{starts}
 use Rattle.stun_client_endpoint.specs.declared.ended.RequestEnd.TheVariants as how
 use Rattle.stun_client_runs.specs.Kept.{IsClient}
 use Rattle.stun_requests.specs.ReadBack.{added_to}
-use Rattle.stun_client_strength.specs.Strength.{IsByRuleFor, NewClient}
-use Rattle.stun_client_strength.specs.Strength.{OfCall, OfEachPoll, SaysNoTimeout, as_before}
-use Rattle.stun_client_strength.specs.Strength.{in_doubt}
-use Rattle.stun_client_strength.specs.Strength.{IsStrongSince, made_of, signed}
-use Rattle.stun_client_strength.proofs.EachLemmas.{is_there, numbered, stored_one}
+use Rattle.stun_client_strength.specs.Strength.{IsByRuleFor, OfCall, OfEachPoll, SaysNoTimeout}
+use Rattle.stun_client_strength.specs.Strength.{as_before, in_doubt, IsStrongSince, signed}
+use Rattle.stun_client_strength.specs.Strength.{unsigned}
+use Rattle.stun_client_runs.proofs.EachAtLemmas.{is_there, numbered, stored_one}
 use Rattle.stun_client_strength.proofs.HeldLemmas.{AreHeld, calls_held, poll_held}
-use Rattle.stun_client_strength.proofs.PollLemmas.{outstanding}
+use Rattle.stun_client_runs.proofs.PollAtLemmas.{outstanding}
 use Rattle.stun_client_strength.proofs.RefusingLemmas.{heard_comes}
 use Rattle.stun_client_strength.proofs.RuleLemmas.{AreFine, ChallengeLaws, IsFine, IsFineFor}
 use Rattle.stun_client_strength.proofs.RuleLemmas.{always, fine_rules, sent_there}
 use Rattle.stun_client_strength.proofs.StrengthLemmas.{AreStrong, IsSound, IsStrongFor, any_asked}
-use Rattle.stun_client_strength.proofs.StrengthLemmas.{by_challenge, by_doubt, by_time, is_other}
+use Rattle.stun_client_strength.proofs.StrengthLemmas.{by_challenge, by_doubt, by_options, by_time}
+use Rattle.stun_client_strength.proofs.StrengthLemmas.{is_other}
 use Rattle.stun_client_strength.proofs.StrengthLemmas.{its_own, sound_rules, strong_rules}
+use Rattle.stun_client_strength.proofs.UnsignedLemmas.{StaysUnsigned, for_signed, for_unsigned}
 use Rattle.stun_client_strength.proofs.laws.nothing_sent_is_bid_down.Goals as goal
 
 -- ---- facts of polls
@@ -49,7 +55,7 @@ no_fact c says = ⊤
 
 of_call : (c : Client) (event : Event) (after : Client) (made : Call c event after)
     → OfCall no_fact c event after made
-of_call c event after (requests _ _ method body now low none so) = tt
+of_call c event after (requests _ _ method body options now low none so) = tt
 of_call c event after (receives _ _ from bytes now answer low made so) = tt
 of_call c event after (polls _ _ now says said) = tt
 of_call c event after (ends_one _ _ number a there so) = tt
@@ -95,6 +101,34 @@ made_is g c =
 
 -- ---- any
 
+-- the bytes of a request, which are those of one that is not signed if it is not to be
+no_identity : (c : NewClient) (method id : ℕ) (body : Body)
+    → request_bytes c.form (who_of c) None method id body
+    ≡ request_bytes c.form unsigned_identity None method id body
+unfolding request_bytes
+no_identity c method id body = refl
+
+written_so : (c : NewClient) (options : Option Options) (o : Option Answered) (method id : ℕ)
+    (body : Body) (bytes : List ℕ) → (is_unsigned options ≡ true → o ≡ None)
+    → request_bytes c.form (identity_by options (who_of c)) o method id body ≡ Ok bytes
+    → request_bytes c.form (who_of c) o method id body ≡ Ok bytes
+written_so c options o method id body bytes none is = by (is_unsigned options) refl
+  where
+    by : (b : Bool) → is_unsigned options ≡ b
+        → request_bytes c.form (who_of c) o method id body ≡ Ok bytes
+    by false on =
+        ap (λ (i : Identity). request_bytes c.form i o method id body)
+        (sym (for_signed options (who_of c) on))
+        ∙ is
+    by true off =
+        ap (λ (x : Option Answered). request_bytes c.form (who_of c) x method id body) (none off)
+        ∙ no_identity c method id body
+        ∙ ap (λ (i : Identity). request_bytes c.form i None method id body)
+        (sym (for_unsigned options (who_of c) off))
+        ∙ ap (λ (x : Option Answered).
+        request_bytes c.form (identity_by options (who_of c)) x method id body) (sym (none off))
+        ∙ is
+
 abbrev Fine : NewClient → Client → Type 0
 Fine c x =
     AreHeld (who_of c) c.form 0 (AreFine c.preferences c.who) (IsFineFor c.preferences c.who) x
@@ -126,14 +160,14 @@ module _ (g : goal.After-requests_can_be_written) (c : NewClient)
   }
 
 pub returns-clause-any : goal.returns-clause-any
-returns-clause-any g = λ c e later last before between method body start now text begun low built
-    in_time none calls said.
+returns-clause-any g = λ c e later last before between method body options start now text begun low
+    built in_time none calls said.
     let number = next_number e in
-    let first = started method body start e in
+    let first = started method body options start e in
     let stays = g.clients_stay_in_order.ensures.stays in
     let e_is = stays (made_of c) e before (made_is g c) begun in
     let made : Call e (starts number) first =
-    requests e first method body start in_time none refl in
+    requests e first method body options start in_time none refl in
     let first_is = stays e first (starts number ∷ []) e_is
     (call e first first (starts number) [] made (no_call first)) in
     let later_is = stays first later between first_is calls in
@@ -146,22 +180,29 @@ returns-clause-any g = λ c e later last before between method body start now te
     (call later last last (polled (transmit number)) []
     (polls later last now (transmit number) said) (no_call last)) in
     let has = g.requests_are_sent_as_they_were_started.ensures.sent e later last between method body
-    start now e_is low none calls said in
+    options start now e_is low none calls said in
     let a = has.asked in
     let t = is_there number a last.requests last_is.requests.one has.there in
     let fine = fine_last.asked t.id (numbered number a) t.there in
     let bytes = has.sent.bytes in
     let id = has.sent.id in
+    let stays_so : StaysUnsigned a = fine.unsigned in
+    let never = λ (off : is_unsigned options ≡ true).
+    stays_so (ap is_unsigned has.sent.options ∙ off) in
     let written : request_bytes c.form (who_of c) a.signed_for method id body ≡ Ok bytes =
-    ap (λ (f : Form). request_bytes f (who_of c) a.signed_for method id body) (sym fine_e.form_is)
-    ∙ ap (λ (i : Identity). request_bytes e.form i a.signed_for method id body)
-    (sym fine_e.identity_is)
-    ∙ has.sent.written in
+    written_so c options a.signed_for method id body bytes (λ off. (never off).current)
+    (ap (λ (f : Form). request_bytes f (identity_by options (who_of c)) a.signed_for method id body)
+    (sym fine_e.form_is)
+    ∙ ap (λ (i : Identity). request_bytes e.form (identity_by options i) a.signed_for method id
+    body) (sym fine_e.identity_is)
+    ∙ has.sent.written) in
     let ordinary = (g.requests_can_be_written.ensures.bodies body built).0 in
     let texts = text_for c a.signed_for fine.current in
     record {
       asked = a;
       there = has.there;
+      options_are = has.sent.options;
+      unsigned = never;
       by_rule = rule_for c a.signed_for fine.current;
       earlier = λ rank s at_rank.
           rule_for c s.signed_for
@@ -205,7 +246,7 @@ returns-clause-confirms g = λ memory c from bytes now m x is.
 
 -- the request that may time out has no message for the confirmed challenge
 lets_other : (c : Client) (n : ℕ) (a : AskedSeen)
-    → SaysNoTimeout c (ends n (record { end = how.TimedOut a.drops; response = [] }))
+    → SaysNoTimeout c (ends n (bare_end (how.TimedOut a.drops)))
     → datum_of n c.requests ≡ Some a → is_other c.standing a
 lets_other c n a its there = its a there
 
@@ -266,6 +307,7 @@ module _ (g : goal.After-requests_can_be_written) (c : NewClient) (strong : Answ
         → IsStrongSince e strong number last a
     since number last a id is named (by_challenge its) = signed its
     since number last a id is named (by_doubt none many) = in_doubt none many
+    since number last a id is named (by_options off never) = unsigned off never
     since number last a id is named (by_time b there same) =
         let before = stored_one id (numbered number b) e.requests is.requests.one there in
         as_before (record {

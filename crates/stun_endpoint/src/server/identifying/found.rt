@@ -1,43 +1,43 @@
-//! A server that judges a datagram by a user who was found, and makes no key but the one that the
-//! request needs (RFC 8489, section 9.2.4).
+//! Judges a datagram with a user who was looked up, and derives only the key that the request needs
+//! (RFC 8489, section 9.2.4).
 
-ghost use Rattle.std.specs.Prelude.{◌≡◌, IfOk, IsOk, None, Some, false};
+ghost use Rattle.std.specs.Prelude.{◌≡◌, IfOk, IsOk, Some, false};
 ghost use Rattle.stun_auth.specs.Found.{found_key};
 ghost use Rattle.stun_auth.specs.Handed.{just};
 ghost use Rattle.stun_auth.specs.Reading.{reading_of};
-ghost use Rattle.stun_base.specs.MessageType.{class_in, is_request};
+ghost use Rattle.stun_base.specs.MessageType.{class_in};
 ghost use Rattle.stun_endpoint.specs.Answers.{is_fingerprinted};
 ghost use Rattle.stun_endpoint.specs.Judged.{judged, realm_of_user};
 ghost use Rattle.stun_endpoint.specs.Nonces.{nonce_in};
 ghost use Rattle.stun_endpoint.specs.Outcomes.{outcome_of};
-ghost use Rattle.stun_endpoint.specs.Received.{by_class, by_verdict, outcome_of_accepted};
-ghost use Rattle.stun_endpoint.specs.Received.{received_by, responding_of, signature_for};
-ghost use Rattle.stun_endpoint.specs.Responding.{is_undropped_request, own_answer, reply_by};
+ghost use Rattle.stun_endpoint.specs.Received.{by_verdict, received_by};
+ghost use Rattle.stun_endpoint.specs.Responding.{is_undropped_request};
 ghost use Rattle.stun_endpoint.specs.Settings.{registered_of};
 ghost use Rattle.stun_endpoint.specs.code.Found.{IsFoundKey, realm_of_found};
 
-use crate::received::{Answer, Received, Request};
-use crate::reply::{Reply, Signature};
+use crate::arrived::Arrived;
+use crate::received::Received;
 use crate::server::Server;
 use crate::unix_time::UnixTime;
-use std::alloc::{AllocError, Allocator};
+use std::alloc::AllocError;
 use std::net::SocketAddr;
 use stun_auth::auth::{FoundUser, ReadMessage, UserClaim};
 use stun_base::algorithm::IntegrityAlgorithm;
+use stun_base::memory::Memory;
 use stun_base::prepared_key::PreparedKey;
-use stun_types::message::{Message, MessageClass};
+use stun_types::message::MessageClass;
 
-impl<A: Allocator + Copy> Server<A> {
-    /// Judges a datagram like `receive_for`, by a user who was found and is not prepared. The result
-    /// is that of `receive_for` with the user whom `user` or `user_with_keys` makes of the same name
-    /// and secret.
+impl<A: Memory> Server<A> {
+    /// Judges a datagram like `receive_for`, with a user whom you have found but not prepared. The
+    /// result is what `receive_for` returns with the user that `user` or `user_with_keys` returns
+    /// for the same name and the same password or keys.
     ///
-    /// It makes only the key that the request needs, and none for a request that `identify` would
-    /// not have looked up. For a user who sends many requests, prepare the keys once and pass them to
-    /// `receive_for`.
+    /// This call derives only the key that the request needs, and no key for a request for which
+    /// `identify` returns no `Lookup`. For a user who sends many requests, prepare the keys once
+    /// and pass them to `receive_for`.
     ///
-    /// Fails if an allocation fails. Nothing is lost then, because the client sends again. Memory is
-    /// allocated for requests alone.
+    /// Fails if an allocation fails, which can happen only for a request. Over UDP nothing is lost
+    /// then, because the client sends its request again.
     pub fn receive_found<'a>(
         &'a self,
         bytes: &'a [u8],
@@ -50,42 +50,20 @@ impl<A: Allocator + Copy> Server<A> {
             (Some (just (registered_of self.now) (Some user.now)))) from now bytes.now) }
         ensures no_memory { is_undropped_request self.now.requires_fingerprint bytes.now
             ≡ false → IsOk result }
+        ensures granted { A.grants → IsOk result }
     {
         match self.read(bytes) {
-            Ok((message, has_fingerprint)) => {
-                self.found(message, from, now, user, has_fingerprint)
-            }
-            Err(reason) => Ok(Received::Dropped(reason)),
-        }
-    }
-
-    /// What a message comes to.
-    fn found<'a>(
-        &'a self,
-        message: Message<'a>,
-        from: SocketAddr,
-        now: UnixTime,
-        user: &FoundUser<'a>,
-        has_fingerprint: bool,
-    ) -> Result<Received<'a, A>, AllocError>
-        requires { has_fingerprint ≡ is_fingerprinted message }
-        ensures received { IfOk result (λ received. outcome_of received
-            ≡ by_class self.now (realm_of_found self.now user.now) from now message.entry
-            (class_in message.entry)) }
-        ensures no_memory { is_request (class_in message.entry) ≡ false → IsOk result }
-    {
-        match message.class() {
-            MessageClass::Request => {
+            Arrived::Request(message, has_fingerprint) => {
                 let read = ReadMessage::of(&message);
                 self.found_request(&read, from, now, user, has_fingerprint)
             }
-            MessageClass::Indication => Ok(self.indication(message)),
-            MessageClass::Success => Ok(Received::Response(message)),
-            MessageClass::Error => Ok(Received::Response(message)),
+            Arrived::Indication(message) => Ok(self.indication(message)),
+            Arrived::Response(message) => Ok(Received::Response(message)),
+            Arrived::Dropped(reason) => Ok(Received::Dropped(reason)),
         }
     }
 
-    /// What a request comes to.
+    /// Returns the outcome of a request.
     fn found_request<'a>(
         &'a self,
         read: &ReadMessage<'a, '_>,
@@ -94,29 +72,40 @@ impl<A: Allocator + Copy> Server<A> {
         user: &FoundUser<'a>,
         has_fingerprint: bool,
     ) -> Result<Received<'a, A>, AllocError>
-        requires { has_fingerprint ≡ is_fingerprinted read.now }
-        ensures { IfOk result (λ received. outcome_of received
+        requires fingerprint { has_fingerprint ≡ is_fingerprinted read.now }
+        requires request { class_in read.now ≡ MessageClass.Request }
+        ensures received { IfOk result (λ received. outcome_of received
             ≡ by_verdict self.now (realm_of_found self.now user.now) from now read.now
             (judged self.now (realm_of_found self.now user.now) from now
             (reading_of read.now))) }
+        ensures granted { A.grants → IsOk result }
     {
+        let mut buffer = self.responder.buffer();
         let epoch = self.epoch(now);
         let nonce = self.nonce_in(&self.secret, from, epoch)?;
         match self.found_key(read, from, epoch, &nonce, user)? {
-            Some((algorithm, signature)) => {
+            Some((algorithm, key)) => {
                 let name = user.name();
-                self.accepted_from(read, from, name, algorithm, signature, has_fingerprint)
+                self.accepted_from(
+                    read,
+                    from,
+                    name,
+                    algorithm,
+                    key,
+                    has_fingerprint,
+                    &mut buffer,
+                )
             }
             None => {
-                // Whatever the user's key is, the current nonce tells why the request is refused.
+                // Whatever the user's key is, the current nonce decides why the request is refused.
                 let verdict = self.judged_by_nobody(read, &nonce);
-                self.judged(read, from, &nonce, verdict, has_fingerprint)
+                self.judged_into(read, from, &nonce, verdict, has_fingerprint, &mut buffer)
             }
         }
     }
 
-    /// The agreed algorithm, and by what the responses are signed, if a request is accepted from the
-    /// user.
+    /// Returns the agreed algorithm and the user's key if a request is accepted from this user, and
+    /// `None` otherwise.
     #[tactic(auto, using(crate::proofs::FoundLemmas::found_unclaimed, crate::proofs::FoundLemmas::found_refused, crate::proofs::FoundLemmas::found_accepted))]
     fn found_key(
         &self,
@@ -125,21 +114,23 @@ impl<A: Allocator + Copy> Server<A> {
         epoch: u64,
         nonce: &str,
         user: &FoundUser<'_>,
-    ) -> Result<Option<(IntegrityAlgorithm, Signature<A>)>, AllocError>
+    ) -> Result<Option<(IntegrityAlgorithm, PreparedKey<A>)>, AllocError>
         requires { nonce.now ≡ nonce_in self.now self.now.secret from epoch }
-        ensures { IfOk result
-            (IsFoundKey self.now user.now from epoch read.now) }
+        ensures key { IfOk result
+            (IsFoundKey self.now user.now from epoch (reading_of read.now)) }
+        ensures granted { A.grants → IsOk result }
     {
         let Some(claim) = self.waiting(read, from, epoch, nonce)? else {
             return Ok(None);
         };
         match self.verified_found(&claim, user) {
-            Some((by, key)) => Ok(Some((claim.algorithm(), Signature::new(by, key)))),
+            Some((_, key)) => Ok(Some((claim.algorithm(), key))),
             None => Ok(None),
         }
     }
 
-    /// The user's key, with the algorithm whose digest verifies under it, if a claim is the user's.
+    /// Returns the algorithm of the signature and the user's key, if a claim names this user and
+    /// its signature is valid under the key, and `None` otherwise.
     fn verified_found(
         &self,
         claim: &UserClaim<'_, '_, '_>,
@@ -148,67 +139,5 @@ impl<A: Allocator + Copy> Server<A> {
         ensures { result ≡ found_key (registered_of self.now) claim.now user.now }
     {
         self.auth.verify_found(claim, user)
-    }
-
-    /// What a request comes to that is accepted from the user of a name.
-    fn accepted_from<'a>(
-        &self,
-        read: &ReadMessage<'a, '_>,
-        from: SocketAddr,
-        name: &'a str,
-        algorithm: IntegrityAlgorithm,
-        signature: Signature<A>,
-        has_fingerprint: bool,
-    ) -> Result<Received<'a, A>, AllocError>
-        requires fingerprint { has_fingerprint ≡ is_fingerprinted read.now }
-        requires signature { signature_for signature.key read.now ≡ Some signature }
-        ensures { IfOk result (λ received. outcome_of received
-            ≡ outcome_of_accepted self.now signature.key from read.now
-            (record { name = name.entry.now; algorithm = algorithm })) }
-    {
-        let signature = Some(signature);
-        let message = read.message();
-        match self.answer_itself(message, from, &signature, has_fingerprint)? {
-            Some(answer) => Ok(Received::Answer(answer)),
-            None => {
-                let reply = self.reply_to(message, from, signature, has_fingerprint)?;
-                let message = message.clone()?;
-                let request = Request::new(message, name, algorithm, reply);
-                Ok(Received::Request(request))
-            }
-        }
-    }
-
-    /// Writes the response to an accepted request, if the server is to give it.
-    fn answer_itself(
-        &self,
-        request: &Message<'_>,
-        from: SocketAddr,
-        signature: &Option<Signature<A>>,
-        has_fingerprint: bool,
-    ) -> Result<Option<Answer<A>>, AllocError>
-        requires { has_fingerprint ≡ is_fingerprinted request.now }
-        ensures { IfOk result (λ answer. answer
-            ≡ own_answer (responding_of self.now) signature.now from request.now) }
-    {
-        let mut buffer = Vec::new(self.alloc);
-        self.responder
-            .own_answer(request, from, signature, has_fingerprint, &mut buffer)
-    }
-
-    /// The means to respond to an accepted request.
-    fn reply_to(
-        &self,
-        request: &Message<'_>,
-        from: SocketAddr,
-        signature: Option<Signature<A>>,
-        has_fingerprint: bool,
-    ) -> Result<Reply<A>, AllocError>
-        requires { has_fingerprint ≡ is_fingerprinted request.now }
-        ensures { IfOk result (λ reply. reply
-            ≡ reply_by (responding_of self.now) signature from request.now) }
-    {
-        self.responder
-            .reply(request, from, signature, has_fingerprint)
     }
 }

@@ -1,7 +1,8 @@
-//! The steps of a meeting: a request, its challenge, the request with credentials, its success.
+//! The steps of a meeting: a request, the challenge to it, the request with credentials, and the
+//! success response.
 #![tactic(none)]
 
-ghost use Rattle.std.specs.Prelude.{◌≡◌, Ok, Err};
+ghost use Rattle.std.specs.Prelude.{◌≡◌, ◌≢◌, Ok, Err};
 ghost use Rattle.stun_base.specs.Header.{transaction_id_field, type_field};
 ghost use Rattle.stun_base.specs.MessageType.{method_of};
 ghost use Rattle.stun_auth.specs.declared.server.reason.LongTermServerAuthErrorReason.TheVariants.{Unauthorized};
@@ -20,7 +21,6 @@ use crate::replay::judging::judged;
 use crate::replay::negotiation::messages::{challenge, message_in, read, request, success};
 use crate::replay::negotiation::{NegotiateError, Outcome};
 use crate::replay::serving::serve;
-use std::alloc::Allocator;
 use std::net::SocketAddr;
 use stun_auth::auth::{
     LongTermClientAuth, LongTermClientAuthErrorReason, LongTermClientValidation,
@@ -28,12 +28,15 @@ use stun_auth::auth::{
 };
 use stun_base::algorithm::IntegrityAlgorithm;
 use stun_base::instant::Instant;
+use stun_base::memory::Memory;
 use stun_base::transaction_id::TransactionId;
 use stun_types::message::Message;
 use stun_types::prelude::*;
 
-/// A request: its id, the moment at which the server reads it, and the random words of a nonce.
-/// `before` has the server's calls just before the 401 is read, or before the second request is.
+/// One of the two requests of a meeting: its transaction ID, the time at which the server reads it,
+/// and the random numbers for a nonce. `before` is a list of calls that the server makes: for the
+/// first request, just before the client reads the 401, and for the second request, just before the
+/// server itself reads the request.
 #[derive(Clone, Copy)]
 pub(crate) struct Asking<'a> {
     pub(crate) id: TransactionId,
@@ -50,12 +53,12 @@ pub(crate) struct Meeting<'a> {
     pub(crate) second: Asking<'a>,
 }
 
-/// The two sides meet: a request, its challenge, the request with credentials and its success, each
-/// read by the other side. The server makes its first calls just before the challenge is read, and
-/// its second just before the second request is. The first answer that is no step of this is the
-/// outcome.
+/// Runs a meeting: a request, the challenge to it, the request with credentials, and the success
+/// response. Each message is read by the other side. The server makes the first list of calls just
+/// before the client reads the challenge, and the second list just before it reads the second
+/// request itself. Returns the first outcome that ends the meeting.
 #[tactic(auto)]
-pub(crate) fn meet<A: Allocator + Copy>(
+pub(crate) fn meet<A: Memory>(
     alloc: A,
     client: &mut LongTermClientAuth<A>,
     server: &mut LongTermServerAuth<A>,
@@ -65,6 +68,7 @@ pub(crate) fn meet<A: Allocator + Copy>(
     ensures run { let m = meeting_of client.old.settings meeting.now in
         IsRun result client.new.state server.new (whole_negotiation m client.old.state server.old)
         (Passes m client.old.state server.old) }
+    ensures granted { A.grants → result ≢ Err NegotiateError.Memory }
 {
     let first = &meeting.first;
     let unproven = request(alloc, client, first.id)?;
@@ -76,10 +80,10 @@ pub(crate) fn meet<A: Allocator + Copy>(
     }
 }
 
-/// The first request is to be challenged: the server signs a 401 and makes its first calls, and
-/// the client reads the 401.
+/// Continues the meeting if the first request must be challenged: the server signs a 401 and makes
+/// the first list of calls, and the client reads the 401.
 #[tactic(auto)]
-fn after_unauthorized<A: Allocator + Copy>(
+fn after_unauthorized<A: Memory>(
     alloc: A,
     client: &mut LongTermClientAuth<A>,
     server: &mut LongTermServerAuth<A>,
@@ -92,6 +96,7 @@ fn after_unauthorized<A: Allocator + Copy>(
     ensures run { let m = meeting_of client.old.settings meeting.now in
         IsRun result client.new.state server.new (first_answered m client.old.state server.old
         (Err Unauthorized)) (PassesUnauthorized m client.old.state server.old) }
+    ensures granted { A.grants → result ≢ Err NegotiateError.Memory }
 {
     let failure = challenge(alloc, server, asked, meeting.from)?;
     serve(alloc, server, meeting.first.before)?;
@@ -102,10 +107,10 @@ fn after_unauthorized<A: Allocator + Copy>(
     }
 }
 
-/// The client is to ask again: it signs a request, and the server makes its second calls and reads
-/// the request.
+/// Continues the meeting if the client must send its request again: the client signs a request, and
+/// the server makes the second list of calls and reads the request.
 #[tactic(auto)]
-fn after_resend<A: Allocator + Copy>(
+fn after_resend<A: Memory>(
     alloc: A,
     client: &mut LongTermClientAuth<A>,
     server: &mut LongTermServerAuth<A>,
@@ -116,6 +121,7 @@ fn after_resend<A: Allocator + Copy>(
         IsRun result client.new.state server.new (second_asked m client.old.state server.old
         (client_request m.second.id client.old.state))
         (PassesResend m client.old.state server.old) }
+    ensures granted { A.grants → result ≢ Err NegotiateError.Memory }
 {
     let second = &meeting.second;
     let proven = request(alloc, client, second.id)?;
@@ -128,10 +134,10 @@ fn after_resend<A: Allocator + Copy>(
     }
 }
 
-/// The second request is accepted with an algorithm: the server signs a success, and the client
-/// reads it.
+/// Continues the meeting if the server has accepted the second request with this algorithm: the
+/// server signs a success response, and the client reads it.
 #[tactic(auto)]
-fn after_accepted<A: Allocator + Copy>(
+fn after_accepted<A: Memory>(
     alloc: A,
     client: &mut LongTermClientAuth<A>,
     server: &mut LongTermServerAuth<A>,
@@ -145,13 +151,15 @@ fn after_accepted<A: Allocator + Copy>(
     ensures run { let m = meeting_of client.old.settings meeting.now in
         IsRun result client.new.state server.new (second_answered m client.old.state server.old
         (Ok (Validated algorithm))) (PassesAccepted m client.old.state server.old) }
+    ensures granted { A.grants → result ≢ Err NegotiateError.Memory }
 {
     let granted = success(alloc, server, again, meeting.from)?;
     let answer = read(client, granted.data())?;
     Ok(outcome(algorithm, answer))
 }
 
-/// The outcome where the first request is not to be challenged.
+/// Returns the outcome if the meeting ends with the first request, because the server does not
+/// challenge it. Returns `None` if the server must challenge the request.
 #[tactic(auto)]
 fn end_of_first(
     answer: Result<IntegrityAlgorithm, LongTermServerAuthErrorReason>,
@@ -165,7 +173,8 @@ fn end_of_first(
     }
 }
 
-/// The outcome where the client does not take up the challenge.
+/// Returns the outcome if the meeting ends with the challenge, because the client does not answer
+/// it. Returns `None` if the client answers the challenge.
 #[tactic(auto)]
 fn end_of_challenge(
     answer: Result<LongTermClientValidation, LongTermClientAuthErrorReason>,
@@ -181,8 +190,8 @@ fn end_of_challenge(
     }
 }
 
-/// The outcome of a second request that the server accepted with an algorithm, by the client's
-/// answer to the success.
+/// Returns the outcome of a meeting in which the server has accepted the second request with this
+/// algorithm. `answer` is the client's result for the success response.
 #[tactic(auto)]
 fn outcome(
     algorithm: IntegrityAlgorithm,

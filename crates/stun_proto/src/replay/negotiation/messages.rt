@@ -1,6 +1,6 @@
-//! The messages of a meeting: they are built, signed and read through their bytes.
+//! Builds, signs and reads the messages of a meeting. Each message is passed on as bytes.
 
-ghost use Rattle.std.specs.Prelude.{◌≡◌, ⊤, true, IfOk, OnOk, OnErr, IsErr, Ok, Err};
+ghost use Rattle.std.specs.Prelude.{◌≡◌, ⊤, true, IfOk, IsOk, OnOk, OnErr, IsErr, Ok, Err};
 ghost use Rattle.stun_base.specs.Header.{transaction_id_field, type_field};
 ghost use Rattle.stun_base.specs.MessageType.{method_of, class_in, is_response};
 ghost use Rattle.stun_types.specs.Message.{IsMessage};
@@ -15,20 +15,21 @@ ghost use Rattle.stun_proto.specs.Negotiation.{BINDING as BINDING_METHOD, client
 ghost use Rattle.stun_proto.specs.Negotiation.{failure, server_response, success};
 ghost use Rattle.stun_proto.specs.code.Signed.{signed_page, written_message};
 
-use std::alloc::{AllocError, Allocator};
+use std::alloc::AllocError;
 use std::net::SocketAddr;
 use stun_auth::auth::{
     LongTermClientAuth, LongTermClientAuthErrorReason, LongTermClientValidation, LongTermServerAuth,
 };
 use stun_auth::laws;
 use stun_base::error::StunWriteError;
+use stun_base::memory::Memory;
 use stun_base::transaction_id::TransactionId;
 use stun_types::attribute::ErrorCode;
 use stun_types::message::{BINDING, Message, MessageWriteVec};
 use stun_types::prelude::*;
 
-/// A Binding request that the client signs.
-pub(crate) fn request<A: Allocator + Copy>(
+/// Returns a Binding request, signed by the client.
+pub(crate) fn request<A: Memory>(
     alloc: A,
     client: &mut LongTermClientAuth<A>,
     id: TransactionId,
@@ -39,6 +40,7 @@ pub(crate) fn request<A: Allocator + Copy>(
     ensures method { IfOk result (λ signed. method_of (type_field signed.bytes) ≡ BINDING_METHOD) }
     ensures id { IfOk result (λ signed. transaction_id_field signed.bytes ≡ id) }
     ensures stays { client.new ≡ client.old }
+    ensures granted { A.grants → UnlessMemory result ⊤ ⊥ }
 {
     laws::additions_are_read_back();
     laws::sides_add_by_attribute();
@@ -46,8 +48,8 @@ pub(crate) fn request<A: Allocator + Copy>(
     client.sign_outgoing_message(writer)
 }
 
-/// The error of code 401 to a request, signed by the server.
-pub(crate) fn challenge<A: Allocator + Copy>(
+/// Returns a 401 response to a request, signed by the server.
+pub(crate) fn challenge<A: Memory>(
     alloc: A,
     server: &mut LongTermServerAuth<A>,
     request: &Message<'_>,
@@ -60,13 +62,14 @@ pub(crate) fn challenge<A: Allocator + Copy>(
     ensures message { IfOk result (λ signed. IsMessage signed.bytes) }
     ensures server { OnOk result (server.new ≡ after_signing server.old to true) }
     ensures refused { OnErr result (server.new ≡ server.old) }
+    ensures granted { A.grants → UnlessMemory result ⊤ ⊥ }
 {
     let writer = unauthorized(alloc, request)?;
     sign(server, writer, to)
 }
 
-/// The success of a request, signed by the server.
-pub(crate) fn success<A: Allocator + Copy>(
+/// Returns a success response to a request, signed by the server.
+pub(crate) fn success<A: Memory>(
     alloc: A,
     server: &mut LongTermServerAuth<A>,
     request: &Message<'_>,
@@ -78,13 +81,14 @@ pub(crate) fn success<A: Allocator + Copy>(
     ensures message { IfOk result (λ signed. IsMessage signed.bytes) }
     ensures server { OnOk result (server.new ≡ after_signing server.old to true) }
     ensures refused { OnErr result (server.new ≡ server.old) }
+    ensures granted { A.grants → UnlessMemory result ⊤ ⊥ }
 {
     let writer = Message::builder_success(request, MessageWriteVec::new(alloc))?;
     sign(server, writer, to)
 }
 
-/// The error of code 401 to a request, without other attributes.
-fn unauthorized<A: Allocator>(
+/// Returns a 401 response to a request, not signed, with no attribute except ERROR-CODE.
+fn unauthorized<A: Memory>(
     alloc: A,
     request: &Message<'_>,
 ) -> Result<MessageWriteVec<A>, StunWriteError>
@@ -92,6 +96,7 @@ fn unauthorized<A: Allocator>(
     ensures answer { UnlessMemory result (written_message result
         ≡ Ok (failure UNAUTHORIZED (transaction_id_field request.now))) ⊤ }
     ensures open { IfOk result (λ writer. IsOpen writer.bytes) }
+    ensures granted { A.grants → UnlessMemory result ⊤ ⊥ }
 {
     let error = ErrorCode::builder(ErrorCode::UNAUTHORIZED).build()?;
     let mut writer = Message::builder_error(request, MessageWriteVec::new(alloc))?;
@@ -99,8 +104,8 @@ fn unauthorized<A: Allocator>(
     Ok(writer)
 }
 
-/// A response that the server signs.
-fn sign<A: Allocator + Copy>(
+/// Signs a response as the server, and returns it.
+fn sign<A: Memory>(
     server: &mut LongTermServerAuth<A>,
     writer: MessageWriteVec<A>,
     to: SocketAddr,
@@ -112,13 +117,14 @@ fn sign<A: Allocator + Copy>(
     ensures message { IfOk result (λ signed. IsMessage signed.bytes) }
     ensures server { OnOk result (server.new ≡ after_signing server.old to true) }
     ensures refused { OnErr result (server.new ≡ server.old) }
+    ensures granted { A.grants → UnlessMemory result ⊤ ⊥ }
 {
     laws::additions_are_read_back();
     laws::sides_add_by_attribute();
     server.sign_outgoing_message(writer, to)
 }
 
-/// The message that these bytes are.
+/// Returns the message with these bytes.
 pub(crate) fn message_in(bytes: &[u8]) -> Message<'_>
     requires { IsMessage bytes.now }
     ensures { result ≡ bytes.now }
@@ -126,9 +132,9 @@ pub(crate) fn message_in(bytes: &[u8]) -> Message<'_>
     Message::from_bytes(bytes).unwrap()
 }
 
-/// What the client makes of a response. The one error is that an allocation fails, as it can only
-/// where a challenge is taken up; the client is then as before.
-pub(crate) fn read<A: Allocator + Copy>(
+/// Passes a response to the client, and returns the client's result. Fails only if an allocation
+/// fails, which can happen only if the client answers a challenge. The client is then unchanged.
+pub(crate) fn read<A: Memory>(
     client: &mut LongTermClientAuth<A>,
     bytes: &[u8],
 ) -> Result<Result<LongTermClientValidation, LongTermClientAuthErrorReason>, AllocError>
@@ -140,6 +146,7 @@ pub(crate) fn read<A: Allocator + Copy>(
           (client_step client.old.settings client.old.state (reading_of bytes.now)).state;
     }) }
     ensures err { OnErr result (client.new ≡ client.old) }
+    ensures granted { A.grants → IsOk result }
     ensures memory { OnErr result (IsResend (client_step client.old.settings client.old.state
         (reading_of bytes.now)).answer) }
 {
@@ -150,7 +157,7 @@ pub(crate) fn read<A: Allocator + Copy>(
     }
 }
 
-/// A refusal of the client, where no allocation failed.
+/// Returns the reason as a refusal by the client. Fails if the reason is that an allocation failed.
 fn client_refusal(
     reason: LongTermClientAuthErrorReason,
 ) -> Result<Result<LongTermClientValidation, LongTermClientAuthErrorReason>, AllocError>

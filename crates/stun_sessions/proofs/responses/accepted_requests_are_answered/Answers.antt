@@ -4,6 +4,7 @@ use Rattle.stun_sessions.proofs.responses.accepted_requests_are_answered.Goals a
 
 pub returns : goal.returns
 returns c = λ s key from request client required a fine is sends decides.
-    accepted_is_answered c.signed_answers_end_requests.ensures.written
-    c.signed_answers_end_requests.ensures.binding c.begun_responses_are_pages.ensures.unknown s key
+    accepted_is_answered c.answers_of_a_server_are_signed.ensures.written
+    c.answers_of_a_server_are_signed.ensures.binding
+    c.begun_responses_are_pages.ensures.unknown s key
     from request client required a fine is sends decides

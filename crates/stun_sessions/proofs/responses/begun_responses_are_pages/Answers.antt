@@ -9,7 +9,7 @@ returns-clause-success c = λ request identified. success_is_begun (record {
   shown = c.writing_adds_one_attribute.ensures.shown;
   adds = c.writing_adds_one_attribute.ensures.added;
   opens = c.writing_adds_one_attribute.ensures.open;
-  success = c.signed_answers_end_requests.ensures.successes;
+  success = c.answers_of_a_server_are_signed.ensures.successes;
 }) request identified
 
 pub returns-clause-error : goal.returns-clause-error
@@ -18,7 +18,7 @@ returns-clause-error c = λ request error identified is. error_is_begun (record 
   shown = c.writing_adds_one_attribute.ensures.shown;
   adds = c.writing_adds_one_attribute.ensures.added;
   opens = c.writing_adds_one_attribute.ensures.open;
-  success = c.signed_answers_end_requests.ensures.successes;
+  success = c.answers_of_a_server_are_signed.ensures.successes;
 }) request identified error is
 
 pub returns-clause-added : goal.returns-clause-added
@@ -27,7 +27,7 @@ returns-clause-added c = λ request page attribute is more. more_is_page (record
   shown = c.writing_adds_one_attribute.ensures.shown;
   adds = c.writing_adds_one_attribute.ensures.added;
   opens = c.writing_adds_one_attribute.ensures.open;
-  success = c.signed_answers_end_requests.ensures.successes;
+  success = c.answers_of_a_server_are_signed.ensures.successes;
 }) request page attribute is more
 
 pub returns-clause-unknown : goal.returns-clause-unknown
@@ -36,5 +36,5 @@ returns-clause-unknown c = λ known request is. unknown_is_page (record {
   shown = c.writing_adds_one_attribute.ensures.shown;
   adds = c.writing_adds_one_attribute.ensures.added;
   opens = c.writing_adds_one_attribute.ensures.open;
-  success = c.signed_answers_end_requests.ensures.successes;
+  success = c.answers_of_a_server_are_signed.ensures.successes;
 }) c.writing_adds_one_attribute.ensures.spelled known request is

@@ -1,4 +1,4 @@
--- The request is accepted, what it comes to is signed with its key, and that ends it.
+-- The request is accepted, and what it comes to is signed with its key.
 use Rattle.std.proofs.Common.{List, ℕ, refl, sym, subst}
 use Rattle.stun_base.specs.Keys.{long_term_key}
 use Rattle.stun_base.specs.declared.wire.message_type.MessageClass.TheVariants.{Request}
@@ -7,12 +7,12 @@ use Rattle.stun_endpoint.specs.Judged.{key_of_client}
 use Rattle.stun_endpoint.specs.Received.{Outcome, outcome_of_accepted}
 use Rattle.stun_exchanges.specs.Exchange.{realm_knowing}
 use Rattle.stun_sessions.specs.Responses.{OutcomeEnds}
-use Rattle.stun_sessions.specs.Sessions.{EndsThere, client_named}
-use Rattle.stun_sessions.proofs.SessionLemmas.{decides, ends_there, key_again}
+use Rattle.stun_sessions.specs.Sessions.{client_named}
+use Rattle.stun_sessions.proofs.SessionLemmas.{decides, key_again}
 use Rattle.stun_sessions.proofs.sessions.each_request_takes_one_exchange.Goals as goal
 
 pub returns : goal.returns
-returns c = λ s users who p a from server made now bytes client asked is within same.
+returns c = λ s users who p a from made now required bytes is within.
     let realm = realm_knowing s users in
     let seen = client_named who a in
     let key = long_term_key a who.username s.realm who.password in
@@ -20,12 +20,10 @@ returns c = λ s users who p a from server made now bytes client asked is within
     let accepted = c.users_are_accepted_by_the_strongest.ensures s users who p a from made now bytes
     Request None is.agree is.registered within is.undropped is.class is.reads in
     let answers = c.accepted_requests_are_answered.ensures s (key_of_client realm seen) from bytes seen
-    client.requires_fingerprint a is.built is.message is.sends
+    required a is.built is.message is.sends
     (decides bytes key a (is.reads.digest_verifies (record { algorithm = a; key = key }) refl)) in
-    let under_key = subst (λ (k : List ℕ). OutcomeEnds client.requires_fingerprint bytes k a outcome)
+    let under_key = subst (λ (k : List ℕ). OutcomeEnds required bytes k a outcome)
     (key_again s users who p a is.registered is.agree) answers in (
       accepted,
-      subst (λ (o : Outcome). EndsThere client server asked.number a bytes o) (sym accepted)
-          (ends_there c.signed_answers_end_requests.ensures.heard s users who p a from server made bytes
-          client asked is same outcome under_key),
+      subst (λ (o : Outcome). OutcomeEnds required bytes key a o) (sym accepted) under_key,
     )

@@ -1,4 +1,4 @@
--- The row of the nonce is the first that holds, under each nonce that is accepted.
+-- The row of the nonce is the first that applies, under each nonce that is accepted.
 use Rattle.stun_sessions.proofs.StaleLemmas.{forgotten_is_stale}
 use Rattle.stun_sessions.proofs.sessions.forgotten_nonces_are_stale.Goals as goal
 

@@ -13,6 +13,6 @@ returns-in-Err-clause-answer c =
     let first =
     refused_by (refused c.in_ok-to.to) error _ _ c.in-Err.ensures.refused (λ h. false≢true h)
     (λ e h. ap (error_in error) h) in
-    ap Err c.refusal_of.ensures
+    ap Err c.convert_error.ensures
     ∙ sym (at_given _ c.in_ok-to.to _ refused _ c.in_ok-to.ensures.ok
     c.in_ok-_message.ensures.accepted (ap done_unless first))

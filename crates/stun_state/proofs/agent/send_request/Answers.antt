@@ -22,9 +22,9 @@ returns-in-Err-clause-answer c =
     let refused = request_refusal c.args.agent.now c.args.message.now in
     let sent = c.in_ok-to.ensures.ok in
     let parsed = c.in_ok-_message.ensures.accepted in
-    refused_or_memory (refused c.in_ok-to.to) error c.refusal_of.result _ _ _ _
+    refused_or_memory (refused c.in_ok-to.to) error c.convert_error.result _ _ _ _
     (refusals_are_no_memory c.args.agent.now c.args.message.now c.in_ok-to.to)
-    c.in-Err.ensures.refused (λ h. h) (λ e h. ap (error_in error) h) c.refusal_of.ensures
-    (λ first. ap Err c.refusal_of.ensures
+    c.in-Err.ensures.refused (λ h. h) (λ e h. ap (error_in error) h) c.convert_error.ensures
+    (λ first. ap Err c.convert_error.ensures
     ∙ sym (at_given _ c.in_ok-to.to _ refused _ sent parsed (ap done_unless first)))
     (λ none. at_given _ c.in_ok-to.to _ refused _ sent parsed (ap done_unless none))

@@ -1,5 +1,5 @@
 -- The octets are kept.
-use Rattle.stun_state.proofs.AgentCalls.{address_again}
+use Rattle.stun_handles.proofs.AddressLemmas.{address_again}
 use Rattle.stun_state.proofs.Tellings.{goes_on, step}
 use Rattle.stun_state.proofs.laws.addresses_are_those_that_were_passed.Goals as goal
 

@@ -1,5 +1,5 @@
 -- What is changed is changed only where there is no error.
-use Rattle.std.proofs.Common.{◌≡◌, Ok}
+use Rattle.std.proofs.Common.{◌≡◌, Ok, ap, if◌then◌else◌}
 use Rattle.stun_auth.specs.Forgetting.{without_place}
 use Rattle.stun_auth.specs.Registered.{without_user}
 use Rattle.stun_numbers.specs.Buffers.{buffer_after}
@@ -7,17 +7,20 @@ use Rattle.stun_numbers.specs.Refusals.{refusal_or}
 use Rattle.stun_agent.specs.Agent.{without_validated}
 use Rattle.stun_handles.specs.Addresses.{socket_address}
 use Rattle.stun_handles.specs.Answers.{text_refusal}
+use Rattle.stun_handles.specs.Kinds.{missing}
 use Rattle.stun_handles.specs.Numbers.{done_answer, number_answer}
 use Rattle.stun_state.specs.Agent.{id_in, kept_after_configuring, kept_after_forgetting}
 use Rattle.stun_state.specs.Agent.{outstanding_answer, unless_untimed, with_changed}
 use Rattle.stun_state.specs.Answers.{after_address, done_if_given}
 use Rattle.stun_state.specs.Codes.{algorithms_numbered, feature_numbered}
 use Rattle.stun_state.specs.Handed.{handed_signing, kept_after_handed_signing}
+use Rattle.stun_state.specs.Numbers.{left_by}
 use Rattle.stun_state.specs.Server.{server_with_algorithms, server_with_feature}
 use Rattle.stun_state.specs.Server.{without_client, without_named}
-use Rattle.stun_state.proofs.Holding.{agent_error, agent_left, algorithms_same, buffer_left}
-use Rattle.stun_state.proofs.Holding.{changed_same, configured_same, feature_same, no_address}
-use Rattle.stun_state.proofs.Holding.{refused_done, server_error, server_left}
+use Rattle.stun_state.proofs.HandleLemmas.{agents, servers}
+use Rattle.stun_state.proofs.Holding.{agent_left, algorithms_same, beside, changed_same}
+use Rattle.stun_state.proofs.Holding.{configured_same, error_of, feature_same, no_address}
+use Rattle.stun_state.proofs.Holding.{refused_done, server_error, unchanged}
 use Rattle.stun_state.proofs.laws.errors_leave_what_a_handle_holds.Goals as goal
 
 pub returns-clause-agent : goal.returns-clause-agent
@@ -30,20 +33,20 @@ returns-clause-agent_or c = λ old new result number after call.
 
 pub returns-clause-request : goal.returns-clause-request
 returns-clause-request c = λ old new result change id call.
-    agent_error old new result (λ a. number_answer (outstanding_answer (id_in id) a))
+    error_of agents old new result (λ a. number_answer (outstanding_answer (id_in id) a))
     (with_changed change (id_in id)) call.missing call.answer call.state
     (changed_same change (id_in id))
 
 pub returns-clause-configured : goal.returns-clause-configured
 returns-clause-configured c = λ old new result timeouts id call.
-    agent_error old new result
+    error_of agents old new result
     (λ a. number_answer (unless_untimed timeouts (outstanding_answer (id_in id) a)))
     (kept_after_configuring timeouts (id_in id)) call.missing call.answer call.state
     (configured_same timeouts (id_in id))
 
 pub returns-clause-peer : goal.returns-clause-peer
 returns-clause-peer c = λ old new result peer call.
-    agent_error old new result (λ _. done_answer (done_if_given (socket_address peer)))
+    error_of agents old new result (λ _. done_answer (done_if_given (socket_address peer)))
     (λ a. kept_after_forgetting a peer) call.missing call.answer call.state
     (λ a. no_address (socket_address peer) a (λ one. without_validated one a))
 
@@ -80,9 +83,15 @@ returns-clause-forgotten c = λ old new result at call.
 
 pub returns-clause-signed : goal.returns-clause-signed
 returns-clause-signed c = λ old new result buffer after count to user call e. (
-  server_left old new result (after ≡ buffer)
-      (λ s. kept_after_handed_signing s buffer count to user) call.missing call.state e,
-  buffer_left old result (new ≡ old) buffer after
-      (λ s. buffer_after (handed_signing s.server buffer count to user) buffer) call.missing
-      call.written e,
+  unchanged servers old new ((result ≡ missing old.kind) × ((new ≡ old) × (after ≡ buffer)))
+      (λ s. record s {
+        server = left_by result s.server (kept_after_handed_signing s.server buffer count to user);
+      }) (λ left. left.1.0) call.missing call.state
+      (λ s is. ap (λ b. record s {
+        server = if b then s.server
+            else kept_after_handed_signing s.server buffer count to user;
+      }) e),
+  beside servers old result ((result ≡ missing old.kind) × ((new ≡ old) × (after ≡ buffer)))
+      buffer after (λ s. buffer_after (handed_signing s.server buffer count to user) buffer)
+      (λ left. left.1.1) call.missing call.written e,
 )

@@ -21,7 +21,7 @@ returns-in-Ok-clause-judged g c =
     (after_validation server c.args.from c.args.now ws (reading_of c.args.message.now))
     c.args.server.now in
     record {
-      answer = ap server_validation_answer (ap Ok c.validated_algorithm.ensures
+      answer = ap server_validation_answer (ap Ok c.unwrap_validation.ensures
           ∙ c.in-Ok.ensures.answer
           ∙ ap (λ ws.
           answer (sight server c.args.from) c.args.now ws (reading_of c.args.message.now)) drawn);
@@ -41,13 +41,13 @@ returns-in-Err-clause-judged g c =
     λ ws. g.U.Users.server_left
     (after_validation server c.args.from c.args.now ws (reading_of c.args.message.now))
     c.args.server.now in
-    let refused = c.server_refusal.ensures ∙ ap refusal_of_server c.reason.ensures in
+    let refused = c.convert_server_reason.ensures ∙ ap refusal_of_server c.reason.ensures in
     record {
-      answer = server_refused c.in-Err.error c.server_refusal.result
+      answer = server_refused c.in-Err.error c.convert_server_reason.result
           (λ r. Err r ≡ server_validation_answer (right c.args.words)) (λ r. Unit {0}) refused
           (λ is. ap server_validation_answer (is ∙ ap right drawn)) (λ none. none)
           c.in-Err.ensures.answer;
-      state = server_refused c.in-Err.error c.server_refusal.result
+      state = server_refused c.in-Err.error c.convert_server_reason.result
           (λ r. c.validate.new.server ≡ left c.args.words)
           (λ r. c.validate.new.server ≡ c.args.server.now) refused
           (λ is. is ∙ ap left drawn) (λ same. same) c.in-Err.ensures.state;
@@ -65,6 +65,6 @@ returns-in-Err-clause-unchanged g c nothing =
     → Type 0 =
     λ ws. ChangesNothing (sight server c.args.from) c.args.now ws
     (reading_of c.args.message.now) in
-    ap Err (c.server_refusal.ensures ∙ ap refusal_of_server c.reason.ensures)
+    ap Err (c.convert_server_reason.ensures ∙ ap refusal_of_server c.reason.ensures)
     ∙ ap server_validation_answer
     (c.in-Err.ensures.unchanged (subst Nothing (sym drawn) nothing) ∙ ap right drawn)

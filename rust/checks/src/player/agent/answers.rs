@@ -6,7 +6,8 @@ use crate::player::OUT_OF_MEMORY;
 use crate::player::names::{parse_error, write_error};
 use std::time::Duration;
 
-/// Returns nanoseconds: `Nms` if they are whole milliseconds, otherwise `Nns`.
+/// Returns a number of nanoseconds as text: `Nms` if they are whole milliseconds, and otherwise
+/// `Nns`.
 pub fn nanos(nanos: u128) -> String {
     match nanos % 1_000_000 {
         0 => format!("{}ms", nanos / 1_000_000),

@@ -1,4 +1,4 @@
-//! How an agent is built, and the call that prints that.
+//! Plays the calls that build an agent and that print how it was built.
 
 use super::Agent;
 use super::sent::{Requests, Way};
@@ -75,7 +75,8 @@ pub fn new(stage: &mut Stage<'_>, words: &[&str]) -> Answer {
     Some(String::new())
 }
 
-/// Plays `agent built`: prints its transport, its address, and its remote address, if it has one.
+/// Plays `agent built`: prints the transport and the address of the agent, and its remote address,
+/// if it has one.
 pub fn built(agent: &Agent<'_>) -> String {
     let agent = &agent.agent;
     let to = agent.remote_addr().map(|to| format!(" to {to}"));

@@ -1,4 +1,5 @@
-//! The messages that an agent sends and receives, and the addresses that they come from.
+//! Plays the calls with which an agent sends and receives messages, and those about validated
+//! peers.
 
 use super::answers::error_name;
 use super::usual_peer;

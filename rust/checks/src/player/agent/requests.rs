@@ -1,5 +1,5 @@
-//! The calls on outstanding requests: where they were sent, when they are sent again and how they
-//! end.
+//! Plays the calls on outstanding requests: where they were sent, when they are sent again, and how
+//! they end.
 
 use super::answers;
 use super::timeouts::timeouts;

@@ -1,4 +1,4 @@
-//! The requests that an agent stores, and what it returns to be sent.
+//! The requests that an agent stores, and the transmissions that it returns.
 
 use crate::exported::stun_agent::agent::Transmit;
 use crate::exported::stun_base::transport::TransportType;
@@ -29,7 +29,7 @@ impl Way {
     }
 }
 
-/// All parts of a transmission.
+/// Returns the text of all parts of a transmission.
 fn parts(sent: &Transmit<&[u8]>) -> String {
     let Transmit {
         data,

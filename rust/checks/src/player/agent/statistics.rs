@@ -50,7 +50,7 @@ pub fn tell(stage: &Stage<'_>) -> String {
     parts.join(" ")
 }
 
-/// The round-trip times, if there are any.
+/// Returns the text of the round-trip times, if there are any.
 fn round_trips(stats: &StunAgentStats) -> Option<String> {
     let times = [stats.rtt_min(), stats.rtt_max(), stats.rtt_average()];
     if stats.rtt_count() == 0 && times.iter().all(Option::is_none) {

@@ -18,14 +18,14 @@ use crate::player::values::attribute_type;
 use crate::player::words::{address, hex, number, shown_text, text, unhex};
 use crate::player::{Answer, Heap};
 
-/// What is asked of an attribute that is made: its value, or its bytes in a message.
+/// What to print of an attribute that is created: its value, or its bytes in a message.
 struct Asked<'s, 'a> {
     stage: &'s mut Stage<'a>,
     id: TransactionId,
     is_written: bool,
 }
 
-/// The types that are read again as such. All others are read as raw attributes.
+/// The types that are parsed again as their own type. All others are parsed as raw attributes.
 const READ_AGAIN: [(AttributeType, &str); 8] = [
     (AttributeType::USERNAME, "USERNAME"),
     (AttributeType::REALM, "REALM"),
@@ -37,13 +37,13 @@ const READ_AGAIN: [(AttributeType, &str); 8] = [
     (AttributeType::XOR_MAPPED_ADDRESS, "XOR-MAPPED-ADDRESS"),
 ];
 
-/// The name of the type that an attribute is read again as.
+/// Returns the name of the type as which an attribute is parsed again.
 fn reader(kind: AttributeType) -> &'static str {
     let found = READ_AGAIN.iter().find(|(other, _)| *other == kind);
     found.map_or("raw", |(_, name)| name)
 }
 
-/// The bytes of a request with an attribute, or why it is not written.
+/// Returns the bytes of a request with an attribute, or why the attribute is not written.
 fn request_with<'a, A: Attribute>(
     heap: &'a Heap,
     id: TransactionId,
@@ -55,9 +55,9 @@ fn request_with<'a, A: Attribute>(
 }
 
 impl Asked<'_, '_> {
-    /// Answers what is asked of an attribute with this value. If it is written, `otherwise` follows
-    /// its bytes unless it has the type and the lengths of what was written, and the value that is
-    /// read again.
+    /// Returns the answer for an attribute with this value. If the attribute is written,
+    /// `otherwise` follows its bytes unless its type, its lengths and its value are those that are
+    /// parsed again.
     fn answer<A: Attribute>(self, made: &A, value: &str, is_raw: bool) -> Answer {
         if !self.is_written {
             return Some(value.to_string());
@@ -89,7 +89,7 @@ impl Asked<'_, '_> {
         }
     }
 
-    /// Answers what is asked of an attribute that may be refused.
+    /// Returns the answer for an attribute that may not have been created.
     fn answer_if_made<A: Attribute>(
         self,
         made: Result<A, StunWriteError>,
@@ -105,7 +105,7 @@ impl Asked<'_, '_> {
         self.answer_if_made(builder.build(), error_text)
     }
 
-    /// Makes the attribute of a name from the words of its value.
+    /// Creates the attribute with a name from the text of its value, and returns the answer.
     fn make(self, name: &str, value: &str) -> Answer {
         match name {
             "USERNAME" => self.answer_if_made(Username::new(&text(value)), |made| {
@@ -117,7 +117,7 @@ impl Asked<'_, '_> {
             "NONCE" => self.answer_if_made(Nonce::new(&text(value)), |made| {
                 shown_text(made.nonce().as_bytes())
             }),
-            // The code with the phrase that the library has for it, or with another one.
+            // The code comes with the phrase that the library has for it, or with another phrase.
             "ERROR-CODE" => {
                 let (code, phrase) = match value.split_once(':') {
                     Some((code, phrase)) => (code, Some(text(phrase))),
@@ -158,7 +158,7 @@ impl Asked<'_, '_> {
     }
 }
 
-/// Algorithms with commas between them, or `-`.
+/// Parses algorithms with commas between them, or `-`.
 fn listed(value: &str) -> Option<Vec<PasswordAlgorithmValue>> {
     match value {
         "-" => Some(Vec::new()),
@@ -171,8 +171,8 @@ fn listed(value: &str) -> Option<Vec<PasswordAlgorithmValue>> {
 /// `attribute makes TYPE=VALUE [ID=..]` prints the value of the attribute that the library creates,
 /// or why it creates none.
 ///
-/// `attribute writes TYPE=VALUE [ID=..]` prints its bytes in a message of a writer, from which it
-/// is read again.
+/// `attribute writes TYPE=VALUE [ID=..]` prints the bytes of the attribute in a message, from which
+/// it is parsed again.
 pub fn make(stage: &mut Stage<'_>, attribute: &str, id: &[&str], is_written: bool) -> Answer {
     let (name, value) = attribute.split_once('=')?;
     let bytes = stage.carrier(id)?;

@@ -17,12 +17,12 @@ pub fn takes(length: &str) -> Answer {
     Some(attribute_length(size(length)?).to_string())
 }
 
-/// The type that an attribute states, as a constant and as a call.
+/// Returns the type that an attribute states, by its constant and by its call.
 fn stated_by<A: AttributeStaticType>() -> [AttributeType; 2] {
     [A::TYPE, A::static_type()]
 }
 
-/// What the attribute of a name states.
+/// Returns the types that the attribute with this name states.
 fn stated(name: &str) -> Vec<AttributeType> {
     match name {
         "USERNAME" => stated_by::<Username<'_>>(),

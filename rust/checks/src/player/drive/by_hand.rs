@@ -1,5 +1,5 @@
-//! Makes a driven run again, by the loop of an application around a second agent: each event is a
-//! call of its own, with polls between them.
+//! Repeats a driven run with the loop of an application around a second agent: each event is a
+//! separate call, with polls between the calls.
 
 use super::events::step_text;
 use crate::exported::stun_agent::agent::{StunAgent, StunAgentPollRet, StunError};
@@ -24,7 +24,7 @@ fn owned(bytes: &[u8]) -> Option<HeapVec<u8>> {
     HeapVec::from_slice(Global, bytes).ok()
 }
 
-/// The step of a request that is sent.
+/// Returns the step in which a request is sent.
 fn transmitted(now: Instant, bytes: &[u8], to: SocketAddr) -> Option<AgentStep> {
     Some(AgentStep::Transmitted {
         at: now,
@@ -39,7 +39,7 @@ impl ByHand<'_> {
         self.steps.push(step_text(step));
     }
 
-    /// Sends what is due, by calls of the agent.
+    /// Sends the requests that are due, with calls of the agent.
     fn send_due(&mut self, now: Instant) -> Option<()> {
         for _ in 0..MOST_CALLS {
             let Some(transmit) = self.agent.poll_transmit(now) else {
@@ -51,7 +51,8 @@ impl ByHand<'_> {
         None
     }
 
-    /// Ends what is over, by calls of the agent. Returns the time to wait until.
+    /// Ends the requests that have timed out, with calls of the agent. Returns the time to wait
+    /// until.
     fn end_over(&mut self, now: Instant) -> Option<Instant> {
         for _ in 0..MOST_CALLS {
             match self.agent.poll(now) {
@@ -67,8 +68,8 @@ impl ByHand<'_> {
         None
     }
 
-    /// Sends and ends what is due, and waits as long as `poll` says, while that is before another
-    /// time.
+    /// Sends and ends the requests that are due, and waits until the time that `poll` returns, as
+    /// long as this time is before `bound`.
     fn wait(&mut self, mut now: Instant, bound: Instant) -> Option<()> {
         for _ in 0..MOST_CALLS {
             self.send_due(now)?;
@@ -81,7 +82,7 @@ impl ByHand<'_> {
         None
     }
 
-    /// Makes the one call of the agent that an event means.
+    /// Makes the call of the agent for an event.
     fn make(&mut self, now: Instant, event: &AgentEvent) -> Option<()> {
         let refused = |error| AgentStep::Refused { at: now, error };
         let agent = &mut *self.agent;
@@ -147,8 +148,8 @@ impl ByHand<'_> {
     }
 }
 
-/// Runs the loop of an application over events, and then up to the last time. Returns its steps.
-/// Without events nothing happens.
+/// Runs the loop of an application over events, and then until the last time. Returns its steps. If
+/// there are no events, the loop does not run.
 pub fn run(
     agent: &mut StunAgent,
     events: &[(Instant, AgentEvent)],

@@ -1,4 +1,4 @@
-//! The events of an agent, and its steps.
+//! The events and the steps of an agent as text.
 
 use crate::exported::stun_base::transaction_id::TransactionId;
 use crate::exported::stun_proto::replay::{AgentEvent, AgentStep};
@@ -11,7 +11,8 @@ use crate::player::values::{short_number, transaction_id};
 use crate::player::words::{address, hex, span};
 use std::net::SocketAddr;
 
-/// Parses an event. All messages go to the usual peer or come from it, but those of `take-from`.
+/// Parses an event. All messages go to the usual peer or come from it, except for those of
+/// `take-from`.
 pub fn event(stage: &Stage<'_>, words: &[&str]) -> Option<AgentEvent> {
     let message = |words| HeapVec::from_slice(Global, &stage.message(words)?).ok();
     let peer = usual_peer();
@@ -46,7 +47,7 @@ pub fn event(stage: &Stage<'_>, words: &[&str]) -> Option<AgentEvent> {
     })
 }
 
-/// The bytes of a request, unless it is a Binding request without attributes.
+/// Returns the bytes of a request as text, unless it is a Binding request without attributes.
 fn as_bytes(id: TransactionId, bytes: &[u8]) -> String {
     let id = &id.as_u128().to_be_bytes()[4..];
     let bare = [&[0, 1, 0, 0, 0x21, 0x12, 0xa4, 0x42], id].concat();
@@ -56,7 +57,7 @@ fn as_bytes(id: TransactionId, bytes: &[u8]) -> String {
     }
 }
 
-/// Where a message goes to, unless that is the usual peer.
+/// Returns the destination of a message as text, unless it is the usual peer.
 fn to_text(to: SocketAddr) -> String {
     match to == usual_peer() {
         true => String::new(),

@@ -1,4 +1,4 @@
-//! What a datagram comes to.
+//! Plays the call that judges a datagram.
 
 use super::seconds;
 use crate::exported::stun_endpoint::received::{Answer as Sent, Received, Request};
@@ -8,8 +8,8 @@ use crate::player::stage::Stage;
 use crate::player::{Answer, Heap, OUT_OF_MEMORY};
 use std::net::SocketAddr;
 
-/// Plays `hears MESSAGE`: prints what the message comes to, at the time and from the address of the
-/// stage, by the users of the table.
+/// Plays `hears MESSAGE`: prints the outcome of the message, which arrives at the time and from the
+/// address of the stage, with the users of the table.
 pub fn hear(stage: &mut Stage<'_>, words: &[&str]) -> Answer {
     let bytes = stage.message(words)?;
     stage.begin();
@@ -31,12 +31,12 @@ pub fn hear(stage: &mut Stage<'_>, words: &[&str]) -> Answer {
     })
 }
 
-/// A text, and `otherwise` if something is not as it must be.
+/// Returns a text, followed by `otherwise` if a condition does not hold.
 fn unless(text: String, is_right: bool) -> String {
     text + if is_right { "" } else { " otherwise" }
 }
 
-/// `CODE REFUSAL: MESSAGE`, or `answer: MESSAGE`.
+/// Returns `CODE REFUSAL: MESSAGE`, or `answer: MESSAGE`.
 fn sent_text(stage: &Stage<'_>, sent: &Sent<&Heap>, from: SocketAddr) -> String {
     let name = match sent.refusal() {
         Some(refusal) => format!("{} {refusal:?}", refusal.code()),
@@ -46,7 +46,7 @@ fn sent_text(stage: &Stage<'_>, sent: &Sent<&Heap>, from: SocketAddr) -> String 
     unless(text, sent.to() == from)
 }
 
-/// `request USER ALGORITHM`
+/// Returns `request USER ALGORITHM`.
 fn request_text(request: &Request<'_, &Heap>, bytes: &[u8], from: SocketAddr) -> String {
     let (message, reply) = (request.message(), request.reply());
     let is_of_request = message.as_bytes() == bytes
@@ -59,7 +59,7 @@ fn request_text(request: &Request<'_, &Heap>, bytes: &[u8], from: SocketAddr) ->
     unless(text, is_of_request && is_to_request)
 }
 
-/// A message for the caller.
+/// Returns the text of a message that is passed to the caller.
 fn passed(name: &str, message: &Message<'_>, bytes: &[u8]) -> String {
     unless(name.to_string(), message.as_bytes() == bytes)
 }

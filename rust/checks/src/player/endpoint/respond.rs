@@ -1,4 +1,4 @@
-//! Responses to the last request that was returned to the caller.
+//! Plays the responses to the last request that was returned to the caller.
 
 use crate::exported::stun_endpoint::reply::Reply;
 use crate::exported::stun_types::message::{Message, MessageWriteVec, StunWriteError};

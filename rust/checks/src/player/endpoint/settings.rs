@@ -1,4 +1,4 @@
-//! The settings of a server, one by one.
+//! Plays the settings of a server, one by one.
 
 use crate::exported::stun_endpoint::server::LongTerm;
 use crate::exported::stun_types::attribute::AttributeType;
@@ -8,9 +8,10 @@ use crate::player::Heap;
 use crate::player::stage::Stage;
 use crate::player::words::{drawn, secret, span, text, types, yes};
 
-/// Plays a setting: `realm REALM`, which resets all settings, with a secret of one 1 and zeros; `secret HEX`,
-/// `previous-secret HEX`, `algorithms sha1,sha256`, `hashes yes`, `lifetime SPAN`, `understands
-/// TYPE,TYPE`, `software TEXT`, `binding yes` or `requires-fingerprint yes`.
+/// Plays a setting: `realm REALM`, which resets all settings and sets the secret to the byte 1
+/// followed by zeros; `secret HEX`, `previous-secret HEX`, `algorithms sha1,sha256`, `hashes yes`,
+/// `lifetime SPAN`, `understands TYPE,TYPE`, `software TEXT`, `binding yes` or
+/// `requires-fingerprint yes`.
 pub fn set(settings: &mut LongTerm, name: &str, word: &str) -> Option<()> {
     let owned = |word| HeapString::from(text(word));
     match name {

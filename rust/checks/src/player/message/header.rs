@@ -1,4 +1,4 @@
-//! A message as a whole: its header, its length, and which attributes are visible.
+//! Plays the calls on a message as a whole: its header, its length, and its visible attributes.
 
 use crate::exported::stun_base::words::WordSource;
 use crate::exported::stun_types::message::{
@@ -18,12 +18,13 @@ const CLASSES: [(MessageClass, &str); 4] = [
     (MessageClass::Error, "error"),
 ];
 
-/// A transaction ID as `0x` and 24 digits.
+/// Returns a transaction ID as `0x` and 24 digits.
 fn id_text(id: TransactionId) -> String {
     format!("0x{:024x}", id.as_u128())
 }
 
-/// A message type: its number, its class, whether that is a response, and its method.
+/// Returns the text of a message type: its number, its class, whether this is a response, and its
+/// method.
 fn type_text(kind: MessageType) -> String {
     let class = kind.class();
     let name = CLASSES.iter().find(|(other, _)| *other == class);
@@ -57,7 +58,7 @@ pub fn header(bytes: &[u8]) -> String {
     }
 }
 
-/// Returns `true` if a message reports what its type reports.
+/// Returns `true` if the calls of a message agree with those of its type.
 fn is_as_its_type(message: &Message<'_>) -> bool {
     let kind = message.get_type();
     message.class() == kind.class()
@@ -92,7 +93,7 @@ fn message_text(message: &Message<'_>, bytes: &[u8]) -> String {
     )
 }
 
-/// Why bytes are not a message, and whether they begin with a header.
+/// Returns why bytes are not a message, and whether they begin with a header.
 fn refusal(header: Option<StunParseError>, error: StunParseError) -> String {
     let text = parse_error_with_type(error);
     match header {
@@ -117,8 +118,9 @@ pub fn attributes(bytes: &[u8]) -> Answer {
     }
 }
 
-/// Plays `message type CLASS METHOD`: prints the message type of both and what is read from it, or
-/// `none` if there is no such method. A method is `binding`, or `0x` and four digits.
+/// Plays `message type CLASS METHOD`: prints the message type of this class and method and what is
+/// read from it, or `none` if there is no such method. A method is `binding`, or `0x` and four
+/// digits.
 pub fn type_of(class_word: &str, method: &str) -> Answer {
     let class = class(class_word)?;
     let method = match method {

@@ -1,4 +1,4 @@
-//! Attributes that are parsed as their types.
+//! Plays the calls that parse attributes as their types.
 
 use crate::exported::stun_types::attribute::{
     ErrorCode, MessageIntegrity, MessageIntegritySha256, Nonce, PasswordAlgorithm,
@@ -11,14 +11,14 @@ use crate::player::Answer;
 use crate::player::names::parse_error_with_type;
 use crate::player::words::{hex, shown_text};
 
-/// Where an attribute is read from: the attribute itself, or the first visible one of its type in a
-/// message.
+/// The source of an attribute: the attribute itself, or a message with a visible attribute of this
+/// type.
 pub enum Found<'a> {
     Attribute(RawAttribute<'a>),
     Message(Message<'a>),
 }
 
-/// The value of an attribute that is parsed as a type, or why it cannot be.
+/// Returns the value of an attribute that is parsed as a type, or why it cannot be parsed.
 fn read<'a, A: AttributeFromRaw<'a> + AttributeStaticType>(
     found: Found<'a>,
     value: impl FnOnce(A) -> String,
@@ -45,8 +45,8 @@ pub fn algorithm_word(algorithm: PasswordAlgorithmValue) -> &'static str {
     }
 }
 
-/// Returns the algorithms of a list, or `-`. `otherwise` follows unless all that the list reports
-/// fits these algorithms.
+/// Returns the algorithms of a list, or `-`. `otherwise` follows unless all calls of the list agree
+/// with these algorithms.
 pub fn list_text(list: &PasswordAlgorithms<'_>) -> String {
     let values = (0..list.len()).filter_map(|at| list.get(at));
     let values: Vec<PasswordAlgorithmValue> = values.collect();
@@ -68,8 +68,8 @@ pub fn list_text(list: &PasswordAlgorithms<'_>) -> String {
     names + if is_right { "" } else { " otherwise" }
 }
 
-/// Returns the value of an attribute that is parsed as the type with this name, or why it cannot
-/// be.
+/// Returns the value of an attribute that is parsed as the type with this name, or why it cannot be
+/// parsed.
 pub fn read_as(name: &str, id: TransactionId, found: Found<'_>) -> Answer {
     Some(match name {
         "USERNAME" => read(found, |one: Username| shown_text(one.username().as_bytes())),
@@ -84,7 +84,7 @@ pub fn read_as(name: &str, id: TransactionId, found: Found<'_>) -> Answer {
         "MESSAGE-INTEGRITY" => read(found, |one: MessageIntegrity| hex(one.hmac())),
         "MESSAGE-INTEGRITY-SHA256" => read(found, |one: MessageIntegritySha256| hex(one.hmac())),
         "XOR-MAPPED-ADDRESS" => read(found, |one: XorMappedAddress| one.addr(id).to_string()),
-        // The type of any other attribute says nothing of its value.
+        // The value of any other attribute is not parsed.
         _ => {
             let Found::Attribute(attribute) = found else {
                 return None;

@@ -1,4 +1,4 @@
-//! Whether the signature of a message is valid under a key, by each call that takes one.
+//! Plays the calls that check the signature of a message, each with every kind of key.
 
 use crate::exported::stun_types::attribute::AttributeType;
 use crate::exported::stun_types::message::{
@@ -14,7 +14,7 @@ use crate::player::{Answer, Heap, OUT_OF_MEMORY};
 
 type Verdict = Result<IntegrityAlgorithm, ValidateError>;
 
-/// The verdict, and that of each other call that gives another one.
+/// Returns the text of a verdict, and of each other verdict that differs from it.
 fn verdict_text(verdict: Verdict, others: &[Verdict]) -> String {
     let one = |verdict: Verdict| match verdict {
         Ok(algorithm) => format!("{algorithm:?}"),
@@ -24,7 +24,8 @@ fn verdict_text(verdict: Verdict, others: &[Verdict]) -> String {
     others.fold(one(verdict), |text, other| text + ", " + &one(*other))
 }
 
-/// The verdict under the bytes of a key, and under credentials that it is the key of.
+/// Returns the verdict with the bytes of a key, and compares it with the verdict with credentials
+/// that have this key.
 fn by_key<'a>(
     stage: &mut Stage<'a>,
     bytes: &[u8],
@@ -41,7 +42,8 @@ fn by_key<'a>(
     verdict_text(verdict, &others)
 }
 
-/// The algorithm whose attribute decides: the stronger one, if it is visible.
+/// Returns the algorithm of the attribute that decides: the stronger algorithm, if its attribute is
+/// visible.
 fn deciding(message: &Message<'_>) -> IntegrityAlgorithm {
     let stronger = AttributeType::MESSAGE_INTEGRITY_SHA256;
     match message
@@ -53,8 +55,8 @@ fn deciding(message: &Message<'_>) -> IntegrityAlgorithm {
     }
 }
 
-/// The verdict under a user's name, realm and password: as long-term credentials, and as the key
-/// that they make.
+/// Returns the verdict with a user's name, realm and password: as long-term credentials, and as the
+/// key that is derived from them.
 fn by_user(
     stage: &mut Stage<'_>,
     [name, realm, password]: [&str; 3],
@@ -97,7 +99,8 @@ pub fn verify(stage: &mut Stage<'_>, key: &str, words: &[&str]) -> Answer {
     }
 }
 
-/// The verdict on a request whose signature is zeros, and how many of its attributes are visible.
+/// Returns the verdict on a request whose signature is zeros, and the number of its visible
+/// attributes.
 fn zeros_verdict(stage: &Stage<'_>, words: &[&str]) -> Option<(Verdict, usize)> {
     let bytes = stage.carrier(words)?;
     let message = Message::from_bytes(&bytes).ok()?;
@@ -106,8 +109,9 @@ fn zeros_verdict(stage: &Stage<'_>, words: &[&str]) -> Option<(Verdict, usize)> 
     Some((verdict, message.iter_attributes().count()))
 }
 
-/// Plays `message digest-lengths TYPE`: prints, of 0 to 40 bytes, the lengths at which a signature
-/// of zeros is compared, alone and before FINGERPRINT. At the other lengths it is malformed.
+/// Plays `message digest-lengths TYPE`: prints the lengths from 0 to 40 bytes at which a signature
+/// of zeros is compared, both alone and before FINGERPRINT. A signature of any other length is
+/// malformed.
 pub fn digest_lengths(stage: &Stage<'_>, name: &str) -> Answer {
     const MALFORMED: Verdict = Err(ValidateError::Parse(StunParseError::InvalidAttributeData));
     attribute_type(name)?;

@@ -1,4 +1,4 @@
-//! How messages are begun.
+//! Plays the calls that begin messages.
 
 use super::{Slice, UNTOUCHED, Writer, made_text, touched};
 use crate::exported::stun_types::message::{
@@ -59,7 +59,7 @@ impl<'m> Beginning<'m> {
     }
 }
 
-/// The bytes of the request that is answered, or none.
+/// Returns the bytes of the request that is answered, or no bytes.
 fn request(stage: &Stage<'_>, words: &[&str]) -> Option<Vec<u8>> {
     match words {
         ["success" | "error", words @ ..] => stage.message(words),

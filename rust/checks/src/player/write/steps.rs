@@ -1,4 +1,4 @@
-//! Adds attributes to a message, and signs it.
+//! Plays the calls that add attributes to a message, and that sign it.
 
 use super::{Writer, made_text};
 use crate::exported::stun_types::attribute::{AttributeType, RawAttribute, Username};
@@ -14,16 +14,16 @@ use crate::player::stage::Stage;
 use crate::player::values::{algorithm, attribute_type, phrase};
 use crate::player::words::{text, unhex};
 
-/// What a call that writes returns.
+/// The result of a call that writes.
 type Made = Result<(), StunWriteError>;
 
-/// What a message is signed and verified with.
+/// The means with which a message is signed and verified.
 pub enum Signer {
     Credentials(MessageIntegrityCredentials),
     Key(IntegrityKey),
     /// The bytes of a key.
     Bytes(IntegrityKey),
-    /// A key, for the call that leaves its conditions to the caller.
+    /// A key for the call that does not check its conditions.
     Unchecked(IntegrityKey),
 }
 
@@ -58,7 +58,7 @@ impl Signer {
     }
 }
 
-/// Signs by the call that leaves its conditions to the caller, if they hold.
+/// Signs with the call that does not check its conditions, if they hold.
 fn sign_unchecked<W: MessageWrite>(
     writer: &mut W,
     key: &IntegrityKey,
@@ -95,8 +95,8 @@ fn key(word: &str) -> Option<IntegrityKey> {
     IntegrityKey::from_bytes(Global, &bytes).ok()
 }
 
-/// Plays `write add TYPE=VALUE`: adds USERNAME by the call of the library, and any other attribute
-/// by its type and its bytes: a text, or `0x` and digits.
+/// Plays `write add TYPE=VALUE`: adds USERNAME with the library's own type, and any other attribute
+/// with its number and its bytes: a text, or `0x` and digits.
 pub fn add(stage: &mut Stage<'_>, word: &str) -> Answer {
     let (name, value) = word.split_once('=')?;
     if name == "USERNAME" {

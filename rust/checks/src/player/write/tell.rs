@@ -1,4 +1,4 @@
-//! What the writer reports about its message.
+//! Plays the calls that report what a writer contains.
 
 use super::Writer;
 use super::steps::Signer;
@@ -29,7 +29,7 @@ fn told<W: MessageWrite>(writer: &W, words: &[&str]) -> Answer {
         ["bytes", length] => Some(hex(writer.data().get(..size(length)?)?)),
         ["length"] => Some(writer.data().len().to_string()),
         ["room"] => Some(writer.room().to_string()),
-        // Whether there is such an attribute.
+        // Whether the message has this attribute.
         ["has", name] => {
             let kind = attribute_type(name)?;
             (writer.data().len() >= 20).then_some(())?;
@@ -48,7 +48,7 @@ fn told<W: MessageWrite>(writer: &W, words: &[&str]) -> Answer {
     }
 }
 
-/// Each class that the message has, which is one.
+/// Returns each class that the message has, which is exactly one.
 fn class<W: MessageWrite>(writer: &W) -> String {
     let classes = [
         (MessageClass::Request, "request"),
@@ -60,7 +60,7 @@ fn class<W: MessageWrite>(writer: &W) -> String {
     classes.map(|(_, name)| *name).collect()
 }
 
-/// The user name that is read from the message.
+/// Returns the user name that is parsed from the message.
 fn username(bytes: &[u8]) -> Answer {
     let message = Message::from_bytes(bytes).ok()?;
     Some(match message.attribute::<Username<'_>>() {

@@ -22,6 +22,7 @@ returns-in_err-id g c =
             (IsOkUnless c.from_residual.result OutOfMemory) (IsErrOf c.from_residual.result)) same
             (subst (λ r. MatchOption (request_refusal c.args.self.now c.bytes.result.now c.args.to)
             (IsOkUnless r OutOfMemory) (IsErrOf r)) (sym is) refused);
+        granted = search (rules, same);
         sent = search rules;
       },
     )

@@ -9,7 +9,7 @@ loop-i-preserved g c =
     elim c.match-get.branch [
       | in-Some+in_ok-push w ↦
           let here = sym c.get.ensures ∙ w.in-Some.is in
-          ap (λ v. v.items) w.copy-is ∙ w.in_ok-push.ensures.items
+          ap (λ v. v.items) w.copy-is ∙ w.in_ok-push.ensures.ok
           ∙ ap (λ before. before ++ w.in-Some.algorithm ∷ []) c.loop-i.invariant
           ∙ sym (take-at c.args.list.now c.loop-i.i w.in-Some.algorithm here)
       | in_default w ↦

@@ -1,5 +1,6 @@
 -- The outcome of adding one attribute.
-use Rattle.stun_auth.proofs.Wanting.{added_by}
+use Rattle.std.specs.Prelude.{length}
+use Rattle.stun_auth.proofs.Wanting.{added_by, attribute_granted}
 use Rattle.stun_auth.proofs.message.addition.add_made.Goals as goal
 
 pub returns-clause-added : goal.returns-clause-added
@@ -12,3 +13,10 @@ returns-clause-added g c =
     c.args.writer.now c.add_attribute.new.self _ _ c.add_attribute.result c.requires.within_limit
     c.add_attribute.ensures.refused c.add_attribute.ensures.bytes c.add_attribute.ensures.room
     c.add_attribute.ensures.reserved c.add_attribute.ensures.succeeds
+
+pub returns-clause-granted : goal.returns-clause-granted
+returns-clause-granted g c =
+    attribute_granted (g.W.MessageWrite.bytes c.args.writer.now)
+    (g.W.MessageWrite.room c.args.writer.now) (g.M.Attribute.kind c.args.made.now)
+    (length (g.M.Attribute.value c.args.made.now)) c.add_attribute.result
+    c.add_attribute.ensures.refused c.add_attribute.ensures.granted

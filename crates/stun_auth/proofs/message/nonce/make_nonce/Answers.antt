@@ -13,17 +13,17 @@ new-requires g c =
     ∙ length-next_words 16 (g.R.Rng.stream c.args.rng.now) in
     omega (
       arith,
-      ap length c.in_ok-text.ensures,
+      ap length c.in_ok-text.ensures.text,
       nonce_is_short c.args.algorithms c.args.feature c.draw_words-words.result,
       sixteen,
     )
 
 pub returns-clause-asks_for_algorithms : goal.returns-clause-asks_for_algorithms
 returns-clause-asks_for_algorithms g c =
-    ap asks_for_algorithms (c.new.ensures ∙ c.in_ok-text.ensures)
+    ap asks_for_algorithms (c.new.ensures ∙ c.in_ok-text.ensures.text)
     ∙ asks_for_algorithms-nonce_of c.args.algorithms c.args.feature c.draw_words-words.result
 
 pub returns-clause-asks_for_userhash : goal.returns-clause-asks_for_userhash
 returns-clause-asks_for_userhash g c =
-    ap asks_for_userhash (c.new.ensures ∙ c.in_ok-text.ensures)
+    ap asks_for_userhash (c.new.ensures ∙ c.in_ok-text.ensures.text)
     ∙ asks_for_userhash-nonce_of c.args.algorithms c.args.feature c.draw_words-words.result

@@ -17,7 +17,7 @@ returns-in_err-add_under-clause-succeeds g c = λ may enough.
     let added =
     succeeds_reserved (λ r. outcome_of r (page_in bytes room c.add_under.new.writer))
     (λ reason. refl) (added_all list page) reserved _ _ (wants_short list page reserved)
-    c.add_under.result c.add_under.ensures.outcome may enough in
+    c.add_under.result c.add_under.ensures.added.outcome may enough in
     absurd (true≢false (sym added ∙ ap is_ok c.in_err-add_under.was))
 
 pub returns-clause-grows : goal.returns-clause-grows
@@ -26,4 +26,4 @@ returns-clause-grows g c =
     let room = g.W.MessageWrite.room in
     grown_all (challenge_under c.args.self.now.registered c.args.nonce.now)
     (page_in bytes room c.args.writer) (page_in bytes room c.add_under.new.writer)
-    c.requires.is_whole (sym c.in_ok-add_under.ensures.outcome)
+    c.requires.is_whole (sym c.in_ok-add_under.ensures.added.outcome)

@@ -26,44 +26,48 @@ returns-clause-grows g c =
     c.self.view_is
     (grown_answer bytes room added c.args.writer
     (WantsMemory added (page_in bytes room c.args.writer) (g.W.MessageWrite.reserved c.args.writer))
-    c.signed.result c.requires (rw c.deref-2.ensures at c.signed.ensures))
+    c.signed.result c.requires (rw c.deref-2.ensures at c.signed.ensures.outcome))
+
+laws : (g : _) (c : goal.After-signed g) → WritingLaws
+laws g c = record {
+  shown = c.writing_adds_one_attribute.ensures.shown;
+  added = c.writing_adds_one_attribute.ensures.added;
+  opened = c.writing_adds_one_attribute.ensures.open;
+  stands_signed = c.signed_message_stands.ensures.stands;
+  signed = c.signed_message_stands.ensures.added;
+}
+
+-- what is read of the signed message
+whole : (g : _) (c : goal.After-signed g) → IfOk c.signed.result
+    (λ signed. IsUnsigned (g.W.MessageWrite.bytes c.args.writer)
+    → ReadsAs (class_in (g.W.MessageWrite.bytes c.args.writer))
+    (error_code (g.W.MessageWrite.bytes c.args.writer))
+    (added_under true (challenge_seen c.self.inside.kept.value))
+    (reading_of (g.W.MessageWrite.bytes signed)))
+whole g c =
+    let bytes = g.W.MessageWrite.bytes in
+    let room = g.W.MessageWrite.room in
+    let kept = challenge_seen c.self.inside.kept.value in
+    reads_signed (laws g c) bytes room kept c.args.writer c.signed.result
+    (WantsMemory (challenge_additions true kept) (page_in bytes room c.args.writer)
+    (g.W.MessageWrite.reserved c.args.writer))
+    (rw c.deref.ensures at c.keeps_texts.ensures) (rw c.deref-2.ensures at c.signed.ensures.outcome)
 
 pub returns-clause-reads : goal.returns-clause-reads
 returns-clause-reads g c =
     let bytes = g.W.MessageWrite.bytes in
-    let room = g.W.MessageWrite.room in
-    let kept = challenge_seen c.self.inside.kept.value in
-    let laws : WritingLaws = record {
-      shown = c.writing_adds_one_attribute.ensures.shown;
-      added = c.writing_adds_one_attribute.ensures.added;
-      opened = c.writing_adds_one_attribute.ensures.open;
-      stands_signed = c.signed_message_stands.ensures.stands;
-      signed = c.signed_message_stands.ensures.added;
-    } in
     subst (λ (v : Answered). IfOk c.signed.result
     (λ signed. IsUnsigned (bytes c.args.writer)
     → ReadsAs (class_in (bytes c.args.writer)) (error_code (bytes c.args.writer))
     (added_under true v.challenge) (reading_of (bytes signed))))
-    c.self.view_is
-    (reads_signed laws bytes room kept c.args.writer c.signed.result
-    (WantsMemory (challenge_additions true kept) (page_in bytes room c.args.writer)
-    (g.W.MessageWrite.reserved c.args.writer))
-    (rw c.deref.ensures at c.keeps_texts.ensures) (rw c.deref-2.ensures at c.signed.ensures))
+    c.self.view_is (whole g c)
 
 pub returns-clause-not_bid_down : goal.returns-clause-not_bid_down
 returns-clause-not_bid_down g c =
     let bytes = g.W.MessageWrite.bytes in
-    let room = g.W.MessageWrite.room in
     let kept = challenge_seen c.self.inside.kept.value in
     let class = class_in (bytes c.args.writer) in
     let error = error_code (bytes c.args.writer) in
-    let laws : WritingLaws = record {
-      shown = c.writing_adds_one_attribute.ensures.shown;
-      added = c.writing_adds_one_attribute.ensures.added;
-      opened = c.writing_adds_one_attribute.ensures.open;
-      stands_signed = c.signed_message_stands.ensures.stands;
-      signed = c.signed_message_stands.ensures.added;
-    } in
     subst (λ (v : Answered). IfOk c.signed.result
     (λ signed. IsUnsigned (bytes c.args.writer)
     → IsNowhereBidDown v.preferences (reading_of (bytes signed))))
@@ -72,26 +76,14 @@ returns-clause-not_bid_down g c =
     (λ signed. ReadsAs class error (added_under true kept) (reading_of (bytes signed)))
     (λ signed. IsNowhereBidDown c.self.inside.preferences (reading_of (bytes signed)))
     (λ signed reads. c.signed_requests_are_not_bid_down.ensures c.self.inside.preferences
-    kept class error (bytes signed) c.self.invariant reads)
-    (reads_signed laws bytes room kept c.args.writer c.signed.result
-    (WantsMemory (challenge_additions true kept) (page_in bytes room c.args.writer)
-    (g.W.MessageWrite.reserved c.args.writer))
-    (rw c.deref.ensures at c.keeps_texts.ensures) (rw c.deref-2.ensures at c.signed.ensures)))
+    kept class error (bytes signed) c.self.invariant reads) (whole g c))
 
 pub returns-clause-hashed : goal.returns-clause-hashed
 returns-clause-hashed g c =
     let bytes = g.W.MessageWrite.bytes in
-    let room = g.W.MessageWrite.room in
     let kept = challenge_seen c.self.inside.kept.value in
     let class = class_in (bytes c.args.writer) in
     let error = error_code (bytes c.args.writer) in
-    let laws : WritingLaws = record {
-      shown = c.writing_adds_one_attribute.ensures.shown;
-      added = c.writing_adds_one_attribute.ensures.added;
-      opened = c.writing_adds_one_attribute.ensures.open;
-      stands_signed = c.signed_message_stands.ensures.stands;
-      signed = c.signed_message_stands.ensures.added;
-    } in
     subst (λ (v : Answered). IfOk c.signed.result
     (λ signed. IsUnsigned (bytes c.args.writer)
     → is_required v.preferences.anonymous_username ≡ true
@@ -101,8 +93,4 @@ returns-clause-hashed g c =
     (λ signed. ReadsAs class error (added_under true kept) (reading_of (bytes signed)))
     (λ signed. is_required c.self.inside.preferences.anonymous_username ≡ true
     → (reading_of (bytes signed)).username ≡ None)
-    (λ signed reads. λ must. reads.username_is ∙ c.self.invariant.required must)
-    (reads_signed laws bytes room kept c.args.writer c.signed.result
-    (WantsMemory (challenge_additions true kept) (page_in bytes room c.args.writer)
-    (g.W.MessageWrite.reserved c.args.writer))
-    (rw c.deref.ensures at c.keeps_texts.ensures) (rw c.deref-2.ensures at c.signed.ensures)))
+    (λ signed reads. λ must. reads.username_is ∙ c.self.invariant.required must) (whole g c))

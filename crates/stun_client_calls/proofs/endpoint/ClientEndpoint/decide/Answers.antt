@@ -9,7 +9,8 @@ pub returns-clause-decided : goal.returns-clause-decided
 returns-clause-decided g c =
     IfOk-weaker c.decide.result _ _
     (λ d is. decided_at c.args.self.now _ c.args.now c.args.message.now c.args.met.now _
-    c.limits.result _ (decision_of d) c.self.view_is c.met.view_is c.limits.ensures
+    c.limits.result _ (decision_of d) _ c.self.view_is c.met.view_is (c.limits.ensures c.args.met.now.asked)
+    c.credentials-credentials.ensures
     c.in_ok-judged.ensures.judged is)
     c.decide.ensures.decided
 
@@ -18,11 +19,11 @@ returns-in_err-judged-clause-no_memory g c =
     λ free. absurd
     (impossible
     (c.in_err-judged.ensures.no_memory
-    (judging_free c.args.self.now _ c.args.message.now c.args.met.now _ c.self.view_is
-    c.met.view_is free)))
+    (judging_free c.args.self.now _ c.args.message.now c.args.met.now _ _ c.self.view_is
+    c.met.view_is c.credentials-credentials.ensures free)))
 
 pub returns-clause-no_memory : goal.returns-clause-no_memory
 returns-clause-no_memory g c =
     λ free. c.decide.ensures.no_memory
-    (doubting_free c.args.self.now _ c.args.message.now c.args.met.now _ _ c.self.view_is
-    c.met.view_is c.in_ok-judged.ensures.judged free)
+    (doubting_free c.args.self.now _ c.args.message.now c.args.met.now _ _ _ c.self.view_is
+    c.met.view_is c.credentials-credentials.ensures c.in_ok-judged.ensures.judged free)

@@ -1,5 +1,5 @@
 -- Why a request is not started is why it is not stored.
-use Rattle.std.proofs.Common.{ap}
+use Rattle.std.proofs.Common.{◌∙◌, ap}
 use Rattle.stun_client_requests.specs.Requests.{start_refusal}
 use Rattle.stun_client_calls.specs.Clients.{Client}
 use Rattle.stun_client_calls.proofs.RequestingLemmas.{not_stored, stored_anyway}
@@ -18,3 +18,8 @@ returns-in-Err-clause-refused g c =
     (start_refusal c.args.self.now.requests c.args.free.id) c.in-Err.refusal c.error_of.result
     (ap (λ (x : Client). start_refusal x.requests c.args.free.id) c.self.view_is)
     c.error_of.ensures c.in-Err.ensures.refused
+
+pub returns-in-Err-clause-granted : goal.returns-in-Err-clause-granted
+returns-in-Err-clause-granted g c =
+    λ grants none. c.in-Err.ensures.granted grants
+    (ap (λ (x : Client). start_refusal x.requests c.args.free.id) c.self.view_is ∙ none)

@@ -26,27 +26,27 @@ pub invariant_of-self-then-is_new : goal.invariant_of-self-then-is_new
 invariant_of-self-then-is_new g c =
     let none = ap (λ s. is_ended_at c.args.number s) c.self.view_is ∙ c.requires in
     put_so c.args.number c.args.id c.self.inside.known.entries c.store.new.known.entries
-    c.self.inside.unsent.keys c.insert.new.self.keys _ _ _ _ _ _ c.self.inside.outstanding
+    c.self.inside.unsent.keys c.add.new.set.keys _ _ _ _ _ _ c.self.inside.outstanding
     (c.self.inside.outstanding + 1) c.len-stored.ensures.ordered c.self.invariant none
     c.in-Ok-store.ensures.entries c.in-Ok-store.ensures.changed c.in-Ok.ensures.updates.0
-    c.reserve.ensures.items c.reserve.ensures.len
+    c.room.ensures.items c.room.ensures.len
     (let none = new_is_open c.self.inside.known.entries c.args.number c.in-Ok-store.is_new
     c.in-Ok-store.ensures.new c.if-is_new.true in
     omega arith)
-    c.in_ok-reserve.ensures.ok
+    c.in_ok-room.ensures.ok
 
 pub invariant_of-self-else-is_new : goal.invariant_of-self-else-is_new
 invariant_of-self-else-is_new g c =
     let none = ap (λ s. is_ended_at c.args.number s) c.self.view_is ∙ c.requires in
     put_so c.args.number c.args.id c.self.inside.known.entries c.store.new.known.entries
-    c.self.inside.unsent.keys c.insert.new.self.keys _ _ _ _ _ _ c.self.inside.outstanding
+    c.self.inside.unsent.keys c.add.new.set.keys _ _ _ _ _ _ c.self.inside.outstanding
     c.self.inside.outstanding c.len-stored.ensures.ordered c.self.invariant none
     c.in-Ok-store.ensures.entries c.in-Ok-store.ensures.changed c.in-Ok.ensures.updates.0
-    c.reserve.ensures.items c.reserve.ensures.len
+    c.room.ensures.items c.room.ensures.len
     (let one = old_is_open c.self.inside.known.entries c.args.number c.in-Ok-store.is_new
     c.in-Ok-store.ensures.new c.if-is_new.false none in
     omega arith)
-    c.in_ok-reserve.ensures.ok
+    c.in_ok-room.ensures.ok
 
 pub returns-then-is_new-clause-back : goal.returns-then-is_new-clause-back
 returns-then-is_new-clause-back g c =

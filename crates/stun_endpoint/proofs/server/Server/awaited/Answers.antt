@@ -4,8 +4,8 @@ use Rattle.stun_endpoint.specs.code.Found.{waiting_claim}
 use Rattle.stun_endpoint.proofs.ReadyLemmas.{claim_is_awaited}
 use Rattle.stun_endpoint.proofs.server.Server.awaited.Goals as goal
 
-pub returns-in-Some : goal.returns-in-Some
-returns-in-Some g c =
+pub returns-in-Some-clause-user : goal.returns-in-Some-clause-user
+returns-in-Some-clause-user g c =
     let s = c.args.self.now in
     let bytes = c.args.read.now in
     let waits : waiting_claim s c.args.from c.args.epoch bytes ≡ Some c.in-Some.claim =

@@ -7,10 +7,10 @@ use Rattle.stun_endpoint.specs.Settings.{Settings}
 use Rattle.stun_endpoint.specs.declared.received.Refusal.TheVariants.{BadRequest}
 use Rattle.stun_endpoint.proofs.server.Server.bad_answer.Goals as goal
 
-pub returns : goal.returns
-returns g c =
+pub returns-clause-answer : goal.returns-clause-answer
+returns-clause-answer g c =
     let same : c.self.inside.responder ≡ responding_of c.args.self.now =
     ap (λ (s : Settings). responding_of s) c.self.view_is in
     subst (λ (r : Responding). IfOk c.refusal.result
     (λ answer. answer ≡ refusal_by r BadRequest c.args.from c.args.request.now)) same
-    c.refusal.ensures
+    c.refusal.ensures.answer

@@ -12,28 +12,28 @@ use Rattle.stun_endpoint.specs.code.Found.{IsFoundKey}
 use Rattle.stun_endpoint.proofs.FoundLemmas.{accepted_comes, refused_comes}
 use Rattle.stun_endpoint.proofs.server.Server.found_request.Goals as goal
 
-pub returns-in-Some : goal.returns-in-Some
-returns-in-Some g c =
+pub returns-in-Some-clause-received : goal.returns-in-Some-clause-received
+returns-in-Some-clause-received g c =
     let s = c.args.self.now in
     let user = c.args.user.now in
     let bytes = c.args.read.now in
+    let r = reading_of bytes in
     let algorithm = c.in-Some.algorithm in
-    let signature = c.in-Some.signature in
-    let at : IsFoundKey s user c.args.from c.epoch-epoch.result bytes c.in_ok-algorithm.field-0 =
+    let key = c.in-Some.key in
+    let at : IsFoundKey s user c.args.from c.epoch-epoch.result r c.in_ok-algorithm.field-0 =
     search rules in
-    let is : c.in_ok-algorithm.field-0 ≡ Some (algorithm, signature) = search rules in
+    let is : c.in_ok-algorithm.field-0 ≡ Some (algorithm, key) = search rules in
     let found =
-    subst (λ e. IsFoundKey s user c.args.from e bytes (Some (algorithm, signature)))
-    c.epoch-epoch.ensures
-    (subst (λ o. IsFoundKey s user c.args.from c.epoch-epoch.result bytes o) is at) in
-    let same = accepted_comes s user c.args.from c.args.now bytes algorithm signature found in
+    subst (λ e. IsFoundKey s user c.args.from e r (Some (algorithm, key))) c.epoch-epoch.ensures
+    (subst (λ o. IsFoundKey s user c.args.from c.epoch-epoch.result r o) is at) in
+    let same = accepted_comes s user c.args.from c.args.now bytes algorithm key found in
     rw (sym same)
     (subst (λ n. IfOk c.accepted_from.result (λ received. outcome_of received
-    ≡ outcome_of_accepted s signature.key c.args.from bytes
-    (record { name = n; algorithm = algorithm }))) c.name-name.ensures c.accepted_from.ensures)
+    ≡ outcome_of_accepted s key c.args.from bytes (record { name = n; algorithm = algorithm })))
+    c.name-name.ensures c.accepted_from.ensures.received)
 
-pub returns : goal.returns
-returns g c =
+pub returns-clause-received : goal.returns-clause-received
+returns-clause-received g c =
     let s = c.args.self.now in
     let user = c.args.user.now in
     let bytes = c.args.read.now in
@@ -41,12 +41,12 @@ returns g c =
     let one = c.deref-in-None.result.now in
     let two = c.deref-in-None-2.result.now in
     let v = c.judged_by_nobody-verdict.result in
-    let at : IsFoundKey s user c.args.from c.epoch-epoch.result bytes c.in_ok-algorithm.field-0 =
+    let at : IsFoundKey s user c.args.from c.epoch-epoch.result r c.in_ok-algorithm.field-0 =
     search rules in
     let is : c.in_ok-algorithm.field-0 ≡ None = search rules in
     let found =
-    subst (λ e. IsFoundKey s user c.args.from e bytes None) c.epoch-epoch.ensures
-    (subst (λ o. IsFoundKey s user c.args.from c.epoch-epoch.result bytes o) is at) in
+    subst (λ e. IsFoundKey s user c.args.from e r None) c.epoch-epoch.ensures
+    (subst (λ o. IsFoundKey s user c.args.from c.epoch-epoch.result r o) is at) in
     let first : one ≡ nonce_in s s.secret c.args.from (epoch_of s c.args.now) =
     first_of (search rules, grind arith) in
     let made : two ≡ nonce_in s s.secret c.args.from (epoch_of s c.args.now) =
@@ -55,4 +55,8 @@ returns g c =
     c.judged_by_nobody-verdict.ensures
     ∙ ap (λ n. verdict (registered_of s) s.feature n (Some s.algorithms) r) (first ∙ sym made) in
     let same = refused_comes s user c.args.from c.args.now bytes two v found made judges in
-    rw (sym same) c.judged.ensures
+    rw (sym same) c.judged_into.ensures.received
+
+pub returns-in_err-nonce-clause-granted : goal.returns-in_err-nonce-clause-granted
+returns-in_err-nonce-clause-granted g c = λ grants.
+    let none = c.in_err-nonce.ensures.granted grants in cc

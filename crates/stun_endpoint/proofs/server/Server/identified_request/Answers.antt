@@ -7,8 +7,8 @@ use Rattle.stun_endpoint.specs.code.Judgements.{by_judgement}
 use Rattle.stun_endpoint.proofs.JudgementLemmas.{unnamed_done}
 use Rattle.stun_endpoint.proofs.server.Server.identified_request.Goals as goal
 
-pub returns : goal.returns
-returns g c =
+pub returns-clause-identified : goal.returns-clause-identified
+returns-clause-identified g c =
     let s = c.args.self.now in
     let r = reading_of c.args.read.now in
     let one = c.deref-in-None.result.now in
@@ -24,6 +24,6 @@ returns g c =
     unnamed_done s c.args.from c.args.now c.args.read.now one v
     c.requires.undropped c.requires.waits.request none made
     c.judged_by_nobody-verdict.ensures in
-    ap done (c.in_ok-received-in-None.ensures
+    ap done (c.in_ok-received-in-None.ensures.received
     ∙ ap (λ n. by_judgement s n c.args.from c.args.read.now v) (again ∙ sym made) ∙ same)
     ∙ sym (ap (identified_as s c.args.from c.args.now c.args.read.now) none)

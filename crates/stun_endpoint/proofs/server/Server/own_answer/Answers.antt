@@ -6,10 +6,10 @@ use Rattle.stun_endpoint.specs.Responding.{Responding, own_answer}
 use Rattle.stun_endpoint.specs.Settings.{Settings}
 use Rattle.stun_endpoint.proofs.server.Server.own_answer.Goals as goal
 
-pub returns : goal.returns
-returns g c =
+pub returns-clause-answer : goal.returns-clause-answer
+returns-clause-answer g c =
     let same : c.self.inside.responder ≡ responding_of c.args.self.now =
     ap (λ (s : Settings). responding_of s) c.self.view_is in
     subst (λ (r : Responding). IfOk c.own_answer.result
     (λ answer. answer ≡ own_answer r c.args.signature.now c.args.from c.args.request.now)) same
-    c.own_answer.ensures
+    c.own_answer.ensures.answer

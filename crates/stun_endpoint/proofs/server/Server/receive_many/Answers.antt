@@ -1,5 +1,5 @@
 -- One more result is appended, and the results before it are told of the same bytes.
-use Rattle.std.proofs.Common.{◌≡◌, ◌∙◌, ◌≤◌, ◌+◌, ◌++◌, ◌∷◌, [], ap, arith, length, subst, sym}
+use Rattle.std.proofs.Common.{◌≡◌, ◌∙◌, ◌+◌, ◌++◌, ◌∷◌, [], ap, arith, length, subst, sym}
 use Rattle.std.proofs.lemmas.Grind.{length_at_push}
 use Rattle.stun_endpoint.specs.Batches.{FollowOneAnother}
 use Rattle.stun_endpoint.specs.Judged.{realm_of_table}
@@ -10,7 +10,7 @@ pub loop-datagram-preserved : goal.loop-datagram-preserved
 loop-datagram-preserved g c =
     let results = c.loop-datagram.results.items in
     let one = c.in_ok-received.received in
-    let items = c.push_reserved.ensures.items in
+    let items = c.push_reserved.ensures.items ∙ ap (λ r. r ++ one ∷ []) c.reserve.ensures.items in
     record {
       received = batch_more c.args.self.now (realm_of_table c.args.users.now) c.args.now
           c.args.datagrams.now c.loop-datagram.datagram-index c.datagram-item.result
@@ -24,7 +24,4 @@ loop-datagram-preserved g c =
           c.in_ok-received.ensures.start c.in_ok-received.ensures.room));
       count = ap length items ∙ (length_at_push results one).1
           ∙ ap (λ n. n + 1) c.loop-datagram.invariant.count;
-      stored = c.push_reserved.ensures.len ∙ ap (λ n. n + 1) c.loop-datagram.invariant.stored;
-      room = subst (λ n. length c.args.datagrams.now ≤ n) (sym c.push_reserved.ensures.capacity)
-          c.loop-datagram.invariant.room;
     }

@@ -1,6 +1,5 @@
--- The datagrams before the index are received, and there is room for the results of the others.
-use Rattle.std.proofs.Common.{◌≡◌, ◌≤◌, length, take}
-use Rattle.std.specs.Prelude.{vec_capacity, vec_len}
+-- The datagrams before the index are received.
+use Rattle.std.proofs.Common.{◌≡◌, length, take}
 use Rattle.stun_endpoint.specs.Batches.{FollowOneAnother, outcomes_at, received_all}
 use Rattle.stun_endpoint.specs.Judged.{realm_of_table}
 use Rattle.stun_endpoint.proofs.server.Server.receive_many.Given as goal
@@ -11,6 +10,4 @@ invariant-loop-datagram g l = record {
       ≡ received_all l.self (realm_of_table l.users) l.now (take l.datagram-index l.datagrams);
   ranges : FollowOneAnother 0 l.results.items (length l.answers);
   count : length l.results.items ≡ l.datagram-index;
-  stored : vec_len l.results ≡ l.datagram-index;
-  room : length l.datagrams ≤ vec_capacity l.results;
 }

@@ -9,8 +9,8 @@ use Rattle.stun_endpoint.specs.code.Refusing.{cause_by_refusal}
 use Rattle.stun_endpoint.proofs.CauseLemmas.{accepted_cause, refused_cause}
 use Rattle.stun_endpoint.proofs.server.Server.request_cause.Goals as goal
 
-pub returns-in-Ok : goal.returns-in-Ok
-returns-in-Ok g c =
+pub returns-in-Ok-clause-cause : goal.returns-in-Ok-clause-cause
+returns-in-Ok-clause-cause g c =
     let s = c.args.self.now in
     let realm = realm_of c.args.judges.now in
     let r = reading_of c.args.read.now in
@@ -21,8 +21,8 @@ returns-in-Ok g c =
     ∙ sym (ap (or_unknown s c.args.read.now)
     (accepted_cause s realm c.args.from r c.args.now client is))
 
-pub returns : goal.returns
-returns g c =
+pub returns-clause-cause : goal.returns-clause-cause
+returns-clause-cause g c =
     let s = c.args.self.now in
     let realm = realm_of c.args.judges.now in
     let r = reading_of c.args.read.now in

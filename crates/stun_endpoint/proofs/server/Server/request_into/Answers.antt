@@ -9,8 +9,8 @@ use Rattle.stun_endpoint.specs.code.Judges.{realm_of}
 use Rattle.stun_endpoint.proofs.JudgementLemmas.{judgement_is_verdict}
 use Rattle.stun_endpoint.proofs.server.Server.request_into.Goals as goal
 
-pub returns : goal.returns
-returns g c =
+pub returns-clause-received : goal.returns-clause-received
+returns-clause-received g c =
     let s = c.args.self.now in
     let realm = realm_of c.args.judges.now in
     let bytes = c.args.read.now in
@@ -22,4 +22,4 @@ returns g c =
     let made : nonce ≡ current_nonce s c.args.from c.args.now =
     first_of (search rules, grind arith) in
     let same = judgement_is_verdict s realm c.args.from c.args.now bytes nonce v is key made in
-    rw (sym same) c.judged_into.ensures
+    rw (sym same) c.judged_into.ensures.received

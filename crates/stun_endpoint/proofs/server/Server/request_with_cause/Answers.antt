@@ -32,6 +32,7 @@ returns-in-Ok g c =
       cause = told_cause c.accepted_with_cause.result (λ both. both.1) _ _
           (unknown_accepted s realm c.args.from c.args.now bytes accepted.key accepted.client is)
           c.accepted_with_cause.ensures.cause;
+      granted = c.accepted_with_cause.ensures.granted;
     }
 
 pub returns : goal.returns
@@ -55,4 +56,5 @@ returns g c =
       received = rw (sym same) c.refused_with_cause.ensures.received;
       cause = told_cause c.refused_with_cause.result (λ both. both.1) _ _ cause
           c.refused_with_cause.ensures.cause;
+      granted = c.refused_with_cause.ensures.granted;
     }

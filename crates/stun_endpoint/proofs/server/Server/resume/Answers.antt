@@ -6,8 +6,8 @@ use Rattle.stun_endpoint.specs.Outcomes.{outcome_of}
 use Rattle.stun_endpoint.specs.Received.{received_by}
 use Rattle.stun_endpoint.proofs.server.Server.resume.Goals as goal
 
-pub returns : goal.returns
-returns g c =
+pub returns-clause-received : goal.returns-clause-received
+returns-clause-received g c =
     subst (λ (realm : Realm). IfOk c.resumed.result (λ received. outcome_of received
     ≡ received_by c.args.self.now realm c.args.lookup.from c.args.lookup.arrived
-    c.args.lookup.message)) c.judges.ensures c.resumed.ensures
+    c.args.lookup.message)) c.judges.ensures c.resumed.ensures.received

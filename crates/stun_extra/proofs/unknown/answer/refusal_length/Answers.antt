@@ -3,5 +3,5 @@ use Rattle.std.proofs.Common.{arith}
 use Rattle.stun_extra.proofs.AnswerLemmas.{length-refusing_answer}
 use Rattle.stun_extra.proofs.unknown.answer.refusal_length.Goals as goal
 
-pub returns : goal.returns
-returns c = omega (arith, length-refusing_answer c.args.known.now c.args.request.now)
+pub returns-clause-value : goal.returns-clause-value
+returns-clause-value c = omega (arith, length-refusing_answer c.args.known.now c.args.request.now)

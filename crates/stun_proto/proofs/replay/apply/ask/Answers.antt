@@ -23,12 +23,14 @@ returns-in-Err g c =
           ∙ sym (ap
           (λ (o : Option StunError). option_map_or (λ _. agent) o
           (after_send_request agent bytes c.args.to c.args.now)) why);
-      added = c.add-in-Err.ensures _
+      added = c.add-in-Err.ensures.keeps _
           (sym (ap
           (λ (o : Option StunError). option_map_or (λ error. Refused c.args.now error) o
           (Transmitted c.args.now (transaction_id_field bytes) c.args.to bytes)) why));
       broken = tt;
       refused = λ _. refl;
+      granted = λ _. refl;
+      kept = λ grants. c.add-in-Err.ensures.granted grants refl;
     }
 
 pub returns-in-Ok-clause-added : goal.returns-in-Ok-clause-added
@@ -42,7 +44,7 @@ returns-in-Ok-clause-added g c =
     (Transmitted c.args.now (transaction_id_field bytes) c.args.to bytes))
     (request_accepted _ _ c.in-Ok.transmit c.in-Ok.ensures.refused) in
     subst (λ (s : Step). Keeps (kept_steps c.args.log.now) (s ∷ []) (kept_steps c.add.new.self))
-    (lent ∙ sym step) (c.add.ensures _ c.transmitted.ensures)
+    (lent ∙ sym step) (c.add.ensures.keeps _ c.transmitted.ensures.step)
 
 pub returns-in-Err-OutOfMemory-clause-refused : goal.returns-in-Err-OutOfMemory-clause-refused
 returns-in-Err-OutOfMemory-clause-refused g c =

@@ -26,7 +26,7 @@ returns-in-Err-clause-added g c =
     option_map_or (λ error. Refused c.args.now error) o
     (Sent c.args.now c.args.to c.args.bytes.now))
     (one_refused _ _ c.in-Err.error c.in-Err.ensures.refused) in
-    c.add-in-Err.ensures _ (sym step)
+    c.add-in-Err.ensures.keeps _ (sym step)
 
 pub returns-in-Ok-clause-after : goal.returns-in-Ok-clause-after
 returns-in-Ok-clause-after g c =
@@ -47,4 +47,4 @@ returns-in-Ok-clause-added g c =
     (Sent c.args.now c.args.to c.args.bytes.now))
     (one_accepted _ _ c.in-Ok.transmit c.in-Ok.ensures.refused) in
     subst (λ (s : Step). Keeps (kept_steps c.args.log.now) (s ∷ []) (kept_steps c.add.new.self))
-    (lent ∙ sym step) (c.add.ensures _ c.sent.ensures)
+    (lent ∙ sym step) (c.add.ensures.keeps _ c.sent.ensures.step)

@@ -10,7 +10,11 @@ use Rattle.stun_proto.proofs.agent_runs.Once.{nothing_is_asked, sends_by_plan}
 use Rattle.stun_proto.proofs.replay.driven.drive.Goals as goal
 
 pub loop-moment-init : goal.loop-moment-init
-loop-moment-init g c = record { counted = refl; leads = rw c.new-log.ensures (run_start _ _) }
+loop-moment-init g c = record {
+  counted = refl;
+  leads = rw c.new-log.ensures.none (run_start _ _);
+  kept = λ _. c.new-log.ensures.kept;
+}
 
 pub take_event-requires : goal.take_event-requires
 take_event-requires g c = c.loop-moment.invariant.leads.passed
@@ -26,13 +30,14 @@ loop-moment-preserved g c =
           rw c.as_nanos.ensures
           (run_more _ _ _ _ _ _ c.loop-moment-item.result.0 c.loop-moment-item.result.1 _ _ _
           (rw left at c.loop-moment.invariant.leads) c.in-Ok.ensures.whole c.in-Ok.ensures.passed);
+      kept = λ grants. c.in-Ok.ensures.kept grants (c.loop-moment.invariant.kept grants);
     }
 
 pub returns-then-is_empty-clause-headline : goal.returns-then-is_empty-clause-headline
 returns-then-is_empty-clause-headline g c =
     let empty = eqb-true _ 0 (sym c.is_empty.ensures ∙ c.if-is_empty.true) in
     record {
-      driven = nothing_is_driven _ _ _ c.new-log.result empty c.new-log.ensures;
+      driven = nothing_is_driven _ _ _ c.new-log.result empty c.new-log.ensures.none;
       by_plan = nothing_is_asked _ c.args.agent.now _ (steps_of c.new-log.result.steps.items) empty;
     }
 
@@ -48,8 +53,8 @@ pub returns-then-log-clause-stopped : goal.returns-then-log-clause-stopped
 returns-then-log-clause-stopped g c =
     let left : drop c.loop-moment.moment-index c.args.events.now ≡ [] =
     drop_all c.loop-moment.moment-index c.args.events.now (omega arith) in
-    run_stops _ _ _ _ _ _ _ _ _ c.turns.ensures.steps (rw left at c.loop-moment.invariant.leads)
-    (rw c.as_nanos-2.ensures at c.turns.ensures.turned)
+    run_stops _ _ _ _ _ _ _ _ _ c.turns.ensures.turns.steps (rw left at c.loop-moment.invariant.leads)
+    (rw c.as_nanos-2.ensures at c.turns.ensures.turns.turned)
 
 pub returns-clause-run : goal.returns-clause-run
 returns-clause-run g c =
@@ -57,7 +62,7 @@ returns-clause-run g c =
     drop_all c.loop-moment.moment-index c.args.events.now (omega arith) in
     is_driven _ _ _ _ _ (eqb-false _ 0 (sym c.is_empty.ensures ∙ c.if-is_empty.false))
     (run_kept _ _ _ _ _ _ _ _ c.turns.new.log c.if-log.false
-    (rw left at c.loop-moment.invariant.leads) (rw c.as_nanos-2.ensures at c.turns.ensures))
+    (rw left at c.loop-moment.invariant.leads) (rw c.as_nanos-2.ensures at c.turns.ensures.turns))
 
 pub returns-clause-plans : goal.returns-clause-plans
 returns-clause-plans g c =
@@ -66,7 +71,7 @@ returns-clause-plans g c =
     keep_plans _ _ c.turns.new.agent _ (steps_of c.turns.new.log.steps.items) (omega arith)
     c.next_awaited-awaited.ensures.kept.ascending c.requires
     (run_kept _ _ _ _ _ _ _ _ c.turns.new.log c.if-log.false
-    (rw left at c.loop-moment.invariant.leads) (rw c.as_nanos-2.ensures at c.turns.ensures))
+    (rw left at c.loop-moment.invariant.leads) (rw c.as_nanos-2.ensures at c.turns.ensures.turns))
 
 pub returns-clause-headline : goal.returns-clause-headline
 returns-clause-headline g c =
@@ -78,5 +83,5 @@ returns-clause-headline g c =
           sends_by_plan _ _ c.turns.new.agent _ (steps_of c.turns.new.log.steps.items) (omega arith)
           c.next_awaited-awaited.ensures.kept.ascending c.requires
           (run_kept _ _ _ _ _ _ _ _ c.turns.new.log c.if-log.false
-          (rw left at c.loop-moment.invariant.leads) (rw c.as_nanos-2.ensures at c.turns.ensures));
+          (rw left at c.loop-moment.invariant.leads) (rw c.as_nanos-2.ensures at c.turns.ensures.turns));
     }

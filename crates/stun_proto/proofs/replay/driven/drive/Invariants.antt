@@ -1,5 +1,5 @@
 use Rattle.std.proofs.Common.{◌≡◌, drop}
-use Rattle.stun_proto.specs.code.Calls.{RunLeads, kept_steps}
+use Rattle.stun_proto.specs.code.Calls.{IsKept, RunLeads, kept_steps}
 use Rattle.stun_proto.proofs.replay.driven.drive.Given as goal
 
 -- the run goes on with the events that are left
@@ -8,4 +8,5 @@ invariant-loop-moment g l = record {
   counted : l.done ≡ l.moment-index;
   leads : RunLeads l.initial.agent l.events l.done l.from l.agent (drop l.moment-index l.events)
       (kept_steps l.log);
+  kept : g.A.Memory.grants → IsKept l.log;
 }

@@ -5,24 +5,27 @@ use Rattle.stun_proto.proofs.agent_runs.DriveLemmas.{turns_early, turns_late, tu
 use Rattle.stun_proto.proofs.replay.driven.turns.Goals as goal
 
 pub loop-moment-init : goal.loop-moment-init
-loop-moment-init g c = turns_start _ _ _ _ c.requires
+loop-moment-init g c = record { leads = turns_start _ _ _ _ c.requires; kept = λ _ was. was }
 
-pub returns-in_default : goal.returns-in_default
-returns-in_default g c = turns_none _ _ _ _ _ _ _ c.loop-moment.invariant c.in_default.ensures.least
+pub returns-in_default-clause-turns : goal.returns-in_default-clause-turns
+returns-in_default-clause-turns g c = turns_none _ _ _ _ _ _ _ c.loop-moment.invariant.leads c.in_default.ensures.least
 
-pub returns-then-nanos-from : goal.returns-then-nanos-from
-returns-then-nanos-from g c =
-    turns_early _ _ _ c.in-Some.moment _ _ _ _ c.loop-moment.invariant
+pub returns-then-nanos-from-clause-turns : goal.returns-then-nanos-from-clause-turns
+returns-then-nanos-from-clause-turns g c =
+    turns_early _ _ _ c.in-Some.moment _ _ _ _ c.loop-moment.invariant.leads
     c.in-Some.ensures.kept.ascending c.in-Some.ensures.least (omega arith) (omega arith)
 
-pub returns-then-bound-nanos : goal.returns-then-bound-nanos
-returns-then-bound-nanos g c =
-    turns_late _ _ _ c.in-Some.moment _ _ _ _ c.loop-moment.invariant c.in-Some.ensures.least
+pub returns-then-bound-nanos-clause-turns : goal.returns-then-bound-nanos-clause-turns
+returns-then-bound-nanos-clause-turns g c =
+    turns_late _ _ _ c.in-Some.moment _ _ _ _ c.loop-moment.invariant.leads c.in-Some.ensures.least
     (omega arith)
 
 pub loop-moment-preserved : goal.loop-moment-preserved
-loop-moment-preserved g c =
-    rw c.as_nanos-nanos.ensures
-    (turns_more _ _ _ c.in-Some.moment _ _ _ _ _ _ c.loop-moment.invariant
-    c.in-Some.ensures.kept.ascending c.in-Some.ensures.least (omega arith) (omega arith)
-    c.turn.ensures)
+loop-moment-preserved g c = record {
+  leads = rw c.as_nanos-nanos.ensures
+      (turns_more _ _ _ c.in-Some.moment _ _ _ _ _ _ c.loop-moment.invariant.leads
+      c.in-Some.ensures.kept.ascending c.in-Some.ensures.least (omega arith) (omega arith)
+      c.turn.ensures.turn);
+  kept = λ grants was.
+      c.turn.ensures.granted grants (c.loop-moment.invariant.kept grants was);
+}

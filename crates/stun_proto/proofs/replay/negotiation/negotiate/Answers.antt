@@ -97,3 +97,6 @@ returns-clause-memory g c = (whole g c).memory
 
 pub returns-clause-write : goal.returns-clause-write
 returns-clause-write g c = (whole g c).write
+
+pub returns-clause-granted : goal.returns-clause-granted
+returns-clause-granted g c = c.meet.ensures.granted

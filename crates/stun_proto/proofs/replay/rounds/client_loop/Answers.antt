@@ -5,7 +5,7 @@ use Rattle.stun_proto.proofs.replay.rounds.client_loop.Goals as goal
 pub returns-clause-calls : goal.returns-clause-calls
 returns-clause-calls g c =
     run_calls _ _ _ _ _ _ _ c.take_rounds.new.log _ _ _ c.requires c.if-log.false
-    c.in_ok-apply.ensures.whole c.new-log.ensures c.in_ok-late.ensures
+    c.in_ok-apply.ensures.whole c.new-log.ensures.none c.in_ok-late.ensures.reached
 
 pub returns-clause-in_time : goal.returns-clause-in_time
 returns-clause-in_time g c =

@@ -3,8 +3,8 @@ use Rattle.std.proofs.Common.{arith}
 use Rattle.stun_proto.proofs.agent_runs.ClientCalls.{events_lead}
 use Rattle.stun_proto.proofs.replay.rounds.take_round.Goals as goal
 
-pub returns : goal.returns
-returns g c =
+pub returns-clause-led : goal.returns-clause-led
+returns-clause-led g c =
     events_lead _ _ _ _ _ c.args.round.now.time _ _ _ _ _ _ _ _ _ _ (omega arith) (omega arith)
-    (omega arith) (omega arith) (rw c.as_slice.ensures.value at c.in_ok-late.ensures) c.lateness.ensures c.send_again.ensures
-    c.lateness-2.ensures c.end_one-wait.ensures
+    (omega arith) (omega arith) (rw c.as_slice.ensures.value at c.in_ok-late.ensures.reached) c.lateness.ensures c.send_again.ensures.calls
+    c.lateness-2.ensures c.end_one-wait.ensures.ends

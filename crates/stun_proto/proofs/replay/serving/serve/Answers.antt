@@ -76,7 +76,7 @@ loop-done-preserved g c =
           (call_at c.args.calls.now c.loop-done.done c.index-calls-done.result (omega arith)
           c.index-calls-done.is) c.loop-done.invariant.told c.in-Ok.ensures.reply
           c.in-Ok.ensures.server
-          (ap replies_of c.in-Ok-push.ensures.items
+          (ap replies_of c.in-Ok-push.ensures.ok
           ∙ map-append reply_of c.loop-done.replies.items (c.in-Ok.reply ∷ []));
       served =
           served_more s t c.serve_call.new.server calls i c.index-calls-done.result

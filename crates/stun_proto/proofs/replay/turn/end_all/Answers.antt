@@ -12,7 +12,7 @@ loop-moment-smaller g c =
     let before = kept_steps c.loop-moment.log in
     let after = kept_steps c.end_one.new.log in
     less_ended c.args.now old new before after
-    (subst (EndsOne c.args.now old new before after) c.in-None.is c.end_one.ensures)
+    (subst (EndsOne c.args.now old new before after) c.in-None.is c.end_one.ensures.ends)
 
 pub loop-moment-preserved : goal.loop-moment-preserved
 loop-moment-preserved g c =
@@ -23,9 +23,11 @@ loop-moment-preserved g c =
     let before = kept_steps c.loop-moment.log in
     let after = kept_steps c.end_one.new.log in
     let over : EndsOne c.args.now old new before after None =
-    subst (EndsOne c.args.now old new before after) c.in-None.is c.end_one.ensures in
+    subst (EndsOne c.args.now old new before after) c.in-None.is c.end_one.ensures.ends in
     record {
       leads = leads_ended c.args.now first old new start before after
           c.loop-moment.invariant.leads over;
       moved = moved_ended c.args.now first old new before after c.loop-moment.invariant.moved over;
+      kept = λ grants was.
+          c.end_one.ensures.granted grants (c.loop-moment.invariant.kept grants was);
     }

@@ -1,4 +1,4 @@
-use Rattle.stun_proto.specs.code.Calls.{Leads, kept_steps}
+use Rattle.stun_proto.specs.code.Calls.{IsKept, Leads, kept_steps}
 use Rattle.stun_proto.specs.Run.{ending}
 use Rattle.stun_proto.specs.code.Work.{work}
 use Rattle.stun_proto.proofs.agent_runs.TurnLemmas.{HasMoved}
@@ -11,6 +11,7 @@ invariant-loop-moment g l =
       leads : Leads l.now ending ending l.initial.agent l.agent (kept_steps l.initial.log)
           (kept_steps l.log);
       moved : HasMoved l.initial.agent l.agent;
+      kept : g.A.Memory.grants → IsKept l.initial.log → IsKept l.log;
     }
 
 abbrev pub decreases-loop-moment : goal.decreases-loop-moment

@@ -29,4 +29,5 @@ returns g c = record {
   too_small = search rules;
   otherwise_memory = search rules;
   succeeds = search rules;
+  granted = search rules;
 }

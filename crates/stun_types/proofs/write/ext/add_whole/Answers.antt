@@ -41,6 +41,7 @@ returns g c =
       refused = search rules;
       bytes = written g c;
       succeeds = search rules;
+      granted = search rules;
       added = λ is_open.
           subst (λ after. HasOneMore message after (attribute g c)) (sym (written g c))
           (HasOneMore-added message (attribute g c) is_open (is_addable g c));

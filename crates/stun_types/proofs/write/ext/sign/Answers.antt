@@ -34,6 +34,7 @@ returns g c =
     let key = g.K.DigestKey.key_bytes c.args.key.now in
     record {
       succeeds = search rules;
+      granted = search rules;
       bytes = written g c;
       added = λ is_open.
           subst (λ after.

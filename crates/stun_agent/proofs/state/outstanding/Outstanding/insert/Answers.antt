@@ -11,6 +11,6 @@ returns-clause-there g c =
     let all = items c.self.inside.root in
     on_ok_weaker c.insert.result
     (λ is. ap (at c.args.id)
-    (rw (c.in_ok-leaf.ensures.ok, c.new.ensures) at is)
+    (rw (c.in_ok-leaf.ensures.value, c.new.ensures) at is)
     ∙ lookup-insert_same c.args.id c.args.request all)
     c.insert.ensures.ok

@@ -6,8 +6,8 @@ use Rattle.stun_auth.specs.code.ClientKept.{challenge_seen}
 use Rattle.stun_auth.proofs.Wanting.{refused_outcome, then_outcome}
 use Rattle.stun_auth.proofs.client.challenge.KeptChallenge.sign.Goals as goal
 
-pub returns-in_err-add_identity : goal.returns-in_err-add_identity
-returns-in_err-add_identity g c =
+pub returns-in_err-add_identity-clause-outcome : goal.returns-in_err-add_identity-clause-outcome
+returns-in_err-add_identity-clause-outcome g c =
     let refused = err_from_is_err_and c.from_residual.result c.from_residual.ensures.1 in
     let kept = challenge_seen c.args.self.now in
     refused_outcome _ (identity kept) (challenge_additions false kept) _ _ _ _ _ _ _
@@ -15,9 +15,9 @@ returns-in_err-add_identity g c =
     (ap (λ request. challenge_additions request kept) c.if-is_request.true)
     c.in_err-add_identity.ensures.added
 
-pub returns-in_ok-add_identity : goal.returns-in_ok-add_identity
-returns-in_ok-add_identity g c =
+pub returns-in_ok-add_identity-clause-outcome : goal.returns-in_ok-add_identity-clause-outcome
+returns-in_ok-add_identity-clause-outcome g c =
     let kept = challenge_seen c.args.self.now in
     then_outcome _ (identity kept) (challenge_additions false kept) _ _ _ _ _ _ _
     (ap (λ request. challenge_additions request kept) c.if-is_request.true)
-    c.in_ok-add_identity.ensures.added c.add_protection.ensures
+    c.in_ok-add_identity.ensures.added c.add_protection.ensures.outcome

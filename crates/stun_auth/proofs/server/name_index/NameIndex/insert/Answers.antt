@@ -7,8 +7,8 @@ use Rattle.stun_auth.proofs.server.name_index.NameIndex.insert.Goals as goal
 
 pub returns-clause-ok : goal.returns-clause-ok
 returns-clause-ok g c =
-    names_hashed-inserted c.self.inside.hashed c.insert.new.self (
+    names_hashed-inserted c.self.inside.hashed c.add.new.set (
       c.args.hash,
       c.args.name,
-    ) c.in_ok-insert.ensures.updates
+    ) c.in_ok-add.ensures.updates
     ∙ ap (λ names. set.insert names (c.args.hash, string_bytes c.args.name)) c.self.view_is

@@ -6,6 +6,7 @@ use Rattle.std.proofs.lemmas.Map.Made.{filter_same_pairs}
 use Rattle.stun_auth.specs.declared.server.places.Place.{Place}
 use Rattle.stun_auth.specs.Forgetting.{is_forgotten, places_kept}
 use Rattle.stun_auth.specs.code.Places.{place_seen, places_seen}
+use Rattle.stun_auth.proofs.PlaceMaps.{seen_is}
 use Rattle.stun_auth.proofs.Forgotten.{places_seen-filter}
 use Rattle.stun_auth.proofs.server.places.Places.forget_expired.Goals as goal
 
@@ -15,4 +16,4 @@ returns g c =
     (filter_same_pairs _ (λ e. not (is_forgotten c.args.now (place_seen e.1))) _
     (λ k v b w f t. search rules) _ _ c.retain.ensures.filtered)
     ∙ places_seen-filter c.args.now c.self.inside.by_address.entries c.retain.ensures.was_ordered
-    ∙ ap (places_kept c.args.now) c.self.view_is
+    ∙ ap (places_kept c.args.now) (seen_is c.self.view_is)

@@ -10,24 +10,24 @@ use Rattle.stun_auth.proofs.server.places.Places.forget_expired_within.Goals as 
 
 pub loop-looked-init : goal.loop-looked-init
 loop-looked-init g c = record {
-  left = begun_left c.args.from _ c.args.now c.args.self.now c.start_at-start.ensures;
+  left = begun_left c.args.from _ c.args.now c.args.self.now.seen c.start_at-start.ensures;
   within = begun_within c.args.from _ c.start_at-start.ensures;
-  next = begun_next c.args.from _ c.args.most c.args.self.now c.start_at-start.ensures;
+  next = begun_next c.args.from _ c.args.most c.args.self.now.seen c.start_at-start.ensures;
 }
 
 pub loop-looked-preserved : goal.loop-looked-preserved
 loop-looked-preserved g c = record {
-  left = left_more (start_of c.args.from) c.loop-looked.start c.args.now c.args.self.now
-      c.loop-looked.self _ c.in_ok-first.first.address c.loop-looked.invariant.left
+  left = left_more (start_of c.args.from) c.loop-looked.start c.args.now c.args.self.now.seen
+      c.loop-looked.self.seen _ c.in_ok-first.first.address c.loop-looked.invariant.left
       c.loop-looked.invariant.within c.in_ok-first.ensures.first
       (c.forget_if.ensures
-      ∙ kept_if c.in_ok-first.first.address c.args.now c.loop-looked.self
+      ∙ kept_if c.in_ok-first.first.address c.args.now c.loop-looked.self.seen
       c.in_ok-first.first.has_expired c.in_ok-first.ensures.expired);
   within =
       still_within (start_of c.args.from) c.loop-looked.start c.in_ok-first.first.address
       c.in_ok-first.ensures.first.1 c.loop-looked.invariant.within;
-  next = next_more (start_of c.args.from) c.loop-looked.start c.args.now c.args.self.now
-      c.loop-looked.self c.in_ok-first.first.address _ c.args.most c.loop-looked._looked
+  next = next_more (start_of c.args.from) c.loop-looked.start c.args.now c.args.self.now.seen
+      c.loop-looked.self.seen c.in_ok-first.first.address _ c.args.most c.loop-looked._looked
       (search rules) c.loop-looked.invariant.left c.in_ok-first.ensures.first
       c.loop-looked.invariant.next;
 }
@@ -35,40 +35,40 @@ loop-looked-preserved g c = record {
 pub returns-in_err-first-clause-next : goal.returns-in_err-first-clause-next
 returns-in_err-first-clause-next g c =
     c.from_residual.ensures
-    ∙ next_none (start_of c.args.from) c.loop-looked.start c.args.now c.args.self.now
-    c.loop-looked.self _ c.args.most c.loop-looked._looked (search rules)
+    ∙ next_none (start_of c.args.from) c.loop-looked.start c.args.now c.args.self.now.seen
+    c.loop-looked.self.seen _ c.args.most c.loop-looked._looked (search rules)
     c.loop-looked.invariant.left c.in_err-first.ensures.first c.loop-looked.invariant.next
 
 pub returns-in_err-first-clause-state : goal.returns-in_err-first-clause-state
 returns-in_err-first-clause-state g c =
-    subst (λ (o : Option SocketAddr). c.loop-looked.self
-    ≡ places_kept_where (is_looked_at c.args.from o) c.args.now c.args.self.now)
+    subst (λ (o : Option SocketAddr). c.loop-looked.self.seen
+    ≡ places_kept_where (is_looked_at c.args.from o) c.args.now c.args.self.now.seen)
     (sym c.from_residual.ensures)
-    (left_last c.args.from c.loop-looked.start c.args.now c.args.self.now c.loop-looked.self None
+    (left_last c.args.from c.loop-looked.start c.args.now c.args.self.now.seen c.loop-looked.self.seen None
     c.loop-looked.invariant.left c.in_err-first.ensures.first)
 
 pub returns-clause-next : goal.returns-clause-next
 returns-clause-next g c =
-    next_last (start_of c.args.from) c.loop-looked.start c.args.now c.args.self.now
-    c.loop-looked.self _ _ c.args.most c.loop-looked._looked (search rules)
+    next_last (start_of c.args.from) c.loop-looked.start c.args.now c.args.self.now.seen
+    c.loop-looked.self.seen _ _ c.args.most c.loop-looked._looked (search rules)
     c.loop-looked.invariant.left c.in_ok-next.ensures.first c.loop-looked.invariant.next
 
 pub returns-clause-state : goal.returns-clause-state
 returns-clause-state g c =
-    left_last c.args.from c.loop-looked.start c.args.now c.args.self.now c.loop-looked.self
+    left_last c.args.from c.loop-looked.start c.args.now c.args.self.now.seen c.loop-looked.self.seen
     (Some c.in_ok-next.next.address) c.loop-looked.invariant.left c.in_ok-next.ensures.first
 
 pub returns-in_err-next-clause-next : goal.returns-in_err-next-clause-next
 returns-in_err-next-clause-next g c =
     c.from_residual-in_err-next.ensures
-    ∙ next_last (start_of c.args.from) c.loop-looked.start c.args.now c.args.self.now
-    c.loop-looked.self None _ c.args.most c.loop-looked._looked (search rules)
+    ∙ next_last (start_of c.args.from) c.loop-looked.start c.args.now c.args.self.now.seen
+    c.loop-looked.self.seen None _ c.args.most c.loop-looked._looked (search rules)
     c.loop-looked.invariant.left c.in_err-next.ensures.first c.loop-looked.invariant.next
 
 pub returns-in_err-next-clause-state : goal.returns-in_err-next-clause-state
 returns-in_err-next-clause-state g c =
-    subst (λ (o : Option SocketAddr). c.loop-looked.self
-    ≡ places_kept_where (is_looked_at c.args.from o) c.args.now c.args.self.now)
+    subst (λ (o : Option SocketAddr). c.loop-looked.self.seen
+    ≡ places_kept_where (is_looked_at c.args.from o) c.args.now c.args.self.now.seen)
     (sym c.from_residual-in_err-next.ensures)
-    (left_last c.args.from c.loop-looked.start c.args.now c.args.self.now c.loop-looked.self None
+    (left_last c.args.from c.loop-looked.start c.args.now c.args.self.now.seen c.loop-looked.self.seen None
     c.loop-looked.invariant.left c.in_err-next.ensures.first)

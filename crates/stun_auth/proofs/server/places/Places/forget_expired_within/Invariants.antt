@@ -9,9 +9,9 @@ use Rattle.stun_auth.proofs.server.places.Places.forget_expired_within.Given as 
 
 abbrev pub invariant-loop-looked : goal.invariant-loop-looked
 invariant-loop-looked g l = record {
-  left : l.self ≡ places_kept_where (is_passed (start_of l.fn.from) l.start) l.now l.fn.self;
+  left : l.self.seen ≡ places_kept_where (is_passed (start_of l.fn.from) l.start) l.now l.fn.self.seen;
   within : (q : SocketAddr) → is_from_start address_cmp l.start q ≡ true
       → is_from_start address_cmp (start_of l.fn.from) q ≡ true;
-  next : next_address_from l.fn.self (start_of l.fn.from) l.most
-      ≡ next_address_from l.fn.self l.start (l.most - l._looked);
+  next : next_address_from l.fn.self.seen (start_of l.fn.from) l.most
+      ≡ next_address_from l.fn.self.seen l.start (l.most - l._looked);
 }

@@ -2,7 +2,7 @@
 use Rattle.std.proofs.Common.{◌∙◌, ap}
 use Rattle.stun_auth.specs.Places.{with_offer}
 use Rattle.stun_auth.specs.code.Places.{places_seen}
-use Rattle.stun_auth.proofs.PlaceMaps.{places_seen-at, places_seen-none, is_found}
+use Rattle.stun_auth.proofs.PlaceMaps.{is_found, places_seen-at, places_seen-none, seen_is}
 use Rattle.stun_auth.proofs.server.places.Places.offer.Goals as goal
 
 pub returns-in-Some : goal.returns-in-Some
@@ -12,11 +12,11 @@ returns-in-Some g c =
     let new = c.offer.new.self in
     let written =
     (c.get_mut.follows.holds new).3 (is_found map c.args.address old c.in-Some.ensures.value) in
-    places_seen-at map (c.get_mut.follows.lender new) c.args.address c.args.self.now old new
-    (with_offer c.args.supported) c.self.view_is c.in-Some.ensures.value written c.offer.ensures
+    places_seen-at map (c.get_mut.follows.lender new) c.args.address c.args.self.now.seen old new
+    (with_offer c.args.supported) (seen_is c.self.view_is) c.in-Some.ensures.value written c.offer.ensures
 
 pub returns-in-None : goal.returns-in-None
 returns-in-None g c =
-    ap (λ m. places_seen m.entries) c.get_mut.follows.holds-at-none ∙ c.self.view_is
-    ∙ places_seen-none c.self.inside.by_address c.args.address c.args.self.now
-    (with_offer c.args.supported) c.self.view_is c.in-None.ensures.value
+    ap (λ m. places_seen m.entries) c.get_mut.follows.holds-at-none ∙ (seen_is c.self.view_is)
+    ∙ places_seen-none c.self.inside.by_address c.args.address c.args.self.now.seen
+    (with_offer c.args.supported) (seen_is c.self.view_is) c.in-None.ensures.value

@@ -26,11 +26,11 @@ invariant_of-self-in-Ok g c =
     c.as_str-realm.ensures.value c.in_ok-user.ensures.keys) in
     let hash : c.userhash-hash.result ≡ userhash_of name realm = c.userhash-hash.ensures
     ∙ (λ i. userhash_of (c.as_str-2.ensures.value i) (c.as_str-3.ensures.value i)) in
-    let copied : string_bytes c.in_ok-clone.field-0 ≡ name = search rules in (
+    let copied : string_bytes c.in_ok-text.field-0 ≡ name = search rules in (
       keys_after_add realm r.supported r.users c.put_user.new.users name c.in_ok-user.user
           c.in-Ok.ensures.ok keys c.self.invariant.0,
       index_after_add realm name (secrets_seen r.users.entries) r.hashed c.self.invariant.1
-          c.userhash-hash.result (string_bytes c.in_ok-clone.field-0) hash copied
+          c.userhash-hash.result (string_bytes c.in_ok-text.field-0) hash copied
           (secret_of c.in_ok-user.user) (secrets_seen c.put_user.new.users.entries)
           c.insert.new.self
           (secrets_seen-inserted r.users c.put_user.new.users name c.in_ok-user.user
@@ -44,14 +44,14 @@ invariant_of-self-in-Err g c =
     let name = string_bytes c.args.name in
     let hash : c.userhash-hash.result ≡ userhash_of name realm = c.userhash-hash.ensures
     ∙ (λ i. userhash_of (c.as_str-2.ensures.value i) (c.as_str-3.ensures.value i)) in
-    let copied : string_bytes c.in_ok-clone.field-0 ≡ name = search rules in
+    let copied : string_bytes c.in_ok-text.field-0 ≡ name = search rules in
     let absent : map.contains_key (secrets_seen r.users.entries) name ≡ false =
     ap is_some
     (get-secrets_seen r.users name
     ∙ ap (option_map (λ (u : User g.row.A.Denot). secret_of u)) c.in-Err.ensures.absent) in
     let undone : c.remove.new.self ≡ r.hashed =
     index_undone realm name (secrets_seen r.users.entries) r.hashed c.self.invariant.1
-    c.userhash-hash.result (string_bytes c.in_ok-clone.field-0) hash copied
+    c.userhash-hash.result (string_bytes c.in_ok-text.field-0) hash copied
     c.insert.new.self c.remove.new.self absent c.in_ok-insert.ensures.ok
     (c.remove.ensures
     ∙ ap (λ (n : String g.row.A.Denot). set.remove c.insert.new.self (

@@ -6,17 +6,18 @@ use Rattle.stun_client.specs.code.Kept.{challenge_seen}
 use Rattle.stun_auth.proofs.Wanting.{refused_outcome, then_outcome}
 use Rattle.stun_client.proofs.challenge.kept.KeptChallenge.add_protection.Goals as goal
 
-pub returns-in_err-add_algorithm_choice : goal.returns-in_err-add_algorithm_choice
-returns-in_err-add_algorithm_choice g c =
+pub returns-in_err-add_algorithm_choice-clause-outcome :
+    goal.returns-in_err-add_algorithm_choice-clause-outcome
+returns-in_err-add_algorithm_choice-clause-outcome g c =
     let refused = err_from_is_err_and c.from_residual.result c.from_residual.ensures.1 in
     let kept = challenge_seen c.args.self.now in
     refused_outcome _ (algorithm_choice kept.offered kept.algorithm) (protection kept) _ _ _ _ _
     _ _ (refused.1 ∙ ap (λ reason. Err reason) refused.2) refl
     c.in_err-add_algorithm_choice.ensures.added
 
-pub returns : goal.returns
-returns g c =
+pub returns-clause-outcome : goal.returns-clause-outcome
+returns-clause-outcome g c =
     let kept = challenge_seen c.args.self.now in
     then_outcome _ (algorithm_choice kept.offered kept.algorithm) (protection kept) _ _ _ _ _ _
     _ refl
-    c.in_ok-add_algorithm_choice.ensures.added c.add_integrity.ensures
+    c.in_ok-add_algorithm_choice.ensures.added c.add_integrity.ensures.outcome

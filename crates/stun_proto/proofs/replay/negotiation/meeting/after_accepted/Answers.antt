@@ -10,7 +10,7 @@ use Rattle.stun_proto.specs.code.Meetings.{meeting_of}
 use Rattle.stun_proto.specs.Negotiation.{ending_with, outcome_of_success, server_response}
 use Rattle.stun_proto.specs.Negotiation.{success_sent, success, ending_unwritten}
 use Rattle.stun_proto.specs.Sides.{PassesAccepted, sides}
-use Rattle.stun_proto.proofs.meetings.Runs.{ends, refused, stops}
+use Rattle.stun_proto.proofs.meetings.Runs.{ends, not_memory, refused, stops}
 use Rattle.stun_proto.proofs.replay.negotiation.meeting.after_accepted.Goals as goal
 
 pub returns-in_err-granted-clause-run : goal.returns-in_err-granted-clause-run
@@ -68,3 +68,8 @@ returns-clause-run g c =
     ∙ (λ i. success_sent m a k.state s
     ((ap Ok (ap page_of c.data.ensures) ∙ c.in_ok-granted.ensures.answer
     ∙ ap (λ n. server_response (success n) (sight s m.from)) c.requires.id) i)))
+
+pub returns-in_err-granted-clause-granted : goal.returns-in_err-granted-clause-granted
+returns-in_err-granted-clause-granted g c = λ grants.
+    not_memory c.from_residual.result c.in_err-granted.field-0.0 c.from_residual.ensures.1
+    (c.in_err-granted.ensures.granted grants)

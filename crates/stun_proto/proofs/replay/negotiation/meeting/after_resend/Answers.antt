@@ -19,7 +19,7 @@ use Rattle.stun_proto.specs.Negotiation.{ending_unwritten}
 use Rattle.stun_proto.specs.Serving.{after_calls}
 use Rattle.stun_proto.specs.Sides.{PassesAccepted, PassesResend, sides}
 use Rattle.stun_proto.specs.declared.replay.negotiation.Outcome.TheVariants.{ServerRefused}
-use Rattle.stun_proto.proofs.meetings.Runs.{ends, goes_on, refused, stops}
+use Rattle.stun_proto.proofs.meetings.Runs.{ends, goes_on, not_memory, refused, stops}
 use Rattle.stun_proto.proofs.replay.negotiation.meeting.after_resend.Goals as goal
 
 pub message_in-again-requires : goal.message_in-again-requires
@@ -133,3 +133,8 @@ returns-in-Ok-clause-run g c =
     IsRun r c.after_accepted.new.client.state c.after_accepted.new.server
     (second_answered n p.0.state p.1 (Ok (Validated a))) (PassesAccepted n p.0.state p.1))
     (λ i. (c.in_ok-proven.ensures.stays i, left i)) c.after_accepted.ensures.run)
+
+pub returns-in_err-proven-clause-granted : goal.returns-in_err-proven-clause-granted
+returns-in_err-proven-clause-granted g c = λ grants.
+    not_memory c.from_residual.result c.in_err-proven.field-0.0 c.from_residual.ensures.1
+    (c.in_err-proven.ensures.granted grants)

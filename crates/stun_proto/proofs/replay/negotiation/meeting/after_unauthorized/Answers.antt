@@ -16,7 +16,7 @@ use Rattle.stun_proto.specs.Negotiation.{ending_with}
 use Rattle.stun_proto.specs.Negotiation.{failure, server_response, second_asked, ending_unwritten}
 use Rattle.stun_proto.specs.Serving.{after_calls}
 use Rattle.stun_proto.specs.Sides.{PassesResend, PassesUnauthorized, sides}
-use Rattle.stun_proto.proofs.meetings.Runs.{challenge_ends, ended_by, ends}
+use Rattle.stun_proto.proofs.meetings.Runs.{challenge_ends, ended_by, ends, not_memory}
 use Rattle.stun_proto.proofs.meetings.Runs.{goes_on, not_ended, refused, stops}
 use Rattle.stun_proto.proofs.replay.negotiation.meeting.after_unauthorized.Goals as goal
 
@@ -140,3 +140,8 @@ returns-clause-run g c =
     (second_asked n p.0.state p.1 (client_request n.second.id p.0.state))
     (PassesResend n p.0.state p.1))
     (λ i. (taken i, left i)) c.after_resend.ensures.run)
+
+pub returns-in_err-failure-clause-granted : goal.returns-in_err-failure-clause-granted
+returns-in_err-failure-clause-granted g c = λ grants.
+    not_memory c.from_residual.result c.in_err-failure.field-0.0 c.from_residual.ensures.1
+    (c.in_err-failure.ensures.granted grants)

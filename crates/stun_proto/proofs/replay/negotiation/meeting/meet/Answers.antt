@@ -16,7 +16,7 @@ use Rattle.stun_proto.specs.Negotiation.{client_request, ending_with, first_answ
 use Rattle.stun_proto.specs.Negotiation.{ending_unwritten}
 use Rattle.stun_proto.specs.Sides.{Passes, PassesUnauthorized, sides}
 use Rattle.stun_proto.proofs.meetings.Runs.{ended_by, ends, first_ends}
-use Rattle.stun_proto.proofs.meetings.Runs.{goes_on, not_ended, refused, stops}
+use Rattle.stun_proto.proofs.meetings.Runs.{goes_on, not_ended, not_memory, refused, stops}
 use Rattle.stun_proto.proofs.replay.negotiation.meeting.meet.Goals as goal
 
 pub message_in-asked-requires : goal.message_in-asked-requires
@@ -103,3 +103,8 @@ returns-clause-run g c =
     IsRun r c.after_unauthorized.new.client.state c.after_unauthorized.new.server
     (first_answered n p.0.state p.1 (Err Unauthorized)) (PassesUnauthorized n p.0.state p.1))
     (λ i. (c.in_ok-unproven.ensures.stays i, left i)) c.after_unauthorized.ensures.run)
+
+pub returns-in_err-unproven-clause-granted : goal.returns-in_err-unproven-clause-granted
+returns-in_err-unproven-clause-granted g c = λ grants.
+    not_memory c.from_residual.result c.in_err-unproven.field-0.0 c.from_residual.ensures.1
+    (c.in_err-unproven.ensures.granted grants)

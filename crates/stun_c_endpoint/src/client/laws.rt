@@ -1,0 +1,123 @@
+//! Laws about the results of the calls on a client, the data that they write, and the client after
+//! a call. They do nothing when they run.
+
+ghost use Rattle.std.specs.Prelude.{◌≡◌, ◌≢◌, ◌<◌, ◌≤◌, ◌==◌, ℕ, ℤ, pos, List, [], length};
+ghost use Rattle.std.specs.Prelude.{Option, Some, None, Result, Ok};
+ghost use Rattle.std.specs.Option.{is_some};
+ghost use Rattle.std.specs.declared.net.socket_addr.SocketAddr.{SocketAddr};
+ghost use Rattle.stun_c_endpoint.specs.Attributes.{Reads};
+ghost use Rattle.stun_c_endpoint.specs.ClientLaws.{AreAllowed, TellsPoll, TellsReceived};
+ghost use Rattle.stun_c_endpoint.specs.Clients.{AsksAs, CancelsAs, HearsAs, PollsAs, TellsDropped};
+ghost use Rattle.stun_c_endpoint.specs.ClientsGiven.{ClientGiven, MakesClient};
+ghost use Rattle.stun_c_endpoint.specs.Events.{drop_told, drops_told, event_failed};
+ghost use Rattle.stun_c_endpoint.specs.HandleLaws.{IsErrorNumber};
+ghost use Rattle.stun_c_endpoint.specs.RequestsGiven.{options_if_any};
+ghost use Rattle.stun_c_endpoint.specs.SettingLaws.{IsClientOf};
+ghost use Rattle.stun_c_endpoint.specs.declared.client.event.Dropped.{Dropped};
+ghost use Rattle.stun_c_endpoint.specs.declared.client.event.Event.{Event};
+ghost use Rattle.stun_c_endpoint.specs.declared.client.options.RequestOptions.{RequestOptions};
+ghost use Rattle.stun_c_endpoint.specs.declared.handle.endpoint.Kept.{Kept};
+ghost use Rattle.stun_c_endpoint.specs.declared.handle.endpoint.Kept.TheVariants as kind;
+ghost use Rattle.stun_client_calls.specs.Clients.{Client as ClientSeen, cancelled};
+ghost use Rattle.stun_client_calls.specs.Clients.{refusal_to_start, started, told};
+ghost use Rattle.stun_client_calls.specs.Messages.{AskedSeen};
+ghost use Rattle.stun_client_calls.specs.Options.{Options};
+ghost use Rattle.stun_client_calls.specs.Receiving.{Answer, UnlessMemory, heard_in, received};
+ghost use Rattle.stun_client_calls.specs.Runs.{next_number};
+ghost use Rattle.stun_client_endpoint.specs.Bodies.{Body};
+ghost use Rattle.stun_client_endpoint.specs.declared.ended.DropReason.{DropReason};
+ghost use Rattle.stun_client_requests.specs.Requests.{datum_of};
+ghost use Rattle.stun_handles.specs.Addresses.{socket_address};
+ghost use Rattle.stun_handles.specs.declared.address.Address.{Address};
+ghost use Rattle.stun_numbers.specs.Refusals.{refusal_number};
+ghost use Rattle.stun_numbers.specs.declared.refusal.Refusal.{Refusal};
+ghost use Rattle.stun_numbers.specs.declared.refusal.Refusal.TheVariants.{BufferTooSmall};
+
+/// If the call that creates a client returns 0, the handle has a client of the server at the
+/// address that was passed. The client authenticates with the name, the password and the kind of
+/// credentials that were passed, or has no credentials if there is no name. Numbers that are 0 have
+/// their defaults. No client is created with a seed of one repeated byte, with a name without a
+/// password, or with a password without a name.
+pub fn clients_are_made_as_asked_for()
+    ensures { (g : ClientGiven) (now : Option Kept) → MakesClient g (pos 0) now
+        → (server : SocketAddr) × (c : ClientSeen) × (socket_address g.server ≡ Some server)
+        × (now ≡ Some (kind.Client c)) × IsClientOf g server c }
+{}
+
+/// If a call starts a request, the library starts it, with the options that were passed, and with
+/// the attributes that the bytes of the body encode. No attribute has a type that the client writes
+/// itself. The caller receives the number that the library gives the request, and the handle has
+/// the client as the library leaves it.
+pub fn requests_are_those_of_the_library()
+    ensures started { (c : ClientSeen) (method : ℕ) (bytes : List ℕ)
+        (given : Option RequestOptions) (now id named : ℕ) (before after : Option Kept)
+        → AsksAs (Ok c) method bytes given now (pos 0) id named before after
+        → (body : Body) × (options : Option Options) × (method ≤ 4095)
+        × (options_if_any given c ≡ Ok options) × Reads [] bytes (Ok body)
+        × (refusal_to_start c method body options ≡ None) × (named ≡ next_number c)
+        × (after ≡ Some (kind.Client (started method body options now c))) }
+    ensures body { (bytes : List ℕ) (body : Body) → Reads [] bytes (Ok body) → AreAllowed body }
+    ensures cancelled { (c : ClientSeen) (number n : ℕ) (before after : Option Kept)
+        → CancelsAs (Ok c) number (pos n) before after
+        → (is_some (datum_of number c.requests) ≡ (n == 1))
+        × (after ≡ Some (kind.Client (cancelled number c))) }
+    ensures outstanding { (c : ClientSeen) (number : ℕ) (d now : Dropped)
+        → TellsDropped (Ok c) number (pos 1) d now
+        → (a : AskedSeen) × (datum_of number c.requests ≡ Some a)
+        × (now ≡ drops_told a.drops) }
+    ensures ended { (c : ClientSeen) (number : ℕ) (d now : Dropped)
+        → TellsDropped (Ok c) number (pos 0) d now
+        → (datum_of number c.requests ≡ None) × (now ≡ d) }
+{}
+
+/// A caller receives what the library returns for a datagram from the same address, and for a poll.
+/// For a request that has ended, this is how it ended, the response that ended it, the signature of
+/// that response, and the round-trip time. The handle has the client as the library leaves it.
+pub fn callers_read_what_the_library_returns()
+    ensures datagram { (c : ClientSeen) (from : Address) (bytes : List ℕ) (now n why told : ℕ)
+        (before after : Option Kept)
+        → HearsAs (Ok c) from bytes now (pos n) why told before after
+        → (address : SocketAddr) × (answer : Answer) × (socket_address from ≡ Some address)
+        × UnlessMemory (λ memory. received memory address bytes now c) bytes
+        (heard_in address bytes c) c answer
+        × TellsReceived answer.0 n why told × (after ≡ Some (kind.Client answer.1)) }
+    ensures poll { (c : ClientSeen) (now n : ℕ) (out written : List ℕ) (v event : Event)
+        (before after : Option Kept)
+        → PollsAs (Ok c) now (pos n) out written v event before after
+        → TellsPoll (told now c).1 (told now c).0 n out written event
+        × (after ≡ Some (kind.Client (told now c).1)) }
+    ensures kind { (c : Result ClientSeen Refusal) (now n : ℕ) (out written : List ℕ)
+        (v event : Event) (before after : Option Kept)
+        → PollsAs c now (pos n) out written v event before after → event.kind ≡ n }
+    ensures why { (one other : DropReason) → drop_told one ≡ drop_told other → one ≡ other }
+{}
+
+/// After an error the client is unchanged, and only the event is written, with the kind 7 and the
+/// length 0. The exception is a poll whose bytes do not fit into the buffer: these bytes are lost,
+/// and the event has their number, which is greater than the length of the buffer.
+pub fn errors_leave_the_client()
+    ensures request { (c : Result ClientSeen Refusal) (method : ℕ) (bytes : List ℕ)
+        (given : Option RequestOptions) (now : ℕ) (result : ℤ) (id named : ℕ)
+        (before after : Option Kept)
+        → AsksAs c method bytes given now result id named before after → IsErrorNumber result
+        → (after ≡ before) × (named ≡ id) }
+    ensures datagram { (c : Result ClientSeen Refusal) (from : Address) (bytes : List ℕ)
+        (now : ℕ) (result : ℤ) (why told : ℕ) (before after : Option Kept)
+        → HearsAs c from bytes now result why told before after → IsErrorNumber result
+        → (after ≡ before) × (told ≡ why) }
+    ensures cancelled { (c : Result ClientSeen Refusal) (number : ℕ) (result : ℤ)
+        (before after : Option Kept) → CancelsAs c number result before after
+        → IsErrorNumber result → after ≡ before }
+    ensures poll { (c : Result ClientSeen Refusal) (now : ℕ) (result : ℤ)
+        (out written : List ℕ) (v event : Event) (before after : Option Kept)
+        → PollsAs c now result out written v event before after → IsErrorNumber result
+        → result ≢ refusal_number BufferTooSmall → (after ≡ before) × (event ≡ v) }
+    ensures event { (c : Result ClientSeen Refusal) (now : ℕ) (result : ℤ)
+        (out written : List ℕ) (v event : Event) (before after : Option Kept)
+        → PollsAs c now result out written (event_failed v) event before after
+        → IsErrorNumber result → (written ≡ out) × (event.kind ≡ 7) × (event.length ≡ 0) }
+    ensures lost { (c : ClientSeen) (now : ℕ) (out written : List ℕ) (v event : Event)
+        (before after : Option Kept)
+        → PollsAs (Ok c) now (refusal_number BufferTooSmall) out written v event before after
+        → (length out < event.needed) × (after ≡ Some (kind.Client (told now c).1)) }
+{}

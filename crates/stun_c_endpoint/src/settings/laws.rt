@@ -1,0 +1,23 @@
+//! Laws about the servers that the calls for C create. They do nothing when they run.
+
+ghost use Rattle.std.specs.Prelude.{◌≡◌, pos, Option, Some};
+ghost use Rattle.stun_c_endpoint.specs.Given.{Given, GivenAlone, MakesOpen, MakesServer};
+ghost use Rattle.stun_c_endpoint.specs.Given.{MakesShortTerm};
+ghost use Rattle.stun_c_endpoint.specs.SettingLaws.{IsAloneOf, IsServerOf};
+ghost use Rattle.stun_c_endpoint.specs.declared.handle.endpoint.Kept.{Kept};
+ghost use Rattle.stun_c_endpoint.specs.declared.handle.endpoint.Kept.TheVariants as kind;
+ghost use Rattle.stun_endpoint.specs.Responding.{Responding};
+ghost use Rattle.stun_endpoint.specs.Settings.{Settings};
+
+/// If a call that creates a server returns 0, the handle has a server of the kind of the call, with
+/// the settings that were passed. No server is created with a secret of one repeated byte, with a
+/// previous secret that is the secret itself, or with nonces that last less than 30 seconds or more
+/// than 30 days.
+pub fn servers_are_made_as_asked_for()
+    ensures realm { (g : Given) (now : Option Kept) → MakesServer g (pos 0) now
+        → (s : Settings) × (now ≡ Some (kind.Server s)) × IsServerOf g s }
+    ensures short_term { (g : GivenAlone) (now : Option Kept) → MakesShortTerm g (pos 0) now
+        → (s : Responding) × (now ≡ Some (kind.ShortTerm s)) × IsAloneOf g s }
+    ensures open { (g : GivenAlone) (now : Option Kept) → MakesOpen g (pos 0) now
+        → (s : Responding) × (now ≡ Some (kind.Open s)) × IsAloneOf g s }
+{}

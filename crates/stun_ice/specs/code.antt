@@ -1,0 +1,2 @@
+-- Definitions that no clause of a public call cites.
+pub mod Answerable

@@ -33,6 +33,7 @@ PACKAGES = ("libnice-dev", "pkg-config", "python3-aioice", "coturn", "golang-go"
             "golang-github-pion-turn.v2-dev")
 LARGEST = str((1 << 64) - 1)
 UNKNOWN = 0x7777  # a type that must be understood
+CREATE_PERMISSION = 0x0008
 OURS, LOOPBACK = "ice_check", "--allow-loopback-peers"
 OTHER = {"controlling": "controlled", "controlled": "controlling"}
 
@@ -314,7 +315,8 @@ RELAYED = ["came back: by indication", "came back: on the channel", "ended"]
 
 def judged(relay):
     """Each request but the first is signed under the user's key, and so is each answer but a 401
-    and a 438; data came by indication and on the channel. The codes of the answers, each once."""
+    and a 438; data came by indication and on the channel. The code that answers each transaction
+    ID."""
     key = stun.key_of(stun.SHA1, NAME, REALM, PASSWORD)
     codes = {}
     for one in filter(is_message, relay.requests + relay.responses):
@@ -327,17 +329,39 @@ def judged(relay):
     for way in (relay.requests, relay.responses):
         assert any(one[0] == 0x40 for one in way), "no ChannelData"
         assert any(is_message(one) and stun.read(one)[0] in (0x0016, 0x0017) for one in way)
-    return list(codes.values())
+    return codes
 
 
-def relayed(program, server, host, peer, rule=everything, wanted=(401, 200, 200, 200, 200)):
+def codes_of_session(program, server, host, peer, rule):
     """The whole session: what came back each way, and the end."""
     with harness.Relay(server, rule, host=host) as relay:
         status, lines, err = session(program, (host, relay.port), peer)
         assert (status, lines[1:], err) == (0, RELAYED, ""), (status, lines, err)
-        codes = judged(relay)
-        assert codes == list(wanted), codes
-        return f"data came back each way; codes {codes}"
+        return judged(relay)
+
+
+def relayed(program, server, host, peer, rule=everything):
+    codes = list(codes_of_session(program, server, host, peer, rule).values())
+    assert codes == [401, 200, 200, 200, 200], codes
+    return f"data came back each way; codes {codes}"
+
+
+def refreshed(program, server, peer):
+    """The permission is asked for under a nonce that has expired by then. On a busy machine a nonce
+    expires before another request as well, which the client signs again."""
+    held = []
+
+    def rule(relay, is_request, number, data):
+        if is_message(data) and stun.read(data)[0] == CREATE_PERMISSION and not held:
+            held.append(data[8:20])
+            time.sleep(3.5)
+        return [data]
+
+    codes = codes_of_session(program, server, "127.0.0.1", peer, rule)
+    assert codes[held[0]] == 438, codes
+    others = [code for code in codes.values() if code != 438]
+    assert others == [401, 200, 200, 200, 200], codes
+    return "data came back each way; 438 to the permission, which is signed again"
 
 
 def with_address(program, server, peer):
@@ -378,13 +402,6 @@ def loses(relay, is_request, number, data):
 def forges(relay, is_request, number, data):
     """Before each answer but the challenge, and before data, come 40 that are changed."""
     return [data] if is_request or number == 1 else [*changes(number, data), data]
-
-
-def holds(relay, is_request, number, data):
-    """The permission is asked for under a nonce that has expired by then."""
-    if is_request and number == 3:
-        time.sleep(3.5)
-    return [data]
 
 
 def is_refused(program, server, peer, why, lines, **words):
@@ -489,8 +506,7 @@ def of_coturn(name, turn_client, folder, start):
     yield name, "`--address`", run(with_address, server, peer)
     yield (name, "answers of another port",
            run(is_refused_at, server, peer, "Allocate: no answer"))
-    yield (name, "`--stale-nonce=1`, the third request held back",
-           run(relayed, short, "127.0.0.1", peer, holds, (401, 200, 438, 200, 200, 200)))
+    yield (name, "`--stale-nonce=1`, the permission held back", run(refreshed, short, peer))
     yield (name, "wrong password",
            run(is_refused, server, peer, "Allocate: refused", [], password="wrong"))
     strict, silent = at(), Echo("127.0.0.1", is_silent=True)

@@ -9,7 +9,8 @@ ghost use Rattle.stun_inspect.specs.Run.{Answers, PrintsDigits, PrintsLine, Prin
 ghost use Rattle.stun_inspect.specs.Run.{PrintsText, keys_for};
 ghost use Rattle.stun_cli.specs.Line.{IsLine};
 ghost use Rattle.stun_cli.specs.Verdict.{verdict_of};
-ghost use Rattle.stun_inspect.specs.Listed.{PrintsListed};
+ghost use Rattle.stun_inspect.specs.Listed.{PrintsListed, status_of_refusal};
+ghost use Rattle.stun_types.specs.Message.{refusal};
 ghost use Rattle.stun_inspect.specs.Verify.{PrintsVerdictAndNotes, PrintsWithNotes};
 
 use crate::command::{Command, User, Who};
@@ -236,6 +237,24 @@ pub fn list<W: Write, A: Allocator + Copy>(
     let refusal = refusal_of(bytes);
     let line = line_of(alloc, bytes, refusal)?;
     write_text(writer, line.as_bytes())?;
+    Ok(found_of(refusal))
+}
+
+/// Prints `place`, which is the position of one of several messages, and the line for the message.
+/// Writes both at once, so that no part of a line is printed if an allocation fails. Returns a
+/// `Found` for the bytes.
+pub fn list_at<W: Write, A: Allocator + Copy>(
+    alloc: A,
+    place: &str,
+    bytes: &[u8],
+    writer: &mut W,
+) -> Result<Found, Failure>
+    ensures { IfOk result (λ found. status_of_found found ≡ status_of_refusal (refusal bytes.now)) }
+{
+    let refusal = refusal_of(bytes);
+    let line = line_of(alloc, bytes, refusal)?;
+    let text = format!(in alloc; "{place}: {line}")?;
+    write_text(writer, text.as_bytes())?;
     Ok(found_of(refusal))
 }
 

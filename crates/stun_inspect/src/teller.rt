@@ -3,7 +3,7 @@ ghost use Rattle.std.specs.Prelude.{IfOk};
 ghost use Rattle.stun_inspect.specs.Found.{status_of_found};
 ghost use Rattle.stun_inspect.specs.Run.{PrintsResult};
 
-use crate::answers::{decode, list, verify};
+use crate::answers::{decode, list, list_at, verify};
 use crate::command::User;
 use crate::failure::Failure;
 use crate::found::Found;
@@ -57,15 +57,12 @@ impl<'a, B: Allocator> Teller<'a, B> {
         message: &[u8],
         writer: &mut W,
     ) -> Result<Found, Failure> {
-        let heading = match self {
-            Teller::List => format!(in alloc; "{place}: ")?,
-            _ => format!(in alloc; "{place}\n")?,
-        };
-        write_text(writer, heading.as_bytes())?;
-        let found = self.tell(alloc, message, writer)?;
         match self {
-            Teller::List => Ok(found),
+            Teller::List => list_at(alloc, place, message, writer),
             _ => {
+                let heading = format!(in alloc; "{place}\n")?;
+                write_text(writer, heading.as_bytes())?;
+                let found = self.tell(alloc, message, writer)?;
                 write_text(writer, b"\n")?;
                 Ok(found)
             }

@@ -22,17 +22,22 @@ PACKAGES = {"aioice": "python3-aioice", "pion": "golang-github-pion-stun-dev",
 COLUMNS = ("| Section | What it does | MUST | Choice | Example | Actual answer |",
            "|---|---|---|---|---|---|")
 HEAD = """\
-`conformance/table.py` writes this page; do not edit it. A cell has four counts: the calls that were
-answered as written, those that differ from a MUST of an RFC, those that differ from a choice of
-this library, and those that were left out because the subject does not have the call or does not
-claim what is in the message. [README.md](README.md) says what a result means.
+`conformance/table.py` writes this page, so do not edit it. [README.md](README.md) says what a
+result means.
+
+The first table has the counts of each subject. A cell has four counts: the calls that were answered
+as written, those that differ from a MUST of an RFC, those that differ from a choice of this
+library, and those that were left out because the subject does not have the call or does not claim
+what is in the message.
+
+Each of the tables after it has the differences of one subject. A row describes one difference, says
+how many calls show it, and shows the first of these calls. If an example expects a name such as
+`NotStun`, this is the name of an error of this library, and any other subject only has to answer
+`refused`.
 
 `endpoint` and `endpoint-rust` are this library's endpoints through C and in Rust. If they differ
 from a MUST, [docs/DIFFERENCES.md](../docs/DIFFERENCES.md) describes the departure and its reason.
-That page also describes departures that no line of the suite tests.
-
-In the tables below, each row says how many calls differ, and shows the first of them. A name such
-as `NotStun` is an error of this library, and stands for `refused`.""".split("\n")
+That page also describes departures that no line of the suite tests.""".split("\n")
 
 
 def version_of(name):

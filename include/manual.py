@@ -12,6 +12,7 @@ or a version. Lines that are indented by four are code. Text in backquotes is bo
 """
 import re
 import sys
+import textwrap
 from pathlib import Path
 
 HERE = Path(__file__).resolve().parent
@@ -101,7 +102,7 @@ def blocks(lines):
 
 def brief(text):
     """The first sentence, as a line of NAME."""
-    first = re.split(r"(?<=[.:])\s(?=[A-Z]|$)|[.:]$|:\s", " ".join(text.split()))[0].rstrip(".:")
+    first = re.split(r"[.:](?:\s|$)", " ".join(text.split()))[0]
     return escaped(first[0].lower() + first[1:]).replace("`", "")
 
 
@@ -109,8 +110,11 @@ def written(folder, name, header, version, what, synopsis, sections):
     """Writes a page of NAME, SYNOPSIS and sections, each with its lines. The page of a header is in
     section 7, and all others are in section 3."""
     includes, section = f"#include <{header}>", 7 if name == header[:-2] else 3
-    roff = [f".TH {name} {section} \"\" \"stunp {version}\" \"STUN (RFC 8489)\"", ".SH NAME",
-            f"{name} \\- {what}", ".SH SYNOPSIS", ".nf", escaped(includes)]
+    # A line of 78 columns has the name twice. What is between them is left out if it does not fit.
+    middle = "STUN (RFC 8489)" if not 27 < len(name) <= 35 else " "
+    top = name if len(name) <= 35 else header[:-2]
+    roff = [f".TH {top} {section} \"\" \"stunp {version}\" \"{middle}\"", ".nr HY 0", ".nh",
+            ".ad l", ".SH NAME", f"{name} \\- {what}", ".SH SYNOPSIS", ".nf", escaped(includes)]
     roff += [".PP", *map(coded, synopsis)] if synopsis else []
     roff += [".fi"]
     for title, lines in sections:
@@ -118,6 +122,25 @@ def written(folder, name, header, version, what, synopsis, sections):
     to = folder / f"man{section}"
     to.mkdir(parents=True, exist_ok=True)
     (to / f"{name}.{section}").write_text("\n".join(roff) + "\n", "utf-8")
+
+
+def folded(lines):
+    """The declaration of a call in lines of at most 72 columns, which have as many whole parameters
+    as fit."""
+    head, _, rest = " ".join(" ".join(lines).split()).partition("(")
+    whole = re.sub(r"(?<!,) ", "\0", rest)
+    return [head + "(", *(line.replace("\0", " ") for line in textwrap.wrap(
+        whole, 72, initial_indent="    ", subsequent_indent="    ", break_on_hyphens=False))]
+
+
+def constants(lines):
+    """The declaration of an enum without the comments on its constants, and these comments."""
+    text = "\n".join(lines)
+    roff = []
+    for name, about in re.findall(r"(?:(\w+) = -?\w+,? *)?/\*(.*?)\*/", text, re.S):
+        about = escaped(" ".join(re.sub(r"\n *\*", " ", about).split()))
+        roff += quoted([".TP", ".B " + name, about] if name else [".PP", about])
+    return re.sub(r"(?m)^ +/\*[^/]*\*/\n| */\*.*?\*/", "", text, flags=re.S).split("\n"), roff
 
 
 def parted(comment):
@@ -147,10 +170,15 @@ def page(folder, header, version, declared, name, comment, shared, pages):
     lines = re.sub(r"^STUNP_(?!INLINED)[A-Z_]+.*\n", "", declared, flags=re.M).strip()
     first = re.match(f"(?:{INLINE})?", lines)[0]
     lines = lines.removeprefix(first).replace("\n" + " " * len(first), "\n").split("\n")
+    is_wide, values = max(map(len, lines)) > 72, []
+    if is_wide and lines[0].startswith("typedef enum"):
+        lines, values = constants(lines)
+    elif is_wide and lines[-1].endswith(");"):
+        lines = folded(lines)
     others = sorted({*NAME.findall("\n".join(comment))} & {*pages} - {name})
     notes = [line for text in shared if not PLAIN.search(name) for line in paragraph(text)]
     written(folder, name, header, version, brief(comment[0]), lines,
-            [*parted(comment), ("NOTES", notes),
+            [*parted(comment), ("CONSTANTS", values), ("NOTES", notes),
              ("SEE ALSO", [",\n".join([f".BR {other} (3)" for other in others]
                                       + [f".BR {header[:-2]} (7)"])])])
 

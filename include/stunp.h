@@ -5,9 +5,8 @@
  * must be stored: retransmissions, challenges and nonces. stunp_endpoint.h has whole clients,
  * servers and ICE agents.
  *
- * The functions at the end of this comment show how to begin: `answer` is a server that needs no
- * credentials, and `write_check` and `is_check` are for an ICE agent. A section number without an
- * RFC means RFC 8489.
+ * To begin, see `answer` below, a server that needs no credentials, and `write_check` and
+ * `is_check`, for an ICE agent. A section number without an RFC means RFC 8489.
  *
  *
  * Linking
@@ -93,9 +92,9 @@
  * touches no other memory.
  *
  * A pointer may be null only if its length is 0. Lengths are at most PTRDIFF_MAX, and are in bytes
- * unless a comment says otherwise. An output must not overlap any other argument. Numbers are in
- * the processor's byte order. Texts are UTF-8 and are used as they are. RFC 8489 asks you to
- * prepare them with OpaqueString first (RFC 8265); the library leaves this to you.
+ * unless the description of a call says otherwise. An output must not overlap any other argument.
+ * Numbers are in the processor's byte order. Texts are UTF-8 and are used as they are. RFC 8489
+ * asks you to prepare them with OpaqueString first (RFC 8265); the library leaves this to you.
  *
  *
  * Threads
@@ -114,10 +113,10 @@
  *
  * Errors
  *
- * A call that fails returns a negative stunp_refusal and leaves its outputs unchanged. Its comment
- * lists the errors in the order of testing: if several apply, the call returns the first one.
- * stunp_strerror has a text for each. A call that succeeds changes only the bytes that it writes,
- * and leaves the rest of the buffer as it was.
+ * A call that fails returns a negative stunp_refusal and leaves its outputs unchanged. Its
+ * description lists the errors in the order of testing: if several apply, the call returns the
+ * first one. stunp_strerror has a text for each. A call that succeeds changes only the bytes that
+ * it writes, and leaves the rest of the buffer as it was.
  *
  * Test a result with `< 0` or `> 0`, or compare it with the value that you want. An error is not 0,
  * so `if (stunp_verify(..))` would accept every forgery. If you need only yes or no, call
@@ -372,8 +371,8 @@ typedef enum stunp_fingerprint {
                                      * bytes */
 } stunp_fingerprint;
 
-/* The errors that calls return. The comment of each call lists the errors that it can return, with
- * their causes. */
+/* The errors that calls return. The description of each call lists the errors that it can return,
+ * with their causes. */
 typedef enum stunp_refusal {
     STUNP_TRUNCATED = -1,     /* bytes are missing at the end of a header, message or attribute */
     STUNP_NOT_STUN = -2,      /* the bytes are not a STUN header: the two top bits are not 0, the
@@ -482,7 +481,7 @@ typedef struct {
  * interfaces, you need an agent or a server for each interface.
  *
  * A call of stunp_state.h or stunp_endpoint.h that takes an address fails with STUNP_BAD_ARGUMENT
- * if `length` is neither 4 nor 16, unless its comment gives a meaning to length 0. The calls of
+ * if `length` is neither 4 nor 16, unless its description gives a meaning to length 0. The calls of
  * stunp_state.h test this right after the handles; only stunp_server_sign_of and
  * stunp_server_sign_of_keys first test the name and the password or the keys. */
 typedef struct {

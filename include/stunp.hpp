@@ -328,7 +328,7 @@ class writer {
     }
     result<view> finish() const && = delete; // the view would outlive the bytes
 
-    // The same calls for a temporary, which they return as a temporary.
+    // Like the calls above, but for a temporary, which they return as a temporary.
     writer &&add(uint32_t type, view value) && { return std::move(add(type, value)); }
     writer &&add_number(uint32_t type, uint64_t number, size_t size) && {
         return std::move(add_number(type, number, size));
@@ -573,8 +573,9 @@ class server : public handle<stunp_endpoint_server, stunp_endpoint_server_clear>
     }
 };
 
-// The users of a server. Many threads may read a table at the same time, or one thread may change
-// it.
+// The users of a server. With long-term credentials, a table works only with servers that have the
+// same `realm`, `algorithms` and `anonymous_username`. Many threads may read a table at the same
+// time, or one thread may change it.
 struct users : handle<stunp_endpoint_users, stunp_endpoint_users_clear> {
     static result<users> make(const server &of) {
         users made;
@@ -650,7 +651,7 @@ class body {
     body &add_channel_number(uint32_t channel) & {
         return stunp_body_add_channel_number(&added_, channel), *this;
     }
-    // The same calls for a temporary, which they return as a temporary.
+    // Like the calls above, but for a temporary, which they return as a temporary.
     body &&add(uint32_t type, view value) && { return std::move(add(type, value)); }
     body &&add_number(uint32_t type, uint64_t number, size_t size) && {
         return std::move(add_number(type, number, size));
@@ -697,8 +698,8 @@ class client : public handle<stunp_endpoint_client, stunp_endpoint_client_clear>
         int64_t answer = stunp_endpoint_client_request(get(), method, with, now, &number);
         return result<uint64_t>(answer, number);
     }
-    // Starts a request that is sent, and whose response is accepted, as the options say:
-    // `STUNP_INIT(stunp_request_options)`.
+    // Starts a request with options that say how it is sent, and from which address its response
+    // comes. Initialize them with `STUNP_INIT(stunp_request_options)`.
     result<uint64_t> request(uint32_t method, const body &with,
                              const stunp_request_options &options, uint64_t now) {
         return request(method, with.get(), options, now);

@@ -231,6 +231,7 @@
  *             if (kind != STUNP_WAIT) continue;
  *             struct pollfd one = {fd, POLLIN, 0};
  *             poll(&one, 1, stunp_poll_timeout(&event, now_of_client()));
+ *             // If recv fails with ECONNREFUSED, nobody serves that port, and you may stop here.
  *             ssize_t length = recv(fd, bytes, sizeof bytes, MSG_DONTWAIT);
  *             if (length > 0)
  *                 (void)stunp_endpoint_client_receive(&client, bytes, (size_t)length, server,
@@ -244,16 +245,18 @@
  *         return kind;
  *     }
  *
- * examples/c/my_address.c is this client with its socket, and examples/c/turn_client.c is a client
- * with a user. With long-term credentials, a client learns the realm and the nonce from the
- * server's first challenge. It signs each later request from the first transmission on, with the
- * realm and the nonce of the last challenge. Use one client and one socket for all requests of a
- * TURN allocation. Many TURN servers, such as coturn, do not sign Binding responses, so ask for
- * your address with a request that is not signed (stunp_endpoint_client_request_as). Read the
- * response in `bytes` with the calls of stunp.h before you poll again: stunp_find_xor_address with
- * STUNP_XOR_RELAYED_ADDRESS, and stunp_find_number with STUNP_LIFETIME, which is in seconds. The
- * client does not refresh an allocation: start a STUNP_REFRESH request before the lifetime of the
- * allocation ends (stunp_keepalive_before).
+ * examples/c/my_address.c is this client with its socket. To send requests as a user, set `name`
+ * and `password` in the settings too, as examples/c/udp_client.c does. With long-term credentials,
+ * a client learns the realm and the nonce from the server's first challenge. It signs each later
+ * request from the first transmission on, with the realm and the nonce of the last challenge.
+ *
+ * examples/c/turn_client.c is a session at a TURN server. Use one client and one socket for all
+ * requests of an allocation. Many TURN servers, such as coturn, do not sign Binding responses, so
+ * ask for your address with a request that is not signed (stunp_endpoint_client_request_as). Read
+ * the response in `bytes` with the calls of stunp.h before you poll again: stunp_find_xor_address
+ * with STUNP_XOR_RELAYED_ADDRESS, and stunp_find_number with STUNP_LIFETIME, which is in seconds.
+ * The client does not refresh an allocation: start a STUNP_REFRESH request before the lifetime of
+ * the allocation ends (stunp_keepalive_before).
  *
  * A buffer of STUNP_LONGEST_MESSAGE bytes has room for any message. A smaller buffer is enough if
  * your requests and the datagrams that you pass to the client all fit into it.
@@ -320,21 +323,36 @@
  * that are installed. If your program also uses stunp_state.h, add stunp_state.
  *
  *
- * The rules about memory and errors are the same as in stunp_state.h. Calls read their arguments
- * only during the call. A pointer may be null only if its length is 0. A pointer to a result may be
- * null, unless the comment of the call or STUNP_NOT_NULL says otherwise. A call that fails returns
- * a negative stunp_refusal, for which stunp_strerror has a text, and changes nothing, unless its
- * comment says otherwise. If several errors apply, it returns the first of its list.
+ * Memory and errors
  *
- * Handles work differently from the handles of stunp_state.h. Initialize each handle with {0},
- * which makes it empty: a _new call fills it, and a _free call empties it. A call with a handle
- * that was never initialized, or with a handle of stunp_state.h that was cast, has undefined
- * behavior. If a handle of this header has a value of another kind, a _new call fails with
- * STUNP_FULL_HANDLE, a _free call frees the value, and any other call fails with
- * STUNP_WRONG_HANDLE. If a call takes a server or a table of users as const, a null pointer counts
- * as an empty handle. No other pointer to a handle may be null, except for _free. The _own calls
- * take a copy of a handle (see Threads). No call detects that a handle is a copy of a handle whose
- * value was freed.
+ * Calls read their arguments only during the call, and copy what is needed later. Only a
+ * stunp_body, a stunp_writer, a stunp_ice_checks and a stunp_ice_candidate point to memory of
+ * yours. Lengths are at most PTRDIFF_MAX. An output must not overlap any other argument. A pointer
+ * that has a length may be null only if the length is 0. A pointer to a result may be null, unless
+ * the description of the call or STUNP_NOT_NULL says otherwise.
+ *
+ * Texts are UTF-8 and are used as they are. RFC 8489 asks you to prepare them with OpaqueString
+ * first (RFC 8265). A text without a length of its own ends with a zero byte.
+ *
+ * A call that fails returns a negative stunp_refusal, for which stunp_strerror has a text, and
+ * changes nothing, unless its description says otherwise. A call tests its errors in the order of
+ * its list: if several apply, it returns the first one.
+ *
+ * The library does not overwrite passwords and keys before it frees them. If an attacker may read
+ * memory that was freed, use an allocator that overwrites each block (stunp_set_memory of stunp.h,
+ * or rattle_alloc of stunp_state.h), as libstunp_heap.a does.
+ *
+ *
+ * Handles
+ *
+ * Initialize each handle with {0}, which makes it empty: a _new call fills it, and a _free call
+ * empties it. A call with a handle that was never initialized, or with a handle of stunp_state.h
+ * that was cast, has undefined behavior, because the handles of stunp_state.h work differently. If
+ * a handle of this header has a value of another kind, a _new call fails with STUNP_FULL_HANDLE, a
+ * _free call frees the value, and any other call fails with STUNP_WRONG_HANDLE. If a call takes a
+ * server or a table of users as const, a null pointer counts as an empty handle. No other pointer
+ * to a handle may be null, except for _free. The _own calls take a copy of a handle (see Threads).
+ * No call detects that a handle is a copy of a handle whose value was freed.
  *
  *
  * Threads
@@ -346,11 +364,26 @@
  * threads use it from their next datagram on, and free the old table once every thread has begun a
  * datagram with the new one. Use an ICE agent or a client in one thread at a time.
  *
+ * Make no call in a signal handler, nor in the child of a process that had several threads when it
+ * forked. After any other fork, both processes may go on using a server and its users. But only one
+ * of them may go on using a client, because both copies would make the same transaction IDs.
+ *
  * It is not proved that threads may share a handle, but it is tested with a race detector. It is
  * proved that a call does not change its handles if nothing else uses them during the call. The
  * calls whose names end in _own need handles that nothing else uses; a copy of the two fields is
  * enough. The calls without _own make this copy themselves and write nothing through a const
  * pointer, so call these.
+ *
+ *
+ * Time and random numbers
+ *
+ * No call reads a clock or a source of random numbers. A server takes the time of the wall clock,
+ * in seconds since 1970. A client, a stunp_ice_checks, a stunp_ice_consent and a stunp_keepalive
+ * take nanoseconds of a clock that never goes back, such as CLOCK_MONOTONIC.
+ *
+ * Random numbers must be unpredictable, for example from getrandom. You need 32 bytes for the
+ * secret of a server, 32 for the seed of each client, 12 for the ID of each check of ICE, and 8 for
+ * a tie-breaker.
  */
 #ifndef STUNP_ENDPOINT_H
 #define STUNP_ENDPOINT_H
@@ -451,6 +484,13 @@ typedef enum stunp_credentials {
  *                       default it accepts them
  *
  * The texts end with a zero byte.
+ *
+ * To change settings, create another server with the same secret. If `realm`, `algorithms` or
+ * `anonymous_username` differ, also create a new table of users (stunp_endpoint_users_new). Nonces
+ * depend on the last two, so each client then gets one 401 or 438, and signs its request again. But
+ * if you remove STUNP_SHA256 or forbid hashes, a client of this library that has succeeded with
+ * HMAC-SHA256 or with a hash drops these challenges (STUNP_DROP_WEAKER_CHALLENGE): its next request
+ * times out, and the request after that succeeds.
  *
  * An attacker can send requests with the source address of somebody else, who then gets the
  * answers. If the realm has 11 bytes, a request of 20 bytes causes a challenge of 96 bytes, or of
@@ -865,7 +905,7 @@ int64_t stunp_endpoint_server_new_open(stunp_endpoint_server *server, const char
                                        size_t understood_length, bool answers_binding,
                                        bool requires_fingerprint);
 
-/* Creates a server with these settings. The settings are copied.
+/* Creates a server with these settings, which are copied. `settings` must not be null.
  *
  * Returns 0. Errors:
  *   STUNP_BAD_ARGUMENT  `size` is wrong; `credentials` is STUNP_LONG_TERM, and `secret` or `realm`
@@ -873,6 +913,7 @@ int64_t stunp_endpoint_server_new_open(stunp_endpoint_server *server, const char
  *                       with (realm) is neither 0 nor null; or `credentials` is above 2
  * and then the errors of stunp_endpoint_server_new_with, or of
  * stunp_endpoint_server_new_short_term. */
+STUNP_NOT_NULL(1, 2)
 STUNP_INLINED int64_t
 stunp_endpoint_server_new(stunp_endpoint_server *server,
                           const stunp_endpoint_server_settings *settings);
@@ -889,12 +930,12 @@ STUNP_INLINED void stunp_endpoint_server_free(stunp_endpoint_server *server);
 
 /* ---- Users
  *
- * The keys of users depend on the realm and the algorithms, so a table of users is made for a
- * server, and you can use the table with every server that has the same realm and algorithms. No
- * call detects a table that was made for another realm or for other algorithms: the server may then
- * refuse requests of its users although they are signed with the right password. With short-term
- * credentials the key is the password, and you can use the table with every server that has
- * short-term credentials. */
+ * A table of users is made for the `realm`, the `algorithms` and the `anonymous_username` of a
+ * server, and works with every server that has the same three settings. If you change one of them,
+ * make a new table and add the users again. No call detects a table that was made for other
+ * settings: the server may then refuse users who have the right password, or accept a request whose
+ * list of algorithms is not the one that it offered. With short-term credentials there are no such
+ * settings, so a table works with every server that has short-term credentials. */
 
 /* Creates an empty table of users like stunp_endpoint_users_new, but nothing else may use the
  * handle of the server during the call. The call does not change this handle.
@@ -903,8 +944,9 @@ STUNP_INLINED void stunp_endpoint_server_free(stunp_endpoint_server *server);
 STUNP_NOT_NULL(1, 2)
 int64_t stunp_endpoint_users_new_own(stunp_endpoint_users *users, stunp_endpoint_server *server);
 
-/* Creates an empty table of users for a server: with long-term credentials for the realm and the
- * algorithms of the server, or with short-term credentials.
+/* Creates an empty table of users for a server with long-term or short-term credentials. With
+ * long-term credentials, use the table only with servers that have the same `realm`, `algorithms`
+ * and `anonymous_username`.
  *
  * Returns 0. Errors:
  *   STUNP_FULL_HANDLE    the table's handle is not empty
@@ -914,9 +956,10 @@ int64_t stunp_endpoint_users_new_own(stunp_endpoint_users *users, stunp_endpoint
 STUNP_INLINED int64_t stunp_endpoint_users_new(stunp_endpoint_users *users,
                                                const stunp_endpoint_server *server);
 
-/* Adds a user with a password, or replaces the user with this name, and derives the keys of the
- * user (sections 9.1.1 and 9.2.2). The name comes first: if you exchange the name and the password,
- * the call adds a user whose name is the password.
+/* Adds a user with a password, and derives the keys of the user (sections 9.1.1 and 9.2.2). If the
+ * table already has a user with this name, the password replaces the user's password or keys: from
+ * now on, only requests that are signed with the new password are accepted. The name comes first:
+ * if you exchange the name and the password, the call adds a user whose name is the password.
  *
  * Returns 0. Errors:
  *   STUNP_EMPTY_HANDLE   the handle is empty
@@ -929,9 +972,9 @@ STUNP_READS(2, 3) STUNP_READS(4, 5) STUNP_NOT_NULL(1)
 int64_t stunp_endpoint_users_add(stunp_endpoint_users *users, const char *name, size_t name_length,
                                  const char *password, size_t password_length);
 
-/* Adds a user with keys that you stored in place of a password (stunp_long_term_key), or replaces
- * the user with this name. The keys must have been made for the realm of the table. Pass the length
- * 0 for a key that you do not have.
+/* Adds a user with keys that you stored in place of a password (stunp_long_term_key). The keys must
+ * have been made for the realm of the table. Pass the length 0 for a key that you do not have. If
+ * the table already has a user with this name, the keys replace the user's password or keys.
  *
  * Returns 0. Errors:
  *   STUNP_EMPTY_HANDLE   the handle is empty
@@ -1024,8 +1067,9 @@ int64_t stunp_endpoint_server_receive_own(stunp_endpoint_server *server,
  * `unix_seconds` is the time of the wall clock, in seconds since 1970: (uint64_t)time(NULL). It is
  * used only with long-term credentials; otherwise pass 0. Do not use a clock that starts at zero:
  * the nonces of an earlier run of the program would become current again, and the server would
- * accept requests that an attacker recorded during that run. An IPv4 address and the same address
- * mapped into IPv6 (::ffff:a.b.c.d) count as one address.
+ * accept requests that an attacker recorded during that run. If the clock is set back, no call
+ * fails, but clients may get one more 438, and recorded requests stay valid for as much longer. An
+ * IPv4 address and the same address mapped into IPv6 (::ffff:a.b.c.d) count as one address.
  *
  * `received` may be null if you need only the returned kind.
  *
@@ -1350,12 +1394,13 @@ int64_t stunp_ice_checker_offer_with(stunp_ice_checker *checker, const char *nam
                                      size_t password_length, uint64_t tie_breaker,
                                      bool is_controlling);
 
-/* Creates an agent with these settings. The settings are copied.
+/* Creates an agent with these settings, which are copied. `settings` must not be null.
  *
  * Returns 0. Errors:
  *   STUNP_BAD_ARGUMENT  `size` is wrong, or a text is null, except that `peer_name` and
  *                       `peer_password` may both be null
  * and then the errors of stunp_ice_checker_new_with. */
+STUNP_NOT_NULL(1, 2)
 STUNP_INLINED int64_t stunp_ice_checker_new(stunp_ice_checker *checker,
                                             const stunp_ice_settings *settings);
 
@@ -1908,12 +1953,13 @@ int64_t stunp_endpoint_client_new_with(stunp_endpoint_client *client, const stun
                                        size_t understood_length,
                                        const stunp_client_options *options);
 
-/* Creates a client with these settings. The settings are copied.
+/* Creates a client with these settings, which are copied. `settings` must not be null.
  *
  * Returns 0. Errors:
  *   STUNP_BAD_ARGUMENT  `size` is wrong, `seed` is null, only one of `name` and `password` is null,
  *                       or one of them is empty
  * and then the errors of stunp_endpoint_client_new_with. */
+STUNP_NOT_NULL(1, 2)
 STUNP_INLINED int64_t
 stunp_endpoint_client_new(stunp_endpoint_client *client,
                           const stunp_endpoint_client_settings *settings);

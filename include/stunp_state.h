@@ -14,11 +14,10 @@
  * an agent and a client, a server uses a server, and an ICE agent uses an agent together with
  * stunp_sign and stunp_verify of stunp.h.
  *
- * The functions at the end of this comment are a complete client (`ask`) and a complete server
- * (`judge` and `serve`). To begin, copy one of the two. examples/c/udp_client.c does the same as
- * `ask` with a socket and the client of stunp_endpoint.h, which contains the loop of `ask`. For a
- * server that stores nothing about its clients, see stunp_endpoint.h. A section number without an
- * RFC means RFC 8489.
+ * To begin, copy the complete client (`ask`) or the complete server (`judge` and `serve`) below.
+ * examples/c/udp_client.c does the same as `ask` with a socket and the client of stunp_endpoint.h,
+ * which contains the loop of `ask`. For a server that stores nothing about its clients, see
+ * stunp_endpoint.h. A section number without an RFC means RFC 8489.
  *
  *
  * Linking
@@ -130,13 +129,13 @@
  * Errors
  *
  * A call that fails returns a negative stunp_refusal (stunp.h), for which stunp_strerror gives a
- * text. If several errors apply, it returns the first in the list of its comment, which is in the
- * order of testing. Every call on a handle first tests for STUNP_EMPTY_HANDLE and
+ * text. If several errors apply, it returns the first in the list of its description, which is in
+ * the order of testing. Every call on a handle first tests for STUNP_EMPTY_HANDLE and
  * STUNP_WRONG_HANDLE, and a _new call first tests for STUNP_FULL_HANDLE.
  *
- * Unless its comment says otherwise, a call that fails changes neither the handle nor any output.
- * On success it writes only the outputs that its comment names for the returned value. For example,
- * stunp_agent_poll writes `*until` only if it returns 0.
+ * Unless its description says otherwise, a call that fails changes neither the handle nor any
+ * output. On success it writes only the outputs that its description names for the returned value.
+ * For example, stunp_agent_poll writes `*until` only if it returns 0.
  *
  * Test a result with `< 0` or `> 0`. An error is not 0, so `if (stunp_server_validate(..))` would
  * accept every forgery. If you need only yes or no, pass the verdict of a server or a client to
@@ -1336,8 +1335,8 @@ int64_t stunp_server_forget(stunp_server *server, const stunp_address *at);
  * clock, no record is removed.
  *
  * Pass the nonce lifetime as `age`. A record then outlives its nonce by one more lifetime, and a
- * client that comes back within that time is answered with a 438 and can continue. See the end of
- * the first comment of this file.
+ * client that comes back within that time is answered with a 438 and can continue. The server
+ * removes no record by itself, so make this call every few seconds.
  *
  * The time that this call takes grows with the number of addresses. Use
  * stunp_server_forget_expired_within to avoid a long pause.

@@ -24,7 +24,7 @@ for header in headers:
         plain = page.replace("\\-", "-").replace("\\&", "").replace("\\e", "\\")
         shown = re.sub(r"^(?:STUNP_(?!INLINED)[^\n]*\n)*(?:STUNP_INLINED |static inline |extern )?",
                        "", declared)
-        if " ".join(shown.split()) + ";" not in " ".join(plain.split()):
+        if "".join(shown.split()) + ";" not in "".join(plain.split()):
             sys.exit(f"manual: {name}.3 does not show its declaration")
         listed = re.findall(r"^ \*   (STUNP_[A-Z_]+)", comment.partition("Errors")[2], re.M)
         told = re.findall(r"^\.B (STUNP_[A-Z_]+)", plain.partition("\n.SH ERRORS")[2], re.M)

@@ -16,12 +16,13 @@ import shown
 from export_text import closing, mask
 
 PAGE = crates.TOP / "docs/CLAUSES.md"
-# What users call comes first, then what it stands on.
+# The order of the sections of docs/PROVED.md. The programs, which follow, are in one section there.
 FIRST = ("stun_endpoint", "stun_client_calls", "stun_client_endpoint", "stun_ice", "stun_datagrams",
-         "stun_exchanges", "stun_sessions", "stun_requests", "stun_client_runs",
-         "stun_client_meetings", "stun_client_strength", "stun_client_plans", "stun_peers",
-         "stun_peer_runs", "stun_proto", "stun_agent", "stun_auth", "stun_c", "stun_state",
-         "stun_c_endpoint")
+         "stun_client_runs", "stun_client_meetings", "stun_client_strength", "stun_client_plans",
+         "stun_requests", "stun_exchanges", "stun_sessions", "stun_peers", "stun_peer_runs",
+         "stun_proto", "stun_base", "stun_types", "stun_agent", "stun_auth", "stun_extra",
+         "stun_attributes", "stun_buffer", "stun_client", "stun_client_requests", "stun_numbers",
+         "stun_c", "stun_handles", "stun_state", "stun_c_endpoint")
 HEAD = """\
 # The clauses of each public function
 

@@ -6,9 +6,10 @@ docs/TRUST.md.
     tools/trusted.py write    writes the tables anew
 
 The first table has, for each product, the definitions that the contracts of its public calls are
-made of, transitively, with those of the crates below. The second has the lines that no proof
-covers, between the proved sources and a program: without blank lines, comments and tests. Run at
-the top of the repository.
+made of, transitively, with those of the crates below; and the definitions that the laws which state
+items 1 to 3 of README.md are made of. The second has the lines that no proof covers, between the
+proved sources and a program: without blank lines, comments and tests. Run at the top of the
+repository.
 """
 import ast
 import re
@@ -29,6 +30,17 @@ ENDPOINTS = {
     "A client: `endpoint::Client`": ("stun_client_calls",),
     "A check of ICE: `endpoint::ice`": ("stun_ice",),
     "The calls for C": ("stun_c", "stun_state", "stun_c_endpoint"),
+}
+OF_LAWS = "The laws of items 1 to 3 of README"
+# The laws that state these items, by their crates: the server, client and server, and time.
+LAWS = {
+    "stun_endpoint": ("requests_are_accepted_under_their_nonces", "undropped_messages_are_whole"),
+    "stun_datagrams": ("accepted_datagrams_are_handed_out", "a_datagram_is_one_of_a_list"),
+    "stun_client_meetings": ("clients_meet_servers", "new_clients_meet_servers"),
+    "stun_client_strength": ("nothing_sent_is_bid_down",),
+    "stun_client_plans": ("requests_are_sent_by_plan",),
+    "stun_client_runs": ("a_request_ends_once",),
+    "stun_client_calls": ("a_request_ends_within_two_plans",),
 }
 FRONT = ("rust/src/endpoint.rs", "rust/src/endpoint/**/*.rs")
 KIT = ("rust/src/kit/**/*.rs",)
@@ -57,11 +69,28 @@ def closed(repository, crates):
     return repository.closure(cited)
 
 
+def of_laws(repository):
+    """The definitions of the clauses of LAWS."""
+    cited = []
+    for crate, names in LAWS.items():
+        files = [source for source in sources(".", crate) if source.path.endswith("laws.rt")]
+        for name in names:
+            law = re.compile(rf"^pub fn {name}\b.*?^\{{", re.M | re.S)
+            found = [(source, law.search(source.text)) for source in files]
+            stated = [repository.cited_in(None, source.imports, match[0].splitlines())
+                      for source, match in found if match]
+            if not any(stated):
+                sys.exit(f"{__file__}: LAWS: {crate} has no law {name}: name one that is there")
+            cited += sum(stated, [])
+    return repository.closure(cited)
+
+
 def definitions():
     repository = Repository(".")
     found = {"The three theorems, of calls":
              repository.closure([repository.named[name] for name in HEADLINE])}
     found |= {name: closed(repository, crates) for name, crates in ENDPOINTS.items()}
+    found[OF_LAWS] = of_laws(repository)
     return {name: (len(set(of)), sum(len([line for line in one.code if line.strip()])
                                      for one in set(of))) for name, of in found.items()}
 

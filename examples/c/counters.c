@@ -42,6 +42,8 @@ void count_as(unsigned long process) { own = process; }
 
 void count(enum number what) { __atomic_fetch_add(&counts[own][what], 1, __ATOMIC_RELAXED); }
 
+const char *label_of(enum number what) { return rows[what].value; }
+
 static unsigned long long sum_of(int what) {
     unsigned long long sum = 0;
     for (unsigned long i = 0; i < processes; i++)

@@ -19,6 +19,10 @@ bool open_counters(unsigned long processes);
 void count_as(unsigned long process);
 void count(enum number what);
 
+/* Returns the value by which a counter differs from the others of its kind, such as the name of a
+ * cause. */
+const char *label_of(enum number what);
+
 /* Prints a line `TIME NAME=VALUE ..` with the counters of all processes. */
 void log_counters(void);
 

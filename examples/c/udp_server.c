@@ -61,8 +61,9 @@ static const char help[] =
     "                    way of FILE.new\n"
     "  --ahead SECONDS   SIGUSR2 moves the clock of the process that gets it so far ahead, to\n"
     "                    see nonces expire (for tests; with --workers send it to each worker)\n"
-    "  -v                print a line for each datagram: from where, the answer, and who had\n"
-    "                    signed, if the request was accepted and all its attributes are known\n"
+    "  -v                print a line for each datagram: from where, the answer, the cause of a\n"
+    "                    refusal, and who had signed, if the request was accepted and all its\n"
+    "                    attributes are known\n"
     "  --                what follows is not an option, such as a PASSWORD that begins with `-`\n"
     "  --help, --version\n";
 
@@ -151,12 +152,21 @@ static void fill_answer(stunp_writer *writer, uint32_t code, const stunp_address
     else stunp_write_error(writer, code, code == 400 ? "Bad Request" : "Insufficient Capacity");
 }
 
-/* Counts an answer, and logs it. The name is that of the user whom the library accepted, and not
- * the USERNAME of a message. */
-static void tell(const stunp_address *from, uint32_t code, const stunp_received *received) {
+/* Returns the counter for the cause of a refusal. */
+static enum number counter_of_cause(stunp_cause cause) {
+    return (enum number)(NO_SIGNATURE + (uint32_t)cause - STUNP_CAUSE_NO_SIGNATURE);
+}
+
+/* Counts an answer, and logs it with the cause, if it is a refusal that has one. The name is that
+ * of the user whom the library accepted, and not the USERNAME of a message. */
+static void tell(const stunp_address *from, uint32_t code, stunp_cause cause,
+                 const stunp_received *received) {
     count_code(code);
+    if (cause != 0) count(counter_of_cause(cause));
     if (!settings.is_verbose) return;
-    if (received == NULL || received->kind != STUNP_IS_REQUEST)
+    if (cause != 0)
+        say_at_time("%s %u %s\n", text_of(from), code, label_of(counter_of_cause(cause)));
+    else if (received == NULL || received->kind != STUNP_IS_REQUEST)
         say_at_time("%s %u\n", text_of(from), code);
     else
         say_at_time("%s %u %s %.*s\n", text_of(from), code,
@@ -192,20 +202,14 @@ static uint32_t reply(const struct datagram *got, const stunp_received *received
     return code;
 }
 
-/* Counts why the server of users refused a request, if it did. */
-static void count_cause(stunp_cause cause) {
-    if (cause != 0) count(NO_SIGNATURE + (uint32_t)cause - STUNP_CAUSE_NO_SIGNATURE);
-}
-
 /* Ends the answer to a datagram that the server of users has judged, and counts and logs it. */
 static void settle(const struct datagram *got, const stunp_judged *judged,
                    stunp_received *received, struct answer *answer) {
     if (judged->kind == STUNP_ANSWER) {
         answer->length = judged->length;
-        count_cause(judged->cause);
-        tell(&got->from, received->code, received);
+        tell(&got->from, received->code, judged->cause, received);
     } else if (judged->kind == STUNP_IS_REQUEST) {
-        tell(&got->from, reply(got, received, answer), received);
+        tell(&got->from, reply(got, received, answer), 0, received);
         stunp_reply_wipe(&received->reply);
     } else if (judged->kind == STUNP_DROPPED)
         drop(&got->from, counter_of(received->why), stunp_drop_text(received->why));
@@ -259,7 +263,7 @@ static void answer_anybody(const struct datagram *got, struct answer *answer) {
         if (refusal == 0) fill_answer(&writer, code, &got->from);
         if (fingerprint == STUNP_RIGHT_FINGERPRINT) stunp_write_fingerprint(&writer);
         answer->length = stunp_written(&writer) < 0 ? 0 : writer.length;
-        tell(&got->from, code, NULL);
+        tell(&got->from, code, 0, NULL);
     }
 }
 

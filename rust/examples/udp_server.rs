@@ -32,8 +32,8 @@ mod words;
 
 use counts::{Counts, Outcome};
 use seatcrane_stun::endpoint::{
-    DropReason, LongTerm, OpenReceived, OpenServer, Received, Reply, ResponseSettings, Server,
-    UnixTime, Users, random_seed,
+    Cause, DropReason, LongTerm, OpenReceived, OpenServer, Received, Reply, ResponseSettings,
+    Server, UnixTime, Users, random_seed,
 };
 use seatcrane_stun::extra::{Frame, next_frame};
 use seatcrane_stun::types::message::*;
@@ -77,7 +77,7 @@ that realm alone. PORT 0 is any free one. The first line of output is `port N`.
   --counts SECONDS  print a line of counters every SECONDS
   --metrics FILE    write the counters to FILE every 5 seconds, as Prometheus reads them, by way of
                     FILE.new
-  -v                print a line for each datagram
+  -v                print a line for each datagram, with the cause of a refusal
   --help, --version
 ";
 const MOST_WORKERS: u64 = 64;
@@ -160,15 +160,16 @@ impl Service<'_> {
         })
     }
 
-    /// Returns the outcome of a message that arrived at the socket with this number. Messages with
-    /// a method that is not supported get no answer (section 6.3).
-    fn judge(&self, bytes: &[u8], from: SocketAddr, at: usize) -> Outcome {
+    /// Returns the outcome of a message that arrived at the socket with this number, and the cause
+    /// if the message is refused. Messages with a method that is not supported get no answer
+    /// (section 6.3).
+    fn judge(&self, bytes: &[u8], from: SocketAddr, at: usize) -> (Outcome, Option<Cause>) {
         let is_ours = |header: MessageHeader| header.get_type().method() == BINDING;
         if !MessageHeader::from_bytes(bytes).map_or(true, is_ours) {
-            return Outcome::Other;
+            return (Outcome::Other, None);
         }
         let Some((server, users)) = &self.of_realm else {
-            return match self.open.receive(bytes, from) {
+            let outcome = match self.open.receive(bytes, from) {
                 OpenReceived::Answer(answer) => Outcome::from(answer),
                 OpenReceived::Request(request) => {
                     self.respond(request.message(), request.reply(), at)
@@ -176,19 +177,18 @@ impl Service<'_> {
                 OpenReceived::Dropped(why) => Outcome::Dropped(why),
                 _ => Outcome::Other,
             };
+            return (outcome, None);
         };
         let users = users.read().unwrap_or_else(PoisonError::into_inner);
         let now = UnixTime::now();
         let (received, cause) = server.receive_with_cause(bytes, from, now, &users);
-        if let Some(cause) = cause {
-            self.counts.note_cause(cause);
-        }
-        match received {
+        let outcome = match received {
             Received::Answer(answer) => Outcome::from(answer),
             Received::Request(request) => self.respond(request.message(), request.reply(), at),
             Received::Dropped(why) => Outcome::Dropped(why),
             _ => Outcome::Other,
-        }
+        };
+        (outcome, cause)
     }
 
     /// Responds to a request of NAT behavior discovery. All other requests have been answered
@@ -202,11 +202,12 @@ impl Service<'_> {
 
     /// Judges a message, counts the outcome, and prints it if this was requested.
     fn receive(&self, bytes: &[u8], from: SocketAddr, at: usize) -> Outcome {
-        let outcome = self.judge(bytes, from, at);
-        self.counts.note(&outcome);
+        let (outcome, cause) = self.judge(bytes, from, at);
+        self.counts.note(&outcome, cause);
         if self.settings.is_verbose {
             let from = SocketAddr::new(from.ip().to_canonical(), from.port());
-            let _ = writeln!(io::stdout(), "{} {from} {outcome}", log::Now);
+            let cause = cause.map_or(String::new(), |cause| format!(" {}", cause.name()));
+            let _ = writeln!(io::stdout(), "{} {from} {outcome}{cause}", log::Now);
         }
         outcome
     }

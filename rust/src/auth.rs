@@ -930,7 +930,7 @@ impl LongTermServerAuth {
     /// let had_nonce = auth.nonce_for_client(from).is_some();
     /// let verdict = auth.validate_incoming_message(request, from, now);
     /// match verdict.map_err(|error| error.reason()) {
-    ///     Ok(_) => Some(200), // `auth.client(from)` tells who sent it
+    ///     Ok(_) => Some(200), // `auth.client(from)` returns the user who sent it
     ///     Err(Reason::Unauthorized) => Some(401),
     ///     Err(Reason::StaleNonce) => Some(438),
     ///     Err(Reason::BadRequest) if had_nonce => Some(400),

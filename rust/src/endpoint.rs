@@ -1,10 +1,14 @@
-//! STUN servers and clients, each as one value that says what to do with a datagram.
+//! STUN servers, clients and ICE agents. You own the sockets and the clocks: pass each datagram
+//! that arrives to one of these types, and send what it returns.
 //!
-//! [`Server::receive`] takes a datagram, and returns a response to send, an accepted request that
+//! [`Server::receive`] judges a datagram, and returns a response to send, an accepted request that
 //! you answer, an indication, a response, or the reason why the datagram is dropped. The server
-//! stores no record of any address. [`OpenServer`] answers everybody, and [`ShortTermServer`] uses
-//! short-term credentials. [`Client::poll`] returns the bytes to send and how requests ended, and
-//! [`Client::receive`] takes the datagrams that arrive. You own the sockets and the clocks.
+//! stores nothing about its clients. [`OpenServer`] answers everybody, and [`ShortTermServer`] uses
+//! short-term credentials.
+//!
+//! [`Client::request`] starts a request, [`Client::receive`] judges the datagrams that arrive at
+//! the client, and [`Client::poll`] returns the bytes to send, and how requests ended. [`ice`] has
+//! the connectivity checks of an ICE agent.
 //!
 //! # Examples
 //!
@@ -102,7 +106,8 @@ pub mod types {
 
 /// Returns 32 random bytes from the operating system, for the seed of a [`Client`], the secret of a
 /// server with [`LongTerm`] credentials, or the password and the tie-breaker of an agent of
-/// [`ice`]. Never use the same bytes for two of these.
+/// [`ice`]. Call it again for each of these, because the password, for example, is sent to the
+/// peer, who must not learn a seed.
 ///
 /// # Panics
 ///
@@ -350,7 +355,7 @@ impl fmt::Display for DropReason {
             DropReason::OutOfMemory => "an allocation failed",
             DropReason::MissingFingerprint => "the FINGERPRINT is missing",
             DropReason::LateChallenge => "its challenge arrived too late",
-            DropReason::Refused => "its challenge was answered already",
+            DropReason::Refused => "it repeats the challenge for which its request is signed",
             DropReason::OtherMethod => "its method is not served",
         })
     }

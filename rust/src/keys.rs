@@ -76,7 +76,8 @@ impl fmt::Debug for IntegrityKey {
 /// # Examples
 ///
 /// ```
-/// use seatcrane_stun::types::message::{IntegrityAlgorithm, IntegrityKey, PreparedKey, hmac_sha1};
+/// use seatcrane_stun::types::message::{IntegrityAlgorithm, IntegrityKey};
+/// use seatcrane_stun::types::message::{PreparedKey, hmac_sha1};
 ///
 /// let key = IntegrityKey::new(b"VOkJxbRl1RmTxUk/WvJxBt");
 /// let prepared = PreparedKey::new(key, IntegrityAlgorithm::Sha1);

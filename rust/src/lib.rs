@@ -23,6 +23,11 @@
 //! [`extra::turn::ChannelData`]: extra::turn::ChannelData
 //! [`extra::turn::Packet`]: extra::turn::Packet
 //! [`extra::turn::send_indication`]: extra::turn::send_indication
+//! [`endpoint::Body::add_xor_peer_address`]: endpoint::Body::add_xor_peer_address
+//! [`endpoint::RequestOptions`]: endpoint::RequestOptions
+//! [`extra::attribute::ChannelNumber`]: extra::attribute::ChannelNumber
+//! [`extra::attribute::Data`]: extra::attribute::Data
+//! [`extra::attribute::Lifetime`]: extra::attribute::Lifetime
 //! [`types`]: mod@types
 //!
 #![cfg_attr(all(feature = "std", feature = "rand"), doc = include_str!("../README.md"))]
@@ -35,7 +40,7 @@
 //! | [`types`] | parsing, verifying, building and signing messages |
 //! | [`agent`] | sending requests, retransmitting them and matching their responses |
 //! | [`auth`] | authenticating both sides with short-term or long-term credentials |
-//! | [`endpoint`] | servers and clients as one value: what to do with a datagram |
+//! | [`endpoint`] | servers, clients and ICE agents: pass what arrives, and send what they return |
 //! | [`extra`] | FINGERPRINT, unknown attributes, framing over TCP, attributes of ICE and TURN |
 //! | [`stats`] | what an agent has counted |
 //!
@@ -61,17 +66,17 @@
 //! The event `received` has one of these verdicts. It has no `id` if the datagram has no STUN
 //! header.
 //!
-//! | `verdict` | Of | Meaning |
+//! | Verdict | Of | Meaning |
 //! |---|---|---|
-//! | `answered` | servers | the server wrote a success response |
-//! | `refused` | servers, ICE agents | the answer is an error with this `code`; `reason` is the name of the [`endpoint::Cause`], or the reason phrase if the server has no causes |
-//! | `accepted` | all | a request or a check is accepted; or a response takes effect (at a client, it may be an error or a challenge with this `code`) |
-//! | `look-up` | [`endpoint::Server::identify`] | the request waits for its user, and [`endpoint::Server::resume`] records the verdict |
-//! | `valid`, `failed` | ICE agents | the answer ended the check in this way; `reason` is the name of the [`endpoint::ice::Failure`] |
-//! | `indication` | all | the message is for the caller |
-//! | `response` | servers | the message is for a client on the same socket |
-//! | `not ours` | clients | the datagram may be for another client on the socket |
-//! | `dropped` | all | `reason` is the name of the [`endpoint::DropReason`] or [`endpoint::ice::DropReason`] |
+//! | *answered* | servers | the server wrote a success response |
+//! | *refused* | servers, ICE agents | the answer is an error with this `code`; `reason` is the name of the [`endpoint::Cause`], or the reason phrase if the server has no causes |
+//! | *accepted* | all | a request or a check is accepted; or a response takes effect (at a client, it may be an error or a challenge with this `code`) |
+//! | *look-up* | [`endpoint::Server::identify`] | the request waits for its user, and [`endpoint::Server::resume`] records the verdict |
+//! | *valid*, *failed* | ICE agents | the answer ended the check in this way; `reason` is the name of the [`endpoint::ice::Failure`] |
+//! | *indication* | all | the message is for the caller |
+//! | *response* | servers | the message is for a client on the same socket |
+//! | *not ours* | clients | the datagram may be for another client on the socket |
+//! | *dropped* | all | `reason` is the name of the [`endpoint::DropReason`] or [`endpoint::ice::DropReason`] |
 //!
 //! To find the cause of a refusal, the server judges the request again, so a refusal takes twice as
 //! long while a subscriber records these events. The calls that return the cause, such as

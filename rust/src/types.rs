@@ -54,7 +54,7 @@ pub mod data {
     pub use crate::transmit::Data;
 }
 
-/// The traits of attributes and of writers, to be imported as a whole:
+/// The traits of attributes and of writers, to be imported as a whole.
 ///
 /// ```
 /// use seatcrane_stun::types::prelude::*;

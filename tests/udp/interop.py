@@ -14,6 +14,7 @@ that could be tried came out as it should.
 import contextlib
 import os
 import pathlib
+import re
 import signal
 import socket
 import subprocess
@@ -147,9 +148,14 @@ def until(condition):
     return condition()
 
 
+def without_cause(line):
+    """A line of a server without the cause of a refusal, which stands at its end."""
+    return re.sub(r"( 4\d\d) [A-Z]\w+$", r"\1", line)
+
+
 def ended(server, *ends):
-    """The lines that a server printed which end so."""
-    return [line for line in server.lines[1:] if line.endswith(ends)]
+    """The lines that a server printed which end so, or have a cause after it."""
+    return [line for line in server.lines[1:] if without_cause(line).endswith(ends)]
 
 
 def stunclient(host, *words):
@@ -182,7 +188,7 @@ def asks(words, wanted, line, *offered):
             raise NotOffered
     with harness.Server(SERVER, *harness.USER, *ANY, "-v", *offered) as server:
         out, _ = run(*(str(server.port) if word == "PORT" else word for word in words))
-        wants(wanted in out and until(lambda: server.lines[-1].endswith(line)),
+        wants(wanted in out and until(lambda: without_cause(server.lines[-1]).endswith(line)),
               (out, server.lines))
         return f"prints `{wanted}`; the server's log has `{line.strip()}`"
 
@@ -192,8 +198,8 @@ def refused(words):
         raise NotOffered
     with harness.Server(SERVER, *harness.USER, *ANY, "-v") as server:
         out, _ = run(*(str(server.port) if word == "PORT" else word for word in words))
-        wants(until(lambda: server.lines[1:]) and ended(server, " 401") == server.lines[1:],
-              (out, server.lines))
+        wants(until(lambda: server.lines[1:]) and ended(server, " 401") == server.lines[1:]
+              and server.lines[-1].endswith(" WrongCredentials"), (out, server.lines))
         return "401 each time"
 
 
@@ -240,7 +246,7 @@ def goes_on(words, way, codes, *offered):
             wants(drawn[:len(codes)] == codes, (drawn, out))
             is_named = IS_IN_C and codes[-1] == 200
             last = f" {codes[-1]} SHA1 {NAME}" if is_named else f" {codes[-1]}"
-            wants(until(lambda: any(line.endswith(last)
+            wants(until(lambda: any(without_cause(line).endswith(last)
                                     for line in first.lines + second.lines)), out)
             return f"codes {codes}: it goes on"
 

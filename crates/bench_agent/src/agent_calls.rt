@@ -14,7 +14,7 @@ const FIRST_TIMEOUT: u32 = 500_000;
 /// The time from sending a request to its timeout, in microseconds, if it is sent only once.
 const LAST_WAIT: u32 = 8_000_000;
 
-/// The room in bytes that is passed for a request that is sent again.
+/// The room that is passed to `poll_transmit_within`, in bytes: more than enough for a request.
 const ROOM: usize = 2048;
 
 /// A call, and the state in which it is made.
@@ -26,25 +26,25 @@ pub enum Call {
     PollTransmit,
     /// `next_awaited`.
     NextAwaited,
-    /// `poll_transmit`, when one more request is due each time.
+    /// `poll_transmit`, when exactly one request is due at each call.
     TransmitsOne,
-    /// `poll_transmit_within` of an agent that counts, when one more request is due each time: the
-    /// call that the export for C makes.
+    /// `poll_transmit_within` of an agent that keeps statistics, when exactly one request is due at
+    /// each call. The export for C makes this call.
     TransmitsOneWithin,
     /// `poll_transmit`, when all requests are due.
     TransmitsOfAll,
-    /// `poll`, when one more request has ended each time.
+    /// `poll`, when exactly one request is over at each call. The call ends this request.
     EndsOne,
-    /// `poll`, when all requests have ended.
+    /// `poll`, when all requests are over. Each call ends one of them.
     EndsOfAll,
-    /// `send_request` after the others.
+    /// `send_request`, at the time at which the last of the other requests was sent.
     SendsLast,
-    /// `send_request` at a time before the others.
+    /// `send_request`, at a time before the other requests were sent.
     SendsFirst,
     /// The agent receives a response to an outstanding request.
     Responds,
-    /// `handle_stun_message_with_time` of an agent that keeps statistics: the call behind the
-    /// export for C.
+    /// `handle_stun_message_with_time` of an agent that keeps statistics, with a response to an
+    /// outstanding request. The export for C makes this call.
     RespondsWithTime,
     /// The agent receives a response that answers no request.
     RespondsToNone,
@@ -108,7 +108,7 @@ pub fn count_of(alloc: Global, call: Call, size: u32, times: u32) -> Option<u32>
     Some(done)
 }
 
-/// Returns an agent that has sent a request in each microsecond.
+/// Returns an agent that has sent `size` requests, one in each microsecond.
 fn agent_of(alloc: Global, call: Call, size: u32) -> Option<StunAgent> {
     let counts = matches!(call, Call::TransmitsOneWithin | Call::RespondsWithTime);
     let mut builder = StunAgent::builder(alloc, TransportType::Udp, address(1)).stats(counts);
@@ -126,7 +126,8 @@ fn agent_of(alloc: Global, call: Call, size: u32) -> Option<StunAgent> {
     Some(agent)
 }
 
-/// Makes the call, and returns whether it had the expected result.
+/// Makes the call, and returns whether it had the expected result. `turn` is the number of calls
+/// made before, and `bytes` is the message that the call sends or receives, if there is one.
 fn is_done(agent: &mut StunAgent, call: Call, size: u32, turn: u32, bytes: &[u8]) -> bool {
     let after = |wait: u32, number: u32| moment(number.saturating_add(1).saturating_add(wait));
     match call {
@@ -155,7 +156,7 @@ fn is_waiting(answer: StunAgentPollRet) -> bool {
     matches!(answer, StunAgentPollRet::WaitUntil(_))
 }
 
-/// Passes a message from an address to the agent.
+/// Passes a message from an address to the agent, and returns whether the agent accepts it.
 fn receives(agent: &mut StunAgent, bytes: &[u8], from: u32) -> bool {
     match Message::from_bytes(bytes) {
         Ok(message) => agent.handle_stun_message(&message, address(from)) == Ok(true),
@@ -163,7 +164,8 @@ fn receives(agent: &mut StunAgent, bytes: &[u8], from: u32) -> bool {
     }
 }
 
-/// Passes a message from the server to the agent, at a time.
+/// Passes a message that arrives from the server at the time `now` to the agent, and returns
+/// whether the agent accepts it.
 fn receives_at(agent: &mut StunAgent, bytes: &[u8], now: Instant) -> bool {
     match Message::from_bytes(bytes) {
         Ok(message) => agent.handle_stun_message_with_time(&message, address(0), now) == Ok(true),
@@ -171,7 +173,8 @@ fn receives_at(agent: &mut StunAgent, bytes: &[u8], now: Instant) -> bool {
     }
 }
 
-/// Finds a request and, if the call changes it, makes that change.
+/// Finds a request and, if the call changes it, makes that change. Returns `false` if the request
+/// is not outstanding.
 fn changes(agent: &mut StunAgent, call: Call, number: u32) -> bool {
     let Some(id) = id_of(number) else {
         return false;

@@ -15,9 +15,11 @@ use stun_types::prelude::*;
 /// Makes `times` calls on a server with `size` users and addresses, and returns how many of them
 /// had the expected result. `call` is one of these:
 ///
-/// - `validates_sha1`: a request of one user, whose address has been validated.
-/// - `validates_sha256`: like `validates_sha1`, with HMAC-SHA256 and USERHASH.
-/// - `verifies`: a message of 44 bytes under a key of 4 bytes.
+/// - `validates_sha1`: `validate_incoming_message`, with a request that one of the users has
+///   signed, from an address from which the server has validated a request before.
+/// - `validates_sha256`: like `validates_sha1`, but with HMAC-SHA256 and USERHASH.
+/// - `verifies`: `Message::from_bytes` and `validate_integrity_with_key_bytes`, with a message of
+///   44 bytes and a key of 4 bytes.
 /// - `forgets_all`: `forget_expired`, when the nonce of each address has expired.
 /// - `forgets_none`: `forget_expired`, when no nonce has expired.
 pub fn count_of(alloc: Global, call: &str, size: u32, times: u32) -> Option<u32> {

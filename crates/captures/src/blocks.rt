@@ -10,13 +10,14 @@ use crate::numbers::{Order, count_32, number_16, number_32};
 /// The type of a block that begins a section. Its bytes are the same in both byte orders.
 pub const SECTION: u32 = 0x0A0D_0D0A;
 
-/// The byte-order magic after the type and the length of a section.
+/// The byte-order magic, which follows the type and the length of a section, and shows the byte
+/// order of the section.
 const MARK: u32 = 0x1A2B_3C4D;
 
-/// The byte-order magic in the other byte order.
+/// The byte-order magic of a section in `Little` byte order, if it is read in `Big` byte order.
 const TURNED_MARK: u32 = 0x4D3C_2B1A;
 
-/// The smallest number of bytes of a block.
+/// The smallest number of bytes of a block: its type, and its length at both ends.
 pub const BLOCK_LENGTH: usize = 12;
 
 /// An interface of a section.

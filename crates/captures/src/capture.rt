@@ -100,8 +100,8 @@ impl<A: Allocator> Capture<A> {
     }
 
     /// Returns the length of the record that begins with these bytes. If the bytes are cut short,
-    /// or contain no valid length, returns their own number. Fails if the record has more than
-    /// 4194304 bytes.
+    /// or contain no valid length, returns the number of these bytes. Fails if the record has more
+    /// than 4194304 bytes.
     pub fn record_length(&self, front: &[u8]) -> Result<usize, Failure> {
         let length = match self.format {
             Format::Classic(header) => match count_32(header.order, front, 8) {

@@ -12,7 +12,7 @@ pub struct Moment {
 /// The nanoseconds in a second.
 const SECOND: u64 = 1_000_000_000;
 
-/// The first second of the year 10000. Later times are not printed as dates.
+/// The first second of the year 10000. This and later times are not printed as dates.
 const LAST: u64 = 253_402_300_800;
 
 impl Moment {

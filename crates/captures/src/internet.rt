@@ -43,8 +43,8 @@ const UDP_LENGTH: usize = 8;
 /// The smallest length of the header of TCP.
 const TCP_LENGTH: usize = 20;
 
-/// Returns the content of an IPv4 or IPv6 packet, by its version. This function and those below
-/// return `None` if the headers are not whole.
+/// Returns the content of an IPv4 or IPv6 packet, by its version. This function and the functions
+/// that it calls return `None` if the headers are not whole.
 pub fn internet(bytes: &[u8]) -> Option<Carried<'_>> {
     match *bytes.first()? >> 4 {
         4 => ipv4(bytes),
@@ -158,7 +158,8 @@ fn is_whole(bytes: &[u8]) -> Option<bool> {
 }
 
 /// Parses the UDP datagram at the front of these bytes (RFC 768). A length of 0 stands for all of
-/// the bytes. A length that is less than the length of the header is malformed.
+/// the bytes. If the length is less than the length of the header, the datagram is malformed, and
+/// the result is `Other`.
 fn udp(from: IpAddr, to: IpAddr, bytes: &[u8]) -> Option<Carried<'_>> {
     let from = SocketAddr::new(from, number_16(Order::Big, bytes, 0)?);
     let to = SocketAddr::new(to, number_16(Order::Big, bytes, 2)?);
@@ -175,8 +176,8 @@ fn udp(from: IpAddr, to: IpAddr, bytes: &[u8]) -> Option<Carried<'_>> {
     }))
 }
 
-/// Parses a segment of TCP (RFC 9293, section 3.1). A header length that is less than the length of
-/// the fixed header is malformed.
+/// Parses a segment of TCP (RFC 9293, section 3.1). If the header length is less than the length of
+/// the fixed header, the segment is malformed, and the result is `Other`.
 fn tcp(from: IpAddr, to: IpAddr, bytes: &[u8], is_cut: bool) -> Option<Carried<'_>> {
     if bytes.len() < TCP_LENGTH && !is_cut {
         return Some(Carried::Other);

@@ -3,14 +3,14 @@
 use crate::internet::{Carried, internet, ipv4, ipv6};
 use crate::numbers::{Order, number_16};
 
-/// Ethernet.
+/// The link-layer type of Ethernet.
 pub const ETHERNET: u32 = 1;
 
-/// An IPv4 or IPv6 packet without a header before it.
+/// The link-layer type of packets that begin with an IPv4 or IPv6 header.
 pub const RAW: u32 = 101;
 
-/// Returns the content of a packet with this link-layer type. Returns `None` if the type is not
-/// supported, or if the headers are not whole.
+/// Returns the content of a packet with this link-layer type, which is `Cut` if the headers are not
+/// whole. Returns `None` if the type is not supported.
 pub fn carried(link: u32, bytes: &[u8]) -> Option<Carried<'_>> {
     let found = match link {
         ETHERNET => behind_type(bytes, 12),

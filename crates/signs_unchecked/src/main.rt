@@ -1,8 +1,8 @@
-//! Signs messages by calls that leave their conditions to the caller: the program checks what they
-//! require, and it is proved that they may be called then. (That a message which the checking calls
-//! of a server or a client sign may be signed unchecked is a law of `stun_auth`.)
+//! Signs messages with the calls that do not check whether a message can be signed. The program
+//! makes these checks itself, and it is proved that they are enough. (For clients and servers,
+//! `what_was_signed_may_be_signed` in `stun_auth` states when the checks are not necessary.)
 //!
-//! It prints each signed message in hexadecimal digits, a line each.
+//! Prints each signed message on a line of its own, in hexadecimal digits.
 #![tactic(auto)]
 
 use std::alloc::{AllocError, Global};
@@ -15,10 +15,10 @@ use stun_types::message::{
 };
 use stun_types::prelude::*;
 
-/// A signed message.
+/// A writer with a message, or the error for which the message could not be written or signed.
 type Signed = Result<MessageWriteVec, StunWriteError>;
 
-/// Signs a message of each kind and prints it.
+/// Prints the signed messages.
 fn main(rt: HostRuntime) -> ExitCode {
     let Ok(lines) = signed_lines(rt.alloc()) else {
         return ExitCode::FAILURE;
@@ -29,7 +29,7 @@ fn main(rt: HostRuntime) -> ExitCode {
     }
 }
 
-/// Returns the signed messages, a line each.
+/// Returns the signed messages in hexadecimal digits, each on a line of its own.
 fn signed_lines(alloc: Global) -> Result<String, StunWriteError> {
     let mut lines = String::new(alloc);
     push_line(
@@ -46,7 +46,7 @@ fn signed_lines(alloc: Global) -> Result<String, StunWriteError> {
     Ok(lines)
 }
 
-/// Appends the bytes of a message, and a line feed.
+/// Appends the bytes of a message in hexadecimal digits, and a line feed.
 fn push_line(
     alloc: Global,
     lines: &mut String,
@@ -65,7 +65,7 @@ fn request(alloc: Global) -> Signed {
     Message::builder(kind, id, MessageWriteVec::new(alloc))
 }
 
-/// Signs a request with a key, after checking what the call requires.
+/// Checks the conditions of the unchecked call, and signs a request with a key.
 fn signed_by_key(alloc: Global, algorithm: IntegrityAlgorithm) -> Signed {
     let key = IntegrityKey::from_bytes(alloc, b"key")?;
     let mut writer = request(alloc)?;
@@ -80,7 +80,8 @@ fn signed_by_key(alloc: Global, algorithm: IntegrityAlgorithm) -> Signed {
     Ok(writer)
 }
 
-/// Signs a request with a password (RFC 8489, section 9.1), after checking what the call requires.
+/// Checks the conditions of the unchecked call, and signs a request with a password (RFC 8489,
+/// section 9.1).
 fn signed_by_password(alloc: Global) -> Signed {
     let mut auth = ShortTermAuth::new(alloc);
     let password = String::from_str(alloc, "password")?;

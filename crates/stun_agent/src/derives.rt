@@ -32,7 +32,7 @@ pub fn copied_statistics(statistics: &StunAgentStats) -> Result<StunAgentStats, 
     statistics.clone()
 }
 
-/// Copies one value each of the timeouts, the results of polls and the two errors.
+/// Copies the timeouts of a request, a result of `poll`, and one error of each type.
 pub fn copied_parts(
     settings: &RequestRto,
     answer: &StunAgentPollRet,

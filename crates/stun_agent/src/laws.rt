@@ -65,8 +65,8 @@ pub fn statistics_tell_how_many_requests_are_outstanding()
 
 /// Over any calls of an agent whose counters begin at zero, each counter is the sum of the amounts
 /// that the calls add to it (`tally_of`): numbers of messages, or of bytes. A sum stops at the
-/// greatest number. The statistics of round trips are the shortest, the longest and the sum of all
-/// round trips. An agent without statistics never starts to keep them.
+/// greatest value of its counter. The statistics of round trips are the shortest, the longest and
+/// the sum of all round trips. An agent without statistics never starts to keep them.
 pub fn statistics_count_the_calls()
     ensures counts { CountsCalls }
     ensures nothing { CountsNothing }
@@ -90,8 +90,9 @@ pub fn forgetting_removes_one_peer()
 {}
 
 /// A plan that `RequestRto::within` returns ends after the given time or when the whole plan ends,
-/// whichever is earlier. It has the same waits between transmissions as the whole plan, and exactly
-/// those transmissions of the whole plan that come before its end.
+/// whichever is earlier. It has the same waits between transmissions as the whole plan and no
+/// further retransmissions, and it has all retransmissions of the whole plan that come before the
+/// given time.
 pub fn a_plan_is_cut_at_a_time()
     ensures ends { (time : ℕ) (settings : Settings)
         → plan_length (cut time settings) ≡ min time (plan_length settings) }

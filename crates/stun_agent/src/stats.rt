@@ -20,9 +20,9 @@ pub(crate) mod counting;
 
 /// The statistics of an agent since it was built, or since the last `reset`.
 ///
-/// Bytes are counted over whole messages. No counter wraps around: each stops at the greatest
-/// 64-bit number, and the sum of the round trips at the greatest 128-bit number. None of the calls
-/// allocates.
+/// Bytes are counted over whole messages. Counters do not wrap around: each stops at the greatest
+/// 64-bit number, and the sum of the round trips at the greatest 128-bit number. The calls do not
+/// allocate.
 #[derive(Clone, Debug, Default, Drop, PartialEq, Eq)]
 pub struct StunAgentStats {
     requests_sent: u64,
@@ -255,11 +255,11 @@ impl StunAgentStats {
     }
 }
 
-/// Counting is addition: to count one tally after another has the same effect as to count the sum
+/// Counting is addition: counting one tally after another has the same effect as counting the sum
 /// of both. If a list of tallies is counted from the start, each counter is the sum over the list,
-/// capped once at the end, and the round trips are the shortest and the longest in the list. A
-/// counter is exact up to the greatest 64-bit number, and stays at that number from then on. The
-/// same holds for the sum of the round trips, with the greatest 128-bit number.
+/// capped once at the end, and `rtt_min` and `rtt_max` are the shortest and the longest round trip
+/// of the list. A counter is exact up to the greatest 64-bit number, and stays at that number from
+/// then on. The same holds for the sum of the round trips, with the greatest 128-bit number.
 pub fn counting_is_adding()
     ensures both { (first second : Tally) (statistics : Statistics)
         → statistics_after second (statistics_after first statistics)

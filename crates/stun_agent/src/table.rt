@@ -12,12 +12,12 @@ use std::net::SocketAddr;
 use stun_base::transport::TransportType;
 
 /// The outstanding requests to one address, with their retransmission timers. Each request has a
-/// datum of the owner.
+/// datum, which is a value that the owner of the table chooses.
 ///
-/// The table has the same timers as a `StunAgent`, in the same kind of tree by transaction IDs.
-/// Unlike an agent, it takes ownership of the bytes of a request and does not read them, and each
-/// request has its own timeouts. The table does not see the messages that arrive: the owner decides
-/// which request a response answers, and calls `answer`.
+/// The table has the same timers as a `StunAgent`, in the same kind of tree, which is ordered by
+/// transaction IDs. Unlike an agent, it takes ownership of the bytes of a request and does not read
+/// them, and each request has its own timeouts. The table does not see the messages that arrive:
+/// the owner decides which request a response answers, and calls `answer`.
 ///
 /// After every call that can change the table, call `poll_transmit` until it returns `None`, and
 /// then `poll`.

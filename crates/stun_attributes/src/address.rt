@@ -21,10 +21,10 @@ const FAMILY_LENGTH: usize = 2;
 /// The number of bytes of the value before the octets.
 const FAMILY_AND_PORT_LENGTH: usize = FAMILY_LENGTH + 2;
 
-/// The number of the family IPv4.
+/// The family number of IPv4 (RFC 8489, section 14.1).
 const IPV4: u8 = 1;
 
-/// The number of the family IPv6.
+/// The family number of IPv6 (RFC 8489, section 14.1).
 const IPV6: u8 = 2;
 
 /// An address and a port.
@@ -147,7 +147,8 @@ impl<'a, const KIND: u16> AttributeFromRaw<'a> for PlainAddress<KIND> {
     }
 }
 
-/// Appends an attribute of this type whose value is this address.
+/// Appends an attribute of this type whose value is this address. The caller must have reserved the
+/// bytes of the attribute.
 fn append_address<W: MessageWrite>(writer: &mut W, kind: AttributeType, address: &Address)
     requires { attribute_length (length (address_value address.now)) ≤ W.reserved writer.old }
     ensures bytes { W.bytes writer.new ≡ W.bytes writer.old
@@ -164,7 +165,7 @@ fn append_address<W: MessageWrite>(writer: &mut W, kind: AttributeType, address:
 }
 
 /// Appends an attribute of this type whose value is the address with this family, this port and
-/// these octets.
+/// these octets. The caller must have reserved the bytes of the attribute.
 fn append_octets<W: MessageWrite>(
     writer: &mut W,
     kind: AttributeType,

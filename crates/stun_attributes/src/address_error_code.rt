@@ -206,7 +206,8 @@ fn read_error(value: &[u8]) -> Option<ErrorCode<'_>>
     ErrorCode::from_raw(RawAttribute::new(AttributeType::ERROR_CODE, value)).ok()
 }
 
-/// Appends the padding of a value of `value_length` bytes.
+/// Appends the padding of a value of `value_length` bytes. The caller must have reserved the
+/// padding.
 fn append_padding<W: MessageWrite>(writer: &mut W, value_length: usize)
     requires { padded_length value_length - value_length ≤ W.reserved writer.old }
     ensures bytes { W.bytes writer.new

@@ -9,7 +9,7 @@ use stun_base::error::StunParseError;
 use stun_types::attribute::{AttributeType, RawAttribute};
 use stun_types::prelude::*;
 
-/// The number of bytes of a value: the family, and three that are reserved.
+/// The number of bytes of a value: one for the family, and three that are reserved.
 const LENGTH: usize = 4;
 
 /// The family of an address (RFC 8489, section 14.1).

@@ -8,7 +8,7 @@ use stun_base::error::StunParseError;
 use stun_types::attribute::{AttributeType, RawAttribute};
 use stun_types::prelude::*;
 
-/// The bit R in the one byte of the value.
+/// The bit R in the only byte of the value, which asks the server to reserve the next higher port.
 const RESERVE_NEXT: u8 = 0x80;
 
 /// EVEN-PORT (RFC 8656, section 18.7): asks the server for an even port. The bit R also asks the
@@ -50,7 +50,8 @@ impl Model for EvenPort {
 }
 
 impl EvenPort {
-    /// Creates the attribute, with the bit R if the server should reserve the next higher port.
+    /// Creates the attribute. If `requested` is `true`, it has the bit R, which asks the server to
+    /// reserve the next higher port.
     pub fn new(requested: bool) -> Self
         ensures { result ≡ requested }
     {

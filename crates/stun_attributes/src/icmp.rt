@@ -10,14 +10,14 @@ use stun_base::error::{StunParseError, StunWriteError};
 use stun_types::attribute::{AttributeType, RawAttribute};
 use stun_types::prelude::*;
 
-/// The number of bytes of the value: two that are reserved, the type and the code, and the error
-/// data.
+/// The number of bytes of the value: two that are reserved, two for the type and the code, and four
+/// for the error data.
 const LENGTH: usize = 8;
 
-/// The number of types, which have 7 bits.
+/// The number of ICMP types that fit in the 7 bits of the attribute.
 const TYPES: u8 = 128;
 
-/// The number of codes, which have 9 bits.
+/// The number of ICMP codes that fit in the 9 bits of the attribute.
 const CODES: u16 = 512;
 
 /// ICMP (RFC 8656, section 18.13): the ICMP message that a server received for a datagram that it

@@ -4,8 +4,8 @@
 //! (RFC 5780, section 7). The attributes that calls of this library read or write are in
 //! `stun_extra`.
 //!
-//! Attributes whose values have the same form are aliases of one type, such as [`Number`]. Each of
-//! the others is in a file of its own.
+//! Attributes whose values have the same form are aliases of one type, such as [`Number`]. Every
+//! other attribute has a file of its own.
 #![tactic(auto)]
 
 ghost use Rattle.std.specs.Prelude.{◌≡◌, [], ◌∷◌};
@@ -59,8 +59,8 @@ pub type MappedAddress = PlainAddress<0x0001>;
 pub type AlternateServer = PlainAddress<0x8023>;
 
 /// ALTERNATE-DOMAIN (RFC 8489, section 14.16): the domain name of the server in ALTERNATE-SERVER,
-/// which its TLS certificate must contain. It has at most 255 bytes. No call checks that it is a
-/// domain name.
+/// which the TLS certificate of that server must contain. The name has at most 255 bytes. No call
+/// checks that it is a domain name.
 pub type AlternateDomain<'a> = Text<'a, 0x8003, DOMAIN_LIMIT>;
 
 /// LIFETIME (RFC 8656, section 18.2): the number of seconds after which an allocation expires if it

@@ -64,9 +64,9 @@ ghost use Rattle.stun_auth.specs.Validation.{ValidatesAccepted, after_validation
 ghost use Rattle.stun_auth.specs.Validation.{answer_to, draws, needs_nonce, place_after, sight};
 ghost use Rattle.stun_auth.specs.Validation.{verdict_at, with_accepted};
 
-/// A reader finds the attributes that were added to an open message. The attributes that the
-/// message had are visible as before, and the added attributes follow them. The signature that was
-/// added last is valid under its key.
+/// If attributes are added to a message without an integrity attribute and FINGERPRINT (`IsOpen`),
+/// a reader finds them after the attributes that the message had, which stay visible (`added`). If
+/// a signature was added last, it is valid under its key (`read`).
 pub fn additions_are_read_back()
     ensures added { (list : List Addition) (message : List ℕ) (room : ℕ) (page : Page)
         → IsOpen message → AllByRecursion IsTyped list
@@ -81,9 +81,9 @@ pub fn additions_are_read_back()
     stun_types::laws::signed_message_stands();
 }
 
-/// A reader of a signed message finds its class, its error code, and each attribute that signing
-/// added, and no attribute that signing did not add. The signature is valid under the key that it
-/// was made with.
+/// If a message had no attribute that signing adds and no FINGERPRINT (`IsUnsigned`), a reader of
+/// the signed message finds its class, its error code, and exactly the attributes that signing
+/// added, if their texts are UTF-8. The signature is valid under the key that it was made with.
 pub fn signed_messages_are_read()
     ensures { (a : Added) (message : List ℕ) (room : ℕ) (page : Page) → IsUnsigned message
         → IsText a
@@ -159,10 +159,10 @@ pub fn judging_is_validating()
         ≡ Some (with_accepted place (verdict_by_nonce s place.nonce r)) }
 {}
 
-/// `judge`, under the nonce that is made from some random numbers, returns the same verdict as this
-/// series of calls for an address without a record: validate the message with those numbers, sign a
-/// response, validate the message again, and forget the address. The series leaves no record of the
-/// address.
+/// For a message that needs a nonce, `judge` under the nonce that is made from some random numbers
+/// returns the verdict of the second validation in these calls for an address without a record:
+/// validate the message with these numbers, sign a response, validate the message again before the
+/// nonce expires, and forget the address. The calls leave no record of the address.
 pub fn judging_is_a_run_of_calls()
     ensures answer { (s : ServerSeen) (from : SocketAddr) (now later : ℕ) (words others : List ℕ)
         (r : Reading) → map.get s.places from ≡ None → needs_nonce r ≡ true
@@ -185,8 +185,8 @@ pub fn two_epochs_accept_what_one_does()
 {}
 
 /// Each datagram of a list is judged by itself, however the random numbers of nonces are derived
-/// from address and epoch. So its verdict depends only on the datagram, its source, the time and
-/// the settings.
+/// from address and epoch. So its verdict depends only on the datagram, its source, the time, and
+/// the settings and the users of the server.
 pub fn datagrams_are_judged_alone()
     ensures { (s : ServerSeen) (how : Derivation) (datagrams : List TimedDatagram)
         → JudgesEachDatagram s how datagrams (list_map (judged_datagram s how) datagrams) }
@@ -194,7 +194,7 @@ pub fn datagrams_are_judged_alone()
 
 /// The verdict on a message depends only on the user whom the message names. A server that has just
 /// that user judges the message, under each nonce and offer, like the server that has all users. If
-/// that user is not registered, a server without users also does.
+/// that user is not registered, a server without any users returns the same verdict.
 pub fn the_named_user_is_enough_to_judge()
     ensures { (users : Registered) (feature : TheFeature) (nonce : List ℕ)
         (offered : Option AlgorithmSet) (r : Reading)
@@ -225,7 +225,7 @@ pub fn found_users_are_judged_as_prepared_ones()
 /// The answer to a message depends only on the user whose key the message must be signed with. A
 /// server that has just that user gives the same answer as the server that has all users, from the
 /// same random numbers, and stores the same record for the address. If that user is not registered,
-/// a server without users also does.
+/// so does a server without any users.
 pub fn the_named_user_is_enough()
     ensures answer { (s : ServerSeen) (from : SocketAddr) (now : ℕ) (words : List ℕ) (r : Reading)
         → answer (sight (with_users s (just s.registered (meant_user s from r))) from) now words r
@@ -395,9 +395,9 @@ pub fn nonces_of_different_words_differ()
         → list_map (λ word. word % 62) words ≡ list_map (λ word. word % 62) others }
 {}
 
-/// If a caller passes a message only while fewer addresses than a bound have a record, or if the
-/// address of the message has a record, the number of records never exceeds that bound. Signing,
-/// removing a client and forgetting an address add no record.
+/// If a server validates a message only if it has fewer records than a bound, or has a record of
+/// the message's address, the number of records never exceeds that bound (`bound`). A message adds
+/// at most one record (`grows`). Signing, removing a client and forgetting an address add none.
 pub fn addresses_stay_within_a_bound()
     ensures bound { (bound : ℕ) (s : ServerSeen) (from : SocketAddr) (now : ℕ) (words : List ℕ)
         (r : Reading) → map.len s.places ≤ bound
@@ -476,8 +476,8 @@ pub fn signing_succeeds_with_room()
 }
 
 /// The attributes that a client adds are those of `added_by_client`, and the attributes that a
-/// server adds are those of `added_by_server`. If a server signs without an error, it has
-/// attributes to add.
+/// server adds are those of `added_by_server`. If a server signs without an error,
+/// `added_by_server` has a value, which is empty if no nonce was made for the address.
 pub fn sides_add_by_attribute()
     ensures client { (request : Bool) (state : ClientState)
         → client_additions request state ≡ additions_of (added_by_client request state) }
@@ -523,8 +523,8 @@ pub fn sides_sign_what_is_signable()
     sides_add_by_attribute();
 }
 
-/// If a client or a server has signed an open message that is within the length limit, it may also
-/// sign that message unchecked, in a writer with the same room.
+/// If a client or a server can sign a message of a valid length that is `IsOpen` (it has no
+/// signature and no FINGERPRINT), it may also sign it unchecked, in a writer with the same room.
 pub fn what_was_signed_may_be_signed()
     ensures client { (request : Bool) (state : ClientState) (message : List ℕ) (room : ℕ)
         → IsOpen message → length message ≤ LENGTH_LIMIT
@@ -572,8 +572,8 @@ pub fn sides_sign_with_room()
     sides_add_by_attribute();
 }
 
-/// A reader of a message that a client signed finds its class, its error code, and the attributes
-/// that the client added for the server's challenge, if the texts in them are UTF-8.
+/// A reader of a built message (`IsBuilt`) that a client signed finds its class, its error code,
+/// and the attributes that the client added for the server's challenge, if their texts are UTF-8.
 pub fn client_messages_are_read()
     ensures { (request : Bool) (state : ClientState) (class : MessageClass) (error : Option ℕ)
         (message : List ℕ) (room : ℕ) (page : Page) → IsBuilt message class error
@@ -586,8 +586,8 @@ pub fn client_messages_are_read()
     sides_add_by_attribute();
 }
 
-/// A reader of a message that a server signed finds its class, its error code, the challenge of the
-/// address, and the signature under the key of the address's client.
+/// A reader of a built message (`IsBuilt`) that a server signed finds its class, its error code,
+/// the challenge of the address, and the signature under the key of the address's client.
 pub fn server_messages_are_read()
     ensures { (s : Sight) (response : Bool) (a : Added) (class : MessageClass) (error : Option ℕ)
         (message : List ℕ) (room : ℕ) (page : Page) → IsBuilt message class error

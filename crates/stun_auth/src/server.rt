@@ -3,8 +3,9 @@
 //! docs/PARTS.md gives the steps of a server and the reason for each, and
 //! `rust/checks/src/api/server_loop.rs` is a whole loop.
 //!
-//! A server that stores nothing about its clients calls `nonce_of_words`, `judge` and
-//! `add_challenge` instead.
+//! `validate_incoming_message` and `sign_outgoing_message` keep a record of each client address. A
+//! server that stores nothing about its clients calls `nonce_of_words`, `judge` and `add_challenge`
+//! in place of these two calls.
 
 ghost use Rattle.std.specs.Prelude.{◌≡◌, ◌≤◌, Option, None, Some, OnOk, OnErr, Ok};
 ghost use Rattle.std.specs.Prelude.{IsOk, codes};
@@ -80,8 +81,8 @@ pub fn minimum_nonce_expiry_duration() -> Duration
 ///
 /// Almost every request or indication from a new address adds a record, even if it is refused. The
 /// only exception is a message that has an integrity attribute but lacks REALM, NONCE or a user
-/// name. So anybody who can send from many addresses makes the server grow, and you have to set a
-/// limit to `address_count`.
+/// name. So anybody who can send from many addresses makes the server grow, and you have to limit
+/// the number of records (see `address_count`).
 ///
 /// A record stays until a call forgets it or the server is dropped. `forget_expired` forgets a
 /// record that has no client once its nonce has expired. `forget` forgets a record at once.
@@ -181,13 +182,12 @@ impl<A: Memory> LongTermServerAuth<A> {
         self.feature
     }
 
-    /// Returns the number of addresses that have a record, in constant time, so that you can set a
-    /// limit.
+    /// Returns the number of addresses that have a record. It takes constant time.
     ///
-    /// A message from a new address may add a record. Only `forget`, `forget_expired` and
-    /// `forget_expired_within` remove records. If you let the server validate a message only while
-    /// the count is below your limit, or if the address of the message has a record, the count
-    /// never exceeds that limit.
+    /// To limit the number of records, let the server validate a message only if the count is below
+    /// your limit, or if the address of the message already has a record. The count then never
+    /// exceeds your limit, because a message adds at most one record, and only for a new address.
+    /// Only `forget`, `forget_expired` and `forget_expired_within` remove records.
     ///
     /// Contracts: law `addresses_stay_within_a_bound`.
     pub fn address_count(&self) -> usize
@@ -208,9 +208,9 @@ impl<A: Memory> LongTermServerAuth<A> {
         }
     }
 
-    /// Returns the client of an address: the user who was validated there last, and the algorithm
-    /// that both sides agreed on. This user was named in the last request or indication from the
-    /// address that was `Validated`.
+    /// Returns the client of an address, which is the user who was validated there last, and the
+    /// algorithm that both sides agreed on. The last request or indication that was `Validated` at
+    /// the address named this user.
     ///
     /// Call this right after `Validated` to learn who sent the request. The first USERNAME of a
     /// message, and the algorithm of its signature, may differ from the name and the algorithm that
@@ -287,8 +287,9 @@ impl<A: Memory> LongTermServerAuth<A> {
         self.registry.set_supported(supported);
     }
 
-    /// Makes this the only supported algorithm: each user has a key for it, and no other. It does
-    /// not allocate.
+    /// Makes this the only supported algorithm. Each user then has a key for this algorithm and for
+    /// no other, or no key if the user has stored keys without one for it. The call does not
+    /// allocate.
     ///
     /// Call it before you add users, because it makes the keys of each user anew. Call it also
     /// before the first message arrives, because messages to a client that uses another algorithm
@@ -389,7 +390,8 @@ impl<A: Memory> LongTermServerAuth<A> {
     ///
     /// A series of calls that ends with `None`, with no other call between them, forgets the same
     /// records as `forget_expired` (law `steps_forget_what_has_expired`). A record that is made
-    /// between them is visited if its address comes after `next`, and otherwise in the next round.
+    /// during the series is visited in this series if its address comes after `next`, and otherwise
+    /// in the next one.
     ///
     /// It does not allocate. Each record costs one look-up, and one more if it is removed.
     pub fn forget_expired_within(

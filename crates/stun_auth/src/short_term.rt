@@ -113,12 +113,13 @@ impl<A: Allocator> ShortTermAuth<A> {
     /// Signs a message with the password: appends MESSAGE-INTEGRITY or MESSAGE-INTEGRITY-SHA256
     /// (RFC 8489, section 9.1.2). Without credentials the message is unchanged.
     ///
-    /// The writer must hold a message without FINGERPRINT. The first of these errors that applies
-    /// drops the writer:
+    /// Add FINGERPRINT after this call, because it has to be the last attribute, and the call does
+    /// not check whether the message has one already. The call fails with the first of these errors
+    /// that applies, and then drops the writer:
     ///
     /// - `MessageIntegrityExists`: the message is signed already.
     /// - `TooLarge`: the message would be too long.
-    /// - `TooSmall`: the writer has no room.
+    /// - `TooSmall`: the writer has too little room.
     /// - `OutOfMemory`: an allocation failed.
     #[tactic(auto, using(crate::proofs::Growth::length_of_signed))]
     pub fn sign_outgoing_message<W: MessageWrite>(&mut self, writer: W) -> Result<W, StunWriteError>

@@ -275,7 +275,7 @@ pub fn spread_type() -> Option<MessageType>
     Some(MessageType::from_class_method(MessageClass::Success, method))
 }
 
-/// Returns all constants of `AttributeType`, by ascending numbers (RFC 8489, section 18.3).
+/// Returns all constants of `AttributeType`, in ascending order (RFC 8489, section 18.3).
 pub fn attribute_types() -> [AttributeType; 11]
     ensures { map (λ kind. kind.0) result ≡
         0x0006 ∷ 0x0008 ∷ 0x0009 ∷ 0x0014 ∷ 0x0015 ∷ 0x001C ∷ 0x001D ∷ 0x001E ∷ 0x0020

@@ -1,5 +1,5 @@
-//! The calls of the standard library that can run out of memory. This library makes no other calls
-//! that can.
+//! The calls to the standard library that can run out of memory. This library allocates memory only
+//! through these calls.
 //!
 //! Contracts: for this reason, the contract of a call can state that the call runs out of memory
 //! only if one of these calls does.

@@ -47,8 +47,8 @@ impl<A: Allocator> BufferWriter<A> {
 
 impl<A: Allocator + Copy> BufferWriter<A> {
     /// Creates an empty writer that takes over the memory of a vector, and leaves the vector empty
-    /// and without memory. The vector that `finish` returns then has this memory. This does not
-    /// allocate.
+    /// and without memory. The vector that `finish` returns has this memory, unless the message
+    /// needed more. This does not allocate.
     pub fn over(buffer: &mut Vec<u8, A>) -> Self
         ensures writer { result ≡ record { bytes = []; reserved = 0 } }
         ensures left { buffer.new.items ≡ [] }

@@ -44,7 +44,7 @@ pub fn xor_key(id: TransactionId) -> [u8; 16]
     key
 }
 
-/// Writes the value of an attribute with an address that is not XORed.
+/// Writes the value of an attribute with this address and port, which are not XORed.
 fn write_address(value: &mut [u8], octets: &[u8], port: u16)
     requires { length value.old ≡ 4 + length octets.now }
     ensures { value.new ≡ plain_value octets.now port }
@@ -56,7 +56,8 @@ fn write_address(value: &mut [u8], octets: &[u8], port: u16)
     back.copy_from_slice(octets);
 }
 
-/// Writes the value of an attribute with an XORed address.
+/// Writes the value of an attribute with this address and port, XORed with the magic cookie and the
+/// transaction ID `id`.
 #[tactic(auto, unfolding(crate::specs::Writing::hidden_value))]
 fn write_hidden(value: &mut [u8], octets: &[u8], port: u16, id: TransactionId)
     requires short { length octets.now ≤ 16 }
@@ -83,8 +84,8 @@ fn is_address(octets: &[u8], port: u32) -> bool
     }
 }
 
-/// Returns the transaction ID of the message in the first `count` bytes of the buffer. Fails if no
-/// attribute may be added to this message.
+/// Returns the transaction ID of the message in the first `count` bytes of the buffer. Fails with
+/// the error of `base_message` if no attribute may be added to this message.
 fn base_id(buffer: &[u8], count: usize) -> Result<TransactionId, Refusal>
     ensures ok { IfOk result (λ id. id ≡ transaction_id_field (take count buffer.now)) }
     ensures err { IfErr result (λ refusal. base_refusal buffer.now count ≡ Some refusal) }

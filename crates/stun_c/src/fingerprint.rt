@@ -16,10 +16,10 @@ use stun_extra::fingerprint::{FINGERPRINT_LENGTH, Fingerprint, check_fingerprint
 use stun_numbers::refusal::Refusal;
 use stun_types::message::Message;
 
-/// The number that the CRC-32 of a message is XORed with.
+/// The number with which the CRC-32 of a message is XORed.
 const FINGERPRINT_XOR: u32 = 0x5354_554E;
 
-/// Returns the `stunp_fingerprint` for the result of a check.
+/// Returns the `stunp_fingerprint` for the result of a check of FINGERPRINT.
 fn fingerprint_number(fingerprint: Fingerprint) -> i64
     ensures { result ≡ pos (fingerprint_number fingerprint) }
 {
@@ -41,8 +41,16 @@ pub fn check(message: &[u8]) -> i64
     }
 }
 
-/// Checks that FINGERPRINT can be added to the message in the first `count` bytes of the buffer. If
-/// it cannot, fails with the first error that applies.
+/// Checks that FINGERPRINT can be added to the message in the first `count` bytes of the buffer.
+///
+/// # Errors
+///
+/// The first of these that applies:
+///
+/// - `BadArgument`: the buffer has fewer than `count` bytes.
+/// - The errors of `Message::from_bytes`.
+/// - `AttributeExists`: the message has FINGERPRINT.
+/// - `MessageTooLong` or `BufferTooSmall`: FINGERPRINT does not fit (`fits`).
 fn endable(buffer: &[u8], count: usize) -> Result<(), Refusal>
     ensures ok { OnOk result (ending_refusal buffer.now count ≡ None) }
     ensures room { OnOk result (HasRoom count 4 (length buffer.now)) }

@@ -21,9 +21,9 @@ fn bytes_fit(bytes: &[u8])
     ensures { (i : ℕ) → slice_index bytes.now i < 2 ^ 8 }
 {}
 
-/// Returns the length of the whole frame if it is known, and otherwise the number of bytes that are
-/// needed to determine it. `there` is the number of bytes that have arrived. Returns the code of
-/// `NotStun` if these bytes are not STUN.
+/// Returns the number for a frame: its whole length if this is known, and otherwise the number of
+/// bytes that are needed to determine its length. `there` is the number of bytes that have arrived.
+/// Returns the code of `NotStun` if these bytes are not STUN.
 fn wanted_number(there: usize, frame: Frame) -> i64
     requires { wanted_bytes there frame < 2 ^ 63 }
     ensures { result ≡ wanted_number there frame }
@@ -45,9 +45,8 @@ pub fn next_frame(bytes: &[u8]) -> i64
     wanted_number(bytes.len(), stun_extra::framing::next_frame(bytes))
 }
 
-/// Returns the length of the packet at the front of the bytes, including the 2 bytes before it that
-/// state its length (RFC 4571). If too few bytes have arrived, returns the number of bytes that are
-/// needed to determine the length.
+/// Returns the length of the packet at the front of the bytes, including the 2 bytes before the
+/// packet that state its length (RFC 4571). If fewer than 2 bytes have arrived, returns 2.
 #[tactic(auto, using(crate::proofs::Frames::few_of_packet))]
 pub fn next_packet_frame(bytes: &[u8]) -> i64
     ensures { result ≡ wanted_number (length bytes.now) (packet_frame_of bytes.now) }
@@ -58,7 +57,8 @@ pub fn next_packet_frame(bytes: &[u8]) -> i64
 
 /// Returns the length of the STUN message or ChannelData message at the front of the bytes,
 /// including the padding of ChannelData. If too few bytes have arrived, returns the number of bytes
-/// that are needed to determine the length.
+/// that are needed to determine the length. Returns the code of `NotStun` if the bytes begin with
+/// neither.
 #[tactic(auto, using(crate::proofs::Frames::few_of_turn))]
 pub fn next_turn_frame(bytes: &[u8]) -> i64
     ensures { result ≡ wanted_number (length bytes.now) (turn_frame_of bytes.now) }

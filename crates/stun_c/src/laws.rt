@@ -121,10 +121,10 @@ pub fn channel_data_is_read_back()
         → IsReadAs channel data_bytes (channel_item padded channel data_bytes ++ rest) }
 {}
 
-/// `stunp_verify` returns an algorithm only if the library finds that the signature of this
-/// algorithm is valid under the key. `stunp_parse` returns 0 only if the library parses the bytes
-/// as a message, and `stunp_check_fingerprint` returns 1 only if they are a message whose
-/// FINGERPRINT is right.
+/// States that `stunp_verify` returns an algorithm only if the library finds that the signature of
+/// this algorithm is valid under the key (`valid`). `stunp_parse` returns 0 only if the library
+/// parses the bytes as a message (`message`), and `stunp_check_fingerprint` returns 1 only if they
+/// are a message whose FINGERPRINT is valid (`fingerprint`).
 pub fn verdicts_are_those_of_the_library()
     ensures valid { (bytes key : List ℕ) (n : ℕ) → verify_answer bytes key ≡ pos n
         → (algorithm : IntegrityAlgorithm) × (refusal bytes ≡ None)
@@ -186,10 +186,11 @@ pub fn attributes_are_added_behind_the_message()
         × (after ≡ bytes ++ rest)) ⊎ (after ≡ before) }
 {}
 
-/// `stunp_begin` writes a message with the class, the method and the transaction ID that were
-/// passed, and without attributes. `stunp_build_channel_data` writes the ChannelData message of the
-/// library. `stunp_refuse_unknown` writes nothing, or the error response that lists the types of
-/// the request that must be understood and that the caller does not know.
+/// States that `stunp_begin` writes a message with the class, the method and the transaction ID
+/// that were passed, and without attributes (`message`). `stunp_build_channel_data` writes the
+/// ChannelData message of the library (`channel`). `stunp_refuse_unknown` writes nothing, or the
+/// error response that lists the comprehension-required attribute types of the request that the
+/// caller does not know (`unknown`).
 pub fn what_is_begun_is_what_was_asked_for()
     ensures message { (class method : ℕ) (id bytes : List ℕ)
         → begun_message class method id ≡ Ok bytes
@@ -202,8 +203,9 @@ pub fn what_is_begun_is_what_was_asked_for()
         → (bytes ≡ []) ⊎ (bytes ≡ unknown_answer request (unknown_of request known)) }
 {}
 
-/// The values that a call reads are in the message: its class, its method, its transaction ID, and
-/// the values of ERROR-CODE, XOR-MAPPED-ADDRESS, CHANNEL-NUMBER and REQUESTED-TRANSPORT.
+/// States that the values that calls return are those in the message: its class, its method, its
+/// transaction ID, the fields of its header, and the values of ERROR-CODE, XOR-MAPPED-ADDRESS,
+/// CHANNEL-NUMBER and REQUESTED-TRANSPORT.
 pub fn what_is_read_is_in_the_message()
     ensures class { (bytes : List ℕ) (n : ℕ) → class_answer bytes ≡ pos n
         → (refusal bytes ≡ None) × (n ≡ class_number (class_in bytes)) }
@@ -241,10 +243,11 @@ pub fn attributes_are_read_from_their_value()
         × (octets ≡ xor_bytes a.octets (xor_key (transaction_id_field bytes))) }
 {}
 
-/// A call that finds an attribute finds the same attribute as the library: the first of a type, the
-/// next one after an offset, or the next one from a cursor on. It returns the offset of the value,
-/// and writes the type and the length of the attribute. If there is no such attribute it returns 0,
-/// or `STUNP_MISSING_ATTRIBUTE` if it was called for a type.
+/// States that a call that finds an attribute finds the same attribute as the library: the first of
+/// a type, the next one after an offset, or the next one from a cursor on. The call returns the
+/// offset of the value, and writes the type of the attribute and the length of its value. If there
+/// is no such attribute, the call returns 0, or `STUNP_MISSING_ATTRIBUTE` if it was called for a
+/// type.
 pub fn attributes_that_are_found_are_in_the_message()
     ensures found { (bytes : List ℕ) (kind before : ℕ) (part : TypedValue → ℕ) (n : ℕ)
         → find_answer (finding_refusal kind bytes) (first_of kind (visible bytes)) ≡ pos n
@@ -266,9 +269,10 @@ pub fn attributes_that_are_found_are_in_the_message()
         before) }
 {}
 
-/// The values that a call writes in addition to its result are those that it reads: the length of a
-/// text, a number, the port of an address, the channel and the length of ChannelData, and as many
-/// types of a list as there is room for. No call writes more than its buffer has room for.
+/// States that the values that a call writes in addition to its result are those that it reads: the
+/// length of a text, a number, an address and its port, the channel number and the length of the
+/// data of ChannelData, and as many types of a list as fit into the caller's array. No call writes
+/// more than its buffer has room for.
 pub fn what_is_written_is_what_was_read()
     ensures text { (x : Result (List ℕ) Refusal) (place before n : ℕ)
         → text_answer x place ≡ pos n → (text : List ℕ) × (x ≡ Ok text) × (n ≡ place + 4)

@@ -82,7 +82,7 @@ pub extern "C" fn stunp_parse(message: &[u8]) -> i64
 }
 
 /// Verifies the signature of a message with a key, and returns the algorithm of the signature: 1
-/// for HMAC-SHA1, 2 for HMAC-SHA256.
+/// for HMAC-SHA1, and 2 for HMAC-SHA256.
 #[unsafe(no_mangle)]
 pub extern "C" fn stunp_verify(message: &[u8], key: &[u8]) -> i64
     ensures { result ≡ verify_answer message.now key.now }
@@ -113,7 +113,8 @@ pub extern "C" fn stunp_build_signed(
     }
 }
 
-/// Writes to `out` the long-term key of a user for an algorithm, and returns its length, 16 or 32.
+/// Writes to `out` the long-term key of a user in a realm for an algorithm, and returns its length:
+/// 16 for HMAC-SHA1, and 32 for HMAC-SHA256.
 #[unsafe(no_mangle)]
 pub extern "C" fn stunp_long_term_key(
     algorithm: u32,
@@ -128,7 +129,7 @@ pub extern "C" fn stunp_long_term_key(
     write_key(algorithm, username, realm, password, out)
 }
 
-/// Writes to `out` the USERHASH of a user in a realm, and returns its length, 32.
+/// Writes to `out` the USERHASH of a user in a realm, and returns its length, which is 32.
 #[unsafe(no_mangle)]
 pub extern "C" fn stunp_userhash(username: &[u8], realm: &[u8], out: &mut [u8]) -> i64
     ensures { WritesWithin (userhash_of_texts username.now realm.now) out.old result out.new }
@@ -139,11 +140,11 @@ pub extern "C" fn stunp_userhash(username: &[u8], realm: &[u8], out: &mut [u8]) 
     }
 }
 
-/// Whether this is the proved library. In the exported library this constant is false.
+/// `true` in the proved library, and `false` in the exported library. `stunp_is_proved` returns it.
 const IS_PROVED: bool = true;
 
-/// Returns `true`, because this is the proved library: its archive is built from the sources that
-/// were proved.
+/// Returns `true` in the proved library, whose archive is built from the sources that were proved,
+/// and `false` in the exported library.
 #[unsafe(no_mangle)]
 pub extern "C" fn stunp_is_proved() -> bool
     ensures { result ≡ true }
@@ -319,9 +320,10 @@ pub extern "C" fn stunp_id(message: &[u8], out: &mut [u8]) -> i64
     reading::id(message, out)
 }
 
-/// Finds the first visible attribute after the attribute whose value has the offset `place`. Writes
-/// its type to `kind` and the length of its value to `value_length`, and returns the offset of its
-/// value. Returns 0 if there is no such attribute.
+/// Finds the first visible attribute after the attribute whose value has the offset `place`, or the
+/// first of the message if `place` is 0. Writes the type of the attribute to `kind` and the length
+/// of its value to `value_length`, and returns the offset of its value. Returns 0 if there is no
+/// such attribute.
 #[unsafe(no_mangle)]
 pub extern "C" fn stunp_next(
     message: &[u8],
@@ -339,9 +341,9 @@ pub extern "C" fn stunp_next(
     reading::next(message, attribute_place(place), kind, value_length)
 }
 
-/// Finds the next visible attribute at or after a cursor, and moves the cursor past it. Writes its
-/// type to `kind` and the length of its value to `value_length`, and returns the offset of its
-/// value. Returns 0 if no visible attribute is left.
+/// Finds the first visible attribute at or after a cursor, and moves the cursor past it. Writes the
+/// type of the attribute to `kind` and the length of its value to `value_length`, and returns the
+/// offset of its value. Returns 0 if no visible attribute is left.
 #[unsafe(no_mangle)]
 pub extern "C" fn stunp_walk(
     message: &[u8],
@@ -387,8 +389,8 @@ pub extern "C" fn stunp_error_code(message: &[u8]) -> i64
     reading::error_code(message)
 }
 
-/// Writes to `out` and `port` the address and the port in the first visible XOR-MAPPED-ADDRESS of a
-/// message, and returns the length of the address, 4 or 16.
+/// Reads the first visible XOR-MAPPED-ADDRESS of a message. Writes the address to `out` and its
+/// port to `port`, both without the XOR, and returns the length of the address, 4 or 16.
 #[unsafe(no_mangle)]
 pub extern "C" fn stunp_xor_mapped_address(message: &[u8], out: &mut [u8], port: &mut u16) -> i64
     ensures written { WritesWithin (octets_of_message message.now) out.old result out.new }
@@ -399,9 +401,9 @@ pub extern "C" fn stunp_xor_mapped_address(message: &[u8], out: &mut [u8], port:
     reading::mapped_address(message, out, port)
 }
 
-/// Writes to `out` and `port` the address and the port in an attribute like XOR-MAPPED-ADDRESS,
-/// whose value has the offset `place`. Undoes the XOR, and returns the length of the address, 4 or
-/// 16.
+/// Reads an XORed address, as in XOR-MAPPED-ADDRESS, from the attribute whose value has the offset
+/// `place`. Writes the address to `out` and its port to `port`, both without the XOR, and returns
+/// the length of the address, 4 or 16.
 #[unsafe(no_mangle)]
 pub extern "C" fn stunp_read_xor_address(
     message: &[u8],
@@ -418,8 +420,9 @@ pub extern "C" fn stunp_read_xor_address(
     reading::address_at(message, attribute_place(place), out, port)
 }
 
-/// Writes to `out` and `port` the address and the port in an attribute like MAPPED-ADDRESS, which
-/// is not XORed and whose value has the offset `place`. Returns the length of the address, 4 or 16.
+/// Reads an address that is not XORed, as in MAPPED-ADDRESS, from the attribute whose value has the
+/// offset `place`. Writes the address to `out` and its port to `port`, and returns the length of
+/// the address, 4 or 16.
 #[unsafe(no_mangle)]
 pub extern "C" fn stunp_read_address(
     message: &[u8],
@@ -473,7 +476,7 @@ pub extern "C" fn stunp_read_types(message: &[u8], place: usize, types: &mut [u1
 }
 
 /// Checks the FINGERPRINT of a message. Returns 0 if the message has no FINGERPRINT, 1 if
-/// FINGERPRINT is right, 2 if it is wrong, and 3 if it is not the last attribute or does not have 4
+/// FINGERPRINT is valid, 2 if it is wrong, and 3 if it is not the last attribute or does not have 4
 /// bytes.
 #[unsafe(no_mangle)]
 pub extern "C" fn stunp_check_fingerprint(message: &[u8]) -> i64
@@ -491,7 +494,7 @@ pub extern "C" fn stunp_add_fingerprint(buffer: &mut [u8], count: usize) -> i64
     fingerprint::add(buffer, count)
 }
 
-/// Lists the attribute types of a message that must be understood and are not in `known`. Writes as
+/// Lists the comprehension-required attribute types of a message that are not in `known`. Writes as
 /// many of them as fit into `types`, and returns how many there are.
 #[unsafe(no_mangle)]
 pub extern "C" fn stunp_unknown_types(message: &[u8], known: &[u16], types: &mut [u16]) -> i64
@@ -503,9 +506,9 @@ pub extern "C" fn stunp_unknown_types(message: &[u8], known: &[u16], types: &mut
     unknown::types(message, known, types)
 }
 
-/// Writes to `out` the error response 420 to a request that has attributes which must be understood
-/// and whose types are not in `known`, and returns its length. Returns 0 if the request has no such
-/// attribute.
+/// Writes to `out` the error response 420 that lists the comprehension-required attribute types of
+/// a request that are not in `known`, and returns the length of the response. Returns 0 if the
+/// request has no such attribute.
 #[unsafe(no_mangle)]
 pub extern "C" fn stunp_refuse_unknown(request: &[u8], known: &[u16], out: &mut [u8]) -> i64
     ensures { WritesWithin (unknown_made request.now known.now) out.old result out.new }
@@ -542,8 +545,8 @@ pub extern "C" fn stunp_next_packet_frame(bytes: &[u8]) -> i64
     framing::next_packet_frame(bytes)
 }
 
-/// Like `stunp_next_frame`, but for a stream of TURN, which has STUN messages and ChannelData
-/// messages. The result includes the padding of a ChannelData message.
+/// Like `stunp_next_frame`, but for a stream of TURN, which has ChannelData messages in addition to
+/// STUN messages. The result includes the padding of a ChannelData message.
 #[unsafe(no_mangle)]
 pub extern "C" fn stunp_next_turn_frame(bytes: &[u8]) -> i64
     ensures { result ≡ wanted_number (length bytes.now) (turn_frame_of bytes.now) }
@@ -552,7 +555,7 @@ pub extern "C" fn stunp_next_turn_frame(bytes: &[u8]) -> i64
 }
 
 /// Writes to `out` a ChannelData message of TURN, and returns how many bytes were written. If
-/// `is_padded` is true, zeros follow up to a multiple of 4 bytes, as a stream requires.
+/// `is_padded` is true, zeros follow the data up to a multiple of 4 bytes, as a stream requires.
 #[unsafe(no_mangle)]
 pub extern "C" fn stunp_build_channel_data(
     channel: u32,

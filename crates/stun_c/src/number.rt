@@ -12,7 +12,7 @@ use stun_base::header::HEADER_LENGTH;
 use stun_numbers::refusal::Refusal;
 use stun_types::attribute::RawAttribute;
 
-/// Returns whether a number may have this size in bytes: 1, 2, 4 or 8.
+/// Returns `true` if the value of an attribute can be a number of this size in bytes: 1, 2, 4 or 8.
 fn is_size(size: usize) -> bool
     ensures { result ≡ is_size size }
 {
@@ -25,7 +25,7 @@ fn is_size(size: usize) -> bool
     }
 }
 
-/// Returns whether a number may have `size` bytes, and `number` fits into them.
+/// Returns `true` if `size` is 1, 2, 4 or 8, and `number` fits into that many bytes.
 fn has_size(size: usize, number: u64) -> bool
     ensures { result ≡ has_size size number }
 {
@@ -96,8 +96,8 @@ fn number_of(value: &[u8]) -> u64
     }
 }
 
-/// Writes to `number` the number in the attribute at the offset `place` of a message. Returns its
-/// size in bytes, or a negative error code.
+/// Writes to `number` the number in the attribute at the offset `place` of a message. Returns the
+/// size of the number in bytes, or a negative error code.
 pub fn number_at(message: &[u8], place: usize, number: &mut u64) -> i64
     ensures answer { result ≡ written_number (sized_at message.now place) }
     ensures number { number.new ≡ sized_after (sized_at message.now place) number.old }

@@ -124,7 +124,7 @@ pub fn error_code(message: &[u8]) -> i64
     }
 }
 
-/// Returns whether an address of the family `family` has `count` octets.
+/// Returns `true` if `count` is the number of octets that an address of the family `family` has.
 fn has_octets(family: u8, count: usize) -> bool
     ensures answer { result ≡ has_octets family count }
     ensures short { result ≡ true → count ≤ 16 }
@@ -210,8 +210,8 @@ fn address_in<'a>(message: &Message<'a>) -> Result<(u16, &'a [u8]), Refusal>
     }
 }
 
-/// Returns the port and the octets in the first visible XOR-MAPPED-ADDRESS of a message. Undoes the
-/// XOR in `place`, which has 16 bytes.
+/// Returns the port and the octets in the first visible XOR-MAPPED-ADDRESS of a message, without
+/// the XOR. The octets are written to the front of `place`, which has 16 bytes.
 fn shown_in<'a>(message: &Message<'_>, place: &'a mut [u8]) -> Result<(u16, &'a [u8]), Refusal>
     requires { length place.old ≡ 16 }
     ensures ok { IfOk result (λ parts. shown_octets (address_in message.now)
@@ -241,7 +241,8 @@ fn shown_address<'a>(message: &[u8], place: &'a mut [u8]) -> Result<(u16, &'a [u
 }
 
 /// Copies the octets in the first visible XOR-MAPPED-ADDRESS of a message to the front of `out`,
-/// and writes its port to `port`. Returns the number of octets, or a negative error code.
+/// and writes the port to `port`, both without the XOR. Returns the number of octets, or a negative
+/// error code.
 pub fn mapped_address(message: &[u8], out: &mut [u8], port: &mut u16) -> i64
     ensures written { WritesWithin (octets_of_message message.now) out.old result out.new }
     ensures port { port.new ≡ port_after (within_room (octets_of_message message.now)
@@ -308,7 +309,7 @@ fn key_in(message: &[u8]) -> [u8; 16]
 }
 
 /// Returns the port and the octets in the XORed address attribute at the offset `place` of a
-/// message. Undoes the XOR in `room`, which has 16 bytes.
+/// message, without the XOR. The octets are written to the front of `room`, which has 16 bytes.
 fn shown_at<'a>(
     message: &[u8],
     place: usize,
@@ -328,7 +329,8 @@ fn shown_at<'a>(
 }
 
 /// Copies the octets in the XORed address attribute at the offset `place` of a message to the front
-/// of `out`, and writes its port to `port`. Returns the number of octets, or a negative error code.
+/// of `out`, and writes the port to `port`, both without the XOR. Returns the number of octets, or
+/// a negative error code.
 pub fn address_at(message: &[u8], place: usize, out: &mut [u8], port: &mut u16) -> i64
     ensures written { WritesWithin (octets_at message.now place) out.old result out.new }
     ensures port { port.new ≡ port_after (within_room (octets_at message.now place)

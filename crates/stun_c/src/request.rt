@@ -19,7 +19,7 @@ use stun_types::prelude::*;
 pub const LONGEST_REQUEST: usize = 20 + 4 + 516 + 4 + 32;
 
 /// Converts bytes to a USERNAME. Fails with `NotText` if they are not UTF-8, and with `TextTooLong`
-/// if there are more than 513.
+/// if there are more than 513 bytes.
 fn username(bytes: &[u8]) -> Result<Username<'_>, Refusal>
     ensures ok { IfOk result (λ username. (username_refusal bytes.now ≡ None)
         × (username ≡ bytes.now)) }
@@ -33,7 +33,7 @@ fn username(bytes: &[u8]) -> Result<Username<'_>, Refusal>
 }
 
 /// Writes a Binding request with this transaction ID and this USERNAME, signed with the key, to a
-/// buffer that has room for the longest request. Returns its bytes.
+/// buffer that has room for the longest request. Returns the bytes of the request.
 #[tactic(auto, using(crate::proofs::Sizes::request_length, crate::proofs::Sizes::signing_fits))]
 pub fn signed_request<'a>(
     algorithm: u32,

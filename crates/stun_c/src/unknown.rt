@@ -1,5 +1,5 @@
-//! Finds the attribute types that must be understood and that the caller does not know, and writes
-//! the error response 420 that lists them (RFC 8489, sections 6.3.1 and 14.13).
+//! Finds the comprehension-required attribute types that the caller does not know, and writes the
+//! error response 420 that lists them (RFC 8489, sections 6.3.1 and 14.13).
 
 ghost use Rattle.std.specs.Prelude.{◌≡◌, ◌≤◌, ◌<◌, ◌+◌, ◌*◌, ◌++◌, ◌^◌, length, pos, take, drop};
 ghost use Rattle.std.specs.Prelude.{set, IfOk, IfErr, OnOk, Some, None, Ok, Err};
@@ -29,7 +29,7 @@ use stun_types::prelude::*;
 // They are copied to the stack, because these calls have no allocator.
 const MOST_KNOWN: usize = 256;
 
-/// Converts numbers to attribute types, in an array of the same length.
+/// Writes the attribute types with these numbers to an array of the same length.
 fn copy_types(types: &mut [AttributeType], numbers: &[u16])
     requires { length types.old ≡ length numbers.now }
     ensures { types.new ≡ types_of numbers.now }
@@ -39,8 +39,9 @@ fn copy_types(types: &mut [AttributeType], numbers: &[u16])
     }
 }
 
-/// Converts the numbers of the types that the caller knows, in memory for `MOST_KNOWN` types. Fails
-/// with `BadArgument` if there are more than `MOST_KNOWN` numbers.
+/// Converts the numbers of the types that the caller knows, and writes the types to `place`, which
+/// has room for `MOST_KNOWN` types. Fails with `BadArgument` if there are more than `MOST_KNOWN`
+/// numbers.
 fn known_types<'a>(
     numbers: &[u16],
     place: &'a mut [AttributeType],
@@ -58,7 +59,7 @@ fn known_types<'a>(
     Ok(known)
 }
 
-/// Writes a number to the array at an index. Does nothing if the array has no such index.
+/// Writes a number to the array at the index `place`. Does nothing if the array has no such index.
 #[tactic(auto, using(crate::proofs::Told::not_set))]
 pub fn put(numbers: &mut [u16], place: usize, number: u16)
     ensures { numbers.new ≡ set numbers.old place number }
@@ -164,7 +165,7 @@ fn write_front(request: &Message<'_>, out: &mut [u8])
     append_error(out);
 }
 
-/// Writes an attribute type in 2 bytes, at the offset `end`.
+/// Writes an attribute type in 2 bytes, in network order, at the offset `end` of `place`.
 fn put_type(place: &mut [u8], end: usize, kind: AttributeType)
     requires { end + 2 ≤ length place.old }
     ensures { place.new ≡ take end place.old ++ big_bytes 2 kind.0 ++ drop (end + 2) place.old }
@@ -172,7 +173,8 @@ fn put_type(place: &mut [u8], end: usize, kind: AttributeType)
     place[end..end + 2].copy_from_slice(&kind.value().to_be_bytes());
 }
 
-/// Writes the unknown types of a message, 2 bytes each, to memory of exactly this size.
+/// Writes the unknown types of a message, 2 bytes each, to `place`, which has room for exactly
+/// these types.
 #[tactic(auto, using(crate::proofs::Told::spelled_next))]
 fn write_types(message: &Message<'_>, known: &[AttributeType], place: &mut [u8])
     requires { length place.old ≡ 2 * length (unknown_types known.now message.now) }

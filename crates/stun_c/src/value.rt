@@ -21,7 +21,7 @@ pub fn attribute_place(place: usize) -> usize
 }
 
 /// Returns the value of the attribute at the offset `place` of a message. Fails with `BadArgument`
-/// if there is no attribute.
+/// if there is no attribute at this offset.
 fn value_at(message: &[u8], place: usize) -> Result<&[u8], Refusal>
     ensures ok { IfOk result (λ value. value_at message.now place ≡ Ok value.now) }
     ensures within { OnOk result (place + 4 ≤ length message.now) }

@@ -11,7 +11,8 @@ use stun_base::error::{StunParseError, ValidateError};
 use stun_numbers::refusal::Refusal;
 use stun_types::message::Message;
 
-/// Converts the error with which the integrity attribute of a message could not be parsed.
+/// Converts the error of a failed search for the integrity attribute of a message to the error that
+/// the call returns.
 fn integrity_refusal(error: StunParseError) -> Refusal
     ensures { result ≡ refusal_of_integrity error }
 {
@@ -24,7 +25,7 @@ fn integrity_refusal(error: StunParseError) -> Refusal
     }
 }
 
-/// Converts the error with which the verification of a message has failed.
+/// Converts the error of a failed verification of a message to the error that the call returns.
 fn verdict_refusal(error: ValidateError) -> Refusal
     ensures { result ≡ refusal_of_verdict error }
 {

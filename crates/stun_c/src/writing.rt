@@ -70,8 +70,17 @@ pub fn fits(message: &Message<'_>, room: usize, value_length: usize) -> Result<(
     Ok(())
 }
 
-/// Checks that an attribute with this type and a value of this length can be added. If it cannot,
-/// fails with the first error that applies.
+/// Checks that an attribute with this type and a value of this length can be added to the message
+/// in the first `count` bytes of the buffer.
+///
+/// # Errors
+///
+/// The first of these that applies:
+///
+/// - The errors of `base_message`.
+/// - `NotAllowed`: attributes of this type are written only by calls of their own.
+/// - `AttributeExists`: the message has an attribute of this type.
+/// - `MessageTooLong` or `BufferTooSmall`: the attribute does not fit (`fits`).
 fn addable(
     buffer: &[u8],
     count: usize,
@@ -93,7 +102,7 @@ fn addable(
     fits(&message, buffer.len() - count, value_length)
 }
 
-/// Sets the length field of a message.
+/// Sets the length field of a message to `data_length`, the number of bytes after the header.
 pub fn set_length(message: &mut [u8], data_length: u16)
     requires { 20 ≤ length message.old }
     ensures { message.new ≡ with_length message.old data_length }
@@ -163,7 +172,8 @@ pub fn add(buffer: &mut [u8], count: usize, kind: AttributeType, value: &[u8]) -
     }
 }
 
-/// Adds an attribute like `add`, but fails with `BadArgument` if its type is above 65535.
+/// Adds an attribute like `add`, but with its type as a number. Fails with `BadArgument` if the
+/// number is above 65535.
 pub fn add_numbered(buffer: &mut [u8], count: usize, kind: u32, value: &[u8]) -> i64
     ensures { Writes (added_number buffer.old count kind value.now) buffer.old result buffer.new }
 {
@@ -173,7 +183,7 @@ pub fn add_numbered(buffer: &mut [u8], count: usize, kind: u32, value: &[u8]) ->
     add(buffer, count, AttributeType::new(kind as u16), value)
 }
 
-/// Writes the integrity attribute that signs a text to the front of a buffer that has room for it.
+/// Writes the integrity attribute that signs `text` to the front of a buffer that has room for it.
 fn spell_digest(buffer: &mut [u8], algorithm: IntegrityAlgorithm, key: &[u8], text: &[u8])
     requires { attribute_length (digest_length algorithm) ≤ length buffer.old }
     ensures { buffer.new ≡ spelled_attribute (record {
@@ -229,9 +239,9 @@ fn append_integrity(
     end as i64
 }
 
-/// Returns the algorithm with this number. Fails with `BadArgument` if no algorithm has this
-/// number, and then with the first error that keeps its integrity attribute from being added to the
-/// message in the first `count` bytes of the buffer.
+/// Returns the algorithm with this number, if its integrity attribute can be added to the message
+/// in the first `count` bytes of the buffer. Fails with `BadArgument` if no algorithm has this
+/// number, and otherwise with the first error because of which the attribute cannot be added.
 fn signable(buffer: &[u8], count: usize, algorithm: u32) -> Result<IntegrityAlgorithm, Refusal>
     ensures ok { IfOk result (λ algorithm'. (algorithm_numbered algorithm ≡ Some algorithm')
         × (digest_refusal buffer.now count algorithm' ≡ None)
@@ -323,9 +333,9 @@ pub fn write_error(value: &mut [u8], code: u16, reason: &[u8])
     back.copy_from_slice(reason);
 }
 
-/// Returns the code, if it can be written to an ERROR-CODE with this reason phrase. Fails with
-/// `BadArgument` if the code is not between 300 and 699, then with `NotText` or `TextTooLong` for
-/// the reason phrase.
+/// Returns the code, if an ERROR-CODE can have this code and this reason phrase. Fails with
+/// `BadArgument` if the code is not between 300 and 699, then with `NotText` if the reason phrase
+/// is not UTF-8, then with `TextTooLong` if it has more than 763 bytes.
 fn error_arguments(code: u32, reason: &[u8]) -> Result<u16, Refusal>
     ensures ok { IfOk result (λ code'. (code' ≡ code) × (code < 700) ×
         (length reason.now ≤ TEXT_LIMIT)) }

@@ -17,8 +17,8 @@ use stun_endpoint::users::Users;
 use stun_handles::address::Address;
 use stun_numbers::refusal::Refusal;
 
-/// Judges a datagram with a server and a table of users, and writes the outcome to `received` and
-/// the `stunp_cause` to `cause`. The caller has set `cause` to 0.
+/// Judges a datagram with a server and a table of users, and writes the outcome to `received`, the
+/// server's own response to `out`, and the `stunp_cause` to `cause`, which the caller has set to 0.
 pub fn receive(
     server: &Kept,
     users: &Kept,
@@ -60,7 +60,7 @@ pub fn receive(
 }
 
 /// Judges a datagram with a server and a table of users with long-term credentials, and writes the
-/// outcome and the cause.
+/// outcome to `received`, the server's own response to `out`, and the `stunp_cause` to `cause`.
 fn judge(
     server: &Server<Global>,
     users: &Users<Global>,

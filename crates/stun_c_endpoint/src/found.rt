@@ -67,8 +67,9 @@ impl<'f> Found<'f> {
     }
 }
 
-/// Judges a datagram with a server and the user whom the caller has found, and writes the outcome.
-/// Fails with `WrongHandle` if the value is not a server with long-term credentials.
+/// Judges a datagram with a server and the user whom the caller has found, and writes the outcome
+/// to `received` and the server's own response to `out`. Fails with `WrongHandle` if the value is
+/// not a server with long-term credentials.
 #[tactic(auto, using(crate::proofs::FoundLemmas::judged_by_user, crate::proofs::FoundLemmas::judged_by_none))]
 pub fn resume(
     server: &Kept,
@@ -93,7 +94,8 @@ pub fn resume(
     }
 }
 
-/// Judges a datagram with this server and this user, and writes the outcome.
+/// Judges a datagram with this server and this user, and writes the outcome to `received` and the
+/// server's own response to `out`.
 fn resume_at(
     server: &Server<Global>,
     user: &FoundUser<'_>,

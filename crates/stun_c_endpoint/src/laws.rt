@@ -19,9 +19,9 @@ ghost use Rattle.stun_numbers.specs.declared.refusal.Refusal.{Refusal};
 ghost use Rattle.stun_numbers.specs.declared.refusal.Refusal.TheVariants.{NotAllowed};
 ghost use Rattle.stun_types.specs.Attribute.{first_attribute, has_attribute};
 
-/// A call that returns `STUNP_IS_REQUEST` writes a reply whose signatures are valid under the key
-/// of the user in `name`: `stunp_verify` accepts what `stunp_reply_finish` signs, whatever the
-/// length of the user's password.
+/// States that a call that returns `STUNP_IS_REQUEST` writes a reply whose signatures are valid
+/// under the key of the user in `name`. So `stunp_verify` accepts what `stunp_reply_finish` signs,
+/// whatever the length of the user's password is.
 pub fn replies_sign_for_the_user()
     ensures { (judge : Judge) (from : SocketAddr) (seconds : ℕ) (bytes : List ℕ) (result : ℤ)
         (out out' : List ℕ) (r r' : Received)
@@ -37,9 +37,10 @@ pub fn set_roles_are_told()
         → controlling_answer (agent_in now) ≡ (if controls then pos 1 else pos 0) }
 {}
 
-/// A check with an empty body has the same bytes as the check that `stunp_ice_checker_check_with`
-/// writes. USE-CANDIDATE, ICE-CONTROLLING and ICE-CONTROLLED in a body are refused, because the
-/// agent itself writes them, and XOR-PEER-ADDRESS is refused too.
+/// States that a check with an empty body has the same bytes as the check that
+/// `stunp_ice_checker_check_with` writes (`nothing`). USE-CANDIDATE, ICE-CONTROLLING and
+/// ICE-CONTROLLED in a body are refused, because the agent writes them itself, and XOR-PEER-ADDRESS
+/// is refused too, because a body stores its address without the XOR (`refused`).
 pub fn bodies_say_nothing_of_ice()
     ensures nothing { (a : Agent) (peer : Peer) (id : ℕ) (to : SocketAddr) (priority : ℕ)
         (nominate : Bool) (check : SentCheck)

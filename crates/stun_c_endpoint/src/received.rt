@@ -28,7 +28,7 @@ use stun_endpoint::reply::Reply as EndpointReply;
 use stun_endpoint::short_term::ShortTermIndication;
 use stun_types::message::{IntegrityAlgorithm, Message, TransactionId};
 
-/// The number of bytes of a block of HMAC. A reply has no room for a longer key.
+/// The number of bytes of a block of HMAC, which is the greatest length of a key in a reply.
 const KEY_ROOM: usize = 64;
 
 /// The `stunp_drop` of an indication that no user has signed.
@@ -63,14 +63,14 @@ pub struct Reply {
     pub has_fingerprint: bool,
 }
 
-/// The outcome of a datagram.
+/// The outcome of a datagram at a server.
 #[repr(C)]
 pub struct Received {
     /// The size of this struct in the caller's program.
     pub size: usize,
     /// The outcome, a `stunp_kind`.
     pub kind: u32,
-    /// The reason, a `stunp_drop`, if the datagram is dropped.
+    /// The reason for which the datagram is dropped, a `stunp_drop`.
     pub why: u32,
     /// The code of an error response that was written, or 0 for a success. For an indication that
     /// no user has signed, the code with which a request would be refused.
@@ -144,7 +144,7 @@ fn sha256_of(bytes: &[u8]) -> [u8; 32]
     hasher.finalize()
 }
 
-/// A key, filled up with zeros to one block of HMAC, and the length of the key.
+/// A key that is padded with zeros to one block of HMAC, and the length of the key.
 #[derive(Clone, Copy)]
 struct KeyBlock {
     bytes: [u8; 64],
@@ -152,7 +152,7 @@ struct KeyBlock {
 }
 
 impl KeyBlock {
-    /// Fills up a key with zeros.
+    /// Pads a key with zeros to one block of HMAC.
     fn filled(key: &[u8]) -> KeyBlock
         requires { length key.now ≤ 64 }
         ensures bytes { result.bytes ≡ block_of key.now }

@@ -28,8 +28,8 @@ use stun_numbers::refusal::Refusal;
 
 pub mod laws;
 
-/// The greatest time that a call accepts, in seconds. A greater number is probably in other units,
-/// such as nanoseconds.
+/// The greatest time that a call accepts, in seconds since 1970. A greater number is probably in
+/// another unit, such as nanoseconds.
 pub const LAST_SECOND: u64 = 1_099_511_627_776;
 
 /// Returns the error code of a response, or 0 if it is a success response.
@@ -62,8 +62,8 @@ fn answered(
     Ok(1)
 }
 
-/// Writes the outcome of a datagram at a server with long-term credentials to `received`, and a
-/// response to `out`. Returns the `stunp_kind`.
+/// Writes the outcome of a datagram at a server with long-term credentials to `received`, and the
+/// server's own response, if there is one, to `out`. Returns the `stunp_kind`.
 pub fn tell(
     outcome: &Outcome<'_, Global>,
     out: &mut [u8],
@@ -95,8 +95,8 @@ pub fn tell(
     }
 }
 
-/// Writes the outcome of a datagram at a server with short-term credentials to `received`, and a
-/// response to `out`. Returns the `stunp_kind`.
+/// Writes the outcome of a datagram at a server with short-term credentials to `received`, and the
+/// server's own response, if there is one, to `out`. Returns the `stunp_kind`.
 fn tell_short_term(
     outcome: &ShortTermReceived<'_, Global>,
     out: &mut [u8],
@@ -132,8 +132,8 @@ fn tell_short_term(
     }
 }
 
-/// Writes the outcome of a datagram at a server without credentials to `received`, and a response
-/// to `out`. Returns the `stunp_kind`.
+/// Writes the outcome of a datagram at a server without credentials to `received`, and the server's
+/// own response, if there is one, to `out`. Returns the `stunp_kind`.
 fn tell_openly(
     outcome: &OpenReceived<'_, Global>,
     out: &mut [u8],
@@ -196,7 +196,7 @@ pub fn receive(
 }
 
 /// Judges a datagram with a server and no table of users, and writes the outcome. Fails with
-/// `EmptyHandle` if the server has credentials, because it then needs a table, and with
+/// `EmptyHandle` if the server has credentials, because the call then needs a table, and with
 /// `WrongHandle` if the value is not a server.
 pub fn receive_alone(
     server: &Kept,
@@ -349,8 +349,8 @@ pub fn cause_number(cause: Option<Cause>) -> u32
 }
 
 /// Returns the `stunp_cause` for which a server with this table of users refuses a datagram, or 0
-/// if it does not refuse the datagram. Fails with `WrongHandle` if the server or the table is not
-/// one with long-term credentials.
+/// if it does not refuse the datagram. Fails with `WrongHandle` if the server or the table does not
+/// have long-term credentials.
 pub fn cause(
     server: &Kept,
     users: &Kept,
@@ -370,7 +370,7 @@ pub fn cause(
 }
 
 /// Returns the error with which `stunp_endpoint_server_cause_own` fails if the users' handle is
-/// empty.
+/// empty: `EmptyHandle`, or `WrongHandle` if the server does not have long-term credentials.
 pub fn cause_alone(server: &Kept) -> Refusal
     ensures { long_term_with None server.now ≡ Err result }
 {

@@ -30,16 +30,17 @@ use stun_numbers::refusal::Refusal;
 use stun_numbers::text::text;
 use stun_types::limits::TEXT_LIMIT;
 
-/// The number for HMAC-SHA1 alone.
+/// The number in `Given::algorithms` for HMAC-SHA1 alone.
 const ONLY_SHA1: u32 = 1;
 
-/// The number for HMAC-SHA256 alone.
+/// The number in `Given::algorithms` for HMAC-SHA256 alone.
 const ONLY_SHA256: u32 = 2;
 
-/// The greatest number for the algorithms. It means both.
+/// The greatest valid number in `Given::algorithms`, which means both algorithms.
 const MOST_ALGORITHMS: u32 = 3;
 
-/// The greatest number for a feature. It means that names are never hashed.
+/// The greatest `stunp_feature`, which means that clients may not send a hash in place of the user
+/// name.
 const DISABLED: u32 = 2;
 
 /// The longest nonce lifetime, in seconds: 30 days.
@@ -81,7 +82,8 @@ impl<'a> Model for Given<'a> {
     } };
 }
 
-/// Returns the nonce lifetime in seconds. If the caller passes 0, this is an hour.
+/// Returns the nonce lifetime in seconds: the number that the caller passes, or an hour if this
+/// number is 0.
 fn nonce_seconds(seconds: u64) -> u64
     ensures { result ≡ nonce_seconds seconds }
 {
@@ -127,7 +129,7 @@ pub fn types(alloc: Global, numbers: &[u16]) -> Result<Vec<AttributeType, Global
     Ok(types)
 }
 
-/// Converts numbers to attribute types, in an array of the same length.
+/// Writes the attribute types with these numbers to an array of the same length.
 fn copy_types(types: &mut [AttributeType], numbers: &[u16])
     requires { length types.old ≡ length numbers.now }
     ensures { types.new ≡ types_of numbers.now }
@@ -137,7 +139,7 @@ fn copy_types(types: &mut [AttributeType], numbers: &[u16])
     }
 }
 
-/// Copies a text. Returns `None` if it has no bytes.
+/// Copies a text, or returns `None` if the text has no bytes.
 pub fn text_if_any(alloc: Global, text: &str) -> Result<Option<String<Global>>, AllocError>
     ensures { IfOk result (λ copy. option_map string_bytes copy ≡ if_any text.now) }
 {
@@ -307,7 +309,8 @@ impl<'a> GivenAlone<'a> {
         }
     }
 
-    /// Creates the settings of the server's responses.
+    /// Creates the settings of a server's responses. Fails with `NotText`, `TextTooLong` or
+    /// `OutOfMemory` if the SOFTWARE text is not UTF-8, is too long or cannot be stored.
     fn settings(&self, alloc: Global) -> Result<ResponseSettings<Global>, Refusal>
         ensures refused { RefusedFor (alone_refusal self.now) result }
         ensures software { IfOk result (λ made. option_map string_bytes made.software

@@ -21,7 +21,8 @@ use stun_numbers::refusal::Refusal;
 use stun_numbers::text::text;
 use stun_types::limits::USERNAME_LIMIT;
 
-/// Fails with `TextTooLong` if the name has more bytes than a USERNAME may have.
+/// Checks that a name fits into USERNAME. Fails with `TextTooLong` if the name has more than 513
+/// bytes.
 pub fn check_name(name: &str) -> Result<(), Refusal>
     ensures { result ≡ refusal_or (name_refusal name.now) (Ok tt) }
 {
@@ -31,7 +32,7 @@ pub fn check_name(name: &str) -> Result<(), Refusal>
     Ok(())
 }
 
-/// Fails with `BadArgument` if the password has no bytes.
+/// Checks that a password is not empty. Fails with `BadArgument` if it has no bytes.
 pub fn check_password(password: &str) -> Result<(), Refusal>
     ensures { result ≡ refusal_or (password_refusal password.now) (Ok tt) }
 {

@@ -11,7 +11,7 @@ use std::alloc::Allocator;
 use std::io;
 use std::io::{ErrorKind, Read};
 
-/// The greatest number of reads of a command.
+/// The greatest number of reads in one call of this module.
 pub const MAX_READS: u32 = 1_048_576;
 
 /// The greatest number of bytes of one read.
@@ -119,8 +119,8 @@ pub fn read_to_end<R: CountedRead, A: Allocator>(
     Err(Failure::NoEnd)
 }
 
-/// Reads from the reader and appends to `before`, until the result has `least` bytes. The result
-/// has fewer bytes only if the reader has no more. The call reads no further byte.
+/// Reads bytes and appends them to `before`, until the result has `least` bytes or the reader has
+/// no more. The call reads only as many bytes as the result needs.
 ///
 /// Fails if a read or an allocation fails, or if it takes more than 1048576 reads.
 pub fn read_up_to<R: CountedRead, A: Allocator>(
@@ -154,11 +154,10 @@ pub fn read_up_to<R: CountedRead, A: Allocator>(
     Err(Failure::NoEnd)
 }
 
-/// Reads all bytes that the reader still has, and appends them to `before`. Together they must be
-/// at most `most` bytes.
+/// Reads all bytes that the reader still has, and appends them to `before`.
 ///
-/// Fails if a read or an allocation fails, if there are more bytes, or if the end does not come
-/// within 1048576 reads. Each byte of `before` counts as a read.
+/// Fails if a read or an allocation fails, if a read would make the result longer than `most`
+/// bytes, or if the end does not come within 1048576 reads. Each byte of `before` counts as a read.
 pub fn read_rest<R: CountedRead, A: Allocator>(
     reader: &mut R,
     before: Vec<u8, A>,

@@ -41,7 +41,7 @@ impl<A: Allocator + Copy> Line<A> {
         }
     }
 
-    /// Appends a text.
+    /// Appends a text, which must not have a line feed.
     pub fn push_str(&mut self, text: &str) -> Result<(), AllocError>
         requires { has_line_feed text.now ≡ false }
         ensures { OnOk result

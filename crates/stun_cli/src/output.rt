@@ -6,7 +6,7 @@ ghost use Rattle.stun_cli.specs.Output.{AppendsBeginning};
 use crate::failure::Failure;
 use std::io::{ErrorKind, Write};
 
-/// The greatest number of writes of a text.
+/// The greatest number of writes in one call of `write_text`.
 const MAX_WRITES: u32 = 1_048_576;
 
 /// Writes the text, in at most 1048576 writes. An interrupted write is repeated.

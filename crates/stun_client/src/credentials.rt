@@ -22,10 +22,12 @@ use stun_extra::fingerprint::{Fingerprint, check_fingerprint};
 use stun_types::attribute::ErrorCode;
 use stun_types::message::{IntegrityAlgorithm, LongTermCredentials, Message, PreparedKey};
 
-/// The code of Allocation Mismatch (RFC 8656, section 19).
+/// The error code Allocation Mismatch (RFC 8656, section 19). A response with this code that has no
+/// valid signature casts doubt on the message that it answers.
 const ALLOCATION_MISMATCH: u16 = 437;
 
-/// The code of Wrong Credentials (RFC 8656, section 19).
+/// The error code Wrong Credentials (RFC 8656, section 19). A response with this code that has no
+/// valid signature casts doubt on a signed message that it answers.
 const WRONG_CREDENTIALS: u16 = 441;
 
 /// A name and a password that client and server have agreed on for one session (RFC 8489, section
@@ -47,7 +49,7 @@ pub struct LongTerm<A: Allocator = Global> {
     pub user: LongTermCredentials<A>,
     /// The supported algorithms, and whether the user name is sent as a hash.
     pub preferences: Preferences,
-    /// Whether the client believes a response to a request that was not signed.
+    /// Whether the client believes responses to requests that were not signed.
     pub accepts_unsigned: bool,
 }
 
@@ -63,7 +65,7 @@ pub enum Credentials<A: Allocator = Global> {
 }
 
 /// Returns the reason to drop a message because of its FINGERPRINT, or `None` if there is no such
-/// reason. If `is_required` is true, the message must have a FINGERPRINT.
+/// reason. A missing FINGERPRINT is a reason only if `is_required` is true.
 fn fault_in(message: &Message<'_>, is_required: bool) -> Option<Distrust>
     ensures { result ≡ fault_in is_required message.now }
 {
@@ -99,7 +101,8 @@ impl<A: Memory> Credentials<A> {
 
     /// Judges a response to a message of an outstanding request. `signed_for` is the challenge that
     /// this message was signed for, or `None` if it was not signed. `is_current` is true if the
-    /// message is the current one of the request, and false if it is an earlier one.
+    /// message is the current one of the request, and false if it is an earlier one. `standing` has
+    /// the challenge that a success has confirmed.
     ///
     /// A response is dropped if its FINGERPRINT is wrong, is not the last attribute or does not
     /// have 4 bytes, or if it has no FINGERPRINT and `requires_fingerprint` is true. Any other
@@ -184,7 +187,8 @@ impl<A: Allocator> ShortTerm<A> {
     }
 }
 
-/// Judges a response with a valid signature, which must have the algorithm of the request.
+/// Judges a response that has a valid signature of the algorithm `signed`. It is believed if this
+/// is the algorithm `asked`, with which the request was signed, and dropped otherwise.
 fn by_sole_algorithm<A: Allocator>(
     asked: IntegrityAlgorithm,
     signed: IntegrityAlgorithm,
@@ -204,7 +208,8 @@ fn by_sole_algorithm<A: Allocator>(
 }
 
 impl<A: Memory> LongTerm<A> {
-    /// Judges a response to a request that was signed for this challenge.
+    /// Judges a response to a message that was signed for the challenge `signed_for`, or was not
+    /// signed if this is `None`.
     fn judge(
         &self,
         alloc: A,
@@ -349,8 +354,8 @@ fn judged_challenge<A: Allocator + Copy>(
     }
 }
 
-/// Returns whether a response is a 401 to a request that was signed for a challenge with the same
-/// realm and security bits.
+/// Returns whether a response is a 401, and its challenge has the same realm and security bits as
+/// the challenge that the request was signed for.
 fn is_refusal<A: Allocator + Copy>(
     signed_for: &Option<Challenge<A>>,
     response: &Message<'_>,

@@ -37,9 +37,10 @@ pub fn challenges_are_by_the_rule()
 {}
 
 /// A client answers each challenge that offers an algorithm that the client supports, whatever
-/// other algorithms the list has. The client reads the challenge (`read`). If a request was signed
-/// for another challenge, or not signed, the client sends it again for this one, unless this one is
-/// weaker than the challenge that a success has confirmed (`sent`).
+/// other algorithms the list has. The client reads the challenge (`read`). If the current message
+/// of a request was signed for another challenge, or was not signed, the client sends the request
+/// again for the challenge that it has read, unless this challenge is weaker than the challenge
+/// that a success has confirmed, or the response is dropped because of its FINGERPRINT (`sent`).
 pub fn answerable_challenges_are_answered()
     ensures read { (p : ThePreferences) (who : NameAndPassword) (before : Option Challenge)
         (bytes : List ℕ) → IsAnswerable p before bytes → IsSome (challenge_of p who before bytes) }
@@ -132,9 +133,9 @@ pub fn requests_are_sent_again_for_new_challenges()
 {}
 
 /// With long-term credentials, an unsigned response is not believed if the request was signed
-/// (`signed`), nor if the client does not accept unsigned responses (`first`). Instead the request
-/// is sent again for it, or it is a refusal, or it casts doubt on the message that it answers, or
-/// it is dropped.
+/// (`signed`), nor if the client does not accept unsigned responses (`first`). Such a response is a
+/// challenge for which the request is sent again, refuses the request, casts doubt on the message
+/// that it answers, or is dropped.
 pub fn unsigned_responses_are_not_believed()
     ensures signed { (required is_current : Bool) (who : NameAndPassword) (p : ThePreferences)
         (accepts_unsigned : Bool) (standing : StandingSeen) (before : Answered) (bytes : List ℕ)

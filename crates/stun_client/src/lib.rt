@@ -1,7 +1,7 @@
-//! The client's answers to challenges, by one rule that prevents a server from accepting a request
-//! with a weaker algorithm than the strongest one that both sides support (RFC 8489, section
-//! 9.2.5). Also the judgement of a response to a request, and the derivation of transaction IDs
-//! from a seed.
+//! How a client answers challenges, judges the responses to its requests, and derives transaction
+//! IDs from a seed. It answers challenges by one rule, which prevents a server from accepting a
+//! request with a weaker algorithm than the strongest one that both sides support (RFC 8489,
+//! section 9.2.5).
 #![tactic(auto)]
 
 pub mod challenge;

@@ -51,8 +51,9 @@ impl<A: Allocator> Credentials<A> {
     /// and with long-term credentials it signs the request for this challenge (see
     /// `Challenge::sign`). Without credentials, or without a challenge, it adds nothing.
     ///
-    /// The writer must hold a request without FINGERPRINT. Fails with the errors of
-    /// `Challenge::sign`, and then drops the writer.
+    /// Add FINGERPRINT after this call, because it has to be the last attribute, and the call does
+    /// not check whether the request has one already. Fails with the errors of `Challenge::sign`,
+    /// and then drops the writer.
     pub fn sign<W: MessageWrite>(
         &self,
         signed_for: Option<&Challenge<A>>,

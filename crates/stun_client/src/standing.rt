@@ -115,10 +115,10 @@ impl<A: Allocator + Copy> Standing<A> {
         }
     }
 
-    /// Confirms a challenge, because a message that is signed for it was answered with a success.
-    /// Confirms it only if it is the current one, if it is stronger than the challenge that was
-    /// confirmed last, or if none was confirmed. A confirmed challenge replaces the current one if
-    /// the current one is weaker or there is none.
+    /// Records that a message that is signed for `challenge` was answered with a success. This
+    /// confirms the challenge if it is the current one, if it is stronger than the challenge that
+    /// was confirmed last, or if none was confirmed. Otherwise nothing changes. A challenge that is
+    /// confirmed also replaces the current one if the current one is weaker or there is none.
     pub fn confirm(&mut self, challenge: Option<Challenge<A>>)
         ensures { self.new ≡ after_success self.old challenge }
     {

@@ -96,7 +96,7 @@ impl<A: Allocator + Copy> Sent<A> {
     }
 
     /// Returns whether the message may become the current one again: it is not in doubt, and is not
-    /// signed for a challenge that is too weak.
+    /// signed for a challenge that is weaker than the challenge that a success has confirmed.
     fn is_eligible(&self, standing: &Standing<A>) -> bool
         ensures { result ≡ is_eligible standing.now self.now }
     {
@@ -104,7 +104,8 @@ impl<A: Allocator + Copy> Sent<A> {
     }
 
     /// Returns whether the message may become the current one again if doubts are ignored: it is
-    /// signed, for a challenge that is not too weak.
+    /// signed, and for a challenge that is not weaker than the challenge that a success has
+    /// confirmed.
     fn is_signed_eligible(&self, standing: &Standing<A>) -> bool
         ensures { result ≡ is_signed_eligible standing.now self.now }
     {
@@ -241,8 +242,8 @@ impl<A: Memory> Asked<A> {
         }
     }
 
-    /// Returns the plan of each message: the plan in the options of the request or, without such
-    /// options, this plan of the client.
+    /// Returns the plan of each message: the plan in the options of the request or, if the request
+    /// has no options, `of_client`, which is the plan of the client.
     pub fn plan(&self, of_client: RequestRto) -> RequestRto
         ensures { settings_of result ≡ plan_by self.now.options (settings_of of_client) }
     {
@@ -253,7 +254,7 @@ impl<A: Memory> Asked<A> {
     }
 
     /// Returns the address that the responses come from: the address in the options of the request
-    /// or, without such options, this address of the server.
+    /// or, if the request has no options, `of_server`, which is the address of the server.
     pub fn address(&self, of_server: SocketAddr) -> SocketAddr
         ensures { result ≡ address_by self.now.options of_server }
     {
@@ -292,7 +293,7 @@ impl<A: Memory> Asked<A> {
         self.drops
     }
 
-    /// Returns the refusals of the request that count.
+    /// Returns the refusals of the request (see `Refusals`).
     pub fn refusals(&self) -> Refusals
         ensures { result ≡ self.now.refusals }
     {
@@ -518,8 +519,8 @@ pub enum Change {
     /// A response to the request is dropped for this reason. The code is that of the response, if
     /// the response is an error.
     Noted(DropReason, Option<u16>),
-    /// A response is dropped because it repeats the challenge that the request is signed for. It
-    /// has this code.
+    /// A response is dropped because it repeats the challenge that the request is signed for. The
+    /// code is that of the response.
     Refused(Option<u16>),
 }
 

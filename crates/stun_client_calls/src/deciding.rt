@@ -60,13 +60,14 @@ pub enum Decision<A: Allocator> {
 ///   refusal. It counts at most once for each time that the message was sent. The second refusal
 ///   that counts ends the request. Over a reliable transport, the first refusal ends it.
 /// - A doubt, which is an error that casts doubt on its message, is dropped after the first plan,
-///   after as many messages as the limit allows, and after three doubts. Otherwise the last
-///   eligible earlier message becomes the current one again. A message is eligible if it is not in
-///   doubt, and is not signed for a challenge that is weaker than the challenge that a success has
-///   confirmed. If there is no eligible message, a signed message is replaced by a new unsigned
-///   message, unless the request has an unsigned message already. An unsigned message is then
-///   replaced by the last signed message that is not too weak, even if it is in doubt. If that is
-///   not possible either, the doubt is dropped.
+///   once another message has become the current one as often as the limit allows, and once three
+///   doubts have made another message the current one. Otherwise the last eligible earlier message
+///   becomes the current one again. A message is eligible if it is not in doubt, and is not signed
+///   for a challenge that is weaker than the challenge that a success has confirmed. If there is no
+///   eligible message, a signed message is replaced by a new unsigned message, unless the request
+///   has an unsigned message already. An unsigned message is then replaced by the last signed
+///   message that is not too weak, even if it is in doubt. If that is not possible either, the
+///   doubt is dropped.
 ///
 /// Fails if an allocation fails. It allocates only for a doubt.
 pub fn decide<A: Memory>(

@@ -20,8 +20,8 @@ ghost use Rattle.stun_client_calls.specs.declared.turning.Why.{Why as TheWhy};
 
 /// Another message of a request becomes the current one only within the first plan of the request,
 /// and only as often as the limit allows. The reason is a doubt at most three times, and a refusal
-/// with another challenge at most twice (`within`). So the count never exceeds the limit
-/// (`counted`).
+/// with another challenge at most twice (`within`). So the number of these changes never exceeds
+/// the limit (`counted`).
 pub fn requests_are_sent_by_a_bounded_number_of_messages()
     ensures within { (limits : TheLimits) (standing : StandingSeen) (now : ℕ) (a : AskedSeen)
         (v : Verdict) (why : TheWhy) (place : Option Place) (c : Option Answered)
@@ -97,7 +97,7 @@ pub fn responses_to_earlier_messages_answer_or_are_dropped()
 /// When `poll` returns `Wait`, each outstanding request is at most two plans old, and the wait ends
 /// no later than its second plan (`waits`). This holds however late `poll` is called, because
 /// nothing is sent for a request after its first plan, from the creation of a client on (`begins`)
-/// and over each call (`stays`). The first plan of a request ends once a whole plan has passed
+/// and after each call (`stays`). The first plan of a request ends once a whole plan has passed
 /// since its start (`starts`), and no call changes that time (`keeps`). All this holds for a client
 /// that stores each request once (`first`, `stored`).
 pub fn a_request_ends_within_two_plans()

@@ -1,5 +1,5 @@
-//! The options of a single request, which override the settings of its client. Also the count of
-//! how often the bytes of a message were returned, from which its round-trip time follows.
+//! The options of a single request, which override the settings of its client. Also how often
+//! `poll` returned the bytes of a message, which decides whether its round-trip time is known.
 ghost use Rattle.std.specs.Duration.{as_nanos};
 ghost use Rattle.std.specs.Option.{option_map};
 ghost use Rattle.std.specs.Prelude.{◌≡◌};
@@ -24,7 +24,8 @@ pub struct RequestOptions {
     /// is believed, unless its FINGERPRINT is wrong, or missing although the client requires it.
     /// The client answers no challenge for the request, and the response confirms no challenge.
     pub is_signed: bool,
-    /// The times after which the request is sent again and ends (RFC 8489, section 6.2.1).
+    /// The times after which the request is sent again, and after which it times out (RFC 8489,
+    /// section 6.2.1).
     pub timeouts: RequestRto,
     /// The address that the responses come from, which is the server's unless the request has
     /// CHANGE-REQUEST (RFC 5780, section 7.2). A datagram from any other address is not accepted as
@@ -32,8 +33,8 @@ pub struct RequestOptions {
     pub from: SocketAddr,
 }
 
-/// Returns the plan of each message of a request: the plan in these options or, without options,
-/// this plan of the client.
+/// Returns the plan of each message of a request: the plan in these options or, if there are none,
+/// `of_client`, which is the plan of the client.
 pub(crate) fn plan_by(options: Option<RequestOptions>, of_client: RequestRto) -> RequestRto
     ensures { settings_of result ≡ plan_by (option_map options_of options) (settings_of of_client) }
 {

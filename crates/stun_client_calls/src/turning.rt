@@ -64,13 +64,14 @@ impl Why {
 pub struct Turn<A: Allocator> {
     /// The transaction ID of the message.
     pub id: TransactionId,
-    /// The rank of the message.
+    /// The rank of the message (see `Asked`).
     pub rank: u32,
-    /// The challenge that the message is signed for.
+    /// The challenge that the message is signed for, or `None` if it is not signed.
     pub signed_for: Option<Challenge<A>>,
     /// The number of the next transaction ID.
     pub next_id: u64,
-    /// The challenge that the message answers.
+    /// A copy of `signed_for`, with which the client updates the challenge that new requests are
+    /// signed for.
     pub answered: Option<Challenge<A>>,
     /// Why the message becomes the current one.
     pub why: Why,

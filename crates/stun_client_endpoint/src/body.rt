@@ -41,8 +41,8 @@ pub enum BodyError {
     OutOfMemory,
 }
 
-/// The types that a client writes itself, those whose values depend on the transaction ID, and
-/// ERROR-CODE, which no request has.
+/// The types that a body cannot have: the types that a client writes itself, the types whose values
+/// depend on the transaction ID, and ERROR-CODE, which no request has.
 const RESERVED: [u16; 14] = [
     0x0006, 0x0008, 0x0012, 0x0014, 0x0015, 0x0016, 0x001C, 0x001D, 0x001E, 0x0020, 0x8002, 0x8022,
     0x8028, 0x0009,

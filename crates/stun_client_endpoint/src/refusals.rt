@@ -1,16 +1,17 @@
-//! The refusals of a request that count.
+//! The refusals of a request, from which it follows when the request ends as unauthorized.
 ghost use Rattle.std.specs.Prelude.{◌≡◌, nat_le};
 ghost use Rattle.stun_client_endpoint.specs.Refusals.{OTHERS, after_refusal, after_sending};
 ghost use Rattle.stun_client_endpoint.specs.Refusals.{no_refusals};
 
-/// The refusals of a request that count.
+/// The refusals of a request. A refusal is a response that repeats the challenge that the request
+/// is signed for, or a 401 for the same realm and security bits with another nonce or list.
 #[derive(Clone, Copy)]
 pub struct Refusals {
-    /// Whether the request was refused since it was sent last.
+    /// Whether a response has repeated the challenge since the request was sent last.
     is_recent: bool,
-    /// Whether the request was refused before it was sent last.
+    /// Whether a response repeated the challenge before the request was sent last.
     is_earlier: bool,
-    /// How often the request was sent again because another challenge refused it.
+    /// How often the request was sent again for a 401 with another nonce or list.
     others: u32,
 }
 
@@ -26,7 +27,8 @@ impl Refusals {
         }
     }
 
-    /// Returns the value after the request was refused once more.
+    /// Returns the value after a response has repeated the challenge that the request is signed
+    /// for.
     pub fn noted(self) -> Refusals
         ensures { result ≡ after_refusal self }
     {
@@ -38,7 +40,8 @@ impl Refusals {
     }
 
     /// Returns the value after the request was sent again, by its timer or for another challenge.
-    /// `is_refusal` is true if that challenge was a refusal.
+    /// Pass `true` as `is_refusal` if that challenge was a refusal, which is a 401 for the same
+    /// realm and security bits.
     pub fn sent(self, is_refusal: bool) -> Refusals
         ensures { result ≡ after_sending is_refusal self }
     {
@@ -54,15 +57,15 @@ impl Refusals {
         }
     }
 
-    /// Returns whether the request was refused before it was sent last.
+    /// Returns whether a response repeated the challenge before the request was sent last.
     pub fn is_earlier(self) -> bool
         ensures { result ≡ self.is_earlier }
     {
         self.is_earlier
     }
 
-    /// Returns whether the request has been sent again for refusing challenges as often as allowed
-    /// (twice). The next such refusal ends it.
+    /// Returns whether the request has been sent again twice for a 401 with another nonce or list,
+    /// which is the limit. The next such 401 ends the request.
     pub fn is_last(self) -> bool
         ensures { result ≡ nat_le OTHERS self.others }
     {

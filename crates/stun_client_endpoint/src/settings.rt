@@ -21,7 +21,7 @@ pub struct Settings<A: Allocator = Global> {
     /// How often another message of a request may become the current one, for a challenge or a
     /// doubt. After that, the next challenge ends the request.
     pub challenges: u32,
-    /// The times after which a request is sent again and ends.
+    /// The times after which a request is sent again, and after which it times out.
     pub timeouts: RequestRto,
 }
 

@@ -3,14 +3,14 @@ ghost use Rattle.stun_client_meetings.specs.Beginning.{NewClientsMeetServers, Th
 ghost use Rattle.stun_client_meetings.specs.Meeting.{ClientsMeetServers};
 
 /// A client and a server agree in two exchanges, on the strongest algorithm that both support. The
-/// following holds for a signed request with any plan, from its start on, after any calls of its
-/// client, as long as it is outstanding:
+/// following holds for every signed request as long as it is outstanding, whatever its plan is, and
+/// whatever calls of its client are made:
 ///
 /// - The server answers the bytes of the request's current message with a challenge if the message
 ///   is not signed (`challenged`), and when this challenge arrives, the client sends the request
 ///   again, signed for the challenge (`renewed`). If an earlier message of the request is signed
 ///   for the challenge, that message is sent again. After that, all of this holds again, whatever
-///   is called.
+///   calls are made.
 /// - Once the current message is signed for a challenge of the server, the server accepts its bytes
 ///   as those of the client's user, in the epoch of the challenge and in the next epoch, with the
 ///   strongest algorithm that both support (`accepted`). A signed answer to these bytes ends the

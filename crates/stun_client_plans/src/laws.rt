@@ -2,22 +2,29 @@
 ghost use Rattle.stun_client_plans.specs.Ends.{AnswersEnd, CancelsEnd, EndsAreSaidAsTheyCame};
 ghost use Rattle.stun_client_plans.specs.Plan.{RequestsAreSentByPlan};
 
-/// If a request gets no answer, `poll` returns its bytes at the sums of the first timeouts of its
-/// plan (by default after 0, 500, 1500 ms and so on), and its outcome once, at the end of its plan,
-/// whatever else is called between. The plan is in the options of the request if it has options,
-/// and otherwise in the settings of its client. Nothing is early. If each poll comes at most `late`
-/// after the time that the client has asked for, each retransmission and the outcome come at most
-/// `late` after they are due: one timeout after the transmission before. So transmission k, from 1
-/// on, is at most k times `late` after the sum of the timeouts before it, and the outcome may be
-/// later by `late` more. If no poll is late, all times are exact. Up to the time at which the
-/// client asks to be polled next, no transmission is missing, and `poll` returns nothing else about
-/// the request.
+/// If a request gets no answer, `poll` returns `Transmit` for it at the start of the request and at
+/// the sums of the first timeouts of its plan (by default at 0, 500, 1500 ms and so on), and
+/// returns its outcome once, at the end of its plan, whatever else is called in between. The plan
+/// is in the options of the request if it has options, and otherwise in the settings of its client.
+/// Up to the time at which the client asks to be polled next, no transmission is missing, and
+/// `poll` returns nothing else about the request.
+///
+/// Nothing is early, and if no poll is late, all times are exact. If each poll comes at most `late`
+/// after the time that the client has asked for, the first transmission comes at most `late` after
+/// the start of the request, and each retransmission and the outcome come at most `late` after they
+/// are due. The first retransmission is due one timeout after the start of the request, even if the
+/// first transmission was late. Each later retransmission is due one timeout after the
+/// retransmission before it, and the outcome is due one last wait after the last retransmission. So
+/// retransmission k, counted from 1, comes at most k times `late` after the sum of the first k
+/// timeouts, and the outcome is late by at most one `late` more than the last retransmission may
+/// be.
 ///
 /// The client sends nothing for a request after the end of its plan. If polls are so late that a
-/// transmission would come later than this, the request ends instead, possibly before its first
-/// transmission. For transmission k, this happens only if k polls together are late by more than
-/// the last wait of the plan. By default no transmission is given up if polls are at most 1.3 s
-/// late: there are 6 retransmissions, and the last wait is 8 s.
+/// retransmission would come later than this, the request ends instead (`is_given_up`). This
+/// happens for retransmission k only if k times `late` is longer than the last wait of the plan. By
+/// default no retransmission is given up if polls are at most 1.3 s late: there are 6
+/// retransmissions, and the last wait is 8 s. If even the first poll comes after the end of the
+/// plan, the request ends without having been sent (`is_never_sent`).
 ///
 /// Polls may also come earlier than the client asks for. Any other calls may be made at any times,
 /// as long as the request keeps its transaction ID: they must not answer or cancel it, nor make

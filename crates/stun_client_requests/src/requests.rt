@@ -204,7 +204,7 @@ impl<A: Memory, D: Drop, E: Drop> Requests<A, D, E> {
 
     /// Starts a request with this transaction ID, and returns its number. `bytes` must be a message
     /// with this ID. `poll` then returns `Transmit` for the request, which is sent again and times
-    /// out according to its plan.
+    /// out according to `plan`. `datum` is stored with the request until it ends.
     ///
     /// # Errors
     ///
@@ -249,10 +249,13 @@ impl<A: Memory, D: Drop, E: Drop> Requests<A, D, E> {
         Ok(number)
     }
 
-    /// Replaces the current message of an outstanding request by another message, with another
-    /// transaction ID. `poll` then returns `Transmit` for the request. The response that ends the
-    /// former message, and whose length is in `response`, is counted in the statistics. Returns the
-    /// bytes and the datum of the former message. No bytes are copied.
+    /// Replaces the current message of an outstanding request by the message `bytes`, with the
+    /// transaction ID `id`, and returns the bytes and the datum of the former message. `poll` then
+    /// returns `Transmit` for the request. No bytes are copied.
+    ///
+    /// `response` describes the response to the former message, which is counted in the statistics:
+    /// its length in bytes, and the time at which it arrived. The round-trip time is measured if
+    /// the time is not `None`, and the former message was sent only once.
     ///
     /// # Errors
     ///
@@ -319,8 +322,9 @@ impl<A: Memory, D: Drop, E: Drop> Requests<A, D, E> {
     }
 
     /// Ends a request because of a response of `count` bytes, which is counted in the statistics,
-    /// and returns its datum. `poll` then returns the outcome `end`. The round-trip time is
-    /// measured if `moment` is passed, and the message was sent only once.
+    /// and returns its datum. `poll` then returns the outcome `end`. `moment` is the time at which
+    /// the response arrived. The round-trip time is measured if `moment` is not `None`, and the
+    /// message was sent only once.
     ///
     /// Returns `None` if no outstanding request has the number. It does not allocate.
     pub fn answer(
@@ -354,7 +358,8 @@ impl<A: Memory, D: Drop, E: Drop> Requests<A, D, E> {
     }
 
     /// Removes a request without a response, and returns its datum. Nothing of the request is
-    /// stored any more, so `poll` does not return an outcome for it. It counts as canceled.
+    /// stored any more, so `poll` does not return an outcome for it. The statistics count it as
+    /// canceled.
     ///
     /// Returns `None` if no outstanding request has the number. It does not allocate.
     pub fn remove(&mut self, number: u64) -> Option<D>

@@ -1,25 +1,26 @@
-//! Laws about a client, over any series of calls. The calls may be made in any order, and their
-//! times may go back.
+//! Laws about a client that hold whatever calls are made. The calls may be made in any order, and
+//! their times may go back.
 ghost use Rattle.stun_client_runs.specs.Kept.{BeginsAsClient, StaysAClient};
 ghost use Rattle.stun_client_runs.specs.Laws.{EndsOnce, StartsOne, StaysOver, TransmitsWhatIsThere};
 ghost use Rattle.stun_client_runs.specs.Noted.{BeginsNoted, StaysNoted};
 ghost use Rattle.stun_client_runs.specs.RoundTrips.{RoundTripsAreOfOnePoll};
 ghost use Rattle.stun_client_runs.specs.Sent.{KeepsItsBytes, SendsItsBytes};
 
-/// From the creation of a client on and over any calls, each outstanding request is stored once,
-/// under the transaction ID of its current message, which is derived from the seed. This message
-/// has this ID, the method and the body of the request, and is sent to the server. Its bytes are
-/// written with the identity of the client for this request (nobody, if its options say that it is
-/// not signed), and signed for the challenge that is stored with the message. The transaction IDs
-/// of the request's earlier messages are derived from the seed, too.
+/// From the creation of a client on, whatever calls are made, each outstanding request is stored
+/// once, under the transaction ID of its current message, which is derived from the seed. This
+/// message has this ID, the method and the body of the request, and is sent to the server. Its
+/// bytes are written with the identity of the client for this request (nobody, if its options say
+/// that it is not signed), and signed for the challenge that is stored with the message. The
+/// transaction IDs of the request's earlier messages are derived from the seed, too.
 pub fn clients_stay_in_order()
     ensures begins { BeginsAsClient }
     ensures stays { StaysAClient }
 {}
 
-/// From the creation of a client on and over any calls, the number that the client stores for a
+/// A client stores the transaction ID of each earlier message with the number of its request. From
+/// the creation of a client on, whatever calls are made, each number that is stored with a
 /// transaction ID is the number of an outstanding request that has an earlier message with this ID.
-/// So nothing stays stored about a request that has ended.
+/// So no ID of a request that has ended stays stored.
 ///
 /// Premise: the limit on how often another message becomes the current one has 32 bits, as each
 /// `u32` has.
@@ -28,8 +29,9 @@ pub fn what_is_noted_is_an_earlier_message()
     ensures stays { StaysNoted }
 {}
 
-/// A request that `request` has started is stored. Whatever is called, it stays stored until `poll`
-/// returns its outcome, which happens once. No call returns its number again after that.
+/// A request that `request` has started is stored (`starts`). Whatever calls are made, it stays
+/// stored until `poll` returns its outcome, which happens once (`once`). After that, no call
+/// returns its number again (`over`).
 pub fn a_request_ends_once()
     ensures starts { StartsOne }
     ensures once { EndsOnce }
@@ -41,11 +43,11 @@ pub fn what_is_to_be_sent_is_there()
     ensures { TransmitsWhatIsThere }
 {}
 
-/// Over any calls, a request is sent with the method and the body that it was started with,
-/// whatever its options are. As long as a request is outstanding, its method, its body and its
-/// options are stored as they were passed, and `bytes_of` returns the bytes of a request with this
-/// method and this body. These bytes are written with the identity of the client for a request with
-/// these options, and signed for the challenge that the client has stored for it, with a
+/// Whatever calls are made, a request is sent with the method and the body that it was started
+/// with, whatever its options are. As long as a request is outstanding, its method, its body and
+/// its options are stored as they were passed, and `bytes_of` returns the bytes of a request with
+/// this method and this body. These bytes are written with the identity of the client for a request
+/// with these options, and signed for the challenge that the client has stored for it, with a
 /// transaction ID that is derived from the seed. They are the bytes that the table stores under
 /// this ID, has sent to the server, and sends again (`kept`). A request for which `poll` returns
 /// `Transmit` is outstanding, so it is sent with these bytes (`sent`).
@@ -58,8 +60,8 @@ pub fn requests_are_sent_as_they_were_started()
 
 /// A round-trip time is stored only with a response to a message that exactly one `poll` has
 /// returned, and is the time since that `poll` (RFC 6298, section 3). So it is known which
-/// transmission the response answers. This holds over any calls of a new client, whichever messages
-/// of a request become the current one, and however often.
+/// transmission the response answers. This holds for a client from its creation on, whatever calls
+/// are made, whichever messages of a request become the current one, and however often.
 ///
 /// Premise: no two of the transaction IDs that the client has used are the same.
 pub fn round_trips_are_of_messages_sent_once()

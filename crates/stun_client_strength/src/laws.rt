@@ -57,12 +57,14 @@ pub fn a_wrong_password_costs_three_datagrams()
 /// than the confirmed one (`starts`): they are not signed with HMAC-SHA1 in place of HMAC-SHA256,
 /// and do not have the user name in clear in place of a hash. The same is true of each message that
 /// `poll` returns for a request that must be signed, with two exceptions (`since`). First, the
-/// message may have been the current one of its request before that success: it is sent again
-/// unchanged. Second, the message may be unsigned, because a response cast doubt on a message of
-/// the request: it reveals neither password nor signature, and a server with long-term credentials
-/// answers it with a challenge. All of this holds until `poll` returns the timeout of a request
-/// that has a message for the confirmed challenge. After that, the client answers any challenge,
-/// because the server may have been set up again.
+/// message may have been the current one of its request when that success arrived. `poll` may
+/// return such a message after the success, even if it did not return it before, and even if the
+/// message is unsigned or signed for a weaker challenge. Second, the message may be unsigned,
+/// because a response cast doubt on a message of the request. An unsigned message reveals neither
+/// password nor signature, and a server with long-term credentials answers it with a challenge. All
+/// of this holds until `poll` returns the timeout of a request that has a message for the confirmed
+/// challenge. After that, the client answers any challenge, because the server may have been set up
+/// again.
 ///
 /// Requests whose options say that they are not signed may be outstanding at any time, and change
 /// none of this (`unsigned_requests_change_no_challenge`). They are sent without a signature, as

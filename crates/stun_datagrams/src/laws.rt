@@ -1,6 +1,6 @@
-//! Laws about lists of datagrams at a server. They state the main promise of `stun_proto`: which
-//! requests a server accepts. The functions without arguments do nothing when they run. Each of the
-//! others makes one call.
+//! Laws about lists of datagrams that arrive at a server. They state which requests a server
+//! accepts, whatever arrived before. The functions without arguments do nothing when they run. Each
+//! of the others makes the call that it is about.
 ghost use Rattle.std.specs.FinMap as fin;
 ghost use Rattle.std.specs.Global.{Vec as TheVec};
 ghost use Rattle.std.specs.Prelude.{◌≡◌, ◌∷◌, ◌++◌, ℕ, List, IfOk, Some, length, slice_get};
@@ -36,24 +36,24 @@ use stun_endpoint::unix_time::UnixTime;
 use stun_endpoint::users::Users;
 use stun_proto::replay::{ServerCall, ServerReply, Stopped, serve};
 
-/// States which datagrams a server accepts (RFC 8489, section 9.2.4). For every list of datagrams,
-/// and of changes of the users between them:
+/// States which datagrams a server accepts (RFC 8489, section 9.2.4). The clauses hold for every
+/// list of datagrams, and of changes of the users between them:
 ///
 /// - `handed`: the server returns a datagram to its caller as an accepted request of a client if
-///   and only if three things hold: the datagram is a request that is not dropped, it is accepted
-///   from that client with the users at that time, and the server leaves the response to its
-///   caller.
+///   and only if the datagram is a request that is not dropped, the request is accepted from that
+///   client with the users at that time, and the server leaves the response to its caller.
 /// - `validated`: the verdict on a datagram is `Validated` with an algorithm if and only if it is a
 ///   request that is not dropped and is accepted from some client with that algorithm.
-/// - `isolated`: the datagrams of a source have the outcomes that they have without the datagrams
-///   of other sources.
-/// - `alone`: the outcome of an event depends only on the event and the users at that time,
-///   whatever came before.
+/// - `isolated`: the datagrams of a source have the same outcomes as without the datagrams of all
+///   other sources.
+/// - `alone`: the outcome of a datagram depends only on the datagram, its source, its time and the
+///   users at that time, whatever arrived before.
 ///
-/// A client is accepted (`IsAcceptedAt`) if the request has a REALM, a nonce that is current at its
-/// source, algorithms that agree with those that were offered, and a valid signature under the key
-/// of the registered user whom it names. A nonce is current if it is the nonce of the epoch or of
-/// the epoch before, under the secret or the previous secret.
+/// A request is accepted from a client (`IsAcceptedAt`) if it has a REALM, a nonce that is current
+/// for its source, algorithms that agree with those that were offered, and a valid signature under
+/// the key of the registered user whom it names. A nonce is current if the server makes it for this
+/// source in the current epoch, or made it in the epoch before, with the current secret or with the
+/// previous one.
 pub fn accepted_datagrams_are_handed_out()
     ensures handed { (s : Settings) (start : Secrets) (events : List ServerEvent)
         → HandsOutAccepted s start events (outcomes s start events) }
@@ -64,22 +64,25 @@ pub fn accepted_datagrams_are_handed_out()
     ensures alone { (s : Settings) → AreJudgedAlone s }
 {}
 
-/// The verdicts of the endpoint on a list of datagrams are the replies of a run of `serve`. For
-/// each request that is not dropped, and for each nonce that its source may have, the run validates
-/// the request with the random numbers of that nonce, signs a response, validates the request
-/// again, and forgets its address. Changes of the users are calls of the run too.
+/// Relates the verdicts of the endpoint on a list of datagrams to the replies of a run of `serve`,
+/// which makes the calls of a `LongTermServerAuth`. For each request that is not dropped, and for
+/// each nonce that the endpoint accepts from its source, the run makes four calls: it validates the
+/// request with the random numbers from which that nonce is made, signs a response, validates the
+/// request again, and forgets the source address. Each change of the users is a call of the run
+/// too.
 ///
 /// - `headline`: a request is `Validated` in these calls if and only if it is accepted.
-/// - `told`: the reply to each second validation is the verdict under its nonce. If the server uses
-///   a security feature, these nonces are those of the endpoint, so the replies together give the
-///   verdict on the datagram, and determine exactly which datagrams are accepted. Without a
-///   security feature, the endpoint's nonces begin with the nonce cookie and those of
-///   `LongTermServerAuth` do not, so the two accept different requests
-///   (`accepted_datagrams_are_handed_out` states which ones the endpoint accepts, whatever the
-///   settings are). No record of an address is left.
+/// - `told`: the reply to each second validation is the verdict on the request under the nonce that
+///   is made from its random numbers. If the server uses a security feature, these nonces are those
+///   of the endpoint, so the replies together give the endpoint's verdict on each datagram, and
+///   determine exactly which datagrams it accepts. Without a security feature this does not follow:
+///   the endpoint's nonces begin with the nonce cookie, those of `LongTermServerAuth` do not, and
+///   so the endpoint and `LongTermServerAuth` accept different requests.
+///   (`accepted_datagrams_are_handed_out` states which requests the endpoint accepts, whatever its
+///   settings are.) The clause also states that no record of an address is left after the run.
 ///
-/// The server starts with any users, and without a record of an address. The law holds for every
-/// clock and every response for which the premise `CanBeCalled` holds.
+/// The server may start with any users, but it starts without a record of an address. `told` holds
+/// for every clock and every response for which the premise `CanBeCalled` holds.
 pub fn datagrams_are_served<A: Allocator + Copy>(
     alloc: A,
     server: &mut LongTermServerAuth<A>,
@@ -97,9 +100,9 @@ pub fn datagrams_are_served<A: Allocator + Copy>(
     serve(alloc, server, calls)
 }
 
-/// The premises of `datagrams_are_served` hold for a new server of the realm, once calls have made
-/// its settings (`settings`), and for a response that can be signed, such as a success without
-/// attributes (`response`).
+/// States that the premises of `datagrams_are_served` can hold. The calls `settings_calls` turn a
+/// new server for the realm into a server with the given settings and without users (`settings`). A
+/// success response without attributes can be signed, as `CanBeCalled` requires (`response`).
 pub fn served_datagrams_begin()
     ensures settings { (s : Settings)
         → after_calls (new_server s.realm) (settings_calls s) ≡ server_with s fin.empty }
@@ -108,10 +111,11 @@ pub fn served_datagrams_begin()
     auth_laws::built_messages_can_be_signed();
 }
 
-/// Some datagrams are accepted: if a registered user signs a Binding request under the nonce that
-/// is current at its source, it is accepted from that user with the strongest algorithm of the
-/// server, whatever the source, the time and the settings are, if the settings require no
-/// FINGERPRINT.
+/// States that a server accepts some datagrams. If a registered user signs a Binding request under
+/// the nonce that is current for its source, the server accepts the request from that user, with
+/// the strongest algorithm that it supports. This holds for every source, every time, and all
+/// settings that do not require FINGERPRINT, if the realm and the name of the user fit into their
+/// attributes.
 pub fn signed_requests_are_accepted()
     ensures { SignedRequestsAreAccepted }
 {
@@ -122,10 +126,10 @@ pub fn signed_requests_are_accepted()
     endpoint_laws::nonces_have_the_bits_of_their_server();
 }
 
-/// `receive` returns the outcome that the datagram has in any list of datagrams and changes of the
-/// users in which the users are the same at the time of the datagram. So no earlier datagram
-/// changes the result, and law `accepted_datagrams_are_handed_out`, which is about lists, also
-/// holds for this call.
+/// Returns what `Server::receive` returns: the outcome that the datagram has in any list of
+/// datagrams and changes of the users, if the users at that position of the list are `users`. So no
+/// earlier datagram changes the result, and the law `accepted_datagrams_are_handed_out`, which is
+/// about lists, also holds for this call.
 pub fn a_datagram_is_one_of_a_list<'a, A: Allocator + Copy>(
     server: &Server<A>,
     bytes: &'a [u8],
@@ -143,8 +147,9 @@ pub fn a_datagram_is_one_of_a_list<'a, A: Allocator + Copy>(
     server.receive(bytes, from, now, users)
 }
 
-/// `OpenServer::receive` returns the outcome that the datagram has in any list, like
-/// `a_datagram_is_one_of_a_list`, at a server without credentials.
+/// Like `a_datagram_is_one_of_a_list`, but for a server without credentials: returns what
+/// `OpenServer::receive` returns, which is the outcome that the datagram has in any list of
+/// datagrams.
 pub fn an_open_datagram_is_one_of_a_list<'a, A: Allocator + Copy>(
     server: &OpenServer<A>,
     bytes: &'a [u8],
@@ -158,8 +163,9 @@ pub fn an_open_datagram_is_one_of_a_list<'a, A: Allocator + Copy>(
     server.receive(bytes, from)
 }
 
-/// `ShortTermServer::receive` returns the outcome that the datagram has in any list, like
-/// `a_datagram_is_one_of_a_list`, at a server with short-term credentials.
+/// Like `a_datagram_is_one_of_a_list`, but for a server with short-term credentials: returns what
+/// `ShortTermServer::receive` returns, which is the outcome that the datagram has in any list of
+/// datagrams with their users, if its users in the list are `users`.
 pub fn a_short_term_datagram_is_one_of_a_list<'a, A: Allocator + Copy>(
     server: &ShortTermServer<A>,
     bytes: &'a [u8],

@@ -37,7 +37,8 @@ use Rattle.stun_endpoint.specs.declared.server.causes.Cause.TheVariants.{OtherFe
 use Rattle.stun_endpoint.specs.declared.server.causes.Cause.TheVariants.{WrongCredentials}
 use Rattle.stun_endpoint.proofs.NonceLemmas.{bits_alike}
 use Rattle.stun_endpoint.proofs.AcceptedLemmas.{accepted_at, bits-same}
-use Rattle.stun_endpoint.proofs.ReadyLemmas.{accepted_parts, nonce_in-there, stale_for_all}
+use Rattle.stun_endpoint.proofs.ReadyLemmas.{nonce_in-there, stale_for_all}
+use Rattle.stun_endpoint.proofs.TheirNonceLemmas.{accepted_has, has_it, under_accepted}
 
 -- ---- the checks and the rows of the verdict
 
@@ -139,14 +140,6 @@ same_told s ours r refused.BadRequest = by (is_malformed r || bytes_eq (their_no
 
 -- ---- the nonces
 
-either : (x y : Bool) → (x || y) ≡ true → (x ≡ true) ⊎ (y ≡ true)
-either true y h = inl refl
-either false y h = inr h
-
-or_right : (x y : Bool) → y ≡ true → (x || y) ≡ true
-or_right true y h = refl
-or_right false y h = h
-
 -- the empty nonce has no security bits
 no_bits : (bits : Option (List ℕ)) → bits_differ bits (security_bits []) ≡ false
 unfolding security_bits
@@ -236,61 +229,6 @@ module _ (s : Settings) (realm : Realm) (from : SocketAddr) (r : Reading) where
       (has_one_of r (accepted_nonces s from (epoch_of s now))) (is_some signer)) complete
 
   -- ---- an accepted request
-  has_it : (nonce : List ℕ) (client : ClientSeen) → IsAcceptedBy realm nonce r client
-      → their_nonce r ≡ nonce
-  has_it nonce client is = ap (λ o. unwrap_or o []) is.nonce
-
-  is_it : (nonce : List ℕ) (client : ClientSeen) → IsAcceptedBy realm nonce r client
-      → bytes_eq (their_nonce r) nonce ≡ true
-  is_it nonce client is = (bytes_eq-Decides (their_nonce r) nonce).1 (has_it nonce client is)
-
-  -- the nonce under which a client is accepted is one of those of its secret
-  one_of_secret : (client : ClientSeen) (secret : List ℕ) (e : ℕ)
-      → IsAcceptedUnder s realm secret from e r client
-      → (has_one_of r (nonces_of s secret from e) ≡ true)
-      × ((f : ℕ) × IsAcceptedBy realm (nonce_in s secret from f) r client)
-  one_of_secret client secret zero is =
-      (ap (λ b. b || false) (is_it (nonce_in s secret from 0) client is), (0, is))
-  one_of_secret client secret (suc e) (inl is) = (
-    ap (λ b. b || has_one_of r (nonce_in s secret from e ∷ []))
-        (is_it (nonce_in s secret from (suc e)) client is),
-    (suc e, is),
-  )
-  one_of_secret client secret (suc e) (inr is) = (
-    or_right (bytes_eq (their_nonce r) (nonce_in s secret from (suc e)))
-        (has_one_of r (nonce_in s secret from e ∷ []))
-        (ap (λ b. b || false) (is_it (nonce_in s secret from e) client is)),
-    (e, is),
-  )
-
-  -- and so one of those that are accepted
-  one_of_previous : (client : ClientSeen) (previous : Option (List ℕ)) (e : ℕ)
-      → IsAcceptedByPrevious s realm previous from e r client
-      → (has_one_of r (previous_nonces s previous from e) ≡ true)
-      × ((secret : List ℕ) × (f : ℕ) × IsAcceptedBy realm (nonce_in s secret from f) r client)
-  one_of_previous client None e is = absurd is
-  one_of_previous client (Some secret) e is =
-      let one = one_of_secret client secret e is in (one.0, (secret, one.1.0, one.1.1))
-
-  one_of_all : (client : ClientSeen) (e : ℕ)
-      → IsAcceptedUnder s realm s.secret from e r client
-      ⊎ IsAcceptedByPrevious s realm s.previous from e r client
-      → (has_one_of r (accepted_nonces s from e) ≡ true)
-      × ((secret : List ℕ) × (f : ℕ) × IsAcceptedBy realm (nonce_in s secret from f) r client)
-  one_of_all client e (inl is) =
-      let one = one_of_secret client s.secret e is in (
-        accepted_parts s r from e
-            ∙ ap (λ b. b || has_one_of r (previous_nonces s s.previous from e)) one.0,
-        (s.secret, one.1.0, one.1.1),
-      )
-  one_of_all client e (inr is) =
-      let one = one_of_previous client s.previous e is in (
-        accepted_parts s r from e
-            ∙ or_right (has_one_of r (nonces_of s s.secret from e))
-            (has_one_of r (previous_nonces s s.previous from e)) one.0,
-        one.1,
-      )
-
   -- all nonces have the same security bits
   bits_of_nonce : (secret : List ℕ) (e now : ℕ) → their_nonce r ≡ nonce_in s secret from e
       → has_other_bits (current_nonce s from now) r ≡ false
@@ -305,7 +243,7 @@ module _ (s : Settings) (realm : Realm) (from : SocketAddr) (r : Reading) where
       → credential_cause s realm from now r ≡ None
   accepted_cause now client is =
       let e = epoch_of s now in
-      let one = one_of_all client e ((accepted_at s realm from r client e).0 is) in
+      let one = accepted_has s realm from r client e is in
       let nonce = nonce_in s one.1.0 from one.1.1 in
       let accepted = one.1.2 in
       let fail =
@@ -324,7 +262,7 @@ module _ (s : Settings) (realm : Realm) (from : SocketAddr) (r : Reading) where
       (some_not signer)
       ∙ no_check_fails unsigned lacks nameless (is_none agreed) (is_none signer) q x other fail.0
       fail.1 fail.2 fail.3 fail.4
-      (bits_of_nonce one.1.0 one.1.1 now (has_it nonce client accepted)) one.0
+      (bits_of_nonce one.1.0 one.1.1 now (has_it s realm from r client nonce accepted)) one.0
 
   -- ---- a refused request
   refused_under : (secret : List ℕ) (e : ℕ) (why : VerdictRefusal)
@@ -354,47 +292,12 @@ module _ (s : Settings) (realm : Realm) (from : SocketAddr) (r : Reading) where
         ∙ rows_hold unsigned lacks nameless (is_none agreed) (bytes_eq (their_nonce r) nonce)
         (is_none signer) (nonce_refusal nonce (their_nonce r)) meant a b c d q f)
 
-    accepted_one : (nonce : List ℕ) → has_one_of r (nonce ∷ []) ≡ true
-        → IsAcceptedBy realm nonce r meant
-    accepted_one nonce h = by (either (bytes_eq (their_nonce r) nonce) false h)
-      where
-        by : (bytes_eq (their_nonce r) nonce ≡ true) ⊎ (false ≡ true)
-            → IsAcceptedBy realm nonce r meant
-        by (inl q) = accepted_by nonce q
-        by (inr wrong) = cc
-
-    accepted_under : (secret : List ℕ) (e : ℕ) → has_one_of r (nonces_of s secret from e) ≡ true
-        → IsAcceptedUnder s realm secret from e r meant
-    accepted_under secret zero h = accepted_one (nonce_in s secret from 0) h
-    accepted_under secret (suc e) h =
-        by (either (bytes_eq (their_nonce r) (nonce_in s secret from (suc e)))
-        (has_one_of r (nonce_in s secret from e ∷ [])) h)
-      where
-        by : (bytes_eq (their_nonce r) (nonce_in s secret from (suc e)) ≡ true)
-            ⊎ (has_one_of r (nonce_in s secret from e ∷ []) ≡ true)
-            → IsAcceptedUnder s realm secret from (suc e) r meant
-        by (inl q) = inl (accepted_by (nonce_in s secret from (suc e)) q)
-        by (inr q) = inr (accepted_one (nonce_in s secret from e) q)
-
-    accepted_previous : (previous : Option (List ℕ)) (e : ℕ)
-        → has_one_of r (previous_nonces s previous from e) ≡ true
-        → IsAcceptedByPrevious s realm previous from e r meant
-    accepted_previous None e h = cc
-    accepted_previous (Some secret) e h = accepted_under secret e h
-
     accepted_all : (e : ℕ) → has_one_of r (accepted_nonces s from e) ≡ true
         → judged_in s realm from e r ≡ Ok meant
     accepted_all e h =
-        (accepted_at s realm from r meant e).1
-        (by (either (has_one_of r (nonces_of s s.secret from e))
-        (has_one_of r (previous_nonces s s.previous from e)) (sym (accepted_parts s r from e) ∙ h)))
-      where
-        by : (has_one_of r (nonces_of s s.secret from e) ≡ true)
-            ⊎ (has_one_of r (previous_nonces s s.previous from e) ≡ true)
-            → IsAcceptedUnder s realm s.secret from e r meant
-            ⊎ IsAcceptedByPrevious s realm s.previous from e r meant
-        by (inl q) = inl (accepted_under s.secret e q)
-        by (inr q) = inr (accepted_previous s.previous e q)
+        under_accepted s realm from r meant
+        (accepted_by (their_nonce r)
+        ((bytes_eq-Decides (their_nonce r) (their_nonce r)).1 refl)) e h
 
   not_accepted : (e : ℕ) (why : VerdictRefusal) → judged_in s realm from e r ≡ Err why
       → unsigned ≡ false → lacks ≡ false → nameless ≡ false → is_some agreed ≡ true

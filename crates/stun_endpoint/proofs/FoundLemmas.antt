@@ -35,8 +35,8 @@ use Rattle.stun_endpoint.specs.Settings.{Settings, registered_of}
 use Rattle.stun_endpoint.specs.code.Found.{IsAcceptedByKey, IsRefusedAsNobody}
 use Rattle.stun_endpoint.specs.code.Found.{realm_of_found, waiting_claim}
 use Rattle.stun_endpoint.specs.code.Judgements.{by_judgement}
-use Rattle.stun_endpoint.proofs.AcceptedLemmas.{accepted_at}
-use Rattle.stun_endpoint.proofs.ReadyLemmas.{accepted_parts, nobody_is_awaited}
+use Rattle.stun_endpoint.proofs.ReadyLemmas.{nobody_is_awaited}
+use Rattle.stun_endpoint.proofs.TheirNonceLemmas.{under_accepted}
 use Rattle.stun_endpoint.proofs.UnnamedLemmas.{AllRefused, both_refused, both_secrets}
 use Rattle.stun_endpoint.proofs.UnnamedLemmas.{none_verified, refusal_under, refused_rows}
 use Rattle.stun_endpoint.proofs.UnnamedLemmas.{unnamed_by_current, unnamed_is_refused, unproven}
@@ -49,60 +49,6 @@ waits_with true o claim h = (refl, h)
 waits_with false o claim h = cc
 
 -- ---- acceptance
-
-one_or_other : (a b : Bool) → (a || b) ≡ true → (a ≡ true) ⊎ (b ≡ true)
-one_or_other true b h = inl refl
-one_or_other false b h = inr h
-
-unless_other : (a : Bool) → (a || false) ≡ true → a ≡ true
-unless_other true h = refl
-unless_other false h = cc
-
-module _ (s : Settings) (realm : Realm) (from : SocketAddr) (r : Reading) (client : ClientSeen)
-    (theirs : IsAcceptedBy realm (their_nonce r) r client) where
-  under_this : (nonce : List ℕ) → bytes_eq (their_nonce r) nonce ≡ true
-      → IsAcceptedBy realm nonce r client
-  under_this nonce h =
-      subst (λ (n : List ℕ). IsAcceptedBy realm n r client)
-      ((bytes_eq-Decides (their_nonce r) nonce).0 h) theirs
-
-  under_secret : (secret : List ℕ) (e : ℕ) → has_one_of r (nonces_of s secret from e) ≡ true
-      → IsAcceptedUnder s realm secret from e r client
-  under_secret secret zero h =
-      under_this (nonce_in s secret from 0)
-      (unless_other (bytes_eq (their_nonce r) (nonce_in s secret from 0)) h)
-  under_secret secret (suc e) h =
-      by (one_or_other (bytes_eq (their_nonce r) (nonce_in s secret from (suc e))) _ h)
-    where
-      by : (bytes_eq (their_nonce r) (nonce_in s secret from (suc e)) ≡ true)
-          ⊎ ((bytes_eq (their_nonce r) (nonce_in s secret from e) || false) ≡ true)
-          → IsAcceptedUnder s realm secret from (suc e) r client
-      by (inl k) = inl (under_this (nonce_in s secret from (suc e)) k)
-      by (inr k) =
-          inr (under_this (nonce_in s secret from e)
-          (unless_other (bytes_eq (their_nonce r) (nonce_in s secret from e)) k))
-
-  under_previous : (previous : Option (List ℕ)) (e : ℕ)
-      → has_one_of r (previous_nonces s previous from e) ≡ true
-      → IsAcceptedByPrevious s realm previous from e r client
-  under_previous None e h = cc
-  under_previous (Some secret) e h = under_secret secret e h
-
-  -- who is accepted under the nonce of a request is accepted, if the server accepts the nonce
-  under_accepted : (e : ℕ) → has_one_of r (accepted_nonces s from e) ≡ true
-      → judged_in s realm from e r ≡ Ok client
-  under_accepted e h =
-      (accepted_at s realm from r client e).1
-      (by (one_or_other (has_one_of r (nonces_of s s.secret from e))
-      (has_one_of r (previous_nonces s s.previous from e))
-      (sym (accepted_parts s r from e) ∙ h)))
-    where
-      by : (has_one_of r (nonces_of s s.secret from e) ≡ true)
-          ⊎ (has_one_of r (previous_nonces s s.previous from e) ≡ true)
-          → IsAcceptedUnder s realm s.secret from e r client
-          ⊎ IsAcceptedByPrevious s realm s.previous from e r client
-      by (inl k) = inl (under_secret s.secret e k)
-      by (inr k) = inr (under_previous s.previous e k)
 
 -- a request of the user who was found is accepted
 pub found_accepted : (s : Settings) (user : RegisteredUser) (from : SocketAddr) (e : ℕ)

@@ -13,7 +13,8 @@ pub mod SignerLemmas
 pub mod SignedLemmas
 pub mod ServedLemmas
 pub mod VerifyingLemmas
-pub mod PreviousLemmas
+pub mod TheirNonceLemmas
+pub mod EarlierLemmas
 pub mod UnderstoodLemmas
 pub mod UnnamedLemmas
 pub mod ReadyLemmas

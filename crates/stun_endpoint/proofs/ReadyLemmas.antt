@@ -40,15 +40,6 @@ pub stale_for_all : (theirs : List ℕ) → nonce_refusal [] theirs ≡ StaleNon
 unfolding security_bits
 stale_for_all theirs = refl
 
--- ---- which nonce a request has
-
-pub accepted_parts : (s : Settings) (r : Reading) (from : SocketAddr) (e : ℕ)
-    → has_one_of r (accepted_nonces s from e)
-    ≡ (has_one_of r (nonces_of s s.secret from e)
-    || has_one_of r (previous_nonces s s.previous from e))
-accepted_parts s r from e =
-    one_of_both r (nonces_of s s.secret from e) (previous_nonces s s.previous from e)
-
 -- ---- what a request claims that waits
 
 module _ (s : Settings) (from : SocketAddr) (e : ℕ) (bytes : List ℕ) where
@@ -69,25 +60,17 @@ module _ (s : Settings) (from : SocketAddr) (e : ℕ) (bytes : List ℕ) where
       both false = refl
 
   -- nor does one with another nonce
-  pub unaccepted_waits_not : (claim : ClaimSeen)
-      → claim_of s.algorithms s.feature bytes ≡ Some claim
-      → has_one_of (reading_of claim.message) (accepted_nonces s from e) ≡ false
+  pub unaccepted_waits_not : has_one_of (reading_of bytes) (accepted_nonces s from e) ≡ false
       → waiting_claim s from e bytes ≡ None
-  unaccepted_waits_not claim h other =
-      ap (λ b. cond b (claim_of s.algorithms s.feature bytes) None)
-      (sym (ap (λ m. has_one_of (reading_of m) (accepted_nonces s from e))
-      (claim_message s.algorithms s.feature bytes claim h)) ∙ other)
+  unaccepted_waits_not other = ap (λ b. cond b (claim_of s.algorithms s.feature bytes) None) other
 
   -- all others wait for the user whom they name
   pub claim_waits : (claim : ClaimSeen)
       → claim_of s.algorithms s.feature bytes ≡ Some claim
-      → has_one_of (reading_of claim.message) (accepted_nonces s from e) ≡ true
+      → has_one_of (reading_of bytes) (accepted_nonces s from e) ≡ true
       → waiting_claim s from e bytes ≡ Some claim
   claim_waits claim h one =
-      ap (λ b. cond b (claim_of s.algorithms s.feature bytes) None)
-      (sym (ap (λ m. has_one_of (reading_of m) (accepted_nonces s from e))
-      (claim_message s.algorithms s.feature bytes claim h)) ∙ one)
-      ∙ h
+      ap (λ b. cond b (claim_of s.algorithms s.feature bytes) None) one ∙ h
 
 -- the user whom a claim names
 abbrev user_in : Option ClaimSeen → Option Named
@@ -122,33 +105,3 @@ claim_is_awaited s from e bytes claim h =
 pub nobody_is_awaited : (s : Settings) (from : SocketAddr) (e : ℕ) (bytes : List ℕ)
     → waiting_claim s from e bytes ≡ None → waits_for s from e (reading_of bytes) ≡ None
 nobody_is_awaited s from e bytes h = sym (waiting_user s from e bytes) ∙ ap user_in h
-
--- ---- the nonces of a secret
-
-pub has_current : (s : Settings) (r : Reading) (secret : List ℕ) (from : SocketAddr) (e : ℕ)
-    → bytes_eq (their_nonce r) (nonce_in s secret from e) ≡ true
-    → has_one_of r (nonces_of s secret from e) ≡ true
-has_current s r secret from zero h = ap (λ b. b || false) h
-has_current s r secret from (suc e) h =
-    ap (λ b. b || has_one_of r (nonce_in s secret from e ∷ [])) h
-
-pub has_only_current : (s : Settings) (r : Reading) (secret : List ℕ) (from : SocketAddr) (e : ℕ)
-    → e ≡ 0 → bytes_eq (their_nonce r) (nonce_in s secret from e) ≡ false
-    → has_one_of r (nonces_of s secret from e) ≡ false
-has_only_current s r secret from zero first h = ap (λ b. b || false) h
-has_only_current s r secret from (suc e) first h = absurd (omega (arith, first))
-
-unless_false : (b : Bool) → (b || false) ≡ b
-unless_false true = refl
-unless_false false = refl
-
-pub has_before : (s : Settings) (r : Reading) (secret : List ℕ) (from : SocketAddr) (e : ℕ)
-    → 0 < e → bytes_eq (their_nonce r) (nonce_in s secret from e) ≡ false
-    → has_one_of r (nonces_of s secret from e)
-    ≡ bytes_eq (their_nonce r) (nonce_in s secret from (e - 1))
-has_before s r secret from zero later h = absurd (omega (arith, later))
-has_before s r secret from (suc e) later h =
-    let before : suc e - 1 ≡ e = omega arith in
-    ap (λ b. b || has_one_of r (nonce_in s secret from e ∷ [])) h
-    ∙ unless_false (bytes_eq (their_nonce r) (nonce_in s secret from e))
-    ∙ ap (λ n. bytes_eq (their_nonce r) (nonce_in s secret from n)) (sym before)

@@ -5,6 +5,7 @@ pub mod Judges
 pub mod Waiting
 pub mod Found
 pub mod Judgements
+pub mod Earlier
 pub mod Keys
 pub mod Refusing
 pub mod Room

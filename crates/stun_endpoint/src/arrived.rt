@@ -1,5 +1,5 @@
-//! Reads a datagram before a server judges it: what is dropped, and the class of what is not (RFC
-//! 8489, sections 6.3 and 7.3).
+//! Reads a datagram before a server judges it: finds out whether the datagram is dropped and, if it
+//! is not, its class (RFC 8489, sections 6.3 and 7.3).
 
 ghost use Rattle.std.specs.Prelude.{◌≡◌, None};
 ghost use Rattle.stun_endpoint.specs.Answers.{is_fingerprinted};
@@ -25,7 +25,7 @@ pub(crate) enum Arrived<'a> {
 }
 
 impl<'a> Arrived<'a> {
-    /// Reads a datagram, which must have a FINGERPRINT if `is_required` is true.
+    /// Reads a datagram. If `is_required` is true, a datagram without FINGERPRINT is dropped.
     pub(crate) fn read(bytes: &'a [u8], is_required: bool) -> Arrived<'a>
         ensures dropped { drop_reason is_required bytes.now ≡ dropped_in result }
         ensures class { IsByClass bytes.now result }

@@ -11,7 +11,7 @@ use std::net::SocketAddr;
 
 /// A datagram of a batch: its bytes, and the address that it came from.
 ///
-/// Contracts: a record of both.
+/// Contracts: the value is a record of both.
 #[derive(Debug, Drop)]
 pub struct Datagram<'a> {
     /// The whole datagram.
@@ -43,7 +43,7 @@ pub struct ReceivedAt<'a, A: Allocator = Global> {
 /// The responses to a batch of datagrams, one after another in one buffer. Reuse it for the next
 /// batch, so that its memory is used again.
 ///
-/// Contracts: the bytes of the responses.
+/// Contracts: the value is the list of the bytes of the responses.
 #[derive(Debug, Drop)]
 pub struct Answers<A: Allocator = Global> {
     pub(crate) bytes: Vec<u8, A>,
@@ -72,7 +72,8 @@ impl<A: Allocator + Copy> Answers<A> {
 }
 
 impl<A: Allocator> Answers<A> {
-    /// Returns the bytes of all responses, each at the offsets in its result.
+    /// Returns the bytes of all responses. The `ReceivedAt` of a datagram has the offsets at which
+    /// its response begins and ends.
     pub fn bytes(&self) -> &[u8]
         ensures { result.now ≡ self.now }
     {

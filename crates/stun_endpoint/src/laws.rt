@@ -48,9 +48,10 @@ ghost use Rattle.stun_endpoint.specs.declared.received.Refusal.{Refusal};
 ghost use Rattle.stun_endpoint.specs.declared.received.Refusal.TheVariants as refused;
 ghost use Rattle.stun_endpoint.specs.declared.server.causes.Cause.TheVariants.{OtherFeatures};
 
-/// A client is accepted at a time if and only if it is accepted under one of the nonces of its
-/// address: the nonce of the epoch or of the epoch before, under the secret or the previous secret
-/// (`verdict`). Earlier datagrams have no influence.
+/// A client is accepted at a time if and only if it is accepted under one of the nonces that the
+/// server then accepts from its address (`verdict`): the nonces of the current epoch and of the
+/// epoch before, each made with the current secret or with the previous secret. Earlier datagrams
+/// have no influence.
 ///
 /// So a request that is not dropped has the outcome of an accepted request if a client is accepted
 /// (`accepted`), and is refused otherwise (`refused`).
@@ -165,8 +166,8 @@ pub fn resume_is_receive_with_all_users()
 }
 
 /// A look-up of `identify` comes from a signed request with a nonce that the server accepts for its
-/// source at the time at which the request arrived: a nonce of that epoch or of the epoch before,
-/// under the secret or the previous secret.
+/// source at the time at which the request arrived: a nonce of the epoch of that time or of the
+/// epoch before, made with the current secret or with the previous secret.
 pub fn lookups_have_accepted_nonces()
     ensures { (s : Settings) (from : SocketAddr) (now : ℕ) (bytes : List ℕ) (lookup : LookupSeen)
         → identified_by s from now bytes ≡ looked_up lookup
@@ -182,8 +183,8 @@ pub fn lookups_have_accepted_nonces()
 /// - `parts`: the outcomes of a batch are those of its parts, one after another. So the outcome of
 ///   a datagram is the same at a server that has received the datagrams before it, and at a server
 ///   that has not.
-/// - `order`: the server stores nothing about its clients, so the order does not matter. In another
-///   order, or without some of them, the same datagrams have the same outcomes.
+/// - `order`: the server stores nothing about its clients, so the order does not matter. If the
+///   datagrams arrive in another order, or only some of them arrive, their outcomes stay the same.
 pub fn a_batch_is_its_single_calls()
     ensures each { (s : Settings) (realm : Realm) (now : ℕ) (datagrams : List Datagram) (place : ℕ)
         (d : Datagram) → slice_get datagrams place ≡ Some d
@@ -197,16 +198,17 @@ pub fn a_batch_is_its_single_calls()
         ≡ picked places (received_all s realm now datagrams) }
 {}
 
-/// For every list of datagrams, with the users at the time of each, this server has the same
-/// verdicts as a server that keeps records of addresses and is called step by step. For each
-/// request and each nonce that is accepted, that other server validates the request, signs a
-/// response, validates the request again, and forgets its address. The clock of the other server
-/// may show any times.
+/// Compares the verdicts of this server on a list of datagrams with the results of another server,
+/// which keeps records of addresses and is called step by step (`run`), with the users at the time
+/// of each datagram. For each request that is not dropped, and for each nonce that this server
+/// accepts from its source, the other server validates the request with the random numbers from
+/// which that nonce is made, signs a response, validates the request again, and forgets the source
+/// address. The clock of the other server may show any times.
 ///
-/// - `verdicts`: that run of calls returns this server's verdicts, if the settings use a security
-///   feature, because then both servers make the same nonces. Without a feature, the nonces of this
-///   server begin with the nonce cookie, as RFC 8489, section 9.2, says, and the nonces of the
-///   other server do not.
+/// - `verdicts`: if the settings use a security feature (HMAC-SHA256 or hashed names), this run of
+///   calls returns this server's verdict on each datagram, because both servers then make the same
+///   nonces. Without a feature, the nonces of this server begin with the nonce cookie, as RFC 8489,
+///   section 9.2, says, and the nonces of the other server do not.
 /// - `left`: the other server has no record of an address after the run.
 /// - `handed`: for a request that this server returns to its caller, the verdict is `Validated`
 ///   with the algorithm of the request.
@@ -310,8 +312,9 @@ pub fn unknown_attributes_are_refused()
 /// A request from a client that the server accepts is returned to the caller if its attributes are
 /// understood, unless it is a Binding request that the server answers itself (RFC 8489, section
 /// 6.3.1). The request is returned unchanged, as a request of that client, and its reply goes to
-/// the address that the request came from. The clauses have the same names as in
-/// `unknown_attributes_are_refused`.
+/// the address that the request came from. This holds at a server with long-term credentials
+/// (`long_term`), with short-term credentials (`short_term`), and without credentials, which
+/// accepts everybody (`no_credentials`).
 pub fn understood_requests_are_handed_out()
     ensures long_term { (s : Settings) (realm : Realm) (from : SocketAddr) (now : ℕ)
         (bytes : List ℕ) (client : ClientSeen)
@@ -339,9 +342,10 @@ pub fn understood_requests_are_handed_out()
 {}
 
 /// An indication is returned to the caller if its attributes are understood, and is dropped
-/// otherwise (RFC 8489, section 6.3.2). Long-term credentials protect no indication (section 9.2).
-/// With short-term credentials, this holds for indications that a user has signed. The clauses have
-/// the same names as in `unknown_attributes_are_refused`.
+/// otherwise (RFC 8489, section 6.3.2). This holds for every indication at a server with long-term
+/// credentials, which protect no indication (section 9.2; `long_term`), and at a server without
+/// credentials (`no_credentials`). At a server with short-term credentials, it holds for every
+/// indication that a user has signed (`short_term`).
 pub fn understood_indications_are_handed_out()
     ensures long_term { (s : Settings) (realm : Realm) (from : SocketAddr) (now : ℕ)
         (bytes : List ℕ)

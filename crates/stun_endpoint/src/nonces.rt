@@ -35,9 +35,10 @@ fn spelled_bits(hmac_sha256: bool, user_hashes: bool) -> &'static str
     }
 }
 
-/// Returns the nonce of an address in an epoch, under a secret, at a server with these settings:
-/// the nonce cookie, the security bits and a letter for each of sixteen numbers. If the server uses
-/// no security feature, all bits are zero (section 9.2). Fails if the one allocation fails.
+/// Returns the nonce that a server with these settings makes with `secret` for the address `from`
+/// and the epoch `epoch`: the nonce cookie, the security bits and a letter for each of sixteen
+/// numbers. If the server uses no security feature, all bits are zero (RFC 8489, section 9.2).
+/// Fails if the one allocation fails.
 #[tactic(auto, using(crate::proofs::FrontLemmas::spelled_front))]
 pub(crate) fn nonce_of<A: Memory>(
     alloc: A,
@@ -73,8 +74,8 @@ fn algorithms_number(hmac_sha1: bool, hmac_sha256: bool) -> u8
     }
 }
 
-/// Returns the numbers that the nonce of an address in an epoch is made from: the first sixteen
-/// bytes of an HMAC-SHA1 of the address, the port, the epoch and the supported algorithms.
+/// Returns the sixteen numbers from which the nonce for an address and an epoch is made: the first
+/// sixteen bytes of an HMAC-SHA1 of the address, the port, the epoch and the supported algorithms.
 fn words_of<A: Allocator>(
     secret: &PreparedKey<A>,
     from: SocketAddr,

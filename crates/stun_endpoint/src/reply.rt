@@ -39,7 +39,7 @@ use stun_types::prelude::*;
 
 /// The algorithm and the key that a response is signed with.
 ///
-/// Contracts: a record of both.
+/// Contracts: the value is a record of both.
 #[derive(Drop)]
 pub(crate) struct Signature<A: Allocator> {
     algorithm: IntegrityAlgorithm,
@@ -167,8 +167,8 @@ impl<A: Allocator> Reply<A> {
         }
     }
 
-    /// Returns the key that signs each response, or no bytes if responses are not signed. Anybody
-    /// who has the key can sign in the name of the user and of the server.
+    /// Returns the key that each response is signed with, or an empty slice if responses are not
+    /// signed. Anybody who has the key can sign in the name of the user and of the server.
     pub fn key(&self) -> &[u8]
         ensures { result.now
             ≡ option_map_or (λ (by : SignatureSeen). by.key) self.now.ending.signature [] }
@@ -188,9 +188,9 @@ impl<A: Allocator> Reply<A> {
 }
 
 impl<A: Memory> Reply<A> {
-    /// Creates the handle with which you respond to a request. Each response ends with SOFTWARE,
-    /// the integrity attribute and FINGERPRINT, as `software`, `signature` and `has_fingerprint`
-    /// say.
+    /// Creates the handle with which you respond to a request. Each response ends with SOFTWARE if
+    /// `software` is not `None`, with the integrity attribute if `signature` is not `None`, and
+    /// with FINGERPRINT if `has_fingerprint` is true.
     pub(crate) fn new(
         alloc: A,
         request: &Message<'_>,
@@ -280,9 +280,12 @@ impl<A: Memory> Reply<A> {
     /// FINGERPRINT if the request had one. Pass a response that `success` or `error` began, to
     /// which you may have added attributes.
     ///
-    /// Fails with the error of the first attribute that cannot be added: `AttributeExists` if you
-    /// added SOFTWARE or FINGERPRINT, `MessageIntegrityExists` if you signed the response,
-    /// `TooLarge` if the response would be longer than a message can be, or `OutOfMemory`.
+    /// Fails with the error of the first attribute that cannot be added:
+    ///
+    /// - `MessageIntegrityExists`: you have signed the response.
+    /// - `AttributeExists`: you have added SOFTWARE or FINGERPRINT.
+    /// - `TooLarge`: the response would be longer than a message can be.
+    /// - `OutOfMemory`: an allocation failed.
     pub fn finish(&self, page: MessageWriteVec<A>) -> Result<Vec<u8, A>, StunWriteError>
         requires { 20 ≤ length page.bytes }
         ensures bytes { IfOk result (λ response. response.items
@@ -376,7 +379,9 @@ impl<A: Memory> Reply<A> {
     }
 }
 
-/// The number of bytes of the header of a response, and of XOR-MAPPED-ADDRESS with an IPv4 address.
+/// The number of bytes that a response is expected to have before `finish` adds its attributes: the
+/// header, and XOR-MAPPED-ADDRESS with an IPv4 address. Memory for them is reserved at the
+/// beginning.
 const MAPPED_LENGTH: usize = 32;
 
 /// Returns how many bytes `finish_response` adds to a response. The memory for them is reserved
@@ -408,8 +413,8 @@ pub(crate) fn end_length<A: Allocator>(
         .saturating_add(fingerprint)
 }
 
-/// Ends a response: adds SOFTWARE, the integrity attribute and FINGERPRINT, each of them if the
-/// response gets it.
+/// Ends a response: adds SOFTWARE if `software` is not `None`, the integrity attribute if
+/// `signature` is not `None`, and FINGERPRINT if `has_fingerprint` is true.
 #[tactic(auto, using(crate::proofs::VerifyingLemmas::verifies_by_same))]
 pub(crate) fn finish_response<A: Memory>(
     page: BufferWriter<A>,

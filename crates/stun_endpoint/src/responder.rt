@@ -161,7 +161,7 @@ impl<A: Allocator> Responder<A> {
         }
     }
 
-    /// Reads a datagram, which must have a FINGERPRINT if the settings require one.
+    /// Reads a datagram. If the settings require a FINGERPRINT, a datagram without one is dropped.
     pub(crate) fn read<'a>(&self, bytes: &'a [u8]) -> Arrived<'a>
         ensures dropped { drop_reason self.now.requires_fingerprint bytes.now
             ≡ dropped_in result }
@@ -177,8 +177,8 @@ impl<A: Allocator> Responder<A> {
         self.requires_fingerprint
     }
 
-    /// Returns whether the server understands each visible attribute of a message that it must
-    /// understand.
+    /// Returns whether the server understands the visible attributes of a message: it knows each
+    /// type that is comprehension-required (below 0x8000).
     pub(crate) fn understands(&self, message: &Message<'_>) -> bool
         ensures { result ≡ is_empty (unknown_types self.now.known message.now) }
     {
@@ -274,8 +274,8 @@ impl<A: Memory> Responder<A> {
         Ok(Answer::new(from, Some(refusal), bytes))
     }
 
-    /// Ends a response: adds SOFTWARE, the integrity attribute and FINGERPRINT, each of them if the
-    /// response gets it.
+    /// Ends a response: adds SOFTWARE if the settings have a text for it, the integrity attribute
+    /// if `signature` is not `None`, and FINGERPRINT if `has_fingerprint` is true.
     pub(crate) fn end(
         &self,
         page: BufferWriter<A>,

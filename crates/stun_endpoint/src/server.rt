@@ -49,7 +49,18 @@ pub use settings::{
 /// The outcome of a datagram depends only on the datagram, its source address, the time, the
 /// settings and the users, and not on earlier datagrams. So a flood of datagrams uses no memory,
 /// threads share a server without a lock, and machines with the same settings can answer each
-/// other's clients. To change settings, build another server with the same secret.
+/// other's clients.
+///
+/// To change settings, build another server with the same secret. If its realm, algorithms or
+/// `user_hashes` differ, also make a new table with its `users`, and add the users again, because a
+/// table is made for these three settings, and a prepared user for the realm and the algorithms. No
+/// call detects a table or a user that was made for other settings.
+///
+/// If you remove HMAC-SHA256 from the algorithms, a client of this library that has succeeded with
+/// HMAC-SHA256 drops the new challenges, because they are weaker. Its next request times out, and
+/// the request after that succeeds. The same happens to a client that has succeeded with a hash, if
+/// you forbid hashed names. After any other change of the algorithms or of `user_hashes`, each
+/// client gets one 401 or 438, and signs its request again.
 ///
 /// Contracts: a server is a record of its settings. `Debug` shows none of them, because the secret
 /// is one of them.
@@ -110,8 +121,8 @@ impl<A: Allocator> fmt::Debug for Server<A> {
 }
 
 impl<A: Memory> Server<A> {
-    /// Returns an empty table of users for this server's realm and its algorithms. Fails if an
-    /// allocation fails.
+    /// Returns an empty table of users for this server's realm, algorithms and `user_hashes`. Use
+    /// it only with servers that have the same three settings. Fails if an allocation fails.
     pub fn users(&self) -> Result<Users<A>, AllocError>
         ensures users { IfOk result (λ users. users ≡ table_of self.now) }
         ensures granted { A.grants → IsOk result }
@@ -128,7 +139,8 @@ impl<A: Memory> Server<A> {
     }
 
     /// Derives the keys of a user with a password, for `receive_for`. You may cache the result and
-    /// pass it again. Fails if an allocation fails.
+    /// use it with every server that has the same realm and algorithms. Fails if an allocation
+    /// fails.
     pub fn user(
         &self,
         credentials: LongTermCredentials<A>,
@@ -141,8 +153,8 @@ impl<A: Memory> Server<A> {
     }
 
     /// Prepares a user with keys that are stored in place of a password, for `receive_for`. The
-    /// keys must have been made for this server's realm. You may cache the result and pass it
-    /// again. Fails if an allocation fails.
+    /// keys must have been made for this server's realm. You may cache the result and use it with
+    /// every server that has the same realm and algorithms. Fails if an allocation fails.
     pub fn user_with_keys(
         &self,
         name: String<A>,

@@ -7,8 +7,13 @@ use std::marker::Model;
 /// A time of the wall clock, in whole seconds since the beginning of 1970 (UTC).
 ///
 /// A server needs the wall clock. With a clock that starts at zero, the nonces of an earlier run of
-/// the program would be current again, and so would requests that an attacker has recorded. If the
-/// clock is set back, nonces last longer by the same time.
+/// the program would be current again, and so would requests that an attacker has recorded.
+///
+/// If the clock is set back, no call fails. Time is divided into periods of one nonce lifetime. A
+/// nonce whose period has not begun again is refused with a 438, which costs its client one more
+/// exchange, and is accepted again once its period begins. So the nonces that were sent before, and
+/// the requests that an attacker has recorded, stay valid for as much longer as the clock was set
+/// back.
 #[derive(Clone, Copy, Debug, PartialEq, Eq, PartialOrd, Ord, Hash)]
 pub struct UnixTime {
     seconds: u64,

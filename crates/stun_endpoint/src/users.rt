@@ -12,10 +12,13 @@ use stun_auth::auth::{LongTermServerAuth, StoredKeys};
 use stun_base::credentials::LongTermCredentials;
 use stun_base::memory::Memory;
 
-/// The users of a realm, found by name and by hash. `Server::users` makes an empty table.
+/// The users of a realm, found by name and by hash. `Server::users` makes an empty table, for
+/// servers that have the same realm, algorithms and `user_hashes`. No call detects a table that was
+/// made for other settings. With such a table, a server may refuse users who have the right
+/// password, or accept a request whose list of algorithms is not the one that it offered.
 ///
 /// The calls of a server that judge a request only read the table, so you can share it in an `Arc`.
-/// To reload the users, replace the `Arc` by one with a new table.
+/// To change the users, replace the `Arc` by one with a new table.
 ///
 /// Contracts: a table has its realm, its algorithms, and the password or the keys of each user.
 /// `Debug` shows none of them.

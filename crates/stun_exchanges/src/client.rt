@@ -25,7 +25,7 @@ ghost use Rattle.stun_exchanges.specs.Refusals.{SameCredentialsAreRefused};
 /// nonce and list as exactly the challenge that the server intended, with this algorithm
 /// (`answered`). It is the strongest algorithm that both support (`strongest`).
 ///
-/// The nonce must be up to date, as each nonce of a server is
+/// Premise of `answered`: the nonce is up to date, as each nonce of a server is
 /// (`stun_client::laws::nonces_of_a_server_are_up_to_date`).
 pub fn common_algorithms_are_answered()
     ensures agreed { (p : Preferences) (server : AlgorithmSet) (feature : Feature)
@@ -43,8 +43,8 @@ pub fn common_algorithms_are_answered()
 {}
 
 /// A response ends a request that was signed for a challenge if it is signed with the key of that
-/// challenge, asks for no credentials, and is not dropped because of its FINGERPRINT. The request
-/// then ends as answered, with the algorithm of that signature.
+/// challenge, is neither a 401 nor a 438, and is not dropped because of its FINGERPRINT. The
+/// request then ends as answered, with the algorithm of that signature.
 pub fn signed_answers_are_believed()
     ensures { (required : Bool) (who : NameAndPassword) (p : Preferences)
         (accepts_unsigned : Bool) (standing : StandingSeen) (c : Answered) (bytes : List ℕ)

@@ -25,9 +25,9 @@ pub fn challenges_are_read_as_meant()
 }
 
 /// A client with long-term credentials answers each challenge of a server with which it has an
-/// algorithm in common: after a 401 or a 438 to the current message of a request, the request must
-/// be sent again, signed for the challenge that the server intended. A 401 to a message that was
-/// signed for the same realm and security bits also counts as a refusal, but a 438 does not
+/// algorithm in common: after a 401 or a 438 to the current message of a request, the client sends
+/// the request again, signed for the challenge that the server intended. A 401 to a message that
+/// was signed for the same realm and security bits also counts as a refusal, but a 438 does not
 /// (`answered_to`).
 ///
 /// Premises, in addition to those of `challenges_are_read_as_meant`: client and server agree on an
@@ -46,8 +46,8 @@ pub fn challenges_of_a_server_are_answered()
 
 /// A server accepts each request that one of its users has signed for the server's challenge, in
 /// the epoch of the nonce and in the next epoch, whatever method and body the request has. It
-/// accepts the request as that user's, with the algorithm on which both sides agree, the strongest
-/// that both support. The user may be named by a hash.
+/// accepts the request as that user's, with the algorithm on which both sides agree, which is the
+/// strongest that both support. The user may be named by a hash.
 ///
 /// Premises: the user is registered with this password and found by the hash of the name, so no
 /// earlier user in the order of names has the same hash (`IsRegisteredUser`; no two texts with the

@@ -20,7 +20,8 @@ ghost use Rattle.stun_exchanges.specs.Exchange.{IsWithinPeriod};
 ghost use Rattle.stun_exchanges.specs.OtherSecrets.{with_secret_at};
 
 /// A server challenges each unsigned request, whatever its users are: unless the request is
-/// dropped, the server answers it with a 401 that has the nonce that is current at its source.
+/// dropped, the server answers it with a 401 that has the current nonce of the request's source
+/// address.
 pub fn unsigned_requests_are_challenged()
     ensures { (s : Settings) (realm : Realm) (from : SocketAddr) (now : ℕ) (bytes : List ℕ)
         → drop_reason s.requires_fingerprint bytes ≡ None → class_in bytes ≡ MessageClass.Request
@@ -48,9 +49,9 @@ pub fn clients_are_accepted_while_their_nonce_lasts()
 }
 
 /// The outcome of a datagram reveals nothing about a password. If a user gets another password or
-/// other keys, a datagram whose signature is valid under neither the former nor the new ones has
-/// the same outcome, byte for byte (`received`). If such a datagram has the user's name, its
-/// outcome is the same as if the user were not registered (`unregistered`).
+/// other keys, a datagram whose signature is valid neither under the former keys nor under the new
+/// keys has the same outcome as before, byte for byte (`received`). If such a datagram has the
+/// user's name, its outcome is the same as if the user were not registered (`unregistered`).
 ///
 /// The law does not limit the time that an answer takes.
 pub fn outcomes_tell_no_password()

@@ -3,8 +3,8 @@
 //! XOR-PEER-ADDRESS and REQUESTED-TRANSPORT of TURN (RFC 8656, section 18). All other attributes
 //! are in `stun_attributes`.
 //!
-//! Attributes whose values have the same form are aliases of one type, such as [`Number`]. Each of
-//! the others is in a file of its own.
+//! Attributes whose values have the same form are aliases of one type, such as [`Number`]. Every
+//! other attribute has a file of its own.
 ghost use Rattle.std.specs.Prelude.{◌≡◌, ◌≤◌, [], ◌∷◌, length};
 ghost use Rattle.stun_types.specs.Limits.{TEXT_LIMIT};
 ghost use Rattle.stun_extra.specs.AttributeTypes.{ICE_CONTROLLED, ICE_CONTROLLING, PRIORITY};

@@ -29,9 +29,10 @@ pub fn crc32(bytes: &[u8]) -> u32
 
 /// Returns the remainder after the bits of eight more bytes.
 ///
-/// The division is linear: the remainder after several bytes is the XOR of the remainders after
-/// each of them alone, followed by as many zero bytes as come after it. The four bytes of the
-/// remainder so far are XORed with the first four of the eight bytes.
+/// The division is linear, so the result is the XOR of eight remainders, one for each byte: the
+/// remainder after this byte alone, followed by as many zero bytes as come after it among the
+/// eight. Before that, the four bytes of the remainder so far are XORed with the first four of the
+/// eight bytes.
 fn after_eight(remainder: u32, bytes: &[u8; 8]) -> u32
     ensures { result ≡ fold after_byte remainder bytes.now }
 {

@@ -35,7 +35,7 @@ pub const FINGERPRINT_LENGTH: usize = 8;
 /// use seatcrane_stun::extra::{Fingerprint, check_fingerprint};
 /// use seatcrane_stun::types::message::Message;
 ///
-/// /// Whether a message of ICE, which always has a FINGERPRINT, is to be read.
+/// /// Returns `true` if a message of ICE, which always has a FINGERPRINT, is undamaged.
 /// fn is_whole(message: &Message<'_>) -> bool {
 ///     check_fingerprint(message) == Fingerprint::Right
 /// }
@@ -105,7 +105,8 @@ fn fingerprint_number(bytes: &[u8]) -> u32
     crc32(bytes) ^ FINGERPRINT_XOR
 }
 
-/// Adds FINGERPRINT to a message, and finishes the writer, so that nothing can follow it.
+/// Adds FINGERPRINT to a message, and finishes the writer, so that no attribute can follow
+/// FINGERPRINT. The writer must contain a message, or at least the header of one.
 ///
 /// If you want to sign the message, sign it first. The signature stays valid, because it covers
 /// only the bytes before the integrity attribute.

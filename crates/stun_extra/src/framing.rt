@@ -14,7 +14,8 @@ pub const PACKET_HEADER_LENGTH: usize = 2;
 /// section 12.4).
 pub const CHANNEL_HEADER_LENGTH: usize = 4;
 
-/// A header in which every bit that RFC 8489, section 5, does not fix is zero.
+/// A header with zeros in all bits that RFC 8489, section 5, does not fix. `may_begin` overwrites
+/// its front with the bytes that have arrived.
 const BLANK_HEADER: [u8; HEADER_LENGTH] = [
     0, 0, 0, 0, 0x21, 0x12, 0xA4, 0x42, 0, 0, 0, 0, 0, 0, 0, 0, 0, 0, 0, 0,
 ];
@@ -79,7 +80,7 @@ pub fn next_frame(bytes: &[u8]) -> Frame
     }
 }
 
-/// Returns `true` if a header may begin with these bytes, which are fewer than a header has.
+/// Returns `true` if a header may begin with these bytes, of which there are fewer than 20.
 fn may_begin(bytes: &[u8]) -> bool
     requires { length bytes.now < 20 }
     ensures { result ≡ may_begin bytes.now }
@@ -161,7 +162,8 @@ fn next_channel_frame(bytes: &[u8]) -> Frame
     frame_to(bytes.len(), CHANNEL_HEADER_LENGTH + (length + 3) / 4 * 4)
 }
 
-/// Returns `Message` if all bytes of a frame have arrived, and otherwise `Need`.
+/// Returns `Message` if all bytes of a frame have arrived, and otherwise `Need`. `there` is the
+/// number of bytes that have arrived, and `whole` is the number of bytes of the frame.
 fn frame_to(there: usize, whole: usize) -> Frame
     ensures { result ≡ frame_to there whole }
 {

@@ -42,8 +42,8 @@ pub fn each_number_is_there_once()
         ≡ cond (list_any (λ y. y == x) xs) 1 0 }
 {}
 
-/// A stream of messages is cut into exactly these messages, whatever pieces it arrives in. It is
-/// refused as soon as no message can begin with the bytes that have arrived.
+/// A stream of messages is cut into exactly these messages, whatever pieces it arrives in. Any
+/// stream is refused as soon as no message can begin with the bytes that have arrived.
 pub fn stream_is_cut_into_its_messages()
     ensures whole { (message rest : List ℕ) → IsMessage message
         → frame_of (message ++ rest) ≡ Frame.Message (length message) }
@@ -60,8 +60,8 @@ pub fn stream_is_cut_into_its_messages()
         ≡ cut_with_more frame_of (cut_of frame_of bytes) more }
 {}
 
-/// A stream of packets, each after its length, is cut into exactly these packets, whatever pieces
-/// it arrives in.
+/// A stream in which each packet follows its length is cut into exactly these packets, whatever
+/// pieces it arrives in.
 pub fn packet_is_framed()
     ensures whole { (packet rest : List ℕ) → length packet < 2 ^ 16
         → packet_frame_of (framed_packet packet ++ rest)
@@ -77,8 +77,8 @@ pub fn packet_is_framed()
 {}
 
 /// A stream of messages and ChannelData is cut into exactly these messages and ChannelData,
-/// whatever pieces it arrives in. It is refused as soon as neither a message nor ChannelData can
-/// begin with the bytes that have arrived.
+/// whatever pieces it arrives in. Any stream is refused as soon as neither a message nor
+/// ChannelData can begin with the bytes that have arrived.
 pub fn turn_is_framed()
     ensures message { (message rest : List ℕ) → IsMessage message
         → turn_frame_of (message ++ rest) ≡ Frame.Message (length message) }

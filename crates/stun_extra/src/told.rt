@@ -4,7 +4,7 @@ ghost use Rattle.stun_extra.specs.code.Told.{is_set, is_told};
 
 /// The set of the types that an iterator has returned, with a bit for each type below 0x8000. The
 /// bits are created when the first type is added, because most messages have no unknown type, and
-/// to clear the bits takes longer than to search a message for unknown types.
+/// clearing the bits takes longer than searching a message for unknown types.
 #[derive(Debug, Drop)]
 pub(crate) struct Told {
     words: Option<[u64; 512]>,

@@ -19,7 +19,7 @@ pub struct Address {
     pub length: u16,
 }
 
-/// Returns the IPv4 address in the first four octets.
+/// Returns the IPv4 address in the first four octets, with this port.
 fn ipv4(octets: &[u8; 16], port: u16) -> SocketAddr
     ensures { result ≡ ipv4 (take 4 octets.now) port }
 {
@@ -28,7 +28,7 @@ fn ipv4(octets: &[u8; 16], port: u16) -> SocketAddr
     SocketAddr::V4(SocketAddrV4::new(Ipv4Addr::from_octets(front), port))
 }
 
-/// Returns the IPv6 address in the octets.
+/// Returns the IPv6 address in the octets, with this port.
 fn ipv6(octets: &[u8; 16], port: u16) -> SocketAddr
     ensures { result ≡ ipv6 octets.now port }
 {

@@ -5,7 +5,7 @@ ghost use Rattle.stun_handles.specs.Numbers.{done_answer, length_answer, number_
 
 use stun_numbers::refusal::Refusal;
 
-/// The greatest number that a call can return.
+/// The greatest number that a call can return, because calls return an `i64`.
 const MOST: usize = 9_223_372_036_854_775_807;
 
 /// Returns 0 for a call that has succeeded, or the negative code of its error.

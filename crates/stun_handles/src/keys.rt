@@ -6,8 +6,8 @@ ghost use Rattle.stun_handles.specs.Keys.{key_given, keys_given};
 use stun_auth::auth::StoredKeys;
 use stun_numbers::refusal::Refusal;
 
-/// Converts a key that a caller passes. Returns `None` if the key has no bytes. Fails with
-/// `BadArgument` if it has bytes, but not `N` of them.
+/// Converts a key of `N` bytes that a caller passes. Returns `None` if the caller passes no bytes.
+/// Fails with `BadArgument` if the number of bytes is neither 0 nor `N`.
 fn key_of<const N: usize>(bytes: &[u8]) -> Result<Option<[u8; N]>, Refusal>
     ensures { result ≡ key_given N bytes.now }
 {

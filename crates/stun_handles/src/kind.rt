@@ -24,7 +24,7 @@ pub const CLIENT: u32 = 1_398_035_779;
 pub const USER: u32 = 1_398_035_797;
 
 /// Returns the result of a call whose handle does not have the kind that the call needs: the code
-/// of `EmptyHandle` if the handle is empty, and otherwise that of `WrongHandle`.
+/// of `EmptyHandle` if the handle is empty, and otherwise the code of `WrongHandle`.
 // Not inlined, because about forty calls for C use it.
 #[inline(never)]
 pub fn missing(kind: u32) -> i64

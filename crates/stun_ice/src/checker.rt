@@ -177,7 +177,8 @@ fn has_colon(name: &str) -> bool
     name.as_bytes().contains(&b':')
 }
 
-/// Returns the reason to refuse the credentials of both sides, or `None` if they are accepted.
+/// Returns the reason to refuse the credentials of the two sides, or `None` if the credentials of
+/// both are accepted.
 fn refusal(local: &Credentials<'_>, remote: &Credentials<'_>) -> Option<BuildError>
     ensures { result ≡ build_refusal local.now.name.now remote.now.name.now local.now.password.now
         remote.now.password.now }
@@ -364,8 +365,8 @@ impl<A: Memory> Checker<A> {
         })
     }
 
-    /// Sets the credentials of the peer, and replaces those that were set before. From then on,
-    /// answers to checks that were signed with the former credentials are dropped.
+    /// Sets the credentials of the peer, in place of any that were set before. Answers that are
+    /// signed with the former password of the peer are dropped from then on.
     ///
     /// # Errors
     ///
@@ -398,7 +399,8 @@ impl<A: Memory> Checker<A> {
     }
 
     /// Writes a check. Send it to the address `to`, and send it again until its answer arrives (RFC
-    /// 8445, section 7.2.4). Its transaction ID must be random and new.
+    /// 8445, section 7.2.4). The transaction ID must be random and new, because otherwise the
+    /// answer to one check could end another.
     ///
     /// If the peer learns a new peer-reflexive candidate from this check, the candidate has the
     /// priority `priority` (section 7.1.1). The check nominates its pair if `nominate` is true and
@@ -434,7 +436,7 @@ impl<A: Memory> Checker<A> {
     }
 
     /// Begins a check like `check`, so that you can add further attributes, such as NETWORK-COST.
-    /// `finish_check` completes it.
+    /// Then call `finish_check`, which completes the check.
     ///
     /// # Errors
     ///
@@ -466,8 +468,9 @@ impl<A: Memory> Checker<A> {
     }
 
     /// Completes a check that `begin_check` began with the same ID and the same `nominate`: signs
-    /// it, and adds FINGERPRINT. The peer refuses the check with a 420 if you added an attribute of
-    /// a type below 0x8000 that it does not know.
+    /// the check, and adds FINGERPRINT. `to` is the address to which you send the check. The peer
+    /// refuses the check with a 420 if you added an attribute of a type below 0x8000 that the peer
+    /// does not understand.
     ///
     /// # Errors
     ///
@@ -577,7 +580,7 @@ fn ended_page<A: Memory>(
     Ok(bytes)
 }
 
-/// Adds the role and the tie-breaker.
+/// Adds the attribute with the role and the tie-breaker: ICE-CONTROLLING or ICE-CONTROLLED.
 fn add_role<A: Memory>(
     page: &mut MessageWriteVec<A>,
     role: Role,

@@ -26,10 +26,10 @@ ghost use Rattle.stun_ice.specs.declared.role.Role.{Role};
 ghost use Rattle.stun_ice.specs.declared.role.Role.TheVariants.{Controlling, Controlled};
 
 /// Two agents that begin in the same role, with distinct tie-breakers, end in opposite roles: the
-/// agent with the larger tie-breaker controls. They have these roles as soon as one of them has
-/// received the answer to one check, and keep them. Before that, both have the role that they began
-/// in, or they already have the final roles (`settle`). Two agents that begin in opposite roles
-/// keep their roles (`stay`).
+/// agent that began with the larger tie-breaker has the controlling role. They have these roles as
+/// soon as one of them has received the answer to one check, and keep them. Before that, both have
+/// the role that they began in, or they already have the final roles (`settle`). Two agents that
+/// begin in opposite roles keep their roles (`stay`).
 ///
 /// This holds for every network that loses, repeats, delays and reorders datagrams: any check may
 /// arrive at any time after it was sent, any number of times, and so may any answer. It holds
@@ -54,8 +54,9 @@ pub fn roles_end_opposite()
         × (both.left.heard ≡ true) × (both.left.tie_breaker ≡ 7) }
 {}
 
-/// An agent judges a datagram as an accepted check, with these values, if and only if `Accepts`
-/// holds for the datagram and the values.
+/// States that an agent accepts a datagram as a check with the values `check` (the algorithm, the
+/// priority, the nomination, and the role of the agent after the check) if and only if `Accepts`
+/// holds for the datagram and these values.
 pub fn checks_are_accepted_exactly()
     ensures { (a : Agent) (c : Option SentCheck) (from : SocketAddr) (bytes : List ℕ)
         (check : Acceptance)
@@ -87,7 +88,8 @@ pub fn checks_name_their_sender()
         ↔ (username_in bytes ≡ Some (with_colon a.name peer)) }
 {}
 
-/// The answer to a check makes its pair valid if and only if `IsValid` holds for the datagram.
+/// States that a datagram answers a check and makes the pair of the check valid, with the address
+/// `mapped`, if and only if `IsValid` holds.
 pub fn pairs_are_valid_exactly()
     ensures { (a : Agent) (check : SentCheck) (from : SocketAddr) (bytes : List ℕ)
         (mapped : Mapped)
@@ -95,9 +97,9 @@ pub fn pairs_are_valid_exactly()
         ↔ IsValid a check from bytes mapped }
 {}
 
-/// The results that the caller gets for a datagram are true. A check is reported as accepted if and
-/// only if the agent accepts it. A pair is reported as valid if and only if the datagram answers
-/// the check that was passed and makes its pair valid.
+/// States that the caller learns what the definitions say. A check is reported as accepted if and
+/// only if the agent accepts it (`accepted`). A pair is reported as valid if and only if the
+/// datagram answers the check that was passed and makes the pair of that check valid (`valid`).
 pub fn callers_are_told_what_is_so()
     ensures accepted { (a : Agent) (c : Option SentCheck) (from : SocketAddr) (bytes : List ℕ)
         → TellsAccepted (given a from (judgement_of a c from bytes)) ↔ IsAcceptedCheck a bytes }
@@ -105,8 +107,9 @@ pub fn callers_are_told_what_is_so()
         → TellsValid (given a from (judgement_of a c from bytes)) ↔ IsValidAnswer a c from bytes }
 {}
 
-/// Only checks are answered. So after any other datagram the buffer of `receive_into` is empty, and
-/// a program that sends the contents of the buffer sends nothing.
+/// States that only checks are answered (`answered`). So after any other datagram the buffer of
+/// `receive_into` is empty, and a program that sends the contents of the buffer sends nothing
+/// (`empty`).
 pub fn only_checks_are_answered()
     ensures answered { (a : Agent) (c : Option SentCheck) (from : SocketAddr)
         (bytes message answer : List ℕ) (judged : Judged)

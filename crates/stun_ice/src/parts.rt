@@ -38,7 +38,7 @@ pub(crate) const UNDERSTOOD: [AttributeType; 13] = [
     AttributeType::USERHASH,
 ];
 
-/// USE-CANDIDATE (RFC 8445, section 16.1).
+/// The type of the attribute USE-CANDIDATE (RFC 8445, section 16.1).
 const USE_CANDIDATE: AttributeType = AttributeType(0x0025);
 
 /// Returns the first visible USERNAME with its offset, or `None` if there is none.
@@ -85,7 +85,7 @@ fn after_front<'a>(front: &[u8], bytes: &'a [u8]) -> Option<&'a [u8]>
 }
 
 /// Returns the name of the peer in a USERNAME that the agent `name` receives: the part after `name`
-/// and a colon. Returns `None` if USERNAME does not begin with them.
+/// and a colon. Returns `None` if USERNAME does not begin with `name` and a colon.
 pub(crate) fn peer_name<'a>(name: &str, username: &'a [u8]) -> Option<&'a [u8]>
     ensures { option_copied result ≡ peer_name_in name.now username.now }
 {
@@ -123,7 +123,7 @@ pub(crate) fn rival(role: Role, message: &Message<'_>) -> Option<u64>
     }
 }
 
-/// Returns the tie-breaker in ICE-CONTROLLING, or `None` if it is missing or malformed.
+/// Returns the tie-breaker in ICE-CONTROLLING, or `None` if this attribute is missing or malformed.
 fn controlling(message: &Message<'_>) -> Option<u64>
     ensures { result ≡ rival Role.Controlling message.now }
 {
@@ -133,7 +133,7 @@ fn controlling(message: &Message<'_>) -> Option<u64>
     }
 }
 
-/// Returns the tie-breaker in ICE-CONTROLLED, or `None` if it is missing or malformed.
+/// Returns the tie-breaker in ICE-CONTROLLED, or `None` if this attribute is missing or malformed.
 fn controlled(message: &Message<'_>) -> Option<u64>
     ensures { result ≡ rival Role.Controlled message.now }
 {

@@ -1,4 +1,5 @@
-//! The outcome of a datagram.
+//! The outcome of a datagram, of a check of the peer and of a check of this agent, and the reasons
+//! for which checks are refused or fail and datagrams are dropped.
 
 ghost use Rattle.std.specs.Net.Socket.{IsPlainSocket, socket_ip};
 ghost use Rattle.std.specs.Prelude.{◌≡◌};
@@ -14,7 +15,7 @@ use stun_base::transaction_id::TransactionId;
 use stun_types::attribute::XorMappedAddress;
 use stun_types::message::Message;
 
-/// The outcome of a datagram.
+/// The outcome of a datagram, as `Checker::receive` returns it.
 #[derive(Debug, Drop)]
 #[non_exhaustive]
 pub enum Received<'a, A: Allocator = Global> {
@@ -37,7 +38,8 @@ pub enum Received<'a, A: Allocator = Global> {
     Dropped(DropReason),
 }
 
-/// The outcome of a datagram, if the answer to a check is written into a buffer of the caller.
+/// The outcome of a datagram, as `Checker::receive_into` returns it: the answer to a check is in
+/// the buffer of the caller.
 #[derive(Debug, Drop)]
 #[non_exhaustive]
 pub enum ReceivedInto<'a> {
@@ -59,8 +61,8 @@ pub enum ReceivedInto<'a> {
 }
 
 impl<'a, A: Allocator> Received<'a, A> {
-    /// Moves the bytes of an answer into a buffer. If there is no answer, the buffer is empty
-    /// afterwards.
+    /// Moves the bytes of the answer to a check into a buffer, and returns the other parts of the
+    /// outcome. If there is no answer, the buffer is empty afterwards.
     pub(crate) fn into_buffer(self, buffer: &mut Vec<u8, A>) -> ReceivedInto<'a>
         ensures given { given_in result buffer.new.items ≡ given_of self.entry }
         ensures rest { LeavesNoAnswer result buffer.new.items }
@@ -106,7 +108,8 @@ pub enum Judged {
         /// depend on the role.
         switched: bool,
     },
-    /// The peer must switch its role. The answer is a 487, which says so (section 7.3.1.1).
+    /// The check is not accepted, because the peer must switch its role. The answer is a 487, which
+    /// says so (section 7.3.1.1).
     RoleConflict,
     /// The check is refused. The answer is an error with the code of this refusal.
     Refused(Refusal),
@@ -116,12 +119,14 @@ pub enum Judged {
 #[derive(Clone, Copy, Debug, PartialEq, Eq)]
 #[non_exhaustive]
 pub enum Refusal {
-    /// 400: the check is not signed, or has no USERNAME, or is signed and has no PRIORITY.
+    /// 400: the check has no integrity attribute or no USERNAME, or its signature is valid but
+    /// PRIORITY is missing or malformed.
     BadRequest,
     /// 401: USERNAME does not begin with the name of this agent and a colon, or the signature is
     /// invalid.
     Unauthenticated,
-    /// 420: the check has an unknown comprehension-required attribute.
+    /// 420: the signature of the check is valid, but the check has a comprehension-required
+    /// attribute that the agent does not understand.
     UnknownAttribute,
 }
 
@@ -188,18 +193,20 @@ pub enum DropReason {
     WrongFingerprint,
     /// The method of the message is not Binding.
     OtherMethod,
-    /// The datagram is an indication with an unknown comprehension-required attribute.
+    /// The datagram is an indication with a comprehension-required attribute that the agent does
+    /// not understand.
     UnknownAttribute,
     /// The datagram is a response, but it does not answer the check that you passed, or you passed
     /// no check.
     NotAsked,
-    /// The datagram is a response whose signature is missing or invalid, or a response that arrives
-    /// before the credentials of the peer are known. A 400 or 401 is not signed, so a check that
-    /// the peer refuses with one of these times out.
+    /// The datagram is a response that the peer has not signed with HMAC-SHA1: its signature is
+    /// missing, is invalid or uses another algorithm, or the credentials of the peer are not known
+    /// yet. Error responses with the code 400 or 401 are usually not signed, so a check that the
+    /// peer refuses with one of these codes times out.
     WrongSignature,
 }
 
-/// The address that a success response carries.
+/// The address in a success response, from which the peer saw the check arrive.
 #[derive(Clone, Copy, Debug, PartialEq, Eq)]
 pub struct Mapped {
     attribute: XorMappedAddress,

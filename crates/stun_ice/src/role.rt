@@ -36,9 +36,10 @@ impl Role {
         }
     }
 
-    /// Returns the role of an agent after a check. `theirs` is the tie-breaker of a sender that has
-    /// the same role as the agent, or `None` for a sender that has the other role. Returns `None`
-    /// if the sender must switch.
+    /// Returns the role that an agent has after a check, or `None` if the sender of the check must
+    /// switch its role. `self` and `ours` are the role and the tie-breaker of the agent. `theirs`
+    /// is the tie-breaker of the sender if the check states that the sender has the same role as
+    /// the agent, and otherwise `None`.
     pub(crate) fn after_check(self, ours: u64, theirs: Option<u64>) -> Option<Role>
         ensures { result ≡ role_after_check self ours theirs }
     {

@@ -16,7 +16,8 @@ struct Entry<'a> {
 }
 
 /// Returns the algorithm at the front of a value. Returns `None` if it is not whole, or if it is
-/// MD5 or SHA-256 with parameters, which these must not have (section 18.5.1).
+/// MD5 or SHA-256 with parameters, because these two algorithms have none (RFC 8489, section
+/// 18.5.1).
 fn entry_of(value: &[u8]) -> Option<Entry<'_>> {
     let number = number_16(Order::Big, value, 0)?;
     let length = usize::from(number_16(Order::Big, value, 2)?);

@@ -252,10 +252,11 @@ pub fn list_at<W: Write, A: Allocator + Copy>(
     ensures { IfOk result (λ found. status_of_found found ≡ status_of_refusal (refusal bytes.now)) }
 {
     let refusal = refusal_of(bytes);
+    let found = found_of(refusal);
     let line = line_of(alloc, bytes, refusal)?;
     let text = format!(in alloc; "{place}: {line}")?;
     write_text(writer, text.as_bytes())?;
-    Ok(found_of(refusal))
+    Ok(found)
 }
 
 /// Verifies the signature of the message, prints the verdict, and prints notes on differences
@@ -300,8 +301,8 @@ fn credentials_of<A: Allocator + Copy>(
     }
 }
 
-/// If the argument is `-`, reads the input to its end, and returns its first line. Otherwise reads
-/// nothing and returns no bytes.
+/// If the argument is `-`, reads the first line of the input, and returns it with its line end.
+/// Otherwise reads nothing and returns no bytes.
 fn password_line<R: CountedRead, A: Allocator + Copy>(
     alloc: A,
     word: &str,
@@ -331,7 +332,7 @@ fn read_line<R: CountedRead, A: Allocator + Copy>(
     Err(Failure::NoEnd)
 }
 
-/// If the argument is `-`, reads the input whose first line is the password. Otherwise reads
+/// If the argument is `-`, reads the whole input, whose first line is the password. Otherwise reads
 /// nothing and returns no bytes.
 fn password_input<R: CountedRead, A: Allocator + Copy>(
     alloc: A,
@@ -345,7 +346,8 @@ fn password_input<R: CountedRead, A: Allocator + Copy>(
 }
 
 /// Returns the password, and the rest of the input. If the argument is `-`, the password is the
-/// first line of the input, without its line end.
+/// first line of the input, without its line end. Otherwise the password is the argument, and the
+/// rest is the whole input.
 fn password_of<'a>(word: &'a str, input: &'a [u8]) -> Result<(&'a str, &'a [u8]), Failure>
     ensures word { word.now ≢ codes "-" → IfOk result (λ found. found.0.now ≡ word.now) }
     ensures input { word.now ≢ codes "-" → IfOk result (λ found. found.1.now ≡ input.now) }

@@ -19,7 +19,9 @@ pub fn first_blank(row: &[u8]) -> Option<usize>
     row.iter().position(|byte| *byte == b' ')
 }
 
-/// Returns the digits of the offset in a row, if its first word is one of these:
+/// Returns the digits of the offset in a row, or `None` if the row has no offset. `word` is the
+/// first word of the row, and `rest` is the text after the blank that ends this word. The row has
+/// an offset if its first word is one of these:
 ///
 /// - a word that ends with a colon; the colon, and a `0x` before the digits, are left out;
 /// - a word before two blanks;
@@ -90,9 +92,11 @@ pub fn has_dump(text: &str) -> bool {
     false
 }
 
-/// Reads the bytes of each dump of a text. A dump begins with a row of offset 0. Lines before it
-/// and blank lines are skipped. The offset of each row must be the number of bytes in the rows
-/// before it, and a line after the last row may have only the number of all bytes.
+/// Reads the bytes of each dump of a text. A dump begins with a row of offset 0. Blank lines and
+/// the lines before the first row of a dump are skipped, and so is a line that has only the number
+/// of bytes in the rows before it, as some programs print it at the end. Fails if the offset of a
+/// row is not the number of bytes in the rows before it, if any other line comes between the rows
+/// of a dump or after the last dump, or if the text has no dump.
 pub fn read_dumps<A: Allocator + Copy>(
     alloc: A,
     text: &str,
@@ -174,7 +178,8 @@ impl<A: Allocator + Copy> Dumps<A> {
         Ok(())
     }
 
-    /// Returns all dumps, after the last line of the text was read.
+    /// Returns all dumps, after the last line of the text was read. `number` is the number of this
+    /// line. Fails if there is no dump, or if a line after the last dump belongs to no dump.
     fn end(self, number: usize) -> Result<Vec<Spelled<A>, A>, Failure> {
         let Dumps {
             mut dumps,

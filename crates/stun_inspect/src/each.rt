@@ -99,8 +99,8 @@ pub fn tell_capture<R: CountedRead, W: Write, A: Allocator + Copy>(
     }
 }
 
-/// Handles the messages of an input one after another: the command for each message, the writer for
-/// its result, and the counts so far.
+/// The state of a command that handles the messages of an input one after another: what it does for
+/// each message, the writer for the results, and the counts so far.
 #[derive(Drop)]
 struct Series<'a, 'b, W: Write, A: Allocator + Copy> {
     alloc: A,
@@ -195,8 +195,9 @@ impl<'a, 'b, W: Write, A: Allocator + Copy> Series<'a, 'b, W, A> {
         Ok(())
     }
 
-    /// Prints the result for a part of a datagram or a segment. The data of a channel is included
-    /// if it is a message.
+    /// Prints the result for a part of a datagram or a segment. If the data of ChannelData is a
+    /// message, prints the result for that message, and otherwise prints and counts the ChannelData
+    /// itself.
     fn tell_part(&mut self, way: &str, part: Part<'_>) -> Result<(), Failure> {
         let (alloc, number) = (self.alloc, self.tally.next());
         match part {
@@ -218,8 +219,8 @@ impl<'a, 'b, W: Write, A: Allocator + Copy> Series<'a, 'b, W, A> {
         }
     }
 
-    /// Prints the line that follows the results, and the summary after it, and returns the status
-    /// of the command.
+    /// Prints `ending`, which follows the results, and then the summary. Returns the status of the
+    /// command.
     fn end(&mut self, ending: String<A>) -> Result<Status, Failure> {
         let mut ending = ending;
         let summary = self.teller.summary(self.alloc, &self.tally)?;

@@ -4,7 +4,7 @@ use captures::damage::Damage;
 use std::alloc::AllocError;
 use std::fmt;
 
-/// The greatest number of bytes of an input.
+/// The greatest number of bytes of an input that is not a capture.
 pub const INPUT_LIMIT: usize = 67_108_864;
 
 /// Why a command has no result.

@@ -26,8 +26,9 @@ pub struct Cut<'a> {
     pub rest: &'a [u8],
 }
 
-/// Returns the ChannelData at the front of the bytes, or `None` if it is not whole. The first two
-/// bits of its channel number are 01 (RFC 5766, section 11).
+/// Returns the ChannelData at the front of the bytes, or `None` if the bytes do not begin with
+/// whole ChannelData. ChannelData begins with a channel number whose first two bits are 01 (RFC
+/// 5766, section 11).
 fn channel_data(bytes: &[u8]) -> Option<ChannelData<'_>> {
     let channel = number_16(Order::Big, bytes, 0)?;
     let length = usize::from(number_16(Order::Big, bytes, 2)?);

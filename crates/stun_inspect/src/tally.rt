@@ -58,7 +58,7 @@ impl Missed {
     }
 }
 
-/// The number of messages with each finding. A count does not increase beyond the greatest number.
+/// The number of messages with each finding. A count stops at `usize::MAX`.
 #[derive(Clone, Copy)]
 pub struct Counts {
     good: usize,

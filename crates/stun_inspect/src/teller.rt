@@ -97,7 +97,8 @@ impl<'a, B: Allocator> Teller<'a, B> {
         Ok(write_text(writer, text.as_bytes())?)
     }
 
-    /// Returns the last line after several messages, or an empty text.
+    /// Returns the last line that is printed after several messages: for `verify`, the counts of
+    /// its findings, and for the other commands an empty text.
     pub fn summary<A: Allocator + Copy>(
         &self,
         alloc: A,

@@ -8,7 +8,7 @@ use crate::refusal::Refusal;
 use stun_base::attribute_type::AttributeType;
 use stun_types::message::Message;
 
-/// Returns `true` if attributes of this type have calls of their own that write them:
+/// Returns `true` if attributes of this type are written only by calls of their own:
 /// MESSAGE-INTEGRITY, MESSAGE-INTEGRITY-SHA256 and FINGERPRINT.
 pub fn is_set_apart(kind: AttributeType) -> bool
     ensures { result ≡ is_set_apart kind.0 }
@@ -18,8 +18,8 @@ pub fn is_set_apart(kind: AttributeType) -> bool
         || kind == AttributeType::FINGERPRINT
 }
 
-/// Returns `true` if the message has an attribute after which no attribute may be added:
-/// MESSAGE-INTEGRITY, MESSAGE-INTEGRITY-SHA256 or FINGERPRINT.
+/// Returns `true` if the message has MESSAGE-INTEGRITY, MESSAGE-INTEGRITY-SHA256 or FINGERPRINT,
+/// after which no ordinary attribute may be added.
 pub fn is_closed(message: &Message<'_>) -> bool
     ensures { result ≡ is_closed message.now }
 {
@@ -29,8 +29,8 @@ pub fn is_closed(message: &Message<'_>) -> bool
         .is_some()
 }
 
-/// Parses the message in the first `count` bytes of a buffer, to which the caller will add an
-/// attribute.
+/// Parses the message in the first `count` bytes of a buffer, so that the caller can add an
+/// attribute to it.
 ///
 /// # Errors
 ///

@@ -115,7 +115,8 @@ impl Refusal {
     }
 
     /// Converts an error of a call that writes an attribute. `TooLarge` becomes `MessageTooLong` if
-    /// `is_long` is true, and otherwise `TextTooLong`.
+    /// `is_long` says that the message would become longer than its length field can state, and
+    /// otherwise `TextTooLong`, because then a text is too long.
     pub fn of_write(error: StunWriteError, is_long: bool) -> Refusal
         ensures { result ≡ refusal_of_write is_long error }
     {

@@ -1,21 +1,23 @@
-//! The end of a role conflict between two agents, as a law about the bytes that they send (RFC
-//! 8445, sections 7.2.5.1 and 7.3.1.1).
+//! How a role conflict between two agents ends, as a law about the datagrams that they send each
+//! other (RFC 8445, sections 7.2.5.1 and 7.3.1.1).
 ghost use Rattle.stun_peer_runs.specs.Datagrams.{RolesEnd, RolesStay};
 
 /// Two agents of one session that begin in the same role, with distinct tie-breakers, end in
-/// opposite roles: the agent with the larger tie-breaker controls. They have these roles as soon as
-/// one of them has received the answer to one check, and keep them (`settle`). Two agents that
-/// begin in opposite roles keep their roles (`stay`). This is law `roles_end_opposite` of
-/// `stun_ice`, for datagrams: a check is the bytes that `Checker::check` writes, and an answer is
-/// the bytes that `Checker::receive` returns for a check.
+/// opposite roles: the agent that began with the larger tie-breaker has the controlling role. They
+/// have these roles as soon as one of them has received the answer to one check, and keep them
+/// (`settle`). Two agents that begin in opposite roles keep their roles (`stay`). The law
+/// `roles_end_opposite` of `stun_ice` states this for messages, and this law states it for
+/// datagrams: a check is the bytes that `Checker::check` writes, and an answer is the bytes that
+/// `Checker::receive` returns for a check.
 ///
 /// This holds for every network that loses, repeats, delays and reorders datagrams: any datagram
 /// may arrive at any time after it was sent, any number of times.
 ///
-/// Premises: each agent knows the other's credentials (`Correspond`, `IsAgent`: law
-/// `agents_of_one_session_know_each_other` of `stun_peers` shows which calls create such agents);
-/// an ID has 96 bits, a priority 32, a tie-breaker 64 (`IsUsual`); and an answer comes from the
-/// address that its check was sent to. An answer from another address does not change a role.
+/// The law has three premises. Each agent knows the other's credentials (`Correspond`, `IsAgent`);
+/// the law `agents_of_one_session_know_each_other` of `stun_peers` shows which calls create such
+/// agents. An ID has 96 bits, a priority 32 and a tie-breaker 64 (`IsUsual`). And each answer
+/// arrives from the address to which its check was sent, because an answer from another address
+/// does not change a role.
 pub fn roles_end_opposite_of_datagrams()
     ensures settle { RolesEnd }
     ensures stay { RolesStay }

@@ -23,19 +23,22 @@ use std::alloc::Allocator;
 use stun_ice::checker::{BuildError, Checker, Credentials};
 use stun_ice::role::Role;
 
-/// A reader finds in a check the parts that it was made of: it is a Binding request with the ID,
-/// the USERNAME, the priority, the role and the tie-breaker of the agent that wrote it, and with
-/// USE-CANDIDATE if it nominates its pair. Its signature is valid under the password of the peer,
-/// its FINGERPRINT is valid, and it has no attribute that an agent does not understand.
+/// States that a reader of a check finds in it what its agent wrote: the check is a Binding request
+/// with the ID `id`, the names of the peer and of the agent in USERNAME, the priority `priority`,
+/// and the role and the tie-breaker of the agent. It has USE-CANDIDATE if and only if it nominates
+/// its pair. Its signature is valid under the password of the peer, its FINGERPRINT is valid, and
+/// an agent understands all its comprehension-required attributes.
 pub fn checks_are_read_back()
     ensures { (a : Agent) (peer : Peer) (id priority : ℕ) (nominates : Bool) → IsAgent a peer
         → IsNumbered id priority
         → SaysCheck a peer id priority nominates (check_bytes a peer id priority nominates) }
 {}
 
-/// The agents of one session know each other's credentials. The agent that answers an offer knows
-/// them from the start, and the agent that makes the offer knows them as soon as the answer has
-/// arrived (`set_remote`). Law `checks_are_read_back` holds for the checks of both.
+/// Creates the two agents of a session, which then know each other's credentials. The first agent,
+/// with the credentials `one`, makes the offer, and knows the credentials `other` as soon as the
+/// answer has arrived (`set_remote`). The second agent, with the credentials `other`, answers the
+/// offer, and knows the credentials `one` from the start. The law `checks_are_read_back` holds for
+/// the checks of both agents.
 pub fn agents_of_one_session_know_each_other<A: Allocator + Copy>(
     alloc: A,
     one: Credentials<'_>,
@@ -55,10 +58,10 @@ pub fn agents_of_one_session_know_each_other<A: Allocator + Copy>(
     Ok((left, right))
 }
 
-/// The peer of an agent judges the agent's check by the roles alone. Either it accepts the check
-/// with the priority in it, or it answers 487. Which of the two, `role_after_check` determines by
-/// the roles and the tie-breakers of both. Law `roles_end_opposite` calls this the arrival of a
-/// check.
+/// States that the peer of an agent judges the agent's check by the roles alone: the peer either
+/// accepts the check, with the priority in the check, or answers it with a 487. `role_after_check`
+/// determines which of the two it does, by the roles and the tie-breakers of both agents. The law
+/// `roles_end_opposite` calls this the arrival of a check.
 ///
 /// The agent has the credentials of its peer (`Knows`), but the peer need not have the credentials
 /// of the agent: it may have made an offer whose answer has not arrived yet. Law
@@ -81,14 +84,15 @@ pub fn a_check_is_accepted_by_its_peer()
         (role_after_check b.role b.tie_breaker (rival_of b.role (said_by a))) }
 {}
 
-/// If the answer of an agent to a check of its peer comes from the address that the check was sent
-/// to, it has the intended effect. A success makes the pair valid, with the address that the check
-/// came from. A 487 switches the role of the peer, if the peer still has the role in which it sent
-/// the check.
+/// States that the answer of an agent to a check of its peer has the intended effect, if it comes
+/// from the address to which the check was sent. A success makes the pair valid, with the address
+/// from which the check came. A 487 switches the role of the peer, if the peer still has the role
+/// in which it sent the check.
 ///
-/// `a` is the agent when it sent the check, with the credentials `sent` of its peer. `now` is the
-/// same agent when the answer arrives: its role and tie-breaker may have changed. The check came to
-/// `b` from the address `from`, and the answer comes from the address `source`.
+/// `a` is the agent that sent the check, as it was then, with the credentials `sent` of its peer.
+/// `now` is this agent when the answer arrives: its role and its tie-breaker may have changed. The
+/// check arrived at the agent `b` from the address `from`, and the answer arrives from the address
+/// `source`.
 pub fn its_answer_makes_the_pair_valid()
     ensures valid { (a b now : Agent) (sent peer : Peer) (id priority : ℕ) (nominates : Bool)
         (to from source : SocketAddr) → IsAgent a sent → IsNumbered id priority → Knows now b peer

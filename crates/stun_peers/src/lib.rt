@@ -1,5 +1,5 @@
-//! Laws about how the peer of an ICE agent reads the agent's bytes, over the definitions of
-//! `stun_ice`. They do nothing when they run, or create two agents.
+//! Laws about what the bytes of an ICE agent mean to its peer, over the definitions of `stun_ice`.
+//! One law creates two agents when it runs, and the others do nothing.
 #![tactic(auto)]
 
 pub mod laws;

@@ -92,18 +92,18 @@ pub fn runs_count_steps()
     ensures { RunsCountSteps }
 {}
 
-/// Suppose that an agent makes a run of `drive`. Then a request that exactly one event sends, and
-/// that is undisturbed, is sent at the times of its plan. It times out once if the run lasts until
-/// then.
+/// Suppose that an agent makes a run of `drive`. Then a request that is undisturbed (see `drive`)
+/// is sent at the times of its plan. It times out once if the run lasts until then.
 pub fn runs_send_by_plan()
     ensures { (until : ℕ) (a b : Agent) (events : List (ℕ × TheEvent)) (steps : List Step)
         → until ≤ last_moment → IsAscending a.transactions → AreInOrder until 0 events
         → IsDriven until a events steps b → SendsByPlan until (requester a) events steps }
 {}
 
-/// Like `runs_send_by_plan`, but for transaction IDs that are used again: each request that the
-/// agent accepts, and that is undisturbed, follows its plan until it ends. If no later event sends
-/// a request with this ID, the run has no other steps with this ID from then on.
+/// Like `runs_send_by_plan`, but for transaction IDs that are used again. Each request that the
+/// agent accepts follows its plan until it ends, if until then no event cancels or changes it, and
+/// no response to it arrives from the address that it was sent to. If no later event sends a
+/// request with this ID, the run has no other steps with this ID after the request was sent.
 pub fn runs_keep_plans()
     ensures { (until : ℕ) (a b : Agent) (events : List (ℕ × TheEvent)) (steps : List Step)
         → until ≤ last_moment → IsAscending a.transactions → AreInOrder until 0 events
@@ -144,7 +144,7 @@ pub fn any_loop_sends_in_time()
 /// The plan of a request with the default settings, in numbers. Over UDP, the request is sent at 0,
 /// 500, 1500, 3500, 7500, 15500 and 31500 ms, and times out at 39500 ms. Over TCP it is sent once,
 /// and times out at the same time (RFC 8489, sections 6.2.1 and 6.2.2). A new agent that sends only
-/// this request meets the premise of `runs_send_by_plan`.
+/// this request satisfies the premise of `runs_send_by_plan`.
 pub fn plan_of_a_request()
     ensures udp { (to : Address) → plan Udp 0 default_settings 7 to example_request ≡ udp_steps to }
     ensures tcp { (to : Address) → plan Tcp 0 default_settings 7 to example_request ≡ tcp_steps to }
@@ -308,12 +308,12 @@ pub fn short_names_are_signed()
     auth_laws::sides_sign_with_room();
 }
 
-/// An example of a meeting: a client that must send its user name as a hash (USERHASH; RFC 8489,
-/// section 14.4), and a server whose only user this is. Both support HMAC-SHA1 and HMAC-SHA256. For
-/// any address of the client, and any random numbers:
+/// An example of a meeting of a client that must send its user name as a hash (USERHASH; RFC 8489,
+/// section 14.4), and a server whose only user is the user of this client. Both support HMAC-SHA1
+/// and HMAC-SHA256. For any address of the client, and any random numbers:
 ///
-/// - The client meets the premise of the second theorem of this library (the clause `headline` of
-///   `negotiate`).
+/// - The client satisfies the premise of the second theorem of this library (the clause `headline`
+///   of `negotiate`).
 /// - The meeting ends `Validated` with HMAC-SHA256.
 /// - The server makes three calls: `serve` challenges the first request, signs the challenge, and
 ///   validates the second request.

@@ -36,8 +36,8 @@ pub fn written_requests_are_not_bid_down()
     stun_client::laws::signed_requests_are_not_bid_down();
 }
 
-/// A server answers each unsigned request with a 401 that has the nonce that is current at its
-/// source, whatever method and body the request has, and whatever users the server has.
+/// A server answers each unsigned request with a 401 that has the current nonce of the request's
+/// source address, whatever method and body the request has, and whatever users the server has.
 ///
 /// Premises: those of `requests_are_read_back`; and if the server requires FINGERPRINT, the client
 /// sends it.
@@ -50,8 +50,8 @@ pub fn requests_are_challenged()
 
 /// A server accepts each request that a registered user's client signs for the server's challenge,
 /// in the epoch of the challenge and in the next epoch, whatever method and body the request has.
-/// It accepts the request as that user's, with the algorithm on which both sides agree, the
-/// strongest that both support.
+/// It accepts the request as that user's, with the algorithm on which both sides agree, which is
+/// the strongest that both support.
 ///
 /// Premises: those of `requests_are_challenged`; the user is registered with this password and
 /// found by the hash of the name (`IsRegisteredUser`); the name is UTF-8, as each `str` is; the

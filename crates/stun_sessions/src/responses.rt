@@ -4,9 +4,10 @@ ghost use Rattle.stun_sessions.specs.Responses.{AcceptedAreAnswered, AddingKeeps
 ghost use Rattle.stun_sessions.specs.Responses.{ErrorsArePages, SuccessesBegin, UnknownIsPage};
 
 /// `Reply::success` and `Reply::error` begin a response that `finish` can complete (`success`,
-/// `error`), and it stays such a response when an attribute is added (`added`). The 420 of a server
-/// is also such a response (`unknown`). By law `answers_of_a_server_are_signed` of
-/// `stun_exchanges`, such a response, once it is completed, answers the request and is signed.
+/// `error`), and that can still be completed after an attribute was added (`added`). The 420 that a
+/// server writes can be completed in the same way (`unknown`). By law
+/// `answers_of_a_server_are_signed` of `stun_exchanges`, a completed response answers the request
+/// and is signed.
 ///
 /// Premises: an ID has 96 bits; the code is neither 401 nor 438, which a server answers itself, and
 /// is a code that `error` can write; an added attribute fits into the message, as `add_attribute`

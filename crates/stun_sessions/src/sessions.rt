@@ -1,5 +1,5 @@
-//! Laws about a session: each request takes one exchange while the nonce lasts, and one 438 more
-//! after that.
+//! Laws about a session: each request takes one exchange while the nonce lasts, and once the nonce
+//! has expired, a 438 costs one exchange more.
 ghost use Rattle.stun_sessions.specs.Sessions.{ChallengesOfOneAreHeeded, ChallengesOfOneStay};
 ghost use Rattle.stun_sessions.specs.Sessions.{ChallengesStay, ForgottenAreStale, OneExchangeEach};
 
@@ -7,9 +7,9 @@ ghost use Rattle.stun_sessions.specs.Sessions.{ChallengesStay, ForgottenAreStale
 /// with a 438 that has the current nonce.
 ///
 /// Premise: the expired nonce is none of the nonces that the server then accepts (`IsForgotten`).
-/// The server accepts the nonces of the current epoch and of the epoch before, under its secret and
-/// under the previous one. Two nonces of an address are the same only if the hashes that they are
-/// made from begin with the same bytes.
+/// The server accepts the nonces of the current epoch and of the epoch before, each made with its
+/// current secret or with its previous secret. Two nonces of an address are the same only if the
+/// hashes that they are made from begin with the same bytes.
 pub fn forgotten_nonces_are_stale()
     ensures { ForgottenAreStale }
 {

@@ -39,9 +39,10 @@ use stun_numbers::id::{ID_LENGTH, transaction_id};
 use stun_numbers::refusal::Refusal;
 use stun_types::message::Message;
 
-/// The sizes of `Timeouts` and `Statistics`, which their first fields must state.
+/// The size of `Timeouts` in bytes, which its first field must state.
 const TIMEOUTS_SIZE: usize = size_of::<Timeouts>();
 
+/// The size of `Statistics` in bytes, which its first field must state.
 const STATISTICS_SIZE: usize = size_of::<Statistics>();
 
 /// The timeouts of a request, in nanoseconds.
@@ -83,8 +84,8 @@ pub struct Statistics {
     pub round_trip_average: u64,
 }
 
-/// Converts the error of a call on an agent. No such call returns `ResourceNotFound`, `TimedOut`,
-/// `Aborted` or `WriteError`.
+/// Converts the error of a call of the library's agent. No such call returns `ResourceNotFound`,
+/// `TimedOut`, `Aborted` or `WriteError`.
 pub fn convert_error(error: StunError) -> Refusal
     ensures { result ≡ refusal_of_agent error }
 {
@@ -100,7 +101,8 @@ pub fn convert_error(error: StunError) -> Refusal
     }
 }
 
-/// Returns the transport with this number, or fails with `BadArgument`.
+/// Returns the transport with this number. Fails with `BadArgument` if no transport has this
+/// number.
 pub fn read_transport(number: u32) -> Result<TransportType, Refusal>
     ensures ok { IfOk result (λ transport. transport_numbered number ≡ Some transport) }
     ensures err { IfErr result (λ refusal. (transport_numbered number ≡ None)
@@ -141,7 +143,8 @@ fn check_timeouts(timeouts: &Timeouts) -> Result<(), Refusal>
     Ok(())
 }
 
-/// Returns the remote address, or `None` if its length is 0.
+/// Returns the remote address, or `None` if its length is 0. Fails with `BadArgument` if the length
+/// is not 0, 4 or 16.
 fn read_remote(remote: &Address) -> Result<Option<SocketAddr>, Refusal>
     ensures { result ≡ remote_given remote.now }
 {
@@ -222,8 +225,9 @@ pub fn send(agent: &mut StunAgent<Global>, message: &[u8], to: &Address) -> Resu
     }
 }
 
-/// Polls the agent. Returns 1 if a request has timed out, or 2 if one was canceled, and writes its
-/// transaction ID to `id`. Otherwise returns 0, and writes to `until` the time to wait until.
+/// Polls the agent. Returns 1 if a request has timed out, or 2 if a request was canceled, and
+/// writes the transaction ID of the request to `id`. Otherwise returns 0, and writes to `until` the
+/// time to wait until. Fails with `BufferTooSmall` if `id` has fewer than 12 bytes.
 pub fn poll(
     agent: &mut StunAgent<Global>,
     now: u64,
@@ -266,8 +270,9 @@ fn put_id(out: &mut [u8], id: TransactionId)
     BigEndian::write_uint128(out, id.as_u128(), ID_LENGTH);
 }
 
-/// Writes to the front of `out` the next retransmission that is due, and its destination to `to`.
-/// Returns the length of the retransmission, or 0 if none is due.
+/// Writes to the front of `out` the next retransmission that is due, and writes its destination to
+/// `to`. Returns the length of the retransmission, or 0 if none is due. Fails with `BufferTooSmall`
+/// if it does not fit into `out`.
 pub fn poll_transmit(
     agent: &mut StunAgent<Global>,
     now: u64,
@@ -294,7 +299,8 @@ pub fn poll_transmit(
     }
 }
 
-/// Processes a message that arrived from an address. Returns 1 if it is accepted, and otherwise 0.
+/// Processes a message that arrived from an address. Returns 1 if the message is accepted, and
+/// otherwise 0.
 pub fn handle(
     agent: &mut StunAgent<Global>,
     message: &[u8],

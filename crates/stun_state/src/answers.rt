@@ -15,7 +15,8 @@ use stun_numbers::refusal::Refusal;
 const RESEND: i64 = 3;
 
 /// The result of `stunp_client_validate` for a response that asks for another request and has a
-/// valid HMAC-SHA256 signature. It is the greatest of the three such results.
+/// valid HMAC-SHA256 signature. It is the greatest of the three results that ask for another
+/// request.
 const RESEND_SHA256: i64 = 5;
 
 /// Returns the number of an algorithm, or a negative error code.

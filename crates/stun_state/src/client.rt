@@ -82,8 +82,8 @@ pub fn set_algorithms(
     Ok(())
 }
 
-/// Sets when the user name is sent as a hash: 0 means if the server accepts hashes, 1 means always,
-/// and 2 means never.
+/// Sets when the client sends the user name as a hash: 0 means if the server accepts hashes, 1
+/// means always, and 2 means never.
 pub fn set_anonymous_username(
     client: &mut LongTermClientAuth<Global>,
     feature: u32,
@@ -95,8 +95,8 @@ pub fn set_anonymous_username(
     Ok(())
 }
 
-/// Signs the message in the first `length` bytes of a buffer, and returns its new length. An error
-/// leaves the buffer unchanged.
+/// Signs the message in the first `length` bytes of a buffer, and returns the new length of the
+/// message. An error leaves the buffer unchanged.
 pub fn sign(
     client: &mut LongTermClientAuth<Global>,
     buffer: &mut [u8],
@@ -116,8 +116,10 @@ pub fn sign(
     }
 }
 
-/// Signs the message in the first `count` bytes of the buffer. The signed message must have at most
-/// `N` bytes, but may have any length if `N` is `LENGTH_LIMIT`.
+/// Signs the message in the first `count` bytes of the buffer, in memory of `N` bytes on the stack.
+/// The signed message must have at most `N` bytes, but may have any length if `N` is
+/// `LENGTH_LIMIT`. `is_long` says whether the message would become longer than its length field can
+/// state.
 #[inline(never)]
 fn sign_within<const N: usize>(
     client: &mut LongTermClientAuth<Global>,
@@ -142,7 +144,9 @@ fn sign_within<const N: usize>(
     fill(buffer, signed)
 }
 
-/// Signs a copy of the message in memory that is large enough, and returns the signed message.
+/// Signs a copy of the message in `memory`, which is large enough for the signed message, and
+/// returns the signed message. `is_long` says whether the message would become longer than its
+/// length field can state.
 fn sign_in<'m>(
     client: &mut LongTermClientAuth<Global>,
     message: &[u8],

@@ -1,5 +1,5 @@
-//! Converts the errors of authenticators to the errors of the calls, and the numbers of algorithms
-//! and features, which `include/stunp.h` lists.
+//! Converts the errors of authenticators to the errors that calls return, and the numbers that
+//! `include/stunp.h` lists to algorithms and features.
 
 ghost use Rattle.std.specs.Prelude.{◌≡◌, IfOk, IfErr, Some, None};
 ghost use Rattle.std.specs.Option.{option_map_or};
@@ -12,7 +12,8 @@ use stun_auth::auth::{Feature, LongTermClientAuthErrorReason, LongTermServerAuth
 use stun_base::algorithm::IntegrityAlgorithm;
 use stun_numbers::refusal::Refusal;
 
-/// Converts the error with which the authenticator of a server refuses a message.
+/// Converts the error with which a server's authenticator refuses a message to the error that the
+/// call returns.
 pub fn convert_server_reason(reason: LongTermServerAuthErrorReason) -> Refusal
     ensures { result ≡ refusal_of_server reason }
 {
@@ -26,7 +27,8 @@ pub fn convert_server_reason(reason: LongTermServerAuthErrorReason) -> Refusal
     }
 }
 
-/// Converts the error with which the authenticator of a client refuses a message.
+/// Converts the error with which a client's authenticator refuses a message to the error that the
+/// call returns.
 pub fn convert_client_reason(reason: LongTermClientAuthErrorReason) -> Refusal
     ensures { result ≡ refusal_of_client reason }
 {
@@ -38,8 +40,8 @@ pub fn convert_client_reason(reason: LongTermClientAuthErrorReason) -> Refusal
     }
 }
 
-/// Returns the algorithm with this number, or `None` if the number stands for both algorithms.
-/// Fails with `BadArgument` for any other number.
+/// Returns the algorithm with this number, or `None` if the number, 3, stands for both algorithms.
+/// Fails with `BadArgument` for any number that is not 1, 2 or 3.
 pub fn read_algorithms(number: u32) -> Result<Option<IntegrityAlgorithm>, Refusal>
     ensures ok { IfOk result (λ one. algorithms_numbered number
         ≡ Some (option_map_or only one Both)) }

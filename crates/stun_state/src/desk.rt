@@ -11,8 +11,8 @@ use stun_types::prelude::*;
 
 /// A writer over borrowed memory. It does not allocate.
 ///
-/// It fails like a writer that can grow up to the length of the longest message, but with
-/// `OutOfMemory` if the memory is too short.
+/// Its calls fail like the calls of a writer that can grow up to the length of the longest message,
+/// but with `OutOfMemory` if the memory is too short.
 #[derive(Drop)]
 pub struct Desk<'a> {
     memory: &'a mut [u8],

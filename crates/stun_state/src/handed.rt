@@ -48,8 +48,8 @@ pub(crate) enum Given<'a> {
 }
 
 /// Determines the user with whose key a message from an address will be verified. Returns 1 and
-/// writes the name of the user, returns 2 and writes the hash of the name, or returns 0 if the
-/// message names nobody. If the name or the hash does not fit into `name`, fails with
+/// writes the name of the user to `name`, returns 2 and writes the hash of the name, or returns 0
+/// if the message names nobody. If the name or the hash does not fit into `name`, fails with
 /// `BufferTooSmall`, but still writes its length to `name_length`.
 pub fn write_named_user(
     server: &LongTermServerAuth<Global>,
@@ -139,8 +139,8 @@ pub(crate) fn validate(
 }
 
 /// Signs the message in the first `length` bytes of a buffer, which will be sent to an address,
-/// like a server whose only user has this name and secret. Returns its new length. An error leaves
-/// the buffer unchanged.
+/// like a server whose only user has this name and secret. Returns the new length of the message.
+/// An error leaves the buffer unchanged.
 pub(crate) fn sign(
     alloc: Global,
     server: &mut LongTermServerAuth<Global>,
@@ -164,7 +164,7 @@ pub(crate) fn sign(
     sign_with(server, buffer, length, to, &mut user)
 }
 
-/// Signs a message like `sign`, but with a user whose keys were made before, so it does not
+/// Signs a message like `sign`, but with a user whose keys were made before. So this call does not
 /// allocate.
 pub(crate) fn sign_with(
     server: &mut LongTermServerAuth<Global>,

@@ -106,8 +106,9 @@ use stun_base::algorithm::IntegrityAlgorithm;
 use stun_base::transport::TransportType;
 use stun_numbers::refusal::Refusal;
 
-/// Different results of the library's calls have different numbers, so a program learns from the
-/// number which result it was. For lengths this holds below 2^63, and every buffer is shorter.
+/// States that different results of the library's calls have different numbers, so that a program
+/// learns from the number which result it is. For lengths this holds below 2^63, and every buffer
+/// is shorter than that.
 pub fn numbers_tell_results_apart()
     ensures done { TellsApart done_answer }
     ensures number { TellsApart number_answer }
@@ -130,8 +131,8 @@ pub fn other_handles_are_refused()
         → IsRefusedAs h user_kind result }
 {}
 
-/// A handle begins with the same kind before and after a call, whatever the call returns. Only the
-/// calls that create or free an object change the kind.
+/// States that a call does not change the kind with which a handle begins, whatever the call
+/// returns. Only the calls that create or free an object change the kind.
 pub fn handles_keep_their_kind()
     ensures agent { (old new : StateHandle) (result : ℤ) (number : Agent → ℤ)
         (after : Agent → Agent) → ChangesAgent old new result number after
@@ -174,9 +175,9 @@ pub fn objects_are_freed_by_their_kind()
         × ((k : Kept) → old.slot.kept ≡ Some k → kind_of k ≢ user_kind → new ≡ old) }
 {}
 
-/// If a call that creates an object returns 0, the handle was empty, and now has the object that
-/// the library makes. After an error the handle is unchanged. A user who was prepared belongs to
-/// the server that was passed.
+/// States that if a call that creates an object returns 0, the handle was empty before, and now has
+/// the object that the library makes. After an error the handle is unchanged. A user who was
+/// prepared belongs to the server that was passed.
 pub fn handles_are_filled_with_what_is_made()
     ensures agent { (old new : StateHandle) (made : Result Agent Refusal)
         → FillsWithAgent old new (pos 0) made → (old.kind ≡ empty_kind)
@@ -249,11 +250,13 @@ pub fn errors_leave_what_a_handle_holds()
         → (new.slot.kept ≡ old.slot.kept) × (after ≡ buffer) }
 {}
 
-/// A server accepts a message only if the library does, and its handle then has the server as the
-/// library leaves it. A call that succeeds returns the number of the algorithm with which the
-/// library validates the message at this address. A call fails with an error of the authenticator
-/// only if the library does. A message that is accepted with a user whom the caller passes is
-/// accepted by the server that has just this user, and the server's own users are unchanged.
+/// States that the calls return the verdicts of the library. A call accepts a message only if the
+/// library does, and returns the number of the algorithm with which the library validates the
+/// message at this address (`accepted`). A call fails with an error of the authenticator only if
+/// the library does (`refused`). In both cases the handle then has the server as the library leaves
+/// it. A message that is accepted with a user whom the caller passes is accepted by the server that
+/// has only this user (`handed`), and the server's own users are unchanged (`own_users`,
+/// `own_users_after_signing`).
 pub fn verdicts_are_those_of_the_authenticator()
     ensures accepted { (k : Server) (bytes : List ℕ) (from : Address) (now : ℕ) (words : List ℕ)
         (n : ℕ) → validation_number k bytes from now words ≡ pos n
@@ -290,10 +293,10 @@ pub fn verdicts_are_those_of_the_authenticator()
         → (kept_after_handed_signing s buffer count to user).registered ≡ s.registered }
 {}
 
-/// With a user who was prepared once, a server returns the same verdict, signs the same bytes and
-/// stores the same data as if the caller passed the name and the secret of this user with each
-/// message. (Clause `answer` states this for the handles of the server and of a user who was
-/// prepared for it.)
+/// States that a server returns the same verdict, signs the same bytes and stores the same data
+/// with a user who was prepared once as if the caller passed the name and the secret of this user
+/// with each message. Clause `answer` states this for the results that a program in C gets, if the
+/// user was prepared for the server.
 pub fn prepared_users_are_as_those_who_are_handed_in()
     ensures answer { (old new server : StateHandle) (user : Result RegisteredUser Refusal)
         (bytes : List ℕ) (from : Address) (now : ℕ) (words : List ℕ) (result : ℤ)
@@ -320,8 +323,9 @@ pub fn prepared_users_are_as_those_who_are_handed_in()
         ≡ kept_after_handed_signing s buffer count to (Ok u) }
 {}
 
-/// A call that signs a message writes to the buffer what the library returns for this message, with
-/// the server for this address or with the client in this state.
+/// States that a call that signs a message writes to the buffer what the library returns for this
+/// message: the server signs it for this address (`server`), and the client signs it in its current
+/// state (`client`).
 pub fn messages_are_signed_as_by_the_authenticator()
     ensures server { (s : ServerSeen) (buffer : List ℕ) (count : ℕ) (to : Address)
         (bytes : List ℕ) → signed_for s buffer count to ≡ Ok bytes
@@ -366,8 +370,8 @@ pub fn callers_are_told_who_is_named()
         (λ a. naming_length (named_in_bytes s bytes a) before)) }
 {}
 
-/// The verdict of a client is the verdict of the library, and the handle then has the client as the
-/// library leaves it.
+/// States that a call on a client returns the verdict of the library, and that the handle then has
+/// the client as the library leaves it.
 pub fn client_verdicts_are_those_of_the_authenticator()
     ensures { (c : ClientSide) (bytes : List ℕ) (n : ℕ)
         → reading_answer (client_validation c bytes) ≡ pos n
@@ -436,9 +440,9 @@ pub fn agents_are_made_as_asked_for()
         × (b.settings ≡ settings_of_timeouts t) }
 {}
 
-/// A caller that polls receives what the library returns: the time to wait until, the ID of the
-/// request that has ended and how it ended, and the bytes to send again, with the address that the
-/// request was sent to.
+/// States that a caller that polls receives what the library returns: the time to wait until, or
+/// the ID of a request that has ended and how it ended (`polled`), and the bytes to send again,
+/// with the address to which the request was sent (`sent`).
 pub fn polls_tell_what_the_library_returns()
     ensures polled { (answer : StunAgentPollRet) (until : ℕ) (buffer : List ℕ) (n : ℕ)
         → number_answer (polling_answer (length buffer) answer) ≡ pos n
@@ -449,9 +453,9 @@ pub fn polls_tell_what_the_library_returns()
         → TellsOfSending e n (bytes_told e buffer) (sent_to e to) }
 {}
 
-/// If the library returns an address that the caller has passed, the caller receives that address,
-/// so a message goes there and nowhere else. A walk over addresses continues at the address that
-/// the caller has received.
+/// States that the caller receives an address as it was passed: if the library returns an address
+/// that the caller has passed, the caller receives this address (`address`). A walk over addresses
+/// continues at the address that the caller has received (`start`, `step`).
 pub fn addresses_are_those_that_were_passed()
     ensures address { (a : Address) (address : SocketAddr) → length a.octets ≡ 16
         → socket_address a ≡ Some address
@@ -468,9 +472,9 @@ pub fn addresses_are_those_that_were_passed()
         ≡ start_for (next_address s start most)) }
 {}
 
-/// A caller receives what the library has for an address: the user who was validated last there,
-/// and the nonce. This holds for the number that the call returns, for the text at the front of the
-/// buffer, and for its length.
+/// States that a caller receives what the library has stored for an address: the user who was
+/// validated there last (`client`), and the nonce (`nonce`). This holds for the number that the
+/// call returns, for the text at the front of the buffer, and for the length of the text.
 pub fn callers_are_told_what_a_server_has()
     ensures client { (s : ServerSeen) (at : Address) (buffer : List ℕ) (before n : ℕ)
         → found_answer (client_found s at (length buffer)) ≡ pos n
@@ -488,9 +492,10 @@ pub fn callers_are_told_what_a_server_has()
         (λ a. nonce_written buffer (nonce_at s a))) }
 {}
 
-/// A call that sets algorithms or a feature sets those whose number the caller passes. The number
-/// of a set of algorithms is the sum of the numbers of the algorithms. A nonce is valid for at
-/// least 30 seconds. Statistics are written only to a struct of the same size.
+/// States what the numbers mean that a caller passes and receives. A call that sets algorithms or a
+/// feature sets those with the number that is passed. The number of a set of algorithms is the sum
+/// of the numbers of the algorithms. A nonce is valid for at least 30 seconds. Statistics are
+/// written only to a struct of the right size.
 pub fn settings_are_those_of_their_numbers()
     ensures algorithms { (n : ℕ) (set : AlgorithmSet) (s : ServerSeen) (c : ClientSide)
         → algorithms_numbered n ≡ Some set

@@ -144,8 +144,8 @@ pub fn forget(server: &mut LongTermServerAuth<Global>, at: &Address) -> Result<(
     Ok(())
 }
 
-/// Removes every record that has no client and whose nonce expired more than `age` ago. If `now` is
-/// less than `age`, it removes none.
+/// Removes every record that has no client and whose nonce expired more than `age` before `now`.
+/// Both are in nanoseconds. If `now` is less than `age`, the call removes no record.
 pub fn forget_expired(server: &mut LongTermServerAuth<Global>, now: u64, age: u64)
     ensures { server.new ≡ after_forgetting server.old (now - age) }
 {
@@ -175,9 +175,10 @@ pub fn forget_expired_within(
     Ok(u32::from(next.is_some()))
 }
 
-/// Writes the name of the user who was validated last at an address to `name`, and its length to
-/// `name_length`. Returns the algorithm of the user's key, or `None` if the address has no such
-/// user. If the name does not fit, fails with `BufferTooSmall`, but still writes its length.
+/// Writes the name of the user who was validated last at an address to `name`, and the length of
+/// the name to `name_length`. Returns the algorithm of the user's key, or `None` if the address has
+/// no such user. If the name does not fit, fails with `BufferTooSmall`, but still writes the length
+/// of the name.
 pub fn write_client(
     server: &LongTermServerAuth<Global>,
     at: &Address,
@@ -204,8 +205,8 @@ pub fn write_client(
     Ok(Some(algorithm))
 }
 
-/// Writes the nonce of an address to the front of the buffer, and returns its length, or 0 if the
-/// address has none.
+/// Writes the nonce of an address to the front of the buffer, and returns the length of the nonce,
+/// or 0 if the address has no nonce.
 pub fn write_nonce(
     server: &LongTermServerAuth<Global>,
     at: &Address,
@@ -229,7 +230,7 @@ pub fn write_nonce(
 }
 
 /// Signs the message in the first `length` bytes of a buffer, which will be sent to an address, and
-/// returns its new length. An error leaves the buffer unchanged.
+/// returns the new length of the message. An error leaves the buffer unchanged.
 pub fn sign(
     server: &mut LongTermServerAuth<Global>,
     buffer: &mut [u8],
@@ -261,7 +262,7 @@ pub struct Measured {
 }
 
 /// Returns the length that a message to an address will have after it is signed. Fails with
-/// `BufferTooSmall` if the length is more than `room` bytes.
+/// `BufferTooSmall` if this is more than `room` bytes.
 pub fn measure(
     server: &LongTermServerAuth<Global>,
     message: &Message<'_>,
@@ -297,9 +298,9 @@ pub fn measure(
     })
 }
 
-/// Validates a message that arrived from an address. For a request or an indication returns the
-/// algorithm of the user's key, and for a response the algorithm of the signature. If the message
-/// is refused, a nonce may be made for the address.
+/// Validates a message that arrived from an address. Returns the algorithm of the user's key for a
+/// request or an indication, and the algorithm of the signature for a response. If the message is
+/// refused, a nonce may be made for the address from `words`.
 pub fn validate(
     kept: &mut Server,
     message: &[u8],
@@ -333,8 +334,8 @@ pub fn validate(
     )
 }
 
-/// Fails with `TooManyAddresses` if the address has no record, and the server has `most` records or
-/// more.
+/// Checks that a message from an address may be validated under the limit `most`. Fails with
+/// `TooManyAddresses` if the address has no record, and the server has `most` records or more.
 pub fn check_room(
     server: &LongTermServerAuth<Global>,
     most: usize,
@@ -349,7 +350,7 @@ pub fn check_room(
     Err(Refusal::TooManyAddresses)
 }
 
-/// Returns the algorithm with which a message was accepted.
+/// Returns the algorithm in the result for a message that was accepted.
 pub fn unwrap_validation(validation: LongTermServerValidation) -> IntegrityAlgorithm
     ensures { LongTermServerValidation.Validated result ≡ validation }
 {

@@ -12,8 +12,8 @@ use stun_types::limits::MAX_LENGTH;
 use stun_types::message::Message;
 use stun_types::prelude::*;
 
-/// The size in bytes of the smaller of the two memories in which messages are signed. A message
-/// that is sent in a datagram usually fits into it.
+/// The size in bytes of the smaller of the two blocks of memory in which messages are signed. A
+/// signed message usually fits into it if the message is sent in a datagram.
 pub const SHORT: usize = 2048;
 
 /// Returns `true` if a message is a response.

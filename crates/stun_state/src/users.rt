@@ -151,7 +151,8 @@ impl Users for LongTermServerUser<Global> {
     }
 }
 
-/// Validates a message that arrived from an address.
+/// Validates a message that arrived from an address, with these users. `words` are the random
+/// numbers for a nonce.
 pub(crate) fn validate_message<U: Users>(
     server: &mut LongTermServerAuth<Global>,
     message: &Message<'_>,
@@ -179,8 +180,10 @@ pub(crate) fn validate_message<U: Users>(
     }
 }
 
-/// Signs the message in the first `count` bytes of the buffer. The signed message must have at most
-/// `N` bytes, but may have any length if `N` is `LENGTH_LIMIT`.
+/// Signs the message in the first `count` bytes of the buffer, in memory of `N` bytes on the stack.
+/// The signed message must have at most `N` bytes, but may have any length if `N` is
+/// `LENGTH_LIMIT`. `is_long` says whether the message would become longer than its length field can
+/// state.
 #[inline(never)]
 pub(crate) fn sign_within<const N: usize, U: Users>(
     server: &mut LongTermServerAuth<Global>,
@@ -211,7 +214,9 @@ pub(crate) fn sign_within<const N: usize, U: Users>(
     Ok(signed.len())
 }
 
-/// Signs a copy of the message in memory that is large enough, and returns the signed message.
+/// Signs a copy of the message in `memory`, which is large enough for the signed message, and
+/// returns the signed message. `is_long` says whether the message would become longer than its
+/// length field can state.
 fn sign_in<'m, U: Users>(
     server: &mut LongTermServerAuth<Global>,
     message: &[u8],

@@ -200,7 +200,8 @@ fn place_of(letter: u8) -> Option<u32> {
     }
 }
 
-/// Parses bytes: an even number of hexadecimal digits, at least two.
+/// Parses bytes that are written as hexadecimal digits, two for each byte. Returns `None` if the
+/// word is anything else.
 fn bytes(alloc: Global, digits: &str) -> Result<Option<Vec<u8>>, AllocError> {
     match hex::decode(alloc, digits.as_bytes()) {
         Ok(bytes) => Ok(Some(bytes)),

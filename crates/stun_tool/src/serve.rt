@@ -19,8 +19,9 @@ use stun_types::message::StunWriteError;
 /// Reads a whole script of calls, makes the calls on a new long-term server, whose realm is the
 /// only argument, and prints a line for each reply (RFC 8489, section 9.2.4).
 ///
-/// If a line is not a call, it makes no call, prints only `wrong line N` for the first such line,
-/// and returns `Bad`. A refusal by the server is a reply like any other, and the status is `Good`.
+/// If a line is not a call, the command makes no calls, prints only `wrong line N` for the first
+/// such line, and returns `Bad`. A refusal by the server is a reply like any other, and the status
+/// is `Good`.
 ///
 /// Returns `NotJudged` for other arguments, and prints nothing. Returns `Failed` if a read, a write
 /// or an allocation fails, or if the input does not end within 1048576 reads. After a failed read

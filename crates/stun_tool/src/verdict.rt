@@ -38,8 +38,8 @@ fn verdict_on(bytes: &[u8], password: &[u8]) -> Verdict
     }
 }
 
-/// Returns the verdict on an input of hexadecimal digits under a password. The line for it is one
-/// of nine.
+/// Returns the verdict on an input of hexadecimal digits under a password. The line that is printed
+/// for this verdict is one of nine.
 pub fn verdict_on_input<A: Allocator + Copy>(
     alloc: A,
     input: &[u8],

@@ -144,8 +144,9 @@ pub trait Attribute {
     }
 
     /// Appends the attribute to `writer`: its type and the length of its value, two bytes each in
-    /// network order, its value, and zeros up to a multiple of 4 bytes. The caller must have
-    /// reserved these bytes in the writer.
+    /// network order, its value, and zeros up to a multiple of 4 bytes. The value must have at most
+    /// 65532 bytes, and the caller must have reserved the bytes of the whole attribute in the
+    /// writer.
     fn write_into<W: MessageWrite>(&self, writer: &mut W)
         requires fits { length (value self.now) ≤ max_length }
         requires reserved { attribute_length (length (value self.now)) ≤ W.reserved writer.old }

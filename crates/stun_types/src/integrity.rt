@@ -84,8 +84,8 @@ pub(crate) fn is_well_formed(attribute: &RawAttribute<'_>) -> bool
     }
 }
 
-/// Returns the attribute whose HMAC must be compared, with its offset. Fails if no key could make
-/// the signature valid: the attribute is missing, is malformed, or has a truncated HMAC.
+/// Returns the deciding attribute, whose HMAC is compared next, with its offset. Fails if no key
+/// could make the signature valid: the attribute is missing, is malformed, or has a truncated HMAC.
 fn claimed_digest<'a>(message: &Message<'a>) -> Result<(usize, RawAttribute<'a>), ValidateError>
     ensures deciding { IfOk result (λ m. deciding message.now ≡ Some m) }
     ensures whole { IfOk result (λ m. length m.1.value ≡ digest_length (integrity_algorithm m.1)) }
@@ -136,8 +136,8 @@ fn covered_length(place: usize, value_length: usize) -> u16
     (place + ATTRIBUTE_HEADER_LENGTH + value_length - HEADER_LENGTH) as u16
 }
 
-/// Returns the first four of the bytes that an HMAC at this offset covers: the type of the message,
-/// and the message length that `covered_length` returns.
+/// Returns the first four bytes that the HMAC in an attribute at this offset covers: the type of
+/// the message, and the message length that `covered_length` returns.
 fn covered_start(message: &[u8], place: usize, value_length: usize) -> [u8; 4]
     requires behind_header { header_length ≤ place }
     requires within { place + attribute_header_length + value_length ≤ length message.now }
@@ -258,7 +258,8 @@ impl<'a> Message<'a> {
     /// (`stun_base::compare`).
     ///
     /// The result is the algorithm of the signature, which need not be the algorithm that the key
-    /// was derived for: it is `Sha1` for every message whose HMAC-SHA1 is valid under the key.
+    /// was derived for. If the checked attribute is MESSAGE-INTEGRITY, and its HMAC-SHA1 is valid
+    /// under the key, the result is `Sha1`, even if the key was derived for HMAC-SHA256.
     ///
     /// # Errors
     ///

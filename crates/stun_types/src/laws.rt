@@ -72,7 +72,8 @@ pub fn writing_adds_one_attribute()
         ≡ spelled_message message_type transaction_id (attributes ++ attribute ∷ []) }
 {}
 
-/// After a message has been signed, its signature is valid, and its integrity attribute is its only
+/// If an open message is signed, and has at most 65532 bytes after its header with the integrity
+/// attribute, the signature is valid under the same key, and the integrity attribute is the only
 /// new attribute.
 pub fn signed_message_stands()
     ensures stands { (message : List ℕ) (algorithm : IntegrityAlgorithm) (key : List ℕ)

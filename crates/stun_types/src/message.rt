@@ -1,4 +1,4 @@
-//! Messages: parses and inspects them, and starts new ones in a writer.
+//! Parses and inspects messages, and starts new ones in a writer.
 
 ghost use Rattle.std.specs.Prelude.{◌≡◌, ◌^◌, ◌<◌, ◌↔◌, ◌≤◌, length, [], IsTrue, IsOk, IfOk};
 ghost use Rattle.std.specs.Prelude.{OnOk, IfErr, MatchOption, Some, None, ⊤};

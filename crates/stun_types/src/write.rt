@@ -45,9 +45,9 @@ pub trait MessageWrite: Drop {
         ensures value { result ≡ room self.now }
         ensures reserved { reserved self.now ≤ room self.now };
 
-    /// Reserves `additional` bytes: after this call, at least that many bytes can be appended. If
-    /// they are reserved already, the call succeeds. Whether it succeeds or fails, bytes that were
-    /// reserved stay reserved, and the bytes and the room of the writer are unchanged.
+    /// Reserves `additional` bytes, so that at least this many bytes can be appended. If they are
+    /// reserved already, the call succeeds. In every case, bytes that were reserved before stay
+    /// reserved, and the bytes and the room of the writer are unchanged.
     ///
     /// # Errors
     ///
@@ -77,7 +77,7 @@ pub trait MessageWrite: Drop {
         ensures room { room self.new + length tail.now ≡ room self.old }
         ensures reserved { reserved self.new + length tail.now ≡ reserved self.old };
 
-    /// Sets the length field of the header.
+    /// Sets the length field of the header, which the writer must contain already.
     fn set_length(&mut self, message_length: u16)
         requires { header_length ≤ length (bytes self.old) }
         ensures bytes { bytes self.new ≡ with_length (bytes self.old) message_length }

@@ -57,7 +57,8 @@ pub struct Counts {
 struct Kind(&'static str, &'static str, &'static str);
 
 impl Counts {
-    pub fn note(&self, outcome: &Outcome) {
+    /// Counts an outcome, and the cause if the message was refused.
+    pub fn note(&self, outcome: &Outcome, cause: Option<Cause>) {
         let count = match outcome {
             Outcome::Answer(code, ..) => {
                 let refused = CODES.iter().position(|one| one.0 == *code);
@@ -70,11 +71,9 @@ impl Counts {
             Outcome::Other => &self.not_binding,
         };
         count.fetch_add(1, Relaxed);
-    }
-
-    /// Counts why a request was refused.
-    pub fn note_cause(&self, cause: Cause) {
-        self.causes[cause.index()].fetch_add(1, Relaxed);
+        if let Some(cause) = cause {
+            self.causes[cause.index()].fetch_add(1, Relaxed);
+        }
     }
 
     /// Shows each counter: its kind, the value of its label, and the number.

@@ -66,7 +66,8 @@ impl Server {
     /// let (users, mut answers) = (server.users(), Answers::new());
     ///
     /// // What a socket with GRO returns: datagrams of one source and of one length.
-    /// let arrived = b"\0\x01\0\0\x21\x12\xa4\x42 any 12 byte\0\x01\0\0\x21\x12\xa4\x42 of the next";
+    /// let arrived = b"\0\x01\0\0\x21\x12\xa4\x42 any 12 byte\
+    ///     \0\x01\0\0\x21\x12\xa4\x42 of the next";
     /// let from = "192.0.2.1:4242".parse()?;
     /// let datagrams = arrived.chunks(20).map(|bytes| (bytes, from));
     ///

@@ -1,4 +1,4 @@
-//! A client as one value.
+//! A client of one server.
 
 use super::Body;
 use super::client_outcomes::{Drops, Input, Output, RequestId, StartError, result_of};
@@ -29,14 +29,19 @@ use core::net::SocketAddr;
 /// A client of one server on one transport, with any number of requests at the same time.
 ///
 /// It retransmits, answers challenges and verifies signatures. Each request ends exactly once, in
-/// [`Output::Ended`]. Take every `now` from one clock that never goes back, such as
-/// [`Clock`](super::Clock).
+/// [`Output::Ended`]. `Client` is `Send` and `Sync`, but the calls that change it take `&mut self`.
+/// So let one thread or task own the client, and send it the requests of the others, as the example
+/// `many` of this crate does, or put the client into a `Mutex`.
+///
+/// Take every `now` from one clock that never goes back, such as [`Clock`](super::Clock). If you
+/// pass an earlier time than before, no call fails, but outstanding requests are retransmitted, and
+/// time out, only once the clock has caught up.
 ///
 /// Each request ends at the latest at the first [`poll`](Self::poll) after its time is over. If no
 /// response arrives, this is at the end of its plan, after 39.5 seconds by default. If the server
-/// challenges the request, another message is sent, with a plan of its own. This happens only
-/// within the first plan of the request; after that plan nothing more is sent for the request. So a
-/// request ends after at most two plans, 79 seconds by default.
+/// challenges the request, the client sends another message, with a plan of its own. It does so
+/// only within the first plan of the request, and after that plan it sends nothing more for the
+/// request. So a request ends after at most two plans, 79 seconds by default.
 /// [`Retransmission`](super::Retransmission) sets the plan.
 ///
 /// If an allocation fails, [`request`](Client::request) returns an error, and
@@ -366,8 +371,8 @@ impl Client {
         self.core.request_of(id.0).map(RequestId)
     }
 
-    /// Returns how many responses to a request were dropped, and why the last one was, or `None` if
-    /// the request is not outstanding.
+    /// Returns how many responses to a request were dropped, and why the last of them was dropped,
+    /// or `None` if the request is not outstanding.
     pub fn dropped(&self, request: RequestId) -> Option<Drops> {
         self.core.dropped(request.0).map(Drops::from)
     }

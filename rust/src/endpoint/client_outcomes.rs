@@ -17,7 +17,9 @@ use core::fmt;
 use core::net::SocketAddr;
 use core::time::Duration;
 
-/// Identifies a request, even after it is sent again under another transaction ID.
+/// Identifies a request of one client, even after it is sent again under another transaction ID.
+/// The IDs ascend in the order in which the requests were started, and are never used again. Two
+/// clients may use equal IDs.
 ///
 /// # Examples
 ///
@@ -141,7 +143,7 @@ impl ErrorResponse {
     }
 
     /// Returns the reason phrase, which may be empty. The server chose it, so escape it before you
-    /// show it. [`Display`](fmt::Display) of [`RequestError`] has the registered one instead.
+    /// show it. [`Display`](fmt::Display) of [`RequestError`] writes the registered phrase instead.
     #[must_use]
     pub fn reason(&self) -> &str {
         let found = self.response.message().attribute::<ErrorCode>();
@@ -256,15 +258,15 @@ impl Redirect {
     }
 }
 
-/// How many responses were dropped for one request, and why the last one was. Use it only for
-/// diagnostics, because anybody can send such responses.
+/// The number of dropped responses to one request, and why the last of them was dropped. Use it
+/// only for diagnostics, because anybody can send such responses.
 ///
 /// # Examples
 ///
 /// ```
 /// use seatcrane_stun::endpoint::{Client, DropReason, RequestId};
 ///
-/// /// Whether the server, or somebody in its place, answers with other credentials.
+/// /// Returns `true` if the last response that was dropped has no valid signature.
 /// fn is_refused_unseen(client: &Client, request: RequestId) -> bool {
 ///     let drops = client.dropped(request).unwrap_or_default();
 ///     drops.last() == Some(DropReason::NotVerified)
@@ -347,7 +349,9 @@ pub enum RequestError {
     Refused(ErrorResponse),
     /// The server names another server (300). Make another client for it, if you trust it.
     Redirected(Redirect),
-    /// No acceptable response arrived in time.
+    /// No acceptable response arrived in time. If responses were dropped, the [`Drops`] say why,
+    /// for example after a wrong short-term password (see
+    /// [`Credentials::short_term`](super::Credentials::short_term)).
     TimedOut(Drops),
     /// The server refuses the credentials, or challenges too often: the user name or the password
     /// is wrong, or an attacker forges challenges.
@@ -387,7 +391,7 @@ pub enum RequestError {
 pub enum StartError {
     /// The message would be too long.
     TooLarge,
-    /// The seed has no transaction ID left.
+    /// The seed has no transaction ID left. Build another client, with a new seed.
     NoId,
     /// An allocation failed.
     OutOfMemory,
@@ -479,7 +483,7 @@ pub(super) fn result_of(ended: End<Global>) -> Result<Response, RequestError> {
     })
 }
 
-/// The next thing to do.
+/// What to do next for the requests of a client. [`Client::poll`](super::Client::poll) returns it.
 ///
 /// # Examples
 ///

@@ -23,7 +23,7 @@ use core::fmt;
 use core::net::SocketAddr;
 use core::time::Duration;
 
-/// How a client proves who it is.
+/// The credentials with which a client signs its requests and verifies the responses.
 ///
 /// # Examples
 ///
@@ -61,6 +61,35 @@ impl Credentials {
     /// Creates short-term credentials: each request is signed with this password and algorithm, and
     /// only responses that are signed with this password and algorithm are accepted (RFC 8489,
     /// section 9.1).
+    ///
+    /// If the name or the password is wrong, the server answers with a 401 that is not signed. The
+    /// client drops it ([`NotVerified`](super::DropReason::NotVerified)), because anybody could
+    /// have sent it, and the request ends as [`TimedOut`](super::RequestError::TimedOut), with 401
+    /// as [`Drops::code`](super::Drops::code).
+    ///
+    /// # Examples
+    ///
+    /// ```
+    /// use seatcrane_stun::endpoint::{Client, Credentials, RequestError, Response};
+    /// use seatcrane_stun::types::message::IntegrityAlgorithm::Sha256;
+    ///
+    /// # let (server, seed) = ("192.0.2.1:3478".parse()?, [7; 32]);
+    /// let alice = Credentials::short_term("alice", "wonderland", Sha256);
+    /// let client = Client::builder(server).credentials(alice).build(seed)?;
+    ///
+    /// /// Describes how a request of this client ended.
+    /// fn describe(result: &Result<Response, RequestError>) -> String {
+    ///     match result {
+    ///         Ok(response) => format!("{:?}", response.message()),
+    ///         Err(RequestError::TimedOut(drops)) if drops.code() == Some(401) => {
+    ///             "wrong name or password?".into()
+    ///         }
+    ///         Err(error) => error.to_string(),
+    ///     }
+    /// }
+    /// # assert_eq!(describe(&Err(RequestError::Cancelled)), "cancelled");
+    /// # Ok::<(), Box<dyn std::error::Error>>(())
+    /// ```
     pub fn short_term(
         name: impl Into<String>,
         password: impl Into<String>,
@@ -198,12 +227,12 @@ impl Default for Retransmission {
 #[derive(Clone, Copy, Debug, PartialEq, Eq, Hash, Default)]
 #[non_exhaustive]
 pub enum Transport {
-    /// Datagrams, which may be lost: a request is sent as often as the builder's `retransmission`
-    /// says, up to seven times by default.
+    /// Datagrams, which may be lost: a request is sent again until it is answered, up to seven
+    /// times in total by default ([`ClientBuilder::retransmission`]).
     #[default]
     Datagram,
     /// A stream: a request is sent once, and the client waits as long as it would for datagrams
-    /// (39.5 seconds, unless you set other timeouts; see [`Retransmission`]).
+    /// (39.5 seconds by default; see [`Retransmission`]).
     Stream,
 }
 
@@ -329,7 +358,7 @@ impl ClientBuilder {
         self
     }
 
-    /// Sets the retransmission timeouts.
+    /// Sets when each message is sent again, and when a request without a response ends.
     pub fn retransmission(mut self, plan: Retransmission) -> ClientBuilder {
         self.plan = plan;
         self
@@ -381,11 +410,11 @@ impl ClientBuilder {
         self
     }
 
-    /// Sets whether responses without FINGERPRINT are dropped (RFC 8489, section 7.3). Unless you
-    /// call this, a response may lack FINGERPRINT. A response whose FINGERPRINT is wrong, is not
-    /// the last attribute or does not have 4 bytes is always dropped. Call it only if your protocol
-    /// requires FINGERPRINT, because the client then drops all responses of a server that sends
-    /// none, and the requests time out.
+    /// Sets whether responses without FINGERPRINT are dropped (RFC 8489, section 7.3). By default
+    /// they are not. A response whose FINGERPRINT is wrong, is not the last attribute or does not
+    /// have 4 bytes is always dropped. Call this only if your protocol requires FINGERPRINT,
+    /// because the client then drops all responses of a server that sends none, and the requests
+    /// time out.
     pub fn require_fingerprint(mut self, required: bool) -> ClientBuilder {
         self.requires_fingerprint = required;
         self
@@ -393,9 +422,10 @@ impl ClientBuilder {
 
     /// Builds the client.
     ///
-    /// `seed` must be 32 unpredictable bytes that are used for this client alone, because the
-    /// transaction IDs are derived from the seed. An attacker who can guess these IDs can forge
-    /// responses to unsigned requests.
+    /// `seed` must be 32 random bytes that are used for this client alone, such as
+    /// [`random_seed`](super::random_seed) returns, because the transaction IDs are derived from
+    /// the seed. An attacker who can guess these IDs can forge responses to unsigned requests. No
+    /// call detects bytes that are not random, or that another client has.
     ///
     /// # Errors
     ///

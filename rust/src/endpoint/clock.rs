@@ -3,7 +3,7 @@
 use crate::Instant;
 use core::time::Duration;
 
-/// A monotonic clock for clients.
+/// A clock that never goes back, for the times that clients and ICE agents take.
 ///
 /// # Examples
 ///
@@ -57,9 +57,9 @@ impl Clock {
         at.to_std(self.0)
     }
 
-    /// Returns the duration until this time, but at least a millisecond, as
-    /// [`UdpSocket::set_read_timeout`](std::net::UdpSocket::set_read_timeout) requires. If `until`
-    /// is `None`, the result is `None`, which means to wait without limit.
+    /// Returns the duration until this time, but at least a millisecond, because
+    /// [`UdpSocket::set_read_timeout`](std::net::UdpSocket::set_read_timeout) fails if the timeout
+    /// is zero. If `until` is `None`, the result is `None`, which means to wait without limit.
     #[must_use]
     pub fn timeout(&self, until: Option<Instant>) -> Option<Duration> {
         let left = until?.saturating_duration_since(self.now());

@@ -276,8 +276,9 @@ impl Checker {
     }
 
     /// Creates an agent that does not know the credentials of its peer yet, because it makes the
-    /// offer and the answer has not arrived. It answers the checks of the peer, and writes its own
-    /// once [`set_remote`](Self::set_remote) was called. The [module](self) has an example.
+    /// offer and the answer has not arrived. It answers the checks of the peer at once, but writes
+    /// checks of its own only after you have called [`set_remote`](Self::set_remote). The
+    /// [module](self) has an example.
     ///
     /// # Errors
     ///

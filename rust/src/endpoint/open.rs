@@ -70,25 +70,25 @@ impl ResponseSettings {
         self
     }
 
-    /// Sets whether the server itself responds to each accepted Binding request. By default it does
-    /// not.
+    /// Sets whether the server itself responds to each accepted Binding request. By default it
+    /// returns the request to you.
     pub fn answer_binding(mut self, answers: bool) -> ResponseSettings {
         self.answers_binding = answers;
         self
     }
 
     /// Sets whether messages without FINGERPRINT are dropped (RFC 8489, section 7.3), as a protocol
-    /// may require. Unless you call this, a message may lack FINGERPRINT. A message whose
-    /// FINGERPRINT is wrong, is not the last attribute or does not have 4 bytes is always dropped.
+    /// may require. By default they are not. A message whose FINGERPRINT is wrong, is not the last
+    /// attribute or does not have 4 bytes is always dropped.
     pub fn require_fingerprint(mut self, required: bool) -> ResponseSettings {
         self.requires_fingerprint = required;
         self
     }
 
     /// Sets the methods that you serve: requests and indications with any other method are dropped
-    /// before they are judged any further (RFC 8489, section 6.3). Unless you call this, a server
-    /// accepts all methods, and you have to refuse those that you do not serve. Name
-    /// [`BINDING`](crate::types::message::BINDING) too if you serve it.
+    /// before they are judged any further (RFC 8489, section 6.3). By default a server accepts all
+    /// methods, and you have to refuse those that you do not serve. Include
+    /// [`BINDING`](crate::types::message::BINDING) in the list if you serve it.
     ///
     /// # Examples
     ///
@@ -591,7 +591,7 @@ impl<'a> ShortTermIndication<'a> {
     }
 }
 
-/// The users of a [`ShortTermServer`], by name. A look-up takes logarithmic time.
+/// The users of a [`ShortTermServer`], by name. A table works with every such server.
 ///
 /// To change the users of a server that runs, change a clone of the table, and then use the clone
 /// in its place.

@@ -1,4 +1,4 @@
-//! A server as one value.
+//! A server with long-term credentials.
 
 use super::given::{Given, text_of};
 use super::open::ResponseSettings;
@@ -79,6 +79,9 @@ impl fmt::Debug for LongTerm {
 
 impl LongTerm {
     /// Returns the settings of a server for this realm, with this secret.
+    ///
+    /// `secret` must be 32 random bytes, such as [`random_seed`](super::random_seed) returns. No
+    /// call detects bytes that are not random.
     pub fn new(realm: impl Into<String>, secret: [u8; 32]) -> LongTerm {
         LongTerm {
             realm: realm.into(),
@@ -98,10 +101,16 @@ impl LongTerm {
         self
     }
 
-    /// Sets the supported algorithms.
+    /// Sets the supported algorithms. By default both are supported.
     ///
-    /// Nonces depend on the algorithms. So when you change them, each client gets one 401 or 438
-    /// with the new list and nonce, and then signs with these; you need not change the secret.
+    /// If you change them, make a new table of users too (see [`Server`]), but you need not change
+    /// the secret. Nonces depend on the algorithms, so each client then gets one 401 or 438, and
+    /// signs its request again for the new settings.
+    ///
+    /// If you remove HMAC-SHA256, a client of this library that has succeeded with it drops these
+    /// challenges ([`WeakerChallenge`](super::DropReason::WeakerChallenge)), because an attacker
+    /// may have forged them. Its next request times out, after 39.5 seconds by default, and the
+    /// request after that succeeds. Requests that it starts meanwhile may time out too.
     pub fn algorithms(mut self, algorithms: &[IntegrityAlgorithm]) -> LongTerm {
         self.algorithms = (
             algorithms.contains(&IntegrityAlgorithm::Sha1),
@@ -110,25 +119,31 @@ impl LongTerm {
         self
     }
 
-    /// Sets whether clients may send a hash in place of a name (RFC 8489, section 14.4). Nonces
-    /// depend on this setting, so a change of it has the same effect as a change of the
-    /// [`algorithms`](Self::algorithms).
+    /// Sets whether clients may send a hash in place of a name (RFC 8489, section 14.4). By default
+    /// they may.
+    ///
+    /// If you change this setting, make a new table of users too (see [`Server`]), but you need not
+    /// change the secret. Nonces depend on this setting, so each client then gets one 401 or 438,
+    /// and signs its request again. But if you forbid hashes, a client of this library that has
+    /// succeeded with a hash drops these challenges, and its next request times out, as after the
+    /// removal of HMAC-SHA256 from the [`algorithms`](Self::algorithms).
     pub fn user_hashes(mut self, allowed: bool) -> LongTerm {
         self.user_hashes = allowed;
         self
     }
 
-    /// Sets the nonce lifetime: the number of seconds for which a nonce is sent. After it is sent,
-    /// a nonce is accepted for one to two lifetimes.
+    /// Sets the nonce lifetime: the number of seconds for which the server sends the same nonce to
+    /// a client. After it is sent, a nonce is accepted for one to two lifetimes. By default it is
+    /// [`DEFAULT_NONCE_LIFETIME`](super::DEFAULT_NONCE_LIFETIME), an hour.
     pub fn nonce_lifetime(mut self, seconds: u64) -> LongTerm {
         self.nonce_lifetime = seconds;
         self
     }
 
-    /// Sets whether the server answers Binding requests without a signature, as TURN servers do.
-    /// Unless you call this, it challenges them. The response is not signed, and is the same as
-    /// that of an [`OpenServer`](super::OpenServer) that answers Binding requests. A Binding
-    /// request with a signature is judged like any other.
+    /// Sets whether the server answers Binding requests without a signature, as TURN servers do. By
+    /// default it challenges them. The response is not signed, and is the same as that of an
+    /// [`OpenServer`](super::OpenServer) that answers Binding requests. A Binding request with a
+    /// signature is judged like any other request.
     ///
     /// # Examples
     ///
@@ -218,16 +233,16 @@ impl ServerBuilder {
         self
     }
 
-    /// Sets whether the server itself responds to each accepted Binding request. Unless you call
-    /// this, it does not.
+    /// Sets whether the server itself responds to each accepted Binding request. By default it
+    /// returns the request to you.
     pub fn answer_binding(mut self, answers: bool) -> ServerBuilder {
         self.settings = self.settings.answer_binding(answers);
         self
     }
 
     /// Sets whether messages without FINGERPRINT are dropped (RFC 8489, section 7.3), as a protocol
-    /// may require. Unless you call this, a message may lack FINGERPRINT. A message whose
-    /// FINGERPRINT is wrong, is not the last attribute or does not have 4 bytes is always dropped.
+    /// may require. By default they are not. A message whose FINGERPRINT is wrong, is not the last
+    /// attribute or does not have 4 bytes is always dropped.
     pub fn require_fingerprint(mut self, required: bool) -> ServerBuilder {
         self.settings = self.settings.require_fingerprint(required);
         self
@@ -261,11 +276,26 @@ impl ServerBuilder {
 ///
 /// The outcome of a datagram depends only on the datagram, its source address, the time, the
 /// settings and the users, and not on earlier datagrams. So a flood of datagrams uses no memory,
-/// and every thread and machine with the same settings can answer every client. Share the server as
-/// `Arc<Server>`. To change settings, build another server with the same secret and swap the `Arc`;
-/// to reload the users, swap an `Arc<Users>`.
+/// and every machine with the same settings and users can answer every client. `Server`, [`Users`]
+/// and [`User`] are `Send` and `Sync`, and the calls that judge take `&self`, so threads can share
+/// them in an `Arc` without a lock.
 ///
 /// The [module](super) has an example.
+///
+/// # Changing the users or the settings
+///
+/// To change the users, replace the `Arc<Users>`. To change settings, build another server with the
+/// same secret, and replace the `Arc<Server>`.
+///
+/// If the realm, the [`algorithms`](LongTerm::algorithms) or the
+/// [`user_hashes`](LongTerm::user_hashes) differ, also make a new table with [`users`](Self::users)
+/// of the new server, and add the users again, from their passwords or their stored keys. Then
+/// replace the server and the table together, for example as one `Arc<(Server, Users)>`.
+///
+/// A table of users is made for these three settings, and a [`User`] for the realm and the
+/// algorithms. No call detects a table or a user that was made for other settings. With such a
+/// table, the server may refuse users who have the right password, or accept a request whose list
+/// of algorithms is not the one that it offered.
 pub struct Server {
     core: server::Server<Global>,
     realm: String,
@@ -291,8 +321,8 @@ impl Server {
         }
     }
 
-    /// Builds a server with these settings of long-term credentials, and with the settings that
-    /// servers of all kinds have.
+    /// Builds a server from the settings for long-term credentials, and from the settings that all
+    /// kinds of servers have.
     ///
     /// # Errors
     ///
@@ -337,7 +367,10 @@ impl Server {
         })
     }
 
-    /// Returns an empty table of users for this server's realm.
+    /// Returns an empty table of users for this server's realm,
+    /// [`algorithms`](LongTerm::algorithms) and [`user_hashes`](LongTerm::user_hashes). Use it only
+    /// with servers that have the same three settings, because no call detects a table that was
+    /// made for others ([`Server`] describes what happens).
     pub fn users(&self) -> Users {
         Users {
             core: granted(self.core.users()),
@@ -484,13 +517,17 @@ impl Server {
         received
     }
 
-    /// Derives the keys of a user, for [`receive_for`](Self::receive_for). Cache the result.
+    /// Derives the keys of a user, for [`receive_for`](Self::receive_for). You can cache the result
+    /// and use it with every server that has the same realm and
+    /// [`algorithms`](LongTerm::algorithms). A server with another realm or other algorithms may
+    /// refuse the user's requests, and no call detects this mistake.
     pub fn user(&self, credentials: LongTermCredentials) -> User {
         User(Arc::new(granted(self.core.user(credentials.0))))
     }
 
     /// Like [`user`](Self::user), but takes stored keys instead of a password. The keys must have
-    /// been made for this server's realm, because they depend on it.
+    /// been made for this server's realm, because they depend on it. The result, too, works only
+    /// with servers that have the same realm and [`algorithms`](LongTerm::algorithms).
     pub fn user_with_keys(&self, name: impl Into<String>, keys: StoredKeys) -> User {
         let user = self.core.user_with_keys(text(name.into()), keys);
         User(Arc::new(granted(user)))
@@ -652,8 +689,8 @@ impl Server {
     /// Returns why [`receive_for`](Self::receive_for) refuses a datagram, like
     /// [`cause`](Self::cause).
     ///
-    /// [`resume`](Self::resume) refuses the request of a look-up for the same reason: pass the
-    /// bytes of that request, and the time at which it [arrived](Lookup::arrived).
+    /// For a request that [`resume`](Self::resume) refused, pass the bytes of the request, the user
+    /// whom you passed to `resume`, and the time at which the request [arrived](Lookup::arrived).
     #[must_use]
     pub fn cause_for(
         &self,
@@ -1018,8 +1055,8 @@ pub enum Identified<'a, B = Vec<u8>> {
 /// A request that waits until you have looked up its user. It carries a nonce that the server
 /// accepts for its source.
 ///
-/// A client that sends its request again causes another look-up; merge them by
-/// [`transaction_id`](Self::transaction_id).
+/// A client that sends its request again causes another look-up, so merge look-ups that have the
+/// same source address and [`transaction_id`](Self::transaction_id).
 ///
 /// # Examples
 ///
@@ -1255,7 +1292,8 @@ pub(super) fn shared<T>(value: T) -> Option<Arc<T>> {
     Some(Arc::new(value))
 }
 
-/// A user with derived keys. [`Server::user`] makes it. A clone shares the keys.
+/// A user with derived keys. [`Server::user`] makes it, for servers with the same realm and
+/// [`algorithms`](LongTerm::algorithms). A clone shares the keys.
 ///
 /// # Examples
 ///
@@ -1316,7 +1354,10 @@ impl From<AllocError> for UserError {
     }
 }
 
-/// The users of a realm, by name. [`Server::users`] makes an empty table.
+/// The users of a realm, by name. [`Server::users`] makes an empty table, for servers with the same
+/// realm, [`algorithms`](LongTerm::algorithms) and [`user_hashes`](LongTerm::user_hashes). If you
+/// change one of these settings, a clone of the table does not help: make a new table (see
+/// [`Server`]).
 ///
 /// To change the users of a server that runs, change a clone of the table, and then use the clone
 /// in its place. Cloning needs no passwords. It prepares the derived keys again, which takes half
@@ -1417,7 +1458,7 @@ impl Users {
     }
 
     /// Like [`add`](Self::add), but takes stored keys instead of a password. The keys must have
-    /// been made for this server's realm, because they depend on it.
+    /// been made for the realm of this table, because they depend on it.
     ///
     /// # Errors
     ///
@@ -1639,7 +1680,7 @@ impl<B> Answer<B> {
     }
 }
 
-/// An accepted request.
+/// An accepted request, which a user has signed.
 ///
 /// # Examples
 ///
@@ -1685,8 +1726,8 @@ impl<'a> Request<'a> {
         canonical(self.reply.to())
     }
 
-    /// Returns the name of the user who sent the request, even if the request has only a hash of
-    /// the name.
+    /// Returns the name of the user who signed the request, even if the request has only a hash of
+    /// the name. Use this name, and not USERNAME of the message, which may name another user.
     #[must_use]
     pub fn user(&self) -> &'a str {
         self.user

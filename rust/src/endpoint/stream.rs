@@ -4,8 +4,9 @@ use crate::exported::stun_extra::framing::{Frame, next_frame, next_turn_frame};
 use alloc::vec::Vec;
 use core::fmt;
 
-/// Cuts the bytes of a stream, such as a TCP connection, into messages (RFC 8489, section 6.2.2),
-/// or into messages and [`ChannelData`](crate::extra::turn::ChannelData) (RFC 8656, section 12.5).
+/// A buffer that splits the bytes of a stream, such as a TCP connection, into messages (RFC 8489,
+/// section 6.2.2), or into messages and [`ChannelData`](crate::extra::turn::ChannelData) (RFC 8656,
+/// section 12.5).
 ///
 /// # Examples
 ///
@@ -108,7 +109,7 @@ impl FrameBuffer {
     /// buffer.push(b"\x40\0\0\x05media\0\0\0\x40\0\xff\xff");
     /// let frame = buffer.pop()?.and_then(ChannelData::from_bytes).unwrap();
     /// assert_eq!((frame.channel(), frame.data()), (0x4000, &b"media"[..]));
-    /// // as soon as its length is there
+    /// // The second ChannelData is too long, which its header already says.
     /// assert_eq!(buffer.pop(), Err(StreamError::TooLong));
     /// # Ok(())
     /// # }

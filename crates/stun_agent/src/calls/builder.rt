@@ -14,7 +14,7 @@ use std::net::SocketAddr;
 use std::time::Duration;
 use stun_base::transport::TransportType;
 
-/// Configures and builds a `StunAgent`. None of its calls allocates.
+/// A builder of a `StunAgent`. Its calls do not allocate.
 ///
 /// By default the agent may send to any address, uses the timeouts of `RequestRto::default()`, and
 /// keeps no statistics.

@@ -60,8 +60,8 @@ impl<A: Memory> StunAgent<A> {
         self.peers.remove(&addr);
     }
 
-    /// Processes a message that arrived from `from`, and returns whether the agent accepts it. Drop
-    /// a message that is not accepted.
+    /// Processes a message that arrived from the address `from`, and returns whether the agent
+    /// accepts it. Drop a message that is not accepted.
     ///
     /// - A response is accepted if it answers an outstanding request that was sent to exactly this
     ///   address. That request ends.
@@ -118,8 +118,8 @@ impl<A: Memory> StunAgent<A> {
         self.receive(msg, from, Some(now))
     }
 
-    /// Processes a message. If `moment` is the current time, the call also measures the round trip
-    /// of a response. If it is `None`, no round trip is measured.
+    /// Processes a message, and returns whether the agent accepts it. If `moment` has the current
+    /// time, the call also measures the round trip of a response.
     fn receive(
         &mut self,
         msg: &Message<'_>,

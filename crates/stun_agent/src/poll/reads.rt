@@ -86,9 +86,9 @@ impl<A: Allocator> StunAgent<A> {
     /// of every request is after `now`. To read a request is to read its transaction ID, the time
     /// that it awaits, and whether it is still retransmitted. To look at a link is to read the
     /// earliest times of the requests below it, or of the one request that it leads to. A call that
-    /// ends no request looks twice, at the root. A call that ends a request looks at no more than
-    /// four links for each of the 48 levels of the tree, plus two, however many requests are
-    /// outstanding.
+    /// ends no request looks at most twice, at the root. A call that ends a request looks at no
+    /// more than four links for each of the 48 levels of the tree, plus two, however many requests
+    /// are outstanding.
     ///
     /// The count uses no memory, and no program can read it.
     ///

@@ -31,8 +31,8 @@ use stun_base::memory::Memory;
 use stun_base::transaction_id::TransactionId;
 use stun_base::transport::TransportType;
 
-/// The outstanding requests in a tree by their IDs, and the transport that carries them. Each leaf
-/// also has a datum of the owner.
+/// The outstanding requests, in a tree that is ordered by their IDs, and the transport that carries
+/// them. Each leaf also has a datum of the owner.
 ///
 /// Contracts: the value is a record of the transport, the requests in ascending order of their IDs,
 /// and the data of the owner.

@@ -75,10 +75,10 @@ impl RequestRto {
         }
     }
 
-    /// Returns the settings of a plan that ends after `time`. The plan has those transmissions of
-    /// the whole plan that come before its end, at the same times, and after the last of them it
-    /// waits for the rest of `time`. If the whole plan ends within `time`, returns the settings
-    /// unchanged.
+    /// Returns the settings of a plan that ends after `time`. The plan has the first transmission,
+    /// and those retransmissions of the whole plan that come before its end, at the same times.
+    /// After the last transmission it waits for the rest of `time`. If the whole plan ends within
+    /// `time`, returns the settings unchanged.
     pub fn within(&self, time: Duration) -> RequestRto
         ensures { settings_of result ≡ cut (as_nanos time) (settings_of self.now) }
     {

@@ -1,7 +1,7 @@
 //! Decides what a poll does: which request ends, or how long to wait.
 //!
 //! The decision is a function of the time and of the index, which is a `&Link`. Nothing else is
-//! passed, so no request can be read without being counted (`tree`).
+//! passed, except the count, so no request can be read without being counted (`tree`).
 ghost use Rattle.std.specs.Prelude.{◌≡◌, ◌≤◌, ◌+◌, ◌*◌, Some, None, MatchOption};
 ghost use Rattle.std.specs.Prelude.{IfOk, OnErr, IfErr};
 ghost use Rattle.std.specs.Option.{option_map};

@@ -150,8 +150,9 @@ impl<A: Allocator> Transaction<A> {
         self.integrity
     }
 
-    /// Returns the number of nanoseconds from the time at which the request was sent to `moment`.
-    /// Returns `None` if `moment` is `None`, or if a timeout of the request has passed.
+    /// Returns the number of nanoseconds between the time at which the request was sent and the
+    /// time `moment`. Returns `None` if `moment` is `None`, or if a timeout of the request has
+    /// passed.
     pub(crate) fn round_trip(&self, moment: Option<Instant>) -> Option<u64>
         ensures { result ≡ round_trip moment self.now }
     {

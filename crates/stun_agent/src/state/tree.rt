@@ -1,6 +1,6 @@
-//! The outstanding requests in a tree by their IDs. Each link has the earliest times that the
-//! requests below it await, so a search for requests that are due visits only the parts of the tree
-//! that contain such requests.
+//! The outstanding requests, in a tree that is ordered by their IDs. Each link has the earliest
+//! times that the requests below it await, so a search for requests that are due visits only the
+//! parts of the tree that contain such requests.
 //!
 //! The tree is also the index of deadlines that a poll searches. Such a search sees only a `&Link`.
 //! The fields of a `Leaf`, and the times in a link, are private to this module and to the modules
@@ -166,7 +166,8 @@ enum Quarter {
     Fourth,
 }
 
-/// Returns the quarter of an ID in a fork that has this many levels, its own included.
+/// Returns the quarter of a fork to which an ID belongs. `levels` is the number of levels of the
+/// fork, which include the fork itself.
 fn quarter_of(id: TransactionId, levels: u32) -> Quarter
     requires { IsDeep levels }
     ensures { part_of (levels - 1) id ≡ 4 * part_of levels id + two_bits result }

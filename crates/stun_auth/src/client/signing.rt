@@ -186,14 +186,15 @@ impl<A: Allocator> LongTermClientAuth<A> {
     /// - PASSWORD-ALGORITHM, if the server sent a list or the algorithm is HMAC-SHA256;
     /// - MESSAGE-INTEGRITY or MESSAGE-INTEGRITY-SHA256.
     ///
-    /// The writer must hold a message without FINGERPRINT. The attributes are added one after
-    /// another, and the call fails with the first error. The writer is then dropped. The client is
-    /// unchanged in any case.
+    /// Add FINGERPRINT after this call, because it has to be the last attribute, and the call does
+    /// not check whether the message has one already. The attributes are added one after another,
+    /// and the call fails with the first error. The writer is then dropped. The client is unchanged
+    /// in any case.
     ///
-    /// - `MessageIntegrityExists`, `AttributeExists`: the message already has a signature, or
-    ///   already has the attribute to add.
+    /// - `MessageIntegrityExists`: the message is signed already.
+    /// - `AttributeExists`: the message already has the attribute to add.
     /// - `TooLarge`: the message would be too long, or the user name has more than 513 bytes.
-    /// - `TooSmall`: the writer has no room.
+    /// - `TooSmall`: the writer has too little room.
     /// - `OutOfMemory`: an allocation failed.
     pub fn sign_outgoing_message<W: MessageWrite>(&mut self, writer: W) -> Result<W, StunWriteError>
         requires { BeginsWithHeader (W.bytes writer) }

@@ -24,19 +24,21 @@ use stun_base::memory::Memory;
 /// The nonce cookie: every nonce that has security bits begins with it (RFC 8489, section 9.2).
 pub const LONG_TERM_RFC8489_NONCE_COOKIE: &str = "obMatJos2";
 
-/// The number of bytes of the cookie and the four letters after it.
+/// The number of bytes with which a nonce with security bits begins: the cookie, and the bits as
+/// four characters of base64.
 const FRONT_LENGTH: usize = 13;
 
 /// The number of random letters of a nonce.
 const LETTERS: usize = 16;
 
-/// A number for which `letter` returns `p`.
+/// The number that replaces the first one if the letters of a nonce begin with the cookie by
+/// chance. Its letter is `p`, with which the cookie does not begin.
 const NUMBER_OF_P: u32 = 41;
 
-/// The security bit *Password algorithms*, in the first byte (section 18.1).
+/// The security bit *Password algorithms*, in the first byte (RFC 8489, section 18.1).
 const PASSWORD_ALGORITHMS: u8 = 0x80;
 
-/// The security bit *Username anonymity*, in the first byte (section 18.1).
+/// The security bit *Username anonymity*, in the first byte (RFC 8489, section 18.1).
 const USERNAME_ANONYMITY: u8 = 0x40;
 
 /// The 24 security bits of a nonce (RFC 8489, sections 9.2 and 18.1), with which a server announces

@@ -1,5 +1,6 @@
 //! Reads a message for an authenticator in one walk: parses the last visible attribute of each
-//! type, and ignores it if it is malformed.
+//! type, and ignores it if it is malformed. For the two integrity types, it takes the first visible
+//! attribute instead.
 //!
 //! Nothing here allocates.
 
@@ -168,8 +169,8 @@ fn read<'a, A: AttributeFromRaw<'a>>(attribute: Option<RawAttribute<'a>>) -> Opt
     }
 }
 
-/// Returns the code in `attribute`, an ERROR-CODE. Returns `None` if the class is not an error
-/// response, or if the attribute is missing or malformed.
+/// Returns the error code in `attribute`, which is an ERROR-CODE. Returns `None` if `class` is not
+/// the class of error responses, or if the attribute is missing or malformed.
 fn error(class: MessageClass, attribute: Option<RawAttribute<'_>>) -> Option<u16>
     ensures { result ≡ last_error_code class attribute.entry }
 {

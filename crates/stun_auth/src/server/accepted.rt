@@ -16,7 +16,7 @@ use stun_base::prepared_key::PreparedKey;
 /// response with `key` and `algorithm` (`add_message_integrity_with_prepared_key`). To sign it
 /// later, or on another thread, clone the key: the clone does not need the server.
 ///
-/// It has a key, so `Debug` shows nothing of it.
+/// The value contains a key, so `Debug` shows nothing of its contents.
 ///
 /// Contracts: the value is a record of the client, which is the name and the algorithm, and of the
 /// bytes of the key.

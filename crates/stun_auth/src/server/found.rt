@@ -77,8 +77,8 @@ impl<'a, 'm, 'r> UserClaim<'a, 'm, 'r> {
         self.user
     }
 
-    /// Returns the algorithm that both sides agree on. The signature must be valid under the user's
-    /// key for it.
+    /// Returns the algorithm that both sides agree on. The server accepts the message only if its
+    /// signature is valid under the user's key for this algorithm.
     pub fn algorithm(&self) -> IntegrityAlgorithm
         ensures { result ≡ self.now.algorithm }
     {
@@ -104,8 +104,9 @@ enum FoundSecret<'u> {
 impl FoundSecret<'_> {
     ghost use Rattle.stun_auth.specs.code.Found.{found_secret};
 
-    /// Returns the key of the user with this name at this realm for an algorithm, or `None` if it
-    /// is not stored. It does not allocate.
+    /// Returns the key for an algorithm. If the secret is a password, the key is made from the
+    /// name, the realm and the password. Returns `None` if the secret is stored keys, and none of
+    /// them is for this algorithm. The call does not allocate.
     fn key<A: Allocator + Copy>(
         &self,
         alloc: A,
@@ -124,8 +125,8 @@ impl FoundSecret<'_> {
     }
 }
 
-/// A user whom the caller found: a name, and a password or stored keys, all of them borrowed from
-/// the caller. A key is made only when a message needs it.
+/// A user whom the caller found: a name, and a password or stored keys. The name and the password
+/// are borrowed from the caller. A key is made only when a message needs it.
 ///
 /// For a user who sends many messages it is cheaper to call `prepare_user` once.
 ///
@@ -163,7 +164,7 @@ impl<'u> FoundUser<'u> {
     }
 
     /// Returns a user with stored keys in place of a password. The keys must have been made for the
-    /// realm of the server.
+    /// realm of the server, because clients derive their keys for this realm.
     pub fn with_keys(name: &'u str, keys: StoredKeys) -> Self
         ensures { result ≡ user_by_keys name.entry.now keys }
     {
@@ -215,7 +216,7 @@ impl fmt::Debug for FoundUser<'_> {
     }
 }
 
-/// Returns whether `user`, which a message names, is the user with this name at this realm.
+/// Returns whether `user`, whom a message names, is the user with this name at this realm.
 fn is_claimed(user: NamedUser<'_>, name: &str, realm: &str) -> bool
     ensures { result ≡ is_claimed (named_seen user.entry) name.now realm.now }
 {

@@ -40,8 +40,9 @@ impl<A: Memory> LongTermServerAuth<A> {
     /// call `validate_incoming_message` makes the same nonce from the same random numbers.
     ///
     /// A server that stores no nonces derives the numbers from a secret, the address of the client
-    /// and the time, because anybody who can predict them can predict nonces. Only their remainders
-    /// modulo 62 count (law `nonces_of_different_words_differ`).
+    /// and the time. The secret is necessary, because anybody who can predict the numbers can
+    /// predict nonces. Only the remainders of the numbers modulo 62 count
+    /// (law `nonces_of_different_words_differ`).
     ///
     /// Fails if an allocation fails.
     pub fn nonce_of_words(&self, words: &[u32; 16]) -> Result<String<A>, AllocError>
@@ -53,9 +54,9 @@ impl<A: Memory> LongTermServerAuth<A> {
         nonce_of_words(self.alloc, supported, self.feature, words)
     }
 
-    /// Judges a request or an indication under a nonce. The verdict is the same as that of
-    /// `validate_incoming_message` if this nonce were the current one of the address and all
-    /// supported algorithms had been offered there.
+    /// Judges a request or an indication under a nonce, and returns the user who is accepted. The
+    /// verdict is the one that `validate_incoming_message` would return if this nonce were the
+    /// current one of the address, and all supported algorithms had been offered there.
     ///
     /// The call neither reads nor makes a record of an address, so it takes `&self`, and threads
     /// can share a server whose nonces are a function of the address and the time. It uses no
@@ -65,7 +66,8 @@ impl<A: Memory> LongTermServerAuth<A> {
     /// `nonce_of_words` made, because a message under a nonce without the security bit *Password
     /// algorithms* is judged with HMAC-SHA1 even if the server supports HMAC-SHA256.
     ///
-    /// Otherwise the call returns the first of these refusals that applies:
+    /// If the message is not accepted, the call fails with the first of these refusals that
+    /// applies:
     ///
     /// - `Unauthorized` (answer 401): there is no well-formed integrity attribute.
     /// - `BadRequest` (400): REALM, NONCE or the user name is missing.
@@ -173,14 +175,14 @@ impl<A: Memory> LongTermServerAuth<A> {
     /// `nonce_of_words` made, and under which you will judge the next request. The call signs
     /// nothing, and neither reads nor makes a record of an address. Add FINGERPRINT afterwards.
     ///
-    /// The attributes are added one after another. The first of these errors that applies drops the
-    /// writer:
+    /// The attributes are added one after another. The call fails with the first error, and then
+    /// drops the writer. For each attribute, the errors are tested in this order:
     ///
     /// - `TooLarge`: the nonce or the realm has more than 763 bytes.
     /// - `MessageIntegrityExists`: the message is signed already.
-    /// - `AttributeExists`: the message has the attribute already.
+    /// - `AttributeExists`: the message already has the attribute to add.
     /// - `TooLarge`: the message would become too long.
-    /// - `TooSmall`: the writer has no room.
+    /// - `TooSmall`: the writer has too little room.
     /// - `OutOfMemory`: an allocation failed. This cannot happen if the writer has reserved the
     ///   bytes.
     pub fn add_challenge<W: MessageWrite>(

@@ -332,8 +332,8 @@ impl<A: Memory> Places<A> {
         })
     }
 
-    /// Forgets the record of an address if `has_expired` is true. The caller has found out already
-    /// whether the record may be forgotten.
+    /// Forgets the record of an address if `has_expired` is true. Pass `true` if the record may be
+    /// forgotten (see `is_forgotten`).
     fn forget_if(&mut self, address: SocketAddr, has_expired: bool)
         ensures { self.new.seen ≡ (if has_expired then map.remove self.old.seen address else self.old.seen) }
     {

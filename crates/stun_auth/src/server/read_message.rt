@@ -53,7 +53,8 @@ impl<'a, 'm> ReadMessage<'a, 'm> {
 
     /// Returns the algorithm of the attribute that decides whether the message is signed:
     /// HMAC-SHA256 if MESSAGE-INTEGRITY-SHA256 is visible, otherwise HMAC-SHA1 if MESSAGE-INTEGRITY
-    /// is visible, and otherwise `None` (RFC 8489, sections 14.5 and 14.6). The value is not read.
+    /// is visible, and otherwise `None` (RFC 8489, sections 14.5 and 14.6). The signature is not
+    /// checked.
     pub fn deciding_algorithm(&self) -> Option<IntegrityAlgorithm>
         ensures { result ≡ deciding_algorithm self.now }
     {

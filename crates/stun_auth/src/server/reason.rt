@@ -37,8 +37,9 @@ pub enum LongTermServerAuthErrorReason {
     /// No call of a server returns this reason. It is here because the crate `stun-proto` has it.
     #[error("A required feature is not supported")]
     UnsupportedFeature,
-    /// Answer 400, or 438 if the address had no nonce before. REALM, NONCE or the user name is
-    /// missing, or the algorithms disagree with those that the address was offered.
+    /// Answer 400, or 438 if the call that returned this reason made the first nonce of the
+    /// address. REALM, NONCE or the user name is missing, or the algorithms disagree with those
+    /// that the address was offered.
     #[error("The request message is not well-formed")]
     BadRequest,
     /// Answer 438. The nonce is not the current one of the address.
@@ -96,7 +97,7 @@ impl VerdictRefusal {
     }
 }
 
-/// Returns `answer`, in which a reason to refuse is converted to an error.
+/// Converts the reason in a refusal to an error. Returns any other answer as it is.
 pub(crate) fn refused(
     answer: Result<LongTermServerValidation, LongTermServerAuthErrorReason>,
 ) -> Result<LongTermServerValidation, LongTermServerAuthError>

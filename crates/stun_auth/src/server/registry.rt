@@ -1,4 +1,4 @@
-//! The users of a realm, each with a key for each supported algorithm.
+//! The users of a realm, and the keys of each user for the supported algorithms.
 
 ghost use Rattle.std.specs.Prelude.{◌≡◌, ◌↔◌, Option, None, Some, IsTrue, OnOk};
 ghost use Rattle.std.specs.Prelude.{OnErr, IfOk, IfErr, IfNone, IfSome, IsOk};
@@ -29,11 +29,12 @@ use stun_base::key::userhash;
 use stun_base::memory::Memory;
 use stun_base::prepared_key::PreparedKey;
 
-/// A user: the password or stored keys, and the key for each supported algorithm, prepared to
+/// A user: the password or stored keys, and the keys for the supported algorithms, prepared to
 /// verify signatures.
 #[derive(Drop)]
 pub(crate) struct User<A: Allocator> {
-    /// The contents are in a box, because they are long and the nodes of a tree can be half empty.
+    /// The contents are in a box, because they are long: a node of the tree reserves room for
+    /// several users, and can be half empty.
     kept: Box<KeptUser<A>, A>,
 }
 
@@ -208,8 +209,8 @@ impl<A: Memory> Registry<A> {
         }
     }
 
-    /// Returns the first name in byte order of a registered user that has this hash, or `None` if
-    /// no name has it.
+    /// Returns the name of the registered user whose name has this hash, or `None` if there is no
+    /// such user. If several names have the hash, returns the first of them in byte order.
     pub(crate) fn name_with_hash(&self, hash: &[u8; 32]) -> Option<&str>
         ensures { option_copied result ≡ name_with_hash self.now hash.now }
     {
@@ -290,7 +291,8 @@ impl<A: Memory> Registry<A> {
         }
     }
 
-    /// Sets the supported algorithms: each user has keys for them, and no others.
+    /// Sets the supported algorithms, and makes the keys of each user again: a key for each of
+    /// these algorithms, except those for which a user with stored keys has none.
     pub(crate) fn set_supported(&mut self, supported: AlgorithmSet)
         ensures { self.new ≡ record self.old { algorithms = supported } }
     {

@@ -75,14 +75,15 @@ impl<A: Allocator + Copy> LongTermServerAuth<A> {
     /// the realm. Only the 400 of a request that failed authentication, which was refused with
     /// `BadRequest`, goes out as it is.
     ///
-    /// The writer must hold a message without FINGERPRINT. The attributes are added one after
-    /// another, and the call fails with the first error. The writer is then dropped, and the server
-    /// is unchanged.
+    /// Add FINGERPRINT after this call, because it has to be the last attribute, and the call does
+    /// not check whether the message has one already. The attributes are added one after another,
+    /// and the call fails with the first error. The writer is then dropped, and the server is
+    /// unchanged.
     ///
-    /// - `MessageIntegrityExists`, `AttributeExists`: the message already has a signature, or
-    ///   already has the attribute to add.
+    /// - `MessageIntegrityExists`: the message is signed already.
+    /// - `AttributeExists`: the message already has the attribute to add.
     /// - `TooLarge`: the message would be too long, or the realm has more than 763 bytes.
-    /// - `TooSmall`: the writer has no room.
+    /// - `TooSmall`: the writer has too little room.
     /// - `IntegrityFailed`: the user who is the client was removed, or no longer has a key for the
     ///   algorithm.
     /// - `OutOfMemory`: an allocation failed.
@@ -328,7 +329,8 @@ impl<A: Allocator + Copy> LongTermServerAuth<A> {
             .saturating_add(protection_bytes(place.client()))
     }
 
-    /// Returns the number of bytes of NONCE and REALM, at most 2^64 - 1.
+    /// Returns the number of bytes of NONCE and REALM in a response, at most 2^64 - 1, or 0 for a
+    /// request or an indication, which gets neither.
     fn challenge_bytes(&self, nonce: &str, is_response: bool) -> usize
         ensures { result ≡ min (growth (challenge is_response self.now.registered nonce.now))
             (2 ^ 64 - 1) }

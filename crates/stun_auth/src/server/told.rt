@@ -17,10 +17,10 @@ use crate::server::verdict::is_same_nonce;
 /// Returns the refusal to send for a request that was refused under every nonce that the server
 /// accepts. `nonce` is the current nonce.
 ///
-/// `BadRequest` becomes `StaleNonce`, unless the message is malformed or has the current nonce.
-/// Clients drop an unsigned 400, but from a 438 a client that repeats an old offer, or an offer
-/// under other settings, learns how to continue. Other refusals are returned as they are. It does
-/// not allocate.
+/// `BadRequest` becomes `StaleNonce`, unless the message is malformed or has the current nonce. A
+/// client that repeats an old offer, or an offer that was made under other settings, drops a 400,
+/// which is unsigned, but learns from a 438 how to continue. Other refusals are returned as they
+/// are. The call does not allocate.
 pub fn told_refusal(
     refusal: VerdictRefusal,
     read: &ReadMessage<'_, '_>,

@@ -17,8 +17,9 @@ pub(crate) enum UserSecret<A: Allocator> {
 }
 
 impl<A: Allocator + Copy> UserSecret<A> {
-    /// Returns the key of the user with this name at this realm for an algorithm, or `None` if it
-    /// is not stored. It does not allocate.
+    /// Returns the key for an algorithm. If the secret is a password, the key is made from the
+    /// name, the realm and the password. Returns `None` if the secret is stored keys, and none of
+    /// them is for this algorithm. The call does not allocate.
     pub(crate) fn key(
         &self,
         alloc: A,

@@ -87,7 +87,8 @@ impl<A: Allocator> Judgement<A> {
     }
 }
 
-/// Returns whether the nonce of a record is current: `now` is not later than its expiry time.
+/// Returns whether there is a record whose nonce is current, which means that `now` is not later
+/// than its expiry time.
 fn nonce_stands<A: Allocator>(place: Option<&Place<A>>, now: Instant) -> bool
     ensures { result ≡ has_current_nonce now (option_map place_seen (option_copied place.entry)) }
 {
@@ -191,14 +192,14 @@ impl<A: Memory> LongTermServerAuth<A> {
     /// - `Unauthorized` (401): the user is not registered or has no key for the algorithm, or the
     ///   signature is invalid.
     ///
-    /// A nonce is current until it expires, that time included. If the address has no current
-    /// nonce, a new one is made, from sixteen random numbers. This happens for a message without an
-    /// integrity attribute, and for a message that has REALM, NONCE and a user name.
+    /// A nonce is current up to and including its expiry time. If the address has no current nonce,
+    /// a new one is made from sixteen random numbers, unless the message is a response, or has a
+    /// well-formed integrity attribute but lacks REALM, NONCE or a user name.
     ///
     /// `OutOfMemory` means that an allocation failed, and can occur only when a nonce must be made
     /// or a new client stored. The record of the address is then unchanged, but random numbers may
-    /// have been read. Random numbers are read only to make a nonce, which everybody can see: never
-    /// use them again.
+    /// have been read. Random numbers are read only to make a nonce. Everybody can see the nonce,
+    /// so never use these random numbers for anything else.
     pub fn validate_incoming_message<R: Rng>(
         &mut self,
         message: &Message<'_>,
@@ -275,8 +276,8 @@ impl<A: Memory> LongTermServerAuth<A> {
         self.commit(from, renewal, judged)
     }
 
-    /// Validates a response: its signature must be valid under the key of the address's client.
-    /// Fails with `IntegrityFailed` otherwise.
+    /// Validates a response if its signature is valid under the key of the address's client, and
+    /// fails with `IntegrityFailed` otherwise.
     fn check_response(
         &self,
         reading: &MessageReading<'_, '_>,

@@ -8,9 +8,10 @@ use crate::keys::hash::HashFunction;
 use sha1::{Sha1, Sha1 as BegunSha1};
 use sha2::{Sha256, Sha256 as BegunSha256};
 
-/// The state of a hash function that has been fed one block. It can start any number of hashers for
-/// messages that begin with this block. If the crate of the hash function has a separate type for
-/// such a state, that type has no buffer for an incomplete block, so it is smaller than a hasher.
+/// The state of a hash function that has been fed one block. Any number of hashers can start from
+/// it, for messages that begin with this block. If the crate of the hash function has a separate
+/// type for such a state, that type is smaller than a hasher, because it has no buffer for an
+/// incomplete block.
 pub(crate) trait BegunHash: Drop {
     type Hasher: HashFunction;
 

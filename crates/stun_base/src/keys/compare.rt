@@ -26,8 +26,8 @@ pub fn is_same_text(one: &[u8], other: &[u8]) -> bool
     is_same_text_counted(&mut BytePairs::of(one, other))
 }
 
-/// Returns `true` if two texts of the same length have the same bytes. No pair of bytes may have
-/// been read before the call, and after it every pair has been read once, whatever the bytes are.
+/// Returns `true` if two texts of the same length have the same bytes. `pairs` must be new, so that
+/// no pair has been read before. The call reads every pair once, whatever the bytes are.
 #[doc(hidden)]
 pub fn is_same_text_counted(pairs: &mut BytePairs<'_>) -> bool
     requires unread { pairs.old.read ≡ 0 }

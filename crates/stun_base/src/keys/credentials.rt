@@ -41,7 +41,7 @@ impl<A: Allocator> ShortTermCredentials<A> {
         ShortTermCredentials { password }
     }
 
-    /// Returns the password. For both algorithms, the key consists of all its bytes.
+    /// Returns the password, whose bytes are the key for both algorithms.
     pub fn password(&self) -> &str
         ensures { result.now ≡ self.now }
     {

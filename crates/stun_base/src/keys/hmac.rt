@@ -28,8 +28,8 @@ const INNER_PAD: u8 = 0x36;
 /// The byte with which each byte of the key block is XORed before the inner digest is hashed.
 const OUTER_PAD: u8 = 0x5c;
 
-/// Returns the key as one block, filled up with zeros. If the key is longer than a block, its
-/// digest is used in its place.
+/// Returns the key as one block, filled up with zeros. A key that is longer than a block is first
+/// replaced by its digest (RFC 2104, section 2).
 fn key_block<H: HashFunction>(key: &[u8]) -> [u8; BLOCK_LENGTH]
     ensures { result ≡ spec.key_block H.digest key.now }
 {
@@ -83,8 +83,7 @@ fn feed_all<H: HashFunction>(hasher: &mut H, pieces: &[&[u8]])
     }
 }
 
-/// Computes the HMAC, with this hash function, of the text that consists of the pieces in their
-/// order.
+/// Computes the HMAC of the concatenated `pieces` under `key`, with the hash function `H`.
 #[tactic(auto, unfolding(crate::specs::Hmac::hmac))]
 fn hmac<H: HashFunction>(key: &[u8], pieces: &[&[u8]]) -> H::Digest
     ensures { H.Digest.items result ≡
@@ -132,7 +131,7 @@ impl<B: BegunHash> BegunHmac<B> {
         }
     }
 
-    /// Computes the HMAC under this key of the text that consists of the pieces in their order.
+    /// Computes the HMAC of the concatenated `pieces` under this key.
     #[tactic(auto, unfolding(crate::specs::Hmac::hmac))]
     pub(crate) fn digest(&self, pieces: &[&[u8]]) -> <B::Hasher as HashFunction>::Digest
         ensures { (key : List ℕ) →
@@ -148,16 +147,16 @@ impl<B: BegunHash> BegunHmac<B> {
     }
 }
 
-/// Computes the HMAC-SHA1 (RFC 2104) of the text that consists of the pieces in their order. The
-/// key and the text may have any length. This does not allocate.
+/// Computes the HMAC-SHA1 (RFC 2104) of the concatenated `pieces` under `key`. The key and the
+/// pieces may have any length. This does not allocate.
 pub fn hmac_sha1(key: &[u8], pieces: &[&[u8]]) -> [u8; SHA1_LENGTH]
     ensures { result ≡ spec.hmac sha1 key.now (concat (map (λ piece. piece.now) pieces.now)) }
 {
     hmac::<Sha1>(key, pieces)
 }
 
-/// Computes the HMAC-SHA256 (RFC 2104) of the text that consists of the pieces in their order. The
-/// key and the text may have any length. This does not allocate.
+/// Computes the HMAC-SHA256 (RFC 2104) of the concatenated `pieces` under `key`. The key and the
+/// pieces may have any length. This does not allocate.
 pub fn hmac_sha256(key: &[u8], pieces: &[&[u8]]) -> [u8; SHA256_LENGTH]
     ensures { result ≡ spec.hmac sha256 key.now (concat (map (λ piece. piece.now) pieces.now)) }
 {

@@ -161,7 +161,7 @@ fn credentials_digest<H: HashFunction>(username: &[u8], realm: &[u8], password: 
     }
 }
 
-/// Returns whether bytes are UTF-8.
+/// Returns whether the bytes are UTF-8.
 fn is_utf8(bytes: &[u8]) -> bool
     ensures { result ≡ is_utf8 bytes.now }
 {
@@ -212,7 +212,8 @@ pub fn long_term_key<A: Allocator>(
     hashed_key(algorithm, username, realm, password)
 }
 
-/// Returns the long-term key, with any allocator type.
+/// Like `long_term_key`, but without an allocator as an argument, because only the allocator type
+/// of the key is needed.
 pub(crate) fn hashed_key<A: Allocator>(
     algorithm: IntegrityAlgorithm,
     username: &str,

@@ -72,8 +72,8 @@ impl<A: Allocator> PreparedKey<A> {
         &self.key
     }
 
-    /// Computes the HMAC-SHA1 of the text that consists of the pieces in their order. The result is
-    /// the same as that of `hmac::hmac_sha1`. This does not allocate.
+    /// Computes the HMAC-SHA1 of the concatenated `pieces` under this key. The result is the same
+    /// as that of `hmac::hmac_sha1`. This does not allocate.
     pub fn hmac_sha1(&self, pieces: &[&[u8]]) -> [u8; SHA1_LENGTH]
         ensures { result ≡ hmac sha1 self.now (concat (map (λ piece. piece.now) pieces.now)) }
     {
@@ -83,8 +83,8 @@ impl<A: Allocator> PreparedKey<A> {
         }
     }
 
-    /// Computes the HMAC-SHA256 of the text that consists of the pieces in their order. The result
-    /// is the same as that of `hmac::hmac_sha256`. This does not allocate.
+    /// Computes the HMAC-SHA256 of the concatenated `pieces` under this key. The result is the same
+    /// as that of `hmac::hmac_sha256`. This does not allocate.
     pub fn hmac_sha256(&self, pieces: &[&[u8]]) -> [u8; SHA256_LENGTH]
         ensures { result ≡ hmac sha256 self.now (concat (map (λ piece. piece.now) pieces.now)) }
     {

@@ -38,12 +38,12 @@ pub enum ValidateError {
     IntegrityFailed,
 }
 
-/// Why an attribute or a message could not be written. The call that failed has left the bytes and
-/// the room of the writer unchanged.
+/// Why an attribute or a message could not be written. A call that fails leaves the bytes and the
+/// room of the writer unchanged, or drops the writer if it was passed by value.
 #[derive(Debug, Clone, Copy, PartialEq, Eq, Error)]
 pub enum StunWriteError {
-    /// This call does not write attributes of this type. For some of these types there is another
-    /// call.
+    /// This call does not write attributes of this type, or not with this value, such as an
+    /// ERROR-CODE with the code 700. For some types there is another call.
     #[error("the attribute is not written by this call")]
     NotAllowed,
     /// The message has an integrity attribute already, and this call adds nothing after it.

@@ -8,8 +8,8 @@ use rand_core::utils::NextWord;
 use rand_core::{Rng, utils};
 use std::marker::Model;
 
-/// A source of sixteen 32-bit random numbers, which the caller supplies. It returns them in their
-/// order. After the last of them it returns only zeros.
+/// A source of sixteen 32-bit random numbers, which the caller supplies. It returns these numbers
+/// in order, and then only zeros.
 ///
 /// Contracts: the value is the list of the numbers that have not been read.
 #[derive(Debug, Drop)]

@@ -20,8 +20,10 @@ use stun_handles::address::Address;
 use stun_handles::answers;
 use stun_numbers::refusal::Refusal;
 
-/// Creates a client of a server. If the name has no bytes, the client has no user. If the SOFTWARE
-/// text has no bytes, requests have no SOFTWARE. An option that is 0 has its default.
+/// Creates a client of the server at the address `server`. `seed` is 32 random bytes. If the name
+/// has no bytes, the client has no user. If the SOFTWARE text has no bytes, requests have no
+/// SOFTWARE. `understood` lists the attribute types that the caller understands in responses, in
+/// addition to those in `include/stunp.h`. An option that is 0 has its default.
 ///
 /// # Errors
 ///
@@ -31,7 +33,7 @@ use stun_numbers::refusal::Refusal;
 /// - `BadArgument`: `server` is not an IPv4 or IPv6 address, an option is invalid, there is a name
 ///   without a password or a password without a name, or the seed is one repeated byte.
 /// - `NotText`: the name, the password or SOFTWARE is not UTF-8.
-/// - `TextTooLong`: the name has more than 513 bytes, or SOFTWARE has more than 763.
+/// - `TextTooLong`: the name has more than 513 bytes, or SOFTWARE has more than 763 bytes.
 /// - `OutOfMemory`: an allocation failed.
 #[unsafe(no_mangle)]
 pub extern "C" fn stunp_endpoint_client_new_with(
@@ -79,16 +81,20 @@ pub extern "C" fn stunp_endpoint_client_clear(alloc: Global, client: &mut Endpoi
     let _kept = client.take(alloc);
 }
 
-/// Starts a request, and writes its number to `request`. The body is a list of encoded attributes,
-/// in which the addresses of XOR-PEER-ADDRESS are not XORed.
+/// Starts a request with this method at the time `now`, in nanoseconds, and writes its number to
+/// `request`. `body` has the attributes one after the other, each with its header and its padding,
+/// as in a message; but the addresses of XOR-PEER-ADDRESS are not XORed.
 ///
 /// # Errors
 ///
-/// The first of these that applies. `OutOfMemory` may take the place of any except the first.
+/// The first of these that applies. If an allocation fails, the call may return `OutOfMemory` in
+/// place of any error after the first.
 ///
 /// - `BadArgument`: the method is above 4095.
-/// - `NotAllowed`, `MessageTooLong`, or `BadArgument` for bytes that are not an attribute: the
-///   error of the first attribute of the body that cannot be added.
+/// - `NotAllowed`, `MessageTooLong` or `BadArgument`: the error of the first attribute of the body
+///   that cannot be added. `NotAllowed` means that the client writes this type itself or that no
+///   caller may add it, `MessageTooLong` that the attributes are too long, and `BadArgument` that
+///   the attribute is incomplete, or is a XOR-PEER-ADDRESS without an address.
 /// - `AlreadyInProgress`: no transaction ID is left.
 /// - `MessageTooLong`: the whole request is too long.
 #[unsafe(no_mangle)]
@@ -111,12 +117,12 @@ pub extern "C" fn stunp_endpoint_client_request_with(
     answer
 }
 
-/// Starts a request like `stunp_endpoint_client_request_with`, but the options say how it is sent,
-/// and from which address its response is accepted.
+/// Starts a request like `stunp_endpoint_client_request_with`, but with options that say how it is
+/// sent, and from which address its response is accepted.
 ///
-/// Fails like that call. In addition, it fails with `BadArgument`, right after the test of the
-/// method, if the size of the options is wrong, or if the length of their address is not 0, 4 or
-/// 16.
+/// Fails like `stunp_endpoint_client_request_with`. In addition, it fails with `BadArgument`, right
+/// after the test of the method, if `options.size` is wrong, or if the length of `options.from` is
+/// not 0, 4 or 16.
 #[unsafe(no_mangle)]
 pub extern "C" fn stunp_endpoint_client_request_as_with(
     alloc: Global,
@@ -138,8 +144,8 @@ pub extern "C" fn stunp_endpoint_client_request_as_with(
     answer
 }
 
-/// Processes a datagram that arrived from an address, and returns its `stunp_kind`. If the datagram
-/// is dropped, writes the `stunp_drop` to `why`.
+/// Processes a datagram that arrived from the address `from` at the time `now`, in nanoseconds, and
+/// returns its `stunp_kind`. If the datagram is dropped, writes the `stunp_drop` to `why`.
 ///
 /// Fails with `BadArgument` if `from` is not an IPv4 or IPv6 address.
 #[unsafe(no_mangle)]
@@ -162,13 +168,14 @@ pub extern "C" fn stunp_endpoint_client_receive_with(
     answer
 }
 
-/// Writes the next thing to do to `event`, and returns its `stunp_event_kind`. Writes a request to
-/// send, or the response that ended a request, to the front of `out`.
+/// Writes what to do next at the time `now`, in nanoseconds, to `event`, and returns its
+/// `stunp_event_kind`. Writes a request to send, or the response that ended a request, to the front
+/// of `out`.
 ///
-/// Fails with `BadArgument` if the size of the event is wrong, or with `BufferTooSmall` if the
-/// bytes do not fit into `out`. These bytes are then lost, and `event.needed` is their number.
-/// After an error the event has the kind 7 and the length 0. After `BufferTooSmall`, its other
-/// fields are set.
+/// Fails with `BadArgument` if `event.size` is wrong, or with `BufferTooSmall` if the request or
+/// the response does not fit into `out`. The request or the response is then lost, and
+/// `event.needed` is its length. After an error, `event` has the kind 7 and the length 0. After
+/// `BufferTooSmall`, the other fields are those for the request or the response that is lost.
 #[unsafe(no_mangle)]
 pub extern "C" fn stunp_endpoint_client_poll_with(
     alloc: Global,
@@ -189,7 +196,7 @@ pub extern "C" fn stunp_endpoint_client_poll_with(
     answer
 }
 
-/// Cancels a request, and returns 1, or 0 if the request has ended already.
+/// Cancels the request with this number. Returns 1, or 0 if the request has ended already.
 #[unsafe(no_mangle)]
 pub extern "C" fn stunp_endpoint_client_cancel(
     alloc: Global,
@@ -207,8 +214,8 @@ pub extern "C" fn stunp_endpoint_client_cancel(
     answer
 }
 
-/// Writes to `dropped` how many responses to an outstanding request were dropped, and why the last
-/// one was. Returns 1, or 0 if the request has ended.
+/// Writes to `dropped` how many responses to the request with this number were dropped, and why the
+/// last one was dropped. Returns 1. If the request has ended, returns 0 and writes nothing.
 #[unsafe(no_mangle)]
 pub extern "C" fn stunp_endpoint_client_dropped(
     alloc: Global,

@@ -23,7 +23,8 @@ use stun_handles::address::Address;
 use stun_handles::answers;
 use stun_numbers::refusal::Refusal;
 
-/// Creates an ICE agent with the credentials of both sides and a tie-breaker. The agent begins in
+/// Creates an ICE agent with the credentials of both sides: username fragments and passwords.
+/// `tie_breaker` is a random number of 64 bits, which decides role conflicts. The agent begins in
 /// the controlling role if `is_controlling` is true, and otherwise in the controlled role.
 ///
 /// # Errors
@@ -70,9 +71,10 @@ pub extern "C" fn stunp_ice_checker_new_with(
     given.place(alloc, checker)
 }
 
-/// Creates an ICE agent that does not know its peer yet, with its own credentials and a
-/// tie-breaker. The agent begins in the controlling role if `is_controlling` is true, and otherwise
-/// in the controlled role.
+/// Creates an ICE agent that does not know its peer yet, with its own username fragment and
+/// password. `tie_breaker` is a random number of 64 bits, which decides role conflicts. The agent
+/// begins in the controlling role if `is_controlling` is true, and otherwise in the controlled
+/// role.
 ///
 /// # Errors
 ///
@@ -105,7 +107,7 @@ pub extern "C" fn stunp_ice_checker_offer_with(
     own.place(alloc, tie_breaker, is_controlling, checker)
 }
 
-/// Sets the credentials of the agent's peer, and forgets any earlier ones.
+/// Sets the credentials of the agent's peer, in place of any that were set before.
 ///
 /// # Errors
 ///
@@ -182,7 +184,8 @@ pub extern "C" fn stunp_ice_checker_set_role(
     answer
 }
 
-/// Sets the tie-breaker of the agent.
+/// Sets the tie-breaker of the agent. After a role conflict, an agent must have a new random
+/// tie-breaker before it writes its next check (RFC 8445, section 16.1).
 #[unsafe(no_mangle)]
 pub extern "C" fn stunp_ice_checker_set_tie_breaker(
     alloc: Global,
@@ -200,8 +203,12 @@ pub extern "C" fn stunp_ice_checker_set_tie_breaker(
     answer
 }
 
-/// Writes a check to the front of `out`, and returns its length. Writes to `check` the data that
-/// the agent needs to judge the answer.
+/// Writes a check to the front of `out`, and returns its length. `id` is its transaction ID, which
+/// must be random and new, because otherwise the answer to one check could end another. `to` is the
+/// address to which you send the check. If the peer learns a new peer-reflexive candidate from the
+/// check, `priority` is the priority of this candidate. The check nominates its pair if `nominate`
+/// is true and the agent has the controlling role. The call writes to `check` the data that the
+/// agent needs to judge the answer.
 ///
 /// Fails with `BadArgument` if `to` is not an IPv4 or IPv6 address, then with `CannotSign` if the
 /// credentials of the peer are not known yet, then with `OutOfMemory`, then with `BufferTooSmall`
@@ -229,18 +236,21 @@ pub extern "C" fn stunp_ice_checker_check_with(
     answer
 }
 
-/// Writes a check like `stunp_ice_checker_check_with`, with the attributes of a body before its
-/// signature.
+/// Writes a check like `stunp_ice_checker_check_with`, but with the attributes of `body` before its
+/// signature. `body` has the attributes one after the other, each with its header and its padding,
+/// as in a message.
 ///
 /// # Errors
 ///
-/// The first of these that applies. `OutOfMemory` may take the place of the error of an attribute
-/// and of any later one.
+/// The first of these that applies. If an allocation fails, the call may return `OutOfMemory` in
+/// place of the error of an attribute, or of any later error.
 ///
 /// - `BadArgument`: `to` is not an IPv4 or IPv6 address.
 /// - `CannotSign`: the credentials of the peer are not known yet.
-/// - `NotAllowed`, `AttributeExists`, `MessageTooLong`, or `BadArgument` for bytes that are not an
-///   attribute: the error of the first attribute of the body that cannot be added.
+/// - `NotAllowed`, `AttributeExists`, `MessageTooLong` or `BadArgument`: the error of the first
+///   attribute of the body that cannot be added. `NotAllowed` means that no caller may add this
+///   type, `AttributeExists` that the check has the attribute already, `MessageTooLong` that the
+///   check becomes too long, and `BadArgument` that the attribute is incomplete.
 /// - `MessageTooLong`: the whole check is too long.
 /// - `BufferTooSmall`: the check does not fit into `out`.
 #[unsafe(no_mangle)]
@@ -268,17 +278,18 @@ pub extern "C" fn stunp_ice_checker_check_body_with(
     answer
 }
 
-/// Judges a datagram that arrived from an address. Writes the outcome to `received` and returns its
-/// `stunp_kind`. If the datagram is a check of the peer, writes the answer to the front of `out`.
-/// If `has_check` is true, `check` is the check of this agent that the datagram may answer.
+/// Judges a datagram that arrived from the address `from`. Writes the outcome to `received` and
+/// returns its `stunp_kind`. If the datagram is a check of the peer, writes the answer to the front
+/// of `out`. If `has_check` is true, `check` is the check of this agent that has the transaction ID
+/// of the datagram, as `stunp_ice_checker_check_with` wrote it.
 ///
 /// # Errors
 ///
 /// The first of these that applies. After an error the agent is unchanged, and `received` has the
 /// kind 7 and the length 0.
 ///
-/// - `BadArgument`: the size of the caller's struct is wrong, or `from` or the address in `check`
-///   is not an IPv4 or IPv6 address.
+/// - `BadArgument`: `received.size` is wrong, or `from` or the address in `check` is not an IPv4 or
+///   IPv6 address.
 /// - `OutOfMemory`: an allocation failed.
 /// - `BufferTooSmall`: the answer does not fit into `out`. Its length is then in `received.needed`.
 #[unsafe(no_mangle)]

@@ -19,9 +19,16 @@ use stun_handles::address::Address;
 use stun_handles::answers;
 use stun_numbers::refusal::Refusal;
 
-/// Creates a server with long-term credentials. If `nonce_seconds` is 0, nonces are valid for an
-/// hour. If `algorithms` is 0, both are supported. If the SOFTWARE text has no bytes, responses
-/// have no SOFTWARE.
+/// Creates a server with long-term credentials. `secret` is 32 random bytes, from which the server
+/// makes its nonces. If `has_previous_secret` is true, the server also accepts nonces that were
+/// made from `previous_secret`. The server sends the same nonce to a client for `nonce_seconds`, or
+/// for an hour if this is 0, and accepts a nonce for one to two times as long. If `algorithms` is
+/// 0, the server supports both algorithms. If `anonymous_username` is 2, clients may not send a
+/// hash in place of the user name. If the SOFTWARE text has no bytes, responses have no SOFTWARE.
+///
+/// `understood` lists the attribute types that the caller understands, in addition to those of
+/// STUN. If `answers_binding` is true, the server itself answers an accepted Binding request. If
+/// `requires_fingerprint` is true, it drops messages without FINGERPRINT.
 ///
 /// # Errors
 ///
@@ -92,7 +99,10 @@ fn previous(secret: &[u8; 32], is_there: bool) -> Option<[u8; 32]>
 }
 
 /// Creates a server with short-term credentials (RFC 8489, section 9.1). If the SOFTWARE text has
-/// no bytes, responses have no SOFTWARE.
+/// no bytes, responses have no SOFTWARE. `understood` lists the attribute types that the caller
+/// understands, in addition to those of STUN. If `answers_binding` is true, the server itself
+/// answers an accepted Binding request. If `requires_fingerprint` is true, it drops messages
+/// without FINGERPRINT.
 ///
 /// Fails with `FullHandle` if the handle is not empty, then with `NotText` if SOFTWARE is not
 /// UTF-8, then with `TextTooLong` if SOFTWARE has more than 763 bytes, then with `OutOfMemory`.
@@ -126,7 +136,10 @@ pub extern "C" fn stunp_endpoint_server_new_short_term(
 }
 
 /// Creates a server without credentials, which responds to every client. If the SOFTWARE text has
-/// no bytes, responses have no SOFTWARE.
+/// no bytes, responses have no SOFTWARE. `understood` lists the attribute types that the caller
+/// understands, in addition to those of STUN. If `answers_binding` is true, the server itself
+/// answers a Binding request. If `requires_fingerprint` is true, it drops messages without
+/// FINGERPRINT.
 ///
 /// Fails with `FullHandle` if the handle is not empty, then with `NotText` if SOFTWARE is not
 /// UTF-8, then with `TextTooLong` if SOFTWARE has more than 763 bytes, then with `OutOfMemory`.
@@ -167,9 +180,13 @@ pub extern "C" fn stunp_endpoint_server_clear(alloc: Global, server: &mut Endpoi
     let _kept = server.take(alloc);
 }
 
-/// Judges a datagram that arrived from an address. Writes the outcome to `received` and returns its
-/// `stunp_kind`. If the server responds by itself, writes the response to the front of `out`.
-/// `unix_seconds` is the time of the wall clock. A server without credentials ignores the users.
+/// Judges a datagram that arrived from the address `from`. Writes the outcome to `received` and
+/// returns its `stunp_kind`. If the server responds by itself, this call writes the response to the
+/// front of `out`. A server without credentials ignores the users.
+///
+/// `unix_seconds` is the time of the wall clock, in seconds since 1970. If the clock is set back,
+/// no call fails, but clients may get one more 438, and recorded requests stay valid for as much
+/// longer.
 ///
 /// # Errors
 ///
@@ -178,10 +195,10 @@ pub extern "C" fn stunp_endpoint_server_clear(alloc: Global, server: &mut Endpoi
 /// - `EmptyHandle`: the server's handle is empty.
 /// - `WrongHandle`: the server's handle has no server.
 /// - `EmptyHandle`: the server has credentials, but the users' handle is empty.
-/// - `WrongHandle`: the server has credentials, but the users' handle has no users with such
-///   credentials.
-/// - `BadArgument`: the size of the caller's struct is wrong, `unix_seconds` is too large, or
-///   `from` is not an IPv4 or IPv6 address.
+/// - `WrongHandle`: the server has credentials, but the users' handle has no table of users with
+///   credentials of this kind.
+/// - `BadArgument`: `received.size` is wrong, `unix_seconds` is too large, or `from` is not an IPv4
+///   or IPv6 address.
 /// - `OutOfMemory`: an allocation failed.
 /// - `BufferTooSmall`: the response does not fit into `out`. Its length is then in
 ///   `received.needed`.
@@ -218,12 +235,13 @@ pub extern "C" fn stunp_endpoint_server_receive_own(
     answer
 }
 
-/// Judges a datagram that arrived from an address, like `stunp_endpoint_server_receive_own`, and
-/// also writes to `cause` the `stunp_cause` for which a server with long-term credentials refuses
-/// it, or 0 if there is none.
+/// Judges a datagram like `stunp_endpoint_server_receive_own`, and also writes to `cause` the
+/// `stunp_cause` for which a server with long-term credentials refuses the datagram, or 0 if the
+/// server does not refuse it or has other credentials or none.
 ///
-/// Fails like that call. After an error `cause` is 0, except that after `BufferTooSmall` it is the
-/// cause of the response that does not fit.
+/// Fails like `stunp_endpoint_server_receive_own`. After `BufferTooSmall`, `cause` is the cause of
+/// the response that does not fit. After `OutOfMemory` it may be 0, and after any other error it is
+/// 0.
 #[unsafe(no_mangle)]
 pub extern "C" fn stunp_endpoint_server_receive_with_cause_own(
     alloc: Global,
@@ -270,18 +288,21 @@ pub extern "C" fn stunp_endpoint_server_receive_with_cause_own(
     answer
 }
 
-/// Judges a datagram as far as that is possible without the user. Writes the outcome to `received`
-/// and returns its `stunp_kind`, which is 5 if the datagram is a request whose user must be looked
-/// up.
+/// Judges a datagram that arrived from the address `from`, as far as that is possible without its
+/// user. Writes the outcome to `received` and returns its `stunp_kind`. The kind is 5
+/// (`STUNP_LOOKUP`) for a request whose user must be looked up: pass the request and the user to
+/// `stunp_endpoint_server_resume_own`. If the server responds by itself, this call writes the
+/// response to the front of `out`. `unix_seconds` is the time of the wall clock, in seconds since
+/// 1970.
 ///
 /// # Errors
 ///
 /// The first of these that applies. After an error, `received` has the kind 7 and the length 0.
 ///
 /// - `EmptyHandle`: the handle is empty.
-/// - `WrongHandle`: the handle has anything except a server with long-term credentials.
-/// - `BadArgument`: the size of the caller's struct is wrong, `unix_seconds` is too large, or
-///   `from` is not an IPv4 or IPv6 address.
+/// - `WrongHandle`: the handle has something other than a server with long-term credentials.
+/// - `BadArgument`: `received.size` is wrong, `unix_seconds` is too large, or `from` is not an IPv4
+///   or IPv6 address.
 /// - `OutOfMemory`: an allocation failed.
 /// - `BufferTooSmall`: the response does not fit into `out`. Its length is then in
 ///   `received.needed`.
@@ -310,21 +331,25 @@ pub extern "C" fn stunp_endpoint_server_identify_own(
     answer
 }
 
-/// Judges a request whose user the caller has looked up, with the name of this user and the
-/// password or the stored keys. Writes the outcome to `received` and returns its `stunp_kind`. The
-/// outcome is the same as with a table that has only this user, but only the key that the request
-/// needs is made. A key without bytes is missing.
+/// Judges a request for which `stunp_endpoint_server_identify_own` returned 5 (`STUNP_LOOKUP`),
+/// with the user whom the caller has looked up: the name, and the password if `has_password` is
+/// true, or otherwise the stored keys. Writes the outcome to `received` and returns its
+/// `stunp_kind`. The outcome is the same as with a table that has only this user, but the call
+/// makes only the key that the request needs. `sha1` has 16 bytes, and `sha256` has 32. A key
+/// without bytes is missing. If the server responds by itself, this call writes the response to the
+/// front of `out`. `from` and `unix_seconds` are the address and the time with which the request
+/// was identified.
 ///
 /// # Errors
 ///
 /// The first of these that applies. After an error, `received` has the kind 7 and the length 0.
 ///
 /// - `EmptyHandle`: the handle is empty.
-/// - `WrongHandle`: the handle has anything except a server with long-term credentials.
+/// - `WrongHandle`: the handle has something other than a server with long-term credentials.
 /// - `NotText`: the name or the password is not UTF-8.
 /// - `TextTooLong`: the name has more than 513 bytes.
-/// - `BadArgument`: the password has no bytes, a key has a wrong length, the size of the caller's
-///   struct is wrong, `unix_seconds` is too large, or `from` is not an IPv4 or IPv6 address.
+/// - `BadArgument`: the password has no bytes, a key has a wrong length, `received.size` is wrong,
+///   `unix_seconds` is too large, or `from` is not an IPv4 or IPv6 address.
 /// - `OutOfMemory`: an allocation failed.
 /// - `BufferTooSmall`: the response does not fit into `out`. Its length is then in
 ///   `received.needed`.
@@ -365,17 +390,21 @@ pub extern "C" fn stunp_endpoint_server_resume_own(
     answer
 }
 
-/// Returns the `stunp_cause` for which a server with long-term credentials refuses a datagram, or 0
-/// if the server does not refuse it.
+/// Returns the `stunp_cause` for which a server with long-term credentials refuses a datagram that
+/// arrived from the address `from`, or 0 if the server does not refuse it. `unix_seconds` is the
+/// time of the wall clock, in seconds since 1970. The call judges the datagram like
+/// `stunp_endpoint_server_receive_own`, but writes no response.
 ///
 /// # Errors
 ///
 /// The first of these that applies:
 ///
 /// - `EmptyHandle`: the server's handle is empty.
-/// - `WrongHandle`: the server's handle has anything except a server with long-term credentials.
+/// - `WrongHandle`: the server's handle has something other than a server with long-term
+///   credentials.
 /// - `EmptyHandle`: the users' handle is empty.
-/// - `WrongHandle`: the users' handle has anything except users with long-term credentials.
+/// - `WrongHandle`: the users' handle has something other than a table of users with long-term
+///   credentials.
 /// - `BadArgument`: `unix_seconds` is too large, or `from` is not an IPv4 or IPv6 address.
 /// - `OutOfMemory`: an allocation failed.
 #[unsafe(no_mangle)]

@@ -17,8 +17,9 @@ use std::alloc::Global;
 use stun_handles::answers;
 use stun_numbers::refusal::Refusal;
 
-/// Creates an empty table of users for a server. If the server has short-term credentials, so have
-/// the users. Otherwise they are users of the server's realm, with keys for its algorithms.
+/// Creates an empty table of users for a server with long-term or short-term credentials. With
+/// long-term credentials, use the table only with servers that have the same `realm`, `algorithms`
+/// and `anonymous_username`.
 ///
 /// Fails with `FullHandle` if the table's handle is not empty, then with `EmptyHandle` if the
 /// server's handle is empty, then with `WrongHandle` if the server's handle has no server or has a
@@ -62,7 +63,9 @@ pub extern "C" fn stunp_endpoint_users_clear(alloc: Global, users: &mut Endpoint
     let _kept = users.take(alloc);
 }
 
-/// Adds a user with a password, or replaces the user with this name.
+/// Adds a user with a password. If the table already has a user with this name, the password
+/// replaces the user's password or keys: from now on, only requests that are signed with the new
+/// password are accepted.
 ///
 /// Fails with `NotText` if the name or the password is not UTF-8, then with `TextTooLong` if the
 /// name has more than 513 bytes, then with `BadArgument` if the password has no bytes, then with
@@ -85,9 +88,11 @@ pub extern "C" fn stunp_endpoint_users_add(
     answer
 }
 
-/// Adds a user with stored keys, or replaces the user with this name. The key for HMAC-SHA1 has 16
-/// bytes, and the key for HMAC-SHA256 has 32. A key without bytes is missing. Users with short-term
-/// credentials have no stored keys, so for a table of such users the call fails with `WrongHandle`.
+/// Adds a user with stored keys, which must have been made for the realm of the table. If the table
+/// already has a user with this name, the keys replace the user's password or keys. The key for
+/// HMAC-SHA1 has 16 bytes, and the key for HMAC-SHA256 has 32. A key without bytes is missing.
+/// Users with short-term credentials have no stored keys, so for a table of such users the call
+/// fails with `WrongHandle`.
 ///
 /// Fails with `NotText` if the name is not UTF-8, then with `TextTooLong` if the name has more than
 /// 513 bytes, then with `BadArgument` if a key has a wrong length, then with `OutOfMemory`.

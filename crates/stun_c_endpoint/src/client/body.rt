@@ -12,8 +12,8 @@ use stun_client_endpoint::body::{Body, BodyError};
 use stun_numbers::refusal::Refusal;
 use stun_types::attribute::RawAttribute;
 
-/// The type XOR-PEER-ADDRESS. Its value is XORed with the transaction ID, which a caller does not
-/// know.
+/// The type of XOR-PEER-ADDRESS. In a message its address is XORed with the transaction ID, which a
+/// caller does not know, so a body stores the address without the XOR.
 const XOR_PEER_ADDRESS: u16 = 0x0012;
 
 /// Converts the library's error for an attribute that cannot be added to a body.
@@ -29,8 +29,8 @@ fn refusal_of_attribute(error: BodyError) -> Refusal
     }
 }
 
-/// Returns the address of a peer in a value of XOR-PEER-ADDRESS that is not XORed. Returns `None`
-/// if the value is malformed.
+/// Returns the address in a value of XOR-PEER-ADDRESS that is not XORed, or `None` if the value is
+/// malformed.
 fn peer_of(value: &[u8]) -> Option<SocketAddr>
     ensures { result ≡ peer_of value.now }
 {
@@ -49,8 +49,9 @@ fn peer_of(value: &[u8]) -> Option<SocketAddr>
     None
 }
 
-/// Adds an attribute to a body. Fails with `NotAllowed`, `MessageTooLong`, `BadArgument` or
-/// `OutOfMemory` if it cannot be added.
+/// Adds an attribute to a body. Fails with `NotAllowed` if the caller may not add attributes of
+/// this type, with `MessageTooLong` if the body becomes too long, with `BadArgument` for a
+/// XOR-PEER-ADDRESS without an address, and with `OutOfMemory` if an allocation fails.
 fn add(body: &mut Body<Global>, attribute: &RawAttribute<'_>) -> Result<(), Refusal>
     ensures ok { OnOk result (with_attribute body.old attribute.now ≡ Ok body.new) }
     ensures refused { IfErr result (λ refusal. (refusal ≡ Refusal.OutOfMemory)
@@ -70,7 +71,7 @@ fn add(body: &mut Body<Global>, attribute: &RawAttribute<'_>) -> Result<(), Refu
     }
 }
 
-/// Returns the bytes after the attribute at the front of `bytes`, and after its padding.
+/// Returns the bytes that follow the attribute at the front of `bytes` and its padding.
 pub fn after<'a>(bytes: &'a [u8], attribute: &RawAttribute<'_>) -> &'a [u8]
     ensures { result.now ≡ drop (attribute_length (length attribute.now.value)) bytes.now }
 {
@@ -81,7 +82,7 @@ pub fn after<'a>(bytes: &'a [u8], attribute: &RawAttribute<'_>) -> &'a [u8]
 }
 
 /// Decodes the body that `bytes` encode. Fails with the error of the first attribute that cannot be
-/// added, and with `BadArgument` for bytes that are not an attribute.
+/// added, or with `BadArgument` if some of the bytes are not an attribute.
 pub fn body_of(alloc: Global, bytes: &[u8]) -> Result<Body<Global>, Refusal>
     ensures ok { IfOk result (λ body. Reads [] bytes.now (Ok body)) }
     ensures refused { IfErr result (λ refusal. (refusal ≡ Refusal.OutOfMemory)

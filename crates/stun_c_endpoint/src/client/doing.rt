@@ -29,7 +29,8 @@ use stun_numbers::buffer::put;
 use stun_numbers::refusal::Refusal;
 use stun_types::message::Method;
 
-/// The greatest time in nanoseconds: the time to wait until if no request is outstanding.
+/// The greatest time in nanoseconds, which an event has as the time to wait until if no request is
+/// outstanding.
 const FOR_EVER: u64 = 18_446_744_073_709_551_615;
 
 /// Converts the library's error for a request that could not be started.
@@ -122,7 +123,8 @@ fn start(
     }
 }
 
-/// Returns the `stunp_kind` of a datagram. If it is dropped, writes the `stunp_drop` to `why`.
+/// Returns the `stunp_kind` of a datagram. If the datagram is dropped, writes the `stunp_drop` to
+/// `why`.
 fn told(received: &Received<'_>, why: &mut u32) -> u32
     ensures number { result ≡ received_number received.now }
     ensures why { why.new ≡ why_told received.now why.old }
@@ -140,8 +142,8 @@ fn told(received: &Received<'_>, why: &mut u32) -> u32
     }
 }
 
-/// Passes a datagram to the client, and returns its `stunp_kind`. If it is dropped, writes the
-/// `stunp_drop` to `why`. Fails with `WrongHandle` if the value is not a client.
+/// Passes a datagram to the client, and returns its `stunp_kind`. If the datagram is dropped,
+/// writes the `stunp_drop` to `why`. Fails with `WrongHandle` if the value is not a client.
 pub fn hear(
     kept: &mut Kept,
     message: &[u8],
@@ -158,8 +160,8 @@ pub fn hear(
     }
 }
 
-/// Passes a datagram to this client, and returns its `stunp_kind`. If it is dropped, writes the
-/// `stunp_drop` to `why`.
+/// Passes a datagram to this client, and returns its `stunp_kind`. If the datagram is dropped,
+/// writes the `stunp_drop` to `why`.
 fn hear_by(
     client: &mut ClientEndpoint<Global>,
     message: &[u8],
@@ -175,7 +177,7 @@ fn hear_by(
     Ok(told(&received, why))
 }
 
-/// Converts the time until which to wait to nanoseconds. Returns `FOR_EVER` if it is `None`.
+/// Returns the time to wait until in nanoseconds, or `FOR_EVER` if `until` is `None`.
 fn until_told(until: Option<Instant>) -> u64
     ensures { result ≡ or_for_ever until }
 {
@@ -185,8 +187,8 @@ fn until_told(until: Option<Instant>) -> u64
     }
 }
 
-/// Copies bytes to the front of `out`, and returns `number`. If they do not fit, marks the event as
-/// failed, and fails with `BufferTooSmall`.
+/// Copies bytes to the front of `out`, and returns `number`, the kind of the event. If the bytes do
+/// not fit, marks the event as failed, and fails with `BufferTooSmall`.
 fn written(bytes: &[u8], number: u32, out: &mut [u8], event: &mut Event) -> Result<u32, Refusal>
     ensures event { event.new ≡ event_unless (nat_lt (length out.old) (length bytes.now))
         (length bytes.now) event.old }
@@ -201,8 +203,9 @@ fn written(bytes: &[u8], number: u32, out: &mut [u8], event: &mut Event) -> Resu
     Ok(number)
 }
 
-/// Polls the client, and writes the next thing to do to `event`, and bytes to `out`. Returns the
-/// `stunp_event_kind`. Fails with `WrongHandle` if the value is not a client.
+/// Polls the client, and writes what to do next to `event`, and the bytes of a request or a
+/// response to `out`. Returns the `stunp_event_kind`. Fails with `WrongHandle` if the value is not
+/// a client.
 pub fn poll(kept: &mut Kept, now: u64, out: &mut [u8], event: &mut Event) -> Result<u32, Refusal>
     ensures { PollsAs (client_of kept.old) now (number_answer result) out.old out.new event.old
         event.new (Some kept.old) (Some kept.new) }
@@ -213,8 +216,8 @@ pub fn poll(kept: &mut Kept, now: u64, out: &mut [u8], event: &mut Event) -> Res
     }
 }
 
-/// Polls this client, and writes the next thing to do to `event`, and bytes to `out`. Fails with
-/// `BadArgument` if the size of the event is wrong.
+/// Polls this client, and writes what to do next to `event`, and the bytes of a request or a
+/// response to `out`. Fails with `BadArgument` if the size of the event is wrong.
 fn poll_by(
     client: &mut ClientEndpoint<Global>,
     now: u64,
@@ -231,7 +234,8 @@ fn poll_by(
     tell(client, &polled, out, event)
 }
 
-/// Writes the result of a poll to `event`, and bytes to `out`. Returns the `stunp_event_kind`.
+/// Writes the result of a poll to `event`, and the bytes of a request or a response to `out`.
+/// Returns the `stunp_event_kind`.
 fn tell(
     client: &ClientEndpoint<Global>,
     polled: &Polled<Global>,
@@ -256,7 +260,8 @@ fn tell(
     }
 }
 
-/// Writes to `out` the bytes of a request to send, and sets the event to this request.
+/// Writes the bytes of the request `number`, which must be sent, to `out`, and sets the event to
+/// this request.
 fn transmit(
     client: &ClientEndpoint<Global>,
     number: u64,
@@ -290,9 +295,9 @@ pub fn cancel(kept: &mut Kept, number: u64) -> Result<u32, Refusal>
     }
 }
 
-/// Writes to `dropped` how many responses to an outstanding request were dropped, and why the last
-/// one was. Returns 1, or 0 if the request has ended. Fails with `WrongHandle` if the value is not
-/// a client.
+/// Writes to `dropped` how many responses to the request with this number were dropped, and why the
+/// last one was dropped. Returns 1. If the request has ended, returns 0 and writes nothing. Fails
+/// with `WrongHandle` if the value is not a client.
 pub fn tell_dropped(kept: &Kept, number: u64, dropped: &mut Dropped) -> Result<u32, Refusal>
     ensures { TellsDropped (client_of kept.now) number (number_answer result) dropped.old
         dropped.new }

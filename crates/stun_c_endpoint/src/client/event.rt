@@ -1,4 +1,4 @@
-//! The structs in which a caller receives the next thing to do, and the dropped responses to a
+//! The structs in which a caller receives what to do next, and the number of dropped responses to a
 //! request.
 
 ghost use Rattle.std.specs.Duration.{as_nanos};
@@ -30,7 +30,7 @@ pub struct Dropped {
     pub code: u32,
 }
 
-/// The next thing to do.
+/// What a caller has to do next: send a request, wait, or note how a request has ended.
 #[repr(C)]
 pub struct Event {
     /// The size of this struct in the caller's program.
@@ -41,7 +41,7 @@ pub struct Event {
     pub result: u32,
     /// The number of the request that has ended, or whose bytes must be sent.
     pub request: u64,
-    /// The time until which to wait, in nanoseconds.
+    /// The time to wait until, in nanoseconds.
     pub until: u64,
     /// The number of bytes that were written to the buffer.
     pub length: usize,
@@ -56,8 +56,8 @@ pub struct Event {
     pub signed_by: u16,
     /// The responses that were dropped for a request that has timed out.
     pub dropped: Dropped,
-    /// The nanoseconds between the message that was answered and its response, or `u64::MAX` if
-    /// they are not known.
+    /// The time in nanoseconds from the transmission of the message that was answered to its
+    /// response, or `u64::MAX` if it is not known.
     pub round_trip: u64,
 }
 
@@ -147,7 +147,7 @@ impl Event {
     }
 
     /// Marks the event as failed because its bytes did not fit into the buffer, and sets `needed`
-    /// to their number.
+    /// to `count`, the number of these bytes.
     pub fn loses(&mut self, count: usize)
         ensures { self.new ≡ event_unless true count self.old }
     {
@@ -164,7 +164,8 @@ impl Event {
         self.until = until;
     }
 
-    /// Sets the event to a request to send, with its number and the number of its bytes.
+    /// Sets the event to a request to send, with the number of the request and the number of its
+    /// bytes.
     pub fn sends(&mut self, number: u64, length: usize)
         ensures { self.new ≡ sent_told number length self.old }
     {
@@ -173,7 +174,7 @@ impl Event {
         self.length = length;
     }
 
-    /// Sets the event to a request that has ended, with its number and how it ended.
+    /// Sets the event to a request that has ended, with the number of the request and how it ended.
     pub fn ends(&mut self, request: u64, end: &End<Global>)
         ensures { self.new ≡ ended_told request end.now self.old }
     {

@@ -33,21 +33,23 @@ ghost use Rattle.stun_numbers.specs.Refusals.{refusal_number};
 ghost use Rattle.stun_numbers.specs.declared.refusal.Refusal.{Refusal};
 ghost use Rattle.stun_numbers.specs.declared.refusal.Refusal.TheVariants.{BufferTooSmall};
 
-/// If the call that creates a client returns 0, the handle has a client of the server at the
-/// address that was passed. The client authenticates with the name, the password and the kind of
-/// credentials that were passed, or has no credentials if there is no name. Numbers that are 0 have
-/// their defaults. No client is created with a seed of one repeated byte, with a name without a
-/// password, or with a password without a name.
+/// States that if the call that creates a client returns 0, the handle has a client of the server
+/// at the address that was passed. The client authenticates with the name, the password and the
+/// kind of credentials that were passed, or has no credentials if there is no name. Options that
+/// are 0 have their defaults. No client is created with a seed of one repeated byte, with a name
+/// without a password, or with a password without a name.
 pub fn clients_are_made_as_asked_for()
     ensures { (g : ClientGiven) (now : Option Kept) → MakesClient g (pos 0) now
         → (server : SocketAddr) × (c : ClientSeen) × (socket_address g.server ≡ Some server)
         × (now ≡ Some (kind.Client c)) × IsClientOf g server c }
 {}
 
-/// If a call starts a request, the library starts it, with the options that were passed, and with
-/// the attributes that the bytes of the body encode. No attribute has a type that the client writes
-/// itself. The caller receives the number that the library gives the request, and the handle has
-/// the client as the library leaves it.
+/// States that if a call starts a request, the library starts it, with the options that were
+/// passed, and with the attributes that the bytes of the body encode (`started`). No attribute has
+/// a type that the client writes itself (`body`). The caller receives the number that the library
+/// gives the request, and the handle has the client as the library leaves it. The calls that cancel
+/// a request (`cancelled`) and that report its dropped responses (`outstanding`, `ended`) return 1
+/// if the client still has the request, and otherwise 0.
 pub fn requests_are_those_of_the_library()
     ensures started { (c : ClientSeen) (method : ℕ) (bytes : List ℕ)
         (given : Option RequestOptions) (now id named : ℕ) (before after : Option Kept)
@@ -70,9 +72,10 @@ pub fn requests_are_those_of_the_library()
         → (datum_of number c.requests ≡ None) × (now ≡ d) }
 {}
 
-/// A caller receives what the library returns for a datagram from the same address, and for a poll.
-/// For a request that has ended, this is how it ended, the response that ended it, the signature of
-/// that response, and the round-trip time. The handle has the client as the library leaves it.
+/// States that a caller receives what the library returns for the same datagram from the same
+/// address, and for a poll at the same time. If a request has ended, the caller receives how it
+/// ended, the response that ended it, the algorithm of the signature of that response, and the
+/// round-trip time. The handle then has the client as the library leaves it.
 pub fn callers_read_what_the_library_returns()
     ensures datagram { (c : ClientSeen) (from : Address) (bytes : List ℕ) (now n why told : ℕ)
         (before after : Option Kept)
@@ -92,9 +95,10 @@ pub fn callers_read_what_the_library_returns()
     ensures why { (one other : DropReason) → drop_told one ≡ drop_told other → one ≡ other }
 {}
 
-/// After an error the client is unchanged, and only the event is written, with the kind 7 and the
-/// length 0. The exception is a poll whose bytes do not fit into the buffer: these bytes are lost,
-/// and the event has their number, which is greater than the length of the buffer.
+/// States that after an error the client is unchanged, and a failed poll writes only the event,
+/// with the kind 7 and the length 0. The exception is a poll whose bytes do not fit into the
+/// buffer: the client changes, the bytes are lost, and the event has their number, which is greater
+/// than the length of the buffer (`lost`).
 pub fn errors_leave_the_client()
     ensures request { (c : Result ClientSeen Refusal) (method : ℕ) (bytes : List ℕ)
         (given : Option RequestOptions) (now : ℕ) (result : ℤ) (id named : ℕ)

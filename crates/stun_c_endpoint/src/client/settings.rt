@@ -37,8 +37,8 @@ use stun_numbers::text::text;
 use stun_types::limits::{TEXT_LIMIT, USERNAME_LIMIT};
 use stun_types::message::{IntegrityAlgorithm, LongTermCredentials, PreparedKey};
 
-/// The types of all attributes in `include/stunp.h` that must be understood. Each client
-/// understands them in responses.
+/// The types of all comprehension-required attributes in `include/stunp.h`, which each client
+/// understands in responses.
 pub const UNDERSTOOD: [AttributeType; 28] = [
     AttributeType(0x0001),
     AttributeType(0x0003),
@@ -74,7 +74,8 @@ pub const UNDERSTOOD: [AttributeType; 28] = [
 /// 6.2.1).
 const INITIAL: u64 = 500_000_000;
 
-/// The default longest wait between two transmissions. It means that the waits have no bound.
+/// The default for the longest wait between two transmissions, in nanoseconds: the greatest number,
+/// so that the waits have no limit.
 const LONGEST: u64 = 18_446_744_073_709_551_615;
 
 /// The default wait after the last transmission, in nanoseconds.
@@ -86,22 +87,23 @@ const TRANSMISSIONS: u32 = 7;
 /// The default number of challenges for which a request is sent again.
 const CHALLENGES: u32 = 6;
 
-/// The number for short-term credentials.
+/// The `stunp_credentials` for short-term credentials.
 const SHORT_TERM: u32 = 1;
 
-/// The number for HMAC-SHA1 alone.
+/// The number in `ClientOptions::algorithms` for HMAC-SHA1 alone.
 const ONLY_SHA1: u32 = 1;
 
-/// The number for HMAC-SHA256 alone.
+/// The number in `ClientOptions::algorithms` for HMAC-SHA256 alone.
 const ONLY_SHA256: u32 = 2;
 
-/// The number for both algorithms. It is the greatest number.
+/// The number in `ClientOptions::algorithms` for both algorithms, which is the greatest valid
+/// number.
 const BOTH: u32 = 3;
 
-/// The greatest number for a feature. It means that names are never hashed.
+/// The greatest `stunp_feature`, which means that the user name is never sent as a hash.
 const DISABLED: u32 = 2;
 
-/// The options of a client. A number that is 0 has its default.
+/// The options of a client. If a number is 0, its default is used.
 #[repr(C)]
 #[derive(Clone, Copy)]
 pub struct ClientOptions {
@@ -175,7 +177,7 @@ fn or_else_small(number: u32, default: u32) -> u32
     if number == 0 { default } else { number }
 }
 
-/// Returns the feature with this number. `number` is at most 2.
+/// Returns the feature with this number: `Required` for 1, `Disabled` for 2, and otherwise `Auto`.
 fn feature(number: u32) -> Feature
     ensures { result ≡ feature_given number }
 {
@@ -199,7 +201,8 @@ fn algorithm(number: u32) -> IntegrityAlgorithm
 }
 
 impl ClientOptions {
-    /// Returns the preferences for long-term credentials.
+    /// Returns the preferences of a user with long-term credentials: the algorithms, and when the
+    /// user name is sent as a hash.
     fn preferences(&self) -> Preferences
         ensures { result ≡ preferences_given self.now }
     {
@@ -210,7 +213,8 @@ impl ClientOptions {
         }
     }
 
-    /// Returns whether an option is invalid. `has_user` says whether the client has a user.
+    /// Returns `true` if an option is invalid. `has_user` says whether the client has a user,
+    /// because the kind of the credentials matters only then.
     fn is_out_of_range(&self, has_user: bool) -> bool
         ensures { result ≡ is_out_of_range has_user self.now }
     {

@@ -21,18 +21,20 @@ use stun_types::attribute::{AttributeType, RawAttribute};
 use stun_types::message::{MessageWriteVec, TransactionId};
 use stun_types::prelude::*;
 
-/// The types of USE-CANDIDATE, ICE-CONTROLLED and ICE-CONTROLLING, which the agent itself writes to
-/// a check, and of XOR-PEER-ADDRESS, whose value in a body is not XORed.
+/// The types of the attributes that a caller cannot add to a check: USE-CANDIDATE, ICE-CONTROLLED
+/// and ICE-CONTROLLING, because the agent writes them itself, and XOR-PEER-ADDRESS, because a body
+/// stores its address without the XOR.
 const KEPT_FROM_CHECKS: [u16; 4] = [0x0025, 0x8029, 0x802A, 0x0012];
 
-/// Returns whether a caller cannot add attributes of this type to a check.
+/// Returns `true` if a caller cannot add attributes of this type to a check (`KEPT_FROM_CHECKS`).
 fn is_kept_from_checks(kind: AttributeType) -> bool
     ensures { result ≡ is_kept_from_checks kind.0 }
 {
     KEPT_FROM_CHECKS.contains(&kind.value())
 }
 
-/// Adds one of the caller's attributes to a check.
+/// Adds one of the caller's attributes to a check. Fails with `NotAllowed` if the caller cannot add
+/// attributes of this type, and otherwise with the error of the writer.
 fn add(page: &mut MessageWriteVec<Global>, attribute: &RawAttribute<'_>) -> Result<(), Refusal>
     requires { 20 ≤ length page.old.bytes }
     ensures header { OnOk result (20 ≤ length page.new.bytes) }
@@ -49,7 +51,8 @@ fn add(page: &mut MessageWriteVec<Global>, attribute: &RawAttribute<'_>) -> Resu
     }
 }
 
-/// Adds to a check the attributes that `bytes` encode.
+/// Adds to a check the attributes that `bytes` encode. Fails with the error of the first attribute
+/// that cannot be added, or with `BadArgument` if some of the bytes are not an attribute.
 fn with_all(page: MessageWriteVec<Global>, bytes: &[u8]) -> Result<MessageWriteVec<Global>, Refusal>
     requires { 20 ≤ length page.bytes }
     ensures header { IfOk result (λ whole. 20 ≤ length whole.bytes) }

@@ -42,8 +42,9 @@ fn stored(
     Ok(Some(Check::without_bytes(alloc, id, to, role, check.nominates)))
 }
 
-/// Judges a datagram with the agent. Writes the outcome to `received` and an answer to `out`, and
-/// returns the `stunp_kind`. Fails with `WrongHandle` if the value is not an agent.
+/// Judges a datagram with the agent. Writes the outcome to `received`, and the answer to a check of
+/// the peer to `out`. Returns the `stunp_kind`. Fails with `WrongHandle` if the value is not an
+/// agent.
 pub fn judge_at(
     alloc: Global,
     kept: &mut Kept,
@@ -66,8 +67,8 @@ pub fn judge_at(
     }
 }
 
-/// Judges a datagram with this agent. Writes the outcome to `received` and an answer to `out`, and
-/// returns the `stunp_kind`.
+/// Judges a datagram with this agent. Writes the outcome to `received`, and the answer to a check
+/// of the peer to `out`. Returns the `stunp_kind`.
 fn judge(
     alloc: Global,
     checker: &mut Checker<Global>,
@@ -92,8 +93,9 @@ fn judge(
     tell(checker, before, seen, out, received)
 }
 
-/// Writes the outcome of a datagram to `received`, and an answer to `out`. `before` is the role
-/// that the agent had before the datagram.
+/// Writes the outcome of a datagram to `received`, and the answer to a check of the peer to `out`.
+/// `before` is the role that the agent had before the datagram. If the answer does not fit into
+/// `out`, the agent gets this role back.
 fn tell(
     checker: &mut Checker<Global>,
     before: Role,
@@ -136,7 +138,7 @@ fn tell(
     }
 }
 
-/// Writes the outcome of a check of this agent to `received`.
+/// Writes the outcome of a check of this agent, which its answer has ended, to `received`.
 fn ended(outcome: &Outcome, received: &mut IceReceived)
     ensures told { received.new ≡ outcome_told outcome.now received.new.mapped
         (ice_blank 4 received.old) }

@@ -66,8 +66,8 @@ pub fn agents_are_made_of_what_is_passed()
         → error ≡ at_building.OutOfMemory }
 {}
 
-/// A check that a call writes is the check that the library writes for the address and the priority
-/// that the caller passed. Its bytes are at the front of the buffer, which has room for them, the
+/// States that a check that a call writes is the check that the library writes for the address and
+/// the priority that the caller passed. The bytes of the check are at the front of the buffer, the
 /// call returns their number, and the caller's struct describes the check. A call that fails writes
 /// nothing.
 pub fn checks_are_those_of_the_library()
@@ -100,9 +100,9 @@ pub fn checks_are_those_of_the_library()
         → IsErrorNumber result → (after ≡ out) × (told ≡ k) }
 {}
 
-/// An answer is judged with the check that was written: the struct that describes a check has
-/// everything that the agent needs from the check, so it is enough that the caller passes the
-/// struct again.
+/// States that the struct that describes a check has all that the agent needs to judge the answer,
+/// so it is enough that the caller passes this struct again. The struct describes the check except
+/// its bytes (`same`), and the judgement does not depend on these bytes (`judged`).
 pub fn checks_are_passed_again()
     ensures same { (check : SentCheck) (to : Address) → length to.octets ≡ 16
         → socket_address to ≡ Some check.to → check.id < 256 ^ 12
@@ -112,10 +112,10 @@ pub fn checks_are_passed_again()
         ≡ seen_by a (Some check) from bytes }
 {}
 
-/// A caller receives the outcome that the library returns for the same datagram from the same
-/// address and with the same check, and the handle has the agent as the library leaves it. So the
-/// caller learns that a check is accepted, or that a pair is valid, if and only if the library says
-/// so.
+/// States that a caller receives the outcome that the library returns for the same datagram from
+/// the same address and with the same check, and that the handle then has the agent as the library
+/// leaves it. So the caller learns that a check is accepted (`accepted`), or that a pair is valid
+/// (`valid`), if and only if this is so in the library.
 pub fn datagrams_are_judged_as_by_the_library()
     ensures told { (a : Agent) (has_check : Bool) (k : IceCheck) (from : Address)
         (bytes : List ℕ) (n : ℕ) (out after : List ℕ) (r told : IceReceived)
@@ -144,10 +144,11 @@ pub fn datagrams_are_judged_as_by_the_library()
         ↔ ((n ≡ 4) × (told.outcome ≡ 4))) }
 {}
 
-/// Only a check of the peer is answered, so the buffer is unchanged after any other outcome. If the
-/// answer does not fit into the buffer, the caller's struct has the length of the answer, which is
-/// greater than that of the buffer, and the agent and the buffer are unchanged. The kind in the
-/// struct is the number that the call returns, or 7 with the length 0 after an error.
+/// States that only a check of the peer is answered, so the buffer is unchanged after any other
+/// outcome (`unanswered`). If the answer does not fit into the buffer, the caller's struct has the
+/// length of the answer, which is greater than the length of the buffer, and the agent and the
+/// buffer are unchanged (`needed`). The kind in the struct is the number that the call returns
+/// (`kind`), or 7 with the length 0 after an error (`failed`).
 pub fn only_checks_have_answers()
     ensures unanswered { (seen : Result Seen Refusal) (result : ℤ) (out after : List ℕ)
         (r told : IceReceived) (before now : Option Kept)

@@ -18,8 +18,8 @@ use stun_ice::received::{DropReason, Failure, Judged, Mapped, Outcome};
 /// The size of `IceReceived` in bytes, which its first field must state.
 pub const ICE_RECEIVED_SIZE: usize = 72;
 
-/// The data that the agent needs to judge the answer to a check. It does not have the bytes of the
-/// check.
+/// The data that the agent needs to judge the answer to a check. The bytes of the check are not
+/// among them.
 #[repr(C)]
 #[derive(Clone, Copy)]
 pub struct IceCheck {
@@ -40,9 +40,9 @@ pub struct IceReceived {
     pub size: usize,
     /// The outcome, a `stunp_kind`.
     pub kind: u32,
-    /// The reason, a `stunp_drop`, if the datagram is dropped.
+    /// The reason for which the datagram is dropped, a `stunp_drop`.
     pub why: u32,
-    /// The outcome of a check of the peer, or of the answer to a check of this agent, a
+    /// How a check of the peer was judged, or how a check of this agent has ended, a
     /// `stunp_ice_outcome`.
     pub outcome: u32,
     /// The code of an error response.
@@ -54,7 +54,7 @@ pub struct IceReceived {
     pub not_understood: u16,
     /// Whether an accepted check nominates its pair.
     pub nominated: bool,
-    /// Whether the agent has changed its role.
+    /// Whether the agent has switched its role because of the datagram.
     pub switched: bool,
     /// The length of the answer that was written.
     pub length: usize,
@@ -207,7 +207,7 @@ impl IceReceived {
         self.switched = switched;
     }
 
-    /// Sets the outcome to an answer because of which the check has failed.
+    /// Sets the outcome to an answer to a check of this agent that has failed, with the reason.
     pub fn failed(&mut self, failure: Failure)
         ensures { self.new ≡ failure_told failure (ice_blank 4 self.old) }
     {

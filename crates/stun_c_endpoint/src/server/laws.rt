@@ -20,10 +20,11 @@ ghost use Rattle.stun_numbers.specs.Refusals.{refusal_number};
 ghost use Rattle.stun_numbers.specs.declared.refusal.Refusal.{Refusal};
 ghost use Rattle.stun_numbers.specs.declared.refusal.Refusal.TheVariants.{BufferTooSmall};
 
-/// A caller receives the outcome that the library returns for the same datagram from the same
-/// address, with the server and the users in the handles. The kind in the caller's struct is the
-/// number that the call returns. If a response does not fit into the buffer, the struct has the
-/// length of the response, which is greater than that of the buffer.
+/// States that a caller receives the outcome that the library returns for the same datagram from
+/// the same address, with the server and the users in the handles (`judged`), and its cause
+/// (`cause`). The kind in the caller's struct is the number that the call returns (`kind`). If a
+/// response does not fit into the buffer, the struct has the length of the response, which is
+/// greater than the length of the buffer (`needed`).
 pub fn datagrams_are_judged_as_by_the_library()
     ensures judged { (judge : Judge) (from : Address) (seconds : ℕ) (bytes : List ℕ) (n : ℕ)
         (out after : List ℕ) (r told : Received)
@@ -46,8 +47,9 @@ pub fn datagrams_are_judged_as_by_the_library()
         (cause_of realm.settings (realm_of_table realm.users) address seconds bytes)) }
 {}
 
-/// If a call returns that the user of a request must be looked up, so does the library, and the
-/// caller receives the user whom the library names: the bytes of the name, or of its hash.
+/// States that if a call returns that the user of a request must be looked up, the library returns
+/// this too, and the caller receives the user whom the library names: the bytes of the name, or of
+/// its hash.
 pub fn users_are_looked_up_as_by_the_library()
     ensures { (s : Settings) (from : Address) (seconds : ℕ) (bytes out after : List ℕ)
         (r told : Received)
@@ -57,8 +59,8 @@ pub fn users_are_looked_up_as_by_the_library()
         × Names lookup.user told }
 {}
 
-/// A call that fails writes only to the caller's struct, in which the kind is then 7 and the length
-/// 0.
+/// States that a call that fails writes only to the caller's struct, which then has the kind 7 and
+/// the length 0.
 pub fn errors_write_nothing()
     ensures received { (judge : Result Judge Refusal) (from : Address) (seconds : ℕ)
         (bytes : List ℕ) (result : ℤ) (out after : List ℕ) (r told : Received)

@@ -23,10 +23,10 @@ ghost use Rattle.stun_numbers.specs.declared.refusal.Refusal.{Refusal};
 
 use stun_base::algorithm::IntegrityAlgorithm;
 
-/// After a call has added a user, the table has the keys with which the server verifies and signs
-/// the messages of this user: those made from the name, the realm and the password, or those that
-/// were passed, or, with short-term credentials, the password itself. All other users have the keys
-/// that they had before.
+/// States that after a call has added a user, the table has the keys with which the server verifies
+/// and signs the messages of this user: the keys that are made from the name, the realm and the
+/// password (`password`), the keys that were passed (`keys`), or, with short-term credentials, the
+/// password itself (`short_term`). All other users have the keys that they had before.
 pub fn users_have_the_keys_that_were_passed()
     ensures password { (u : ServerSeen) (name password : List ℕ) (before now : Option Kept)
         → LeavesTableOr (adding name password (kind.Users u)) (pos 0) before now
@@ -44,8 +44,8 @@ pub fn users_have_the_keys_that_were_passed()
         × (length password ≢ 0) × HasKey u t name (Some password) }
 {}
 
-/// After a call has removed a user, the table has no key of that user, and still has the keys of
-/// all others.
+/// States that after a call has removed a user, the table has no key of that user, and still has
+/// the keys of all other users.
 pub fn users_who_are_removed_have_no_key()
     ensures realm { (u : ServerSeen) (name : List ℕ) (before now : Option Kept)
         → LeavesTable (removing name (kind.Users u)) (pos 0) before now
@@ -68,9 +68,9 @@ pub fn new_tables_are_empty()
     ensures open { (s : Responding) (k : Kept) → table_for (kind.Open s) ≢ Ok k }
 {}
 
-/// A request whose user was looked up is judged as with a table of the server that has only the
-/// user who was found. So a client that signs as another user is refused, and the response is
-/// signed with the key of the user who was found.
+/// States that a request whose user was looked up is judged as with a table of the server that has
+/// only the user who was found. So a client that signs as another user is refused, and the response
+/// is signed with the key of the user who was found.
 pub fn only_the_user_who_was_found_is_judged()
     ensures password { (s : Settings) (name password sha1 sha256 : List ℕ) (empty table : Kept)
         → table_for (kind.Server s) ≡ Ok empty → adding name password empty ≡ Ok table

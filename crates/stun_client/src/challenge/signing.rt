@@ -127,13 +127,14 @@ impl<A: Allocator> Challenge<A> {
     ///   PASSWORD-ALGORITHM, if the nonce has the security bit *Password algorithms*;
     /// - MESSAGE-INTEGRITY or MESSAGE-INTEGRITY-SHA256.
     ///
-    /// The writer must hold a message without FINGERPRINT. The attributes are added one after
-    /// another, and the call fails with the first error. The writer is then dropped.
+    /// Add FINGERPRINT after this call, because it has to be the last attribute, and the call does
+    /// not check whether the message has one already. The attributes are added one after another,
+    /// and the call fails with the first error. The writer is then dropped.
     ///
-    /// - `MessageIntegrityExists`, `AttributeExists`: the message already has a signature, or
-    ///   already has the attribute to add.
+    /// - `MessageIntegrityExists`: the message is signed already.
+    /// - `AttributeExists`: the message already has the attribute to add.
     /// - `TooLarge`: the message would be too long, or the user name has more than 513 bytes.
-    /// - `TooSmall`: the writer has no room.
+    /// - `TooSmall`: the writer has too little room.
     /// - `OutOfMemory`: an allocation failed.
     ///
     /// Contracts: by `not_bid_down`, a server that accepts the request accepts it with the

@@ -124,7 +124,8 @@ impl<A: Memory> ClientEndpoint<A> {
     }
 
     /// Judges a response that came from this address, and acts on the judgement. Returns `NotOurs`
-    /// if it answers no message of an outstanding request.
+    /// if the response answers no message of an outstanding request, or if `from` is not the
+    /// address that answers the request.
     fn respond(
         &mut self,
         message: &Message<'_>,

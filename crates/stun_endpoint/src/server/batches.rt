@@ -26,8 +26,8 @@ impl<A: Memory> Server<A> {
     /// next datagram, call `receive_into`, which does the same work.
     ///
     /// Fails if an allocation fails. The results then cover only the first datagrams, whose
-    /// responses are in the buffer. Send these responses, and pass the remaining datagrams again,
-    /// or drop these datagrams, because their clients send again.
+    /// responses are in the buffer. Send these responses. Then pass the remaining datagrams again,
+    /// or drop them: over UDP their clients send them again.
     pub fn receive_many<'a>(
         &self,
         datagrams: &[Datagram<'a>],

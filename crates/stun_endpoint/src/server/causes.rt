@@ -35,13 +35,13 @@ pub enum Cause {
     /// or USERHASH).
     Incomplete,
     /// 400: the request has the current nonce, but not the algorithms that were offered with it.
-    /// PASSWORD-ALGORITHMS is another list, PASSWORD-ALGORITHM is not in it, or one of the two is
-    /// missing. An attacker in between may have changed the list.
+    /// PASSWORD-ALGORITHMS is another list, PASSWORD-ALGORITHM is not in it, or the request has
+    /// only one of the two attributes. An attacker in between may have changed the list.
     OtherAlgorithms,
     /// 401: the nonce has other security bits than the server's nonces (RFC 8489, section 9.2), and
     /// the algorithms of the request agree with it. An attacker may have changed the bits, or the
     /// nonce was sent before a change of settings. A nonce without security bits counts as
-    /// `StaleNonce`, so this cause does not reveal every attempt to bid a client down.
+    /// `StaleNonce`, so this cause does not reveal every attempt to downgrade a client.
     OtherFeatures,
     /// 438: the nonce is no longer valid, was sent to another address, was made with another secret
     /// or other settings, or was never made by this server. If the nonce is of the epoch before, or
@@ -198,9 +198,10 @@ impl<A: Memory> Server<A> {
         }
     }
 
-    /// Returns why a request is unauthorized. A request that is not signed is unauthorized under
-    /// any nonce, including the empty one. Every other request that is judged here is not
-    /// unauthorized under the empty nonce, because its own nonce is not empty.
+    /// Returns why a request is unauthorized. To find out whether the request is signed, judges it
+    /// under the empty nonce too. An unsigned request is unauthorized under every nonce. A signed
+    /// request that is judged here has a nonce that is not empty, so under the empty nonce it is
+    /// refused for another reason.
     fn unauthorized_cause<'a>(&'a self, read: &ReadMessage<'a, '_>, nonce: &str) -> Cause
         ensures { result ≡ unauthorized_cause self.now nonce.now (reading_of read.now) }
     {

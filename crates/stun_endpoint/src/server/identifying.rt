@@ -12,9 +12,7 @@ ghost use Rattle.stun_endpoint.specs.Buffered.{LeavesNothing, outcome_in};
 ghost use Rattle.stun_endpoint.specs.Buffered.{LeavesNothingKnown, identification_in};
 ghost use Rattle.stun_endpoint.specs.Identified.{identification_of};
 ghost use Rattle.stun_endpoint.specs.Judged.{realm_of_table, realm_of_user};
-ghost use Rattle.stun_endpoint.specs.Lookups.{accepted_nonces, has_one_of, identified_as};
-ghost use Rattle.stun_endpoint.specs.Lookups.{identified_by, nonces_of, previous_nonces};
-ghost use Rattle.stun_endpoint.specs.Lookups.{waits_for};
+ghost use Rattle.stun_endpoint.specs.Lookups.{identified_as, identified_by, waits_for};
 ghost use Rattle.stun_endpoint.specs.Nonces.{epoch_of, nonce_in};
 ghost use Rattle.stun_endpoint.specs.Outcomes.{outcome_of};
 ghost use Rattle.stun_endpoint.specs.Received.{received_by};
@@ -38,7 +36,6 @@ use stun_auth::auth::{
     Accepted, LongTermServerUser, NamedUser, ReadMessage, UserClaim, VerdictRefusal,
 };
 use stun_base::memory::Memory;
-use stun_base::prepared_key::PreparedKey;
 
 mod found;
 
@@ -283,7 +280,7 @@ impl<A: Memory> Server<A> {
         let Some(claim) = self.auth.claim_in(read) else {
             return Ok(None);
         };
-        if !self.has_accepted_nonce(&claim, from, epoch, nonce)? {
+        if !self.has_accepted_nonce(read, from, epoch, nonce)? {
             return Ok(None);
         }
         Ok(Some(claim))
@@ -300,75 +297,6 @@ impl<A: Memory> Server<A> {
             (Some self.now.algorithms) (reading_of read.now) }
     {
         self.auth.judge_read(read, nonce)
-    }
-
-    /// Returns whether a request has a nonce that is accepted in an epoch. `nonce` is the nonce of
-    /// this epoch under the secret.
-    #[tactic(auto, using(crate::proofs::ReadyLemmas::accepted_parts))]
-    fn has_accepted_nonce(
-        &self,
-        claim: &UserClaim<'_, '_, '_>,
-        from: SocketAddr,
-        epoch: u64,
-        nonce: &str,
-    ) -> Result<bool, AllocError>
-        requires { nonce.now ≡ nonce_in self.now self.now.secret from epoch }
-        ensures has { IfOk result (λ has. has
-            ≡ has_one_of (reading_of claim.now.message) (accepted_nonces self.now from epoch)) }
-        ensures granted { A.grants → IsOk result }
-    {
-        if self.has_nonce_of(claim, &self.secret, from, epoch, nonce)? {
-            return Ok(true);
-        }
-        self.has_previous_nonce(claim, from, epoch)
-    }
-
-    /// Returns whether a request has a nonce of the previous secret that is accepted in an epoch.
-    /// Returns `false` if there is no previous secret.
-    fn has_previous_nonce(
-        &self,
-        claim: &UserClaim<'_, '_, '_>,
-        from: SocketAddr,
-        epoch: u64,
-    ) -> Result<bool, AllocError>
-        ensures has { IfOk result (λ has. has
-            ≡ has_one_of (reading_of claim.now.message)
-            (previous_nonces self.now self.now.previous from epoch)) }
-        ensures granted { A.grants → IsOk result }
-    {
-        let Some(secret) = &self.previous else {
-            return Ok(false);
-        };
-        let nonce = self.nonce_in(secret, from, epoch)?;
-        let has = self.has_nonce_of(claim, secret, from, epoch, &nonce)?;
-        Ok(has)
-    }
-
-    /// Returns whether a request has the nonce of an epoch or of the epoch before, under a secret.
-    /// `nonce` is the nonce of the epoch itself.
-    #[tactic(auto, using(crate::proofs::ReadyLemmas::has_current, crate::proofs::ReadyLemmas::has_only_current, crate::proofs::ReadyLemmas::has_before))]
-    fn has_nonce_of(
-        &self,
-        claim: &UserClaim<'_, '_, '_>,
-        secret: &PreparedKey<A>,
-        from: SocketAddr,
-        epoch: u64,
-        nonce: &str,
-    ) -> Result<bool, AllocError>
-        requires { nonce.now ≡ nonce_in self.now secret.now from epoch }
-        ensures has { IfOk result (λ has. has
-            ≡ has_one_of (reading_of claim.now.message)
-            (nonces_of self.now secret.now from epoch)) }
-        ensures granted { A.grants → IsOk result }
-    {
-        if claim.has_nonce(nonce) {
-            return Ok(true);
-        }
-        if epoch == 0 {
-            return Ok(false);
-        }
-        let before = self.nonce_in(secret, from, epoch - 1)?;
-        Ok(claim.has_nonce(&before))
     }
 
     /// Returns the outcome of the request of a look-up. A response takes over the memory of the

@@ -1,13 +1,16 @@
 //! Judges a request under the nonces that are accepted (RFC 8489, section 9.2.4).
 
-ghost use Rattle.std.specs.Prelude.{◌≡◌, Err, IfOk, IsOk};
-ghost use Rattle.stun_auth.specs.Epochs.{or_before};
+ghost use Rattle.std.specs.Option.{option_map};
+ghost use Rattle.std.specs.Prelude.{◌≡◌, IfOk, IsOk};
+ghost use Rattle.std.specs.String.{string_bytes};
 ghost use Rattle.stun_auth.specs.Judged.{HasVerifyingKey, client_judged};
 ghost use Rattle.stun_auth.specs.Reading.{reading_of};
-ghost use Rattle.stun_endpoint.specs.Judged.{judged_in, judged_under, or_previous};
-ghost use Rattle.stun_endpoint.specs.Judged.{verdict_under};
-ghost use Rattle.stun_endpoint.specs.code.Judges.{realm_of};
+ghost use Rattle.stun_endpoint.specs.Judged.{judged_in};
+ghost use Rattle.stun_endpoint.specs.Lookups.{accepted_nonces, has_one_of, nonces_of};
 ghost use Rattle.stun_endpoint.specs.Nonces.{nonce_in};
+ghost use Rattle.stun_endpoint.specs.code.Earlier.{earlier_nonces, nonces_before};
+ghost use Rattle.stun_endpoint.specs.code.Earlier.{their_nonce_among};
+ghost use Rattle.stun_endpoint.specs.code.Judges.{realm_of};
 
 use crate::server::Server;
 use crate::server::judges::Judges;
@@ -18,10 +21,9 @@ use stun_base::memory::Memory;
 use stun_base::prepared_key::PreparedKey;
 
 impl<A: Memory> Server<A> {
-    /// Judges a request from an address in an epoch: under the nonces of the secret, and if it is
-    /// stale under them, under those of the previous secret. `nonce` is the nonce of this epoch
-    /// under the secret.
-    #[tactic(auto, using(crate::proofs::PreviousLemmas::accepted_stays, crate::proofs::PreviousLemmas::unauthorized_stays, crate::proofs::PreviousLemmas::bad_stays))]
+    /// Judges a request from an address in an epoch: under the current nonce, and if the request is
+    /// stale under it, under the earlier nonce that the request has. `nonce` is the current nonce.
+    #[tactic(auto, using(crate::proofs::EarlierLemmas::accepted_decides, crate::proofs::EarlierLemmas::unauthorized_decides, crate::proofs::EarlierLemmas::bad_decides, crate::proofs::EarlierLemmas::no_earlier_accepts))]
     pub(super) fn judged_in<'a>(
         &self,
         judges: &Judges<'a, A>,
@@ -37,93 +39,108 @@ impl<A: Memory> Server<A> {
             (HasVerifyingKey (realm_of judges.now).users (reading_of read.now))) }
         ensures granted { A.grants → IsOk result }
     {
-        match self.judged_under(judges, read, &self.secret, from, epoch, nonce)? {
-            Ok(accepted) => Ok(Ok(accepted)),
-            Err(VerdictRefusal::Unauthorized) => Ok(Err(VerdictRefusal::Unauthorized)),
-            Err(VerdictRefusal::BadRequest) => Ok(Err(VerdictRefusal::BadRequest)),
-            Err(VerdictRefusal::StaleNonce) => self.judged_by_previous(judges, read, from, epoch),
-        }
-    }
-
-    /// Judges a request under the nonces of the previous secret, after it was stale under those of
-    /// the secret. Returns `StaleNonce` if there is no previous secret, or if the request is not
-    /// accepted.
-    fn judged_by_previous<'a>(
-        &self,
-        judges: &Judges<'a, A>,
-        read: &ReadMessage<'a, '_>,
-        from: SocketAddr,
-        epoch: u64,
-    ) -> Result<Result<Accepted<'a, A>, VerdictRefusal>, AllocError>
-        ensures verdict { IfOk result (λ verdict. client_judged verdict
-            ≡ or_previous self.now (realm_of judges.now) self.now.previous from epoch (reading_of read.now)
-            (Err VerdictRefusal.StaleNonce)) }
-        ensures key { IfOk result (λ verdict. IfOk verdict
-            (HasVerifyingKey (realm_of judges.now).users (reading_of read.now))) }
-        ensures granted { A.grants → IsOk result }
-    {
-        let Some(secret) = &self.previous else {
-            return Ok(Err(VerdictRefusal::StaleNonce));
-        };
-        let nonce = self.nonce_in(secret, from, epoch)?;
-        match self.judged_under(judges, read, secret, from, epoch, &nonce)? {
-            Ok(accepted) => Ok(Ok(accepted)),
-            Err(_) => Ok(Err(VerdictRefusal::StaleNonce)),
-        }
-    }
-
-    /// Judges a request under the nonces of a secret: under `nonce`, which is the nonce of this
-    /// epoch, and if the request is stale under it, under the nonce of the epoch before.
-    fn judged_under<'a>(
-        &self,
-        judges: &Judges<'a, A>,
-        read: &ReadMessage<'a, '_>,
-        secret: &PreparedKey<A>,
-        from: SocketAddr,
-        epoch: u64,
-        nonce: &str,
-    ) -> Result<Result<Accepted<'a, A>, VerdictRefusal>, AllocError>
-        requires { nonce.now ≡ nonce_in self.now secret.now from epoch }
-        ensures verdict { IfOk result (λ verdict. client_judged verdict
-            ≡ judged_under self.now (realm_of judges.now) secret.now from epoch (reading_of read.now)) }
-        ensures key { IfOk result (λ verdict. IfOk verdict
-            (HasVerifyingKey (realm_of judges.now).users (reading_of read.now))) }
-        ensures granted { A.grants → IsOk result }
-    {
         match judges.judge(read, nonce) {
-            Err(VerdictRefusal::StaleNonce) if epoch > 0 => {
-                self.judged_before(judges, read, secret, from, epoch - 1)
+            Err(VerdictRefusal::StaleNonce) => {
+                let Some(earlier) = self.earlier_nonce(read, from, epoch)? else {
+                    return Ok(Err(VerdictRefusal::StaleNonce));
+                };
+                // Under an earlier nonce only an acceptance counts: a client whose request is
+                // refused needs the current nonce.
+                match judges.judge(read, &earlier) {
+                    Ok(accepted) => Ok(Ok(accepted)),
+                    Err(_) => Ok(Err(VerdictRefusal::StaleNonce)),
+                }
             }
             verdict => Ok(verdict),
         }
     }
 
-    /// Judges a request under the nonce of the epoch `before`. Returns `StaleNonce` unless the
-    /// request is accepted.
-    #[tactic(auto, using(crate::proofs::PreviousLemmas::other_nonce_is_stale))]
-    fn judged_before<'a>(
+    /// Returns whether a request has a nonce that is accepted from its source in this epoch.
+    /// `nonce` is the current nonce.
+    #[tactic(auto, using(crate::proofs::EarlierLemmas::has_current, crate::proofs::EarlierLemmas::has_earlier))]
+    pub(super) fn has_accepted_nonce(
         &self,
-        judges: &Judges<'a, A>,
-        read: &ReadMessage<'a, '_>,
-        secret: &PreparedKey<A>,
+        read: &ReadMessage<'_, '_>,
         from: SocketAddr,
-        before: u64,
-    ) -> Result<Result<Accepted<'a, A>, VerdictRefusal>, AllocError>
-        ensures verdict { IfOk result (λ verdict. client_judged verdict
-            ≡ or_before (Err VerdictRefusal.StaleNonce) (verdict_under (realm_of judges.now)
-            (nonce_in self.now secret.now from before) (reading_of read.now))) }
-        ensures key { IfOk result (λ verdict. IfOk verdict
-            (HasVerifyingKey (realm_of judges.now).users (reading_of read.now))) }
+        epoch: u64,
+        nonce: &str,
+    ) -> Result<bool, AllocError>
+        requires { nonce.now ≡ nonce_in self.now self.now.secret from epoch }
+        ensures has { IfOk result (λ has. has
+            ≡ has_one_of (reading_of read.now) (accepted_nonces self.now from epoch)) }
         ensures granted { A.grants → IsOk result }
     {
-        let nonce = self.nonce_in(secret, from, before)?;
-        // Only an acceptance counts here, so a request with another nonce is not judged further.
-        if !has_nonce(read, &nonce) {
-            return Ok(Err(VerdictRefusal::StaleNonce));
+        if has_nonce(read, nonce) {
+            return Ok(true);
         }
-        match judges.judge(read, &nonce) {
-            Ok(accepted) => Ok(Ok(accepted)),
-            Err(_) => Ok(Err(VerdictRefusal::StaleNonce)),
+        let earlier = self.earlier_nonce(read, from, epoch)?;
+        Ok(earlier.is_some())
+    }
+
+    /// Returns the nonce of a request if it is not the current one but still accepted: the nonce of
+    /// the epoch before, or one of the two nonces under the previous secret.
+    fn earlier_nonce(
+        &self,
+        read: &ReadMessage<'_, '_>,
+        from: SocketAddr,
+        epoch: u64,
+    ) -> Result<Option<String<A>>, AllocError>
+        ensures nonce { IfOk result (λ nonce. option_map string_bytes nonce
+            ≡ their_nonce_among (reading_of read.now) (earlier_nonces self.now from epoch)) }
+        ensures granted { A.grants → IsOk result }
+    {
+        if let Some(nonce) = self.nonce_before(read, &self.secret, from, epoch)? {
+            return Ok(Some(nonce));
+        }
+        match &self.previous {
+            Some(secret) => self.nonce_under(read, secret, from, epoch),
+            None => Ok(None),
+        }
+    }
+
+    /// Returns the nonce of a request if it is the nonce under a secret of this epoch or of the
+    /// epoch before.
+    #[tactic(auto, using(crate::proofs::EarlierLemmas::under_has, crate::proofs::EarlierLemmas::under_other))]
+    fn nonce_under(
+        &self,
+        read: &ReadMessage<'_, '_>,
+        secret: &PreparedKey<A>,
+        from: SocketAddr,
+        epoch: u64,
+    ) -> Result<Option<String<A>>, AllocError>
+        ensures nonce { IfOk result (λ nonce. option_map string_bytes nonce
+            ≡ their_nonce_among (reading_of read.now) (nonces_of self.now secret.now from epoch)) }
+        ensures granted { A.grants → IsOk result }
+    {
+        let nonce = self.nonce_in(secret, from, epoch)?;
+        if has_nonce(read, &nonce) {
+            return Ok(Some(nonce));
+        }
+        self.nonce_before(read, secret, from, epoch)
+    }
+
+    /// Returns the nonce of a request if it is the nonce under a secret of the epoch before.
+    #[tactic(auto, using(crate::proofs::EarlierLemmas::none_before, crate::proofs::EarlierLemmas::before_has, crate::proofs::EarlierLemmas::before_other))]
+    fn nonce_before(
+        &self,
+        read: &ReadMessage<'_, '_>,
+        secret: &PreparedKey<A>,
+        from: SocketAddr,
+        epoch: u64,
+    ) -> Result<Option<String<A>>, AllocError>
+        ensures nonce { IfOk result (λ nonce. option_map string_bytes nonce
+            ≡ their_nonce_among (reading_of read.now)
+            (nonces_before self.now secret.now from epoch)) }
+        ensures granted { A.grants → IsOk result }
+    {
+        if epoch == 0 {
+            return Ok(None);
+        }
+        let nonce = self.nonce_in(secret, from, epoch - 1)?;
+        if has_nonce(read, &nonce) {
+            Ok(Some(nonce))
+        } else {
+            Ok(None)
         }
     }
 }

@@ -186,7 +186,7 @@ impl<A: Memory> Server<A> {
         }
     }
 
-    /// Reads a datagram, which must have a FINGERPRINT if the settings require one.
+    /// Reads a datagram. If the settings require a FINGERPRINT, a datagram without one is dropped.
     pub(super) fn read<'a>(&self, bytes: &'a [u8]) -> Arrived<'a>
         ensures dropped { drop_reason self.now.requires_fingerprint bytes.now
             ≡ dropped_in result }
@@ -313,7 +313,7 @@ impl<A: Memory> Server<A> {
     }
 
     /// Returns the outcome of a request that is accepted from the user with this name and this key.
-    /// A response has the memory of the buffer.
+    /// A response takes over the memory of the buffer.
     pub(super) fn accepted_from<'a>(
         &self,
         read: &ReadMessage<'a, '_>,
@@ -344,7 +344,8 @@ impl<A: Memory> Server<A> {
         }
     }
 
-    /// Writes the response to an accepted request. Returns `None` if the caller has to respond.
+    /// Writes the response to an accepted request if the server itself responds, and returns `None`
+    /// if the caller has to respond.
     fn own_answer(
         &self,
         request: &Message<'_>,

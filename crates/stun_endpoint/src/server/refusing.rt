@@ -53,7 +53,8 @@ impl<A: Memory> Server<A> {
         Ok(Received::Answer(answer))
     }
 
-    /// Writes the response for the refusal `told`: a 401 or a 438 with the challenge, or a 400.
+    /// Writes the response that the refusal `told` requires: a 401 or a 438 with the challenge, or
+    /// a 400.
     fn answer_to_refused(
         &self,
         request: &Message<'_>,

@@ -61,11 +61,14 @@ pub struct LongTerm<A: Allocator = Global> {
     /// A second secret, whose nonces are accepted too, but never sent. When you change the secret,
     /// set this to the old secret, and remove it two nonce lifetimes later.
     pub previous_secret: Option<[u8; 32]>,
-    /// Whether HMAC-SHA1 is supported. Its keys are made with MD5.
+    /// Whether HMAC-SHA1 is supported. Its keys are made with MD5. Nonces and tables of users
+    /// depend on this setting (see `Server`).
     pub hmac_sha1: bool,
-    /// Whether HMAC-SHA256 is supported. Its keys are made with SHA-256.
+    /// Whether HMAC-SHA256 is supported. Its keys are made with SHA-256. Nonces and tables of users
+    /// depend on this setting (see `Server`).
     pub hmac_sha256: bool,
-    /// Whether clients may send a hash in place of a name (section 14.4).
+    /// Whether clients may send a hash in place of a name (section 14.4). Nonces and tables of
+    /// users depend on this setting (see `Server`).
     pub user_hashes: bool,
     /// The nonce lifetime, in seconds, of at least 30: how long the server sends the same nonce to
     /// an address. After it is sent, a nonce is accepted for one to two lifetimes.

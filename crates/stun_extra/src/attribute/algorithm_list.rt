@@ -58,7 +58,7 @@ impl<'a> Clone for AlgorithmEntry<'a> {
 }
 
 impl<'a> AlgorithmEntry<'a> {
-    /// Creates the entry of an algorithm with this number.
+    /// Creates an entry from the number of an algorithm and its parameters.
     ///
     /// # Errors
     ///
@@ -211,7 +211,7 @@ impl<'a> Iterator for AlgorithmEntries<'a> {
 
 impl<'a> AlgorithmList<'a> {
     /// Creates the attribute from a list of entries. This does not allocate. `add_attribute` fails
-    /// with `TooLarge` if the entries with their padding have more than 65532 bytes.
+    /// with `TooLarge` if the message would have more than 65532 bytes after its header.
     pub fn new(entries: &'a [AlgorithmEntry<'a>]) -> Self
         ensures { result ≡ entries.now }
     {
@@ -246,7 +246,8 @@ impl<'a> AlgorithmList<'a> {
         total
     }
 
-    /// Appends the entries to `writer`.
+    /// Appends the entries to `writer`. The entries must have at most 65532 bytes with their
+    /// padding, and the caller must have reserved these bytes.
     fn append_entries<W: MessageWrite>(&self, writer: &mut W)
         requires fits { length (spelled_attributes self.now) ≤ max_length }
         requires reserved { length (spelled_attributes self.now) ≤ W.reserved writer.old }

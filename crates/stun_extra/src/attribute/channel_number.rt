@@ -10,7 +10,7 @@ use stun_base::error::{StunParseError, StunWriteError};
 use stun_types::attribute::{AttributeType, RawAttribute};
 use stun_types::prelude::*;
 
-/// The number of bytes of the value: the number, and two that are reserved.
+/// The number of bytes of the value: two for the channel number, and two that are reserved.
 const LENGTH: usize = 4;
 
 /// CHANNEL-NUMBER (RFC 8656, section 18.1): the number of a channel.
@@ -90,7 +90,7 @@ impl ChannelNumber {
         self.channel
     }
 
-    /// Returns the bytes of the value: the number, and two that are reserved.
+    /// Returns the bytes of the value: the channel number, and two reserved bytes, which are 0.
     fn bytes(&self) -> [u8; LENGTH]
         ensures value { result ≡ channel_value self.now }
         ensures channel { IsAnyChannel self.now }

@@ -8,7 +8,7 @@ use stun_base::error::StunParseError;
 use stun_types::attribute::{AttributeType, RawAttribute};
 use stun_types::prelude::*;
 
-/// The number of bytes of the value: the protocol, and three that are reserved.
+/// The number of bytes of the value: one for the protocol, and three that are reserved.
 const LENGTH: usize = 4;
 
 /// REQUESTED-TRANSPORT (RFC 8656, section 18.8): the protocol between the server and the peers, as
@@ -52,9 +52,9 @@ impl Model for RequestedTransport {
 }
 
 impl RequestedTransport {
-    /// UDP, as RFC 8656 uses it.
+    /// The number of UDP, the only protocol that RFC 8656 allows.
     pub const UDP: u8 = 17;
-    /// TCP, as RFC 6062 uses it.
+    /// The number of TCP, which RFC 6062 allows in addition.
     pub const TCP: u8 = 6;
 
     /// Creates the attribute from the number of a protocol.
@@ -71,7 +71,7 @@ impl RequestedTransport {
         self.protocol
     }
 
-    /// Returns the bytes of the value: the protocol, and three that are reserved.
+    /// Returns the bytes of the value: the protocol, and three reserved bytes, which are 0.
     fn bytes(&self) -> [u8; LENGTH]
         ensures value { result ≡ transport_value self.now }
         ensures protocol { self.now < 2 ^ 8 }

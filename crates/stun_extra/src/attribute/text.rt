@@ -57,7 +57,7 @@ impl<'a, const KIND: u16, const LIMIT: usize> Eq for Text<'a, KIND, LIMIT> {
 }
 
 impl<'a, const KIND: u16, const LIMIT: usize> Text<'a, KIND, LIMIT> {
-    /// Creates the attribute from a text. It does not allocate.
+    /// Creates the attribute from a text. This does not allocate.
     ///
     /// # Errors
     ///

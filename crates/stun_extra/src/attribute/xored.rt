@@ -119,7 +119,8 @@ fn read_xored(
     XorMappedAddress::from_raw(RawAttribute::new(AttributeType::XOR_MAPPED_ADDRESS, raw.value()))
 }
 
-/// Appends an attribute of this type with the value of an XOR-MAPPED-ADDRESS.
+/// Appends an attribute of this type with the value of an XOR-MAPPED-ADDRESS. The caller must have
+/// reserved the bytes of the attribute.
 fn append_xored<W: MessageWrite>(writer: &mut W, kind: AttributeType, address: &XorMappedAddress)
     requires { attribute_length (length (xored_value address.now)) ≤ W.reserved writer.old }
     ensures bytes { W.bytes writer.new ≡ W.bytes writer.old

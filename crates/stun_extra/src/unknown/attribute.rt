@@ -149,7 +149,7 @@ impl<'a> UnknownAttributes<'a> {
         }
     }
 
-    /// Appends the types to `writer`.
+    /// Appends the types to `writer`. The caller must have reserved 2 bytes for each type.
     fn append_types<W: MessageWrite>(&self, writer: &mut W)
         requires { 2 * length self.now ≤ W.reserved writer.old }
         ensures bytes { W.bytes writer.new ≡ W.bytes writer.old ++ spelled_types self.now }
@@ -164,6 +164,7 @@ impl<'a> UnknownAttributes<'a> {
 }
 
 /// Appends the types of a message that the receiver must understand and that are not in `known`.
+/// The caller must have reserved 2 bytes for each type.
 fn append_unknown<W: MessageWrite>(message: &Message<'_>, known: &[AttributeType], writer: &mut W)
     requires { 2 * length (unknown_types known.now message.now) ≤ W.reserved writer.old }
     ensures bytes { W.bytes writer.new
@@ -178,7 +179,8 @@ fn append_unknown<W: MessageWrite>(message: &Message<'_>, known: &[AttributeType
     }
 }
 
-/// Appends the types that are encoded in the bytes.
+/// Appends the types that are encoded in the bytes, 2 bytes for each. The caller must have reserved
+/// these bytes in the writer.
 fn append_received<W: MessageWrite>(bytes: &[u8], writer: &mut W)
     requires even { length bytes.now % 2 ≡ 0 }
     requires reserved { 2 * length (types_in bytes.now) ≤ W.reserved writer.old }

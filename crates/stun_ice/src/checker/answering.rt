@@ -28,7 +28,8 @@ use stun_types::message::{IntegrityAlgorithm, Message, StunWriteError};
 use stun_types::prelude::*;
 
 impl<A: Memory> Checker<A> {
-    /// Writes the answer to a check that came from the address `from`.
+    /// Writes the answer to a check that came from the address `from`, as the verdict on the check
+    /// requires.
     pub(super) fn answer(
         &self,
         check: &Message<'_>,
@@ -83,7 +84,8 @@ impl<A: Memory> Checker<A> {
         self.error(check, 487, "Role Conflict", Some(algorithm), writer)
     }
 
-    /// Writes the response to a check that is refused.
+    /// Writes the error response to a check that is refused, and signs it if `signature` is an
+    /// algorithm.
     fn refused(
         &self,
         check: &Message<'_>,
@@ -106,7 +108,8 @@ impl<A: Memory> Checker<A> {
         }
     }
 
-    /// Writes an error response whose only attribute before its signature is ERROR-CODE.
+    /// Writes an error response whose only attribute before its signature is ERROR-CODE, and signs
+    /// it if `signature` is an algorithm.
     fn error(
         &self,
         check: &Message<'_>,
@@ -126,7 +129,8 @@ impl<A: Memory> Checker<A> {
         Ok(answer)
     }
 
-    /// Writes the error response 420, with UNKNOWN-ATTRIBUTES.
+    /// Writes the error response 420, with UNKNOWN-ATTRIBUTES, and signs it if `signature` is an
+    /// algorithm.
     fn unknown(
         &self,
         check: &Message<'_>,

@@ -99,7 +99,7 @@ impl<A: Allocator> Checker<A> {
         }
     }
 
-    /// Judges a check whose signature is valid by its other attributes.
+    /// Judges a check with a valid signature by its other attributes.
     fn by_attributes(&self, check: &Message<'_>, algorithm: IntegrityAlgorithm) -> Verdict
         ensures { result ≡ by_signature self.now check.now (Some algorithm) }
     {
@@ -112,7 +112,7 @@ impl<A: Allocator> Checker<A> {
         }
     }
 
-    /// Judges a check that has a valid PRIORITY by the roles of both sides.
+    /// Judges a check with a well-formed PRIORITY by the roles of both sides.
     fn by_role(&self, check: &Message<'_>, algorithm: IntegrityAlgorithm, priority: u32) -> Verdict
         ensures { result ≡ by_priority self.now check.now algorithm (Some priority) }
     {

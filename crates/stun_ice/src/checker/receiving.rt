@@ -45,7 +45,8 @@ fn no_message(bytes: &[u8]) -> DropReason
     }
 }
 
-/// Returns the role that an agent has after the outcome of a check. `role` is its role before.
+/// Returns the role that an agent has after the outcome of one of its checks. `role` is the role
+/// that it has before.
 fn role_after_outcome(role: Role, outcome: &Outcome) -> Role
     ensures { result ≡ role_after_outcome role outcome.now }
 {
@@ -156,17 +157,18 @@ impl<A: Memory> Checker<A> {
     ///
     /// - Bytes that are not a message, messages without a valid FINGERPRINT, and methods other than
     ///   Binding are dropped.
-    /// - A check is accepted if its USERNAME begins with the name of this agent and a colon, and it
-    ///   is signed with the password of this agent. It must have PRIORITY, and no unknown
-    ///   comprehension-required attribute. If it states that the peer has the same role as this
-    ///   agent, the agent with the larger tie-breaker becomes controlling (RFC 8445, section
-    ///   7.3.1.1). If the tie-breakers are equal, this agent becomes controlling. To reach this,
-    ///   either this agent switches its role, or it answers with a 487. The answer is the same
-    ///   whether or not the credentials of the peer are known.
+    /// - A check is accepted if its USERNAME begins with the name of this agent and a colon, it is
+    ///   signed with the password of this agent, it has a well-formed PRIORITY, and this agent
+    ///   understands all its comprehension-required attributes. If it states that the peer has the
+    ///   same role as this agent, the agent with the larger tie-breaker becomes controlling (RFC
+    ///   8445, section 7.3.1.1), or this agent if the tie-breakers are equal. To reach this, either
+    ///   this agent switches its role, or it answers the check with a 487 instead of accepting it.
+    ///   The answer is the same whether or not the credentials of the peer are known.
     /// - A response is dropped if it does not answer `check`, or is not signed by the peer.
     ///   Otherwise it ends the check. After a 487 this agent has the opposite of the role in which
     ///   the check was sent (section 7.2.5.1).
-    /// - An indication is dropped if it has an unknown comprehension-required attribute.
+    /// - An indication is dropped if it has a comprehension-required attribute that this agent does
+    ///   not understand.
     ///
     /// Fails if an allocation fails. The role is then unchanged, and the peer sends its check
     /// again. Memory is allocated only for the answer to a check.
@@ -235,7 +237,8 @@ impl<A: Memory> Checker<A> {
         }
     }
 
-    /// Judges a datagram. The answer to a check takes over the memory of the buffer.
+    /// Judges a datagram, and writes the answer if it is a check. The answer uses the memory of
+    /// `buffer`, if this is enough.
     fn received<'a>(
         &mut self,
         bytes: &'a [u8],

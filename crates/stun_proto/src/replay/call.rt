@@ -33,7 +33,7 @@ pub enum ServerCall {
         /// The random numbers for a new nonce, if the server makes one.
         words: [u32; 16],
     },
-    /// Signs a message: writes its attributes again, followed by those that signing adds.
+    /// Signs a message: writes its attributes again, followed by the attributes that signing adds.
     Sign {
         /// The address that the message is for.
         to: SocketAddr,

@@ -22,7 +22,7 @@ use stun_base::memory::Memory;
 /// Drives an agent through a list of events, each at its time, and returns what the agent did, in
 /// order.
 ///
-/// The times of the events must not go back, and none may be after `until`. The run goes like this:
+/// The times of the events must not decrease, and must be at most `until`. The run goes like this:
 ///
 /// 1. Before an event, there is a turn at each earlier time that a request waits for, in order.
 /// 2. Then the event happens, and there is a turn at its time.
@@ -32,11 +32,16 @@ use stun_base::memory::Memory;
 /// `poll` until it returns `WaitUntil`. It repeats this as long as `WaitUntil` has the time of the
 /// turn, but not at `Instant::MAX`.
 ///
-/// A request is undisturbed if exactly one event sends it, and if until its end no response to it
-/// arrives from the address that it was sent to, and no event cancels or changes it. An undisturbed
-/// request is sent at the time of its event and again after each of its timeouts, at no other time,
-/// and it times out once (RFC 8489, section 6.2.1). This holds whatever arrives from other
-/// addresses.
+/// A request is undisturbed if all of these hold:
+///
+/// - Exactly one event sends a request with its transaction ID, to an address that the agent may
+///   send to. No request with this ID is outstanding when the run begins.
+/// - Until the request ends, no event cancels or changes it, and no response to it arrives from the
+///   address that it was sent to.
+///
+/// An undisturbed request is sent at the time of its event and after each of its timeouts, and only
+/// then, as far as the run reaches. It times out once, unless it would time out after `until` (RFC
+/// 8489, section 6.2.1). This holds whatever arrives from other addresses.
 ///
 /// Contracts: the clause `headline` states this, and that the returned steps are exactly those that
 /// the agent made. The clause `run` states only the steps. The clause `plans` states when requests
@@ -47,7 +52,7 @@ use stun_base::memory::Memory;
 /// `Stopped`: an allocation failed, and the steps are lost. The agent has then gone through the
 /// first `done` events, with the turns before and after each of them, and through the turns before
 /// the next event, or up to `until` if no event is left. To make the rest of the run, call `drive`
-/// with this agent and the events from `done` on: no event happens twice, and none is left out
+/// with this agent and the events from `done` on: each event then happens exactly once
 /// (law `stopped_runs_go_on`).
 ///
 /// # Examples
@@ -144,8 +149,8 @@ fn take_event<A: Memory>(
     Ok(())
 }
 
-/// Makes a turn at each time that a request waits for, from `from` on and before `bound`, both in
-/// nanoseconds.
+/// Makes a turn at each time that a request waits for and that is at least `from` and less than
+/// `bound`, both in nanoseconds.
 fn turns<A: Memory>(
     alloc: A,
     agent: &mut StunAgent<A>,

@@ -88,7 +88,7 @@ impl From<Stopped> for NegotiateError {
     }
 }
 
-/// Lets a client and a server authenticate each other, and returns how that ended.
+/// Lets a client and a server authenticate each other, and returns the outcome.
 ///
 /// 1. The client sends a Binding request with the first ID, which the server reads at the first
 ///    time.
@@ -98,8 +98,9 @@ impl From<Stopped> for NegotiateError {
 ///
 /// All of these are Binding messages. Before they are signed they have no attributes, except
 /// ERROR-CODE in the 401. Each message is signed by the side that sends it, and parsed from its
-/// bytes by the other side. The server makes the first list of calls just before the client reads
-/// the 401, and the second list just before the server itself reads the second request.
+/// bytes by the other side. For each of the two requests, `words` has the random numbers for a new
+/// nonce, if the server makes one. The server makes the first list of calls just before the client
+/// reads the 401, and the second list just before the server itself reads the second request.
 ///
 /// If the client is ready, the server validates its second request, with the strongest algorithm
 /// that both sides support, and both sides are then authenticated. There are two exceptions: the

@@ -1,4 +1,5 @@
-//! The loop of a client that waits for datagrams, with its clock and its socket as arguments.
+//! The loop of a client that waits for datagrams. The times of its clock and the datagrams of its
+//! socket are arguments.
 ghost use Rattle.std.specs.Prelude.{◌<◌, ◌≤◌, [], ℕ, IfOk, IsOk};
 ghost use Rattle.stun_base.specs.Header.{transaction_id_field};
 ghost use Rattle.stun_base.specs.Moments.{last_moment};
@@ -39,8 +40,8 @@ pub struct Round {
 pub struct ClientRun<A: Allocator = Global> {
     /// The steps after the first transmission, in order.
     pub steps: Vec<AgentStep<A>, A>,
-    /// The greatest delay of the loop, in nanoseconds: at no call was a deadline of a request
-    /// longer ago than this.
+    /// The greatest delay of the loop, in nanoseconds. At each call, every deadline that had passed
+    /// was at most this long ago.
     pub late: u64,
 }
 
@@ -50,7 +51,7 @@ pub struct ClientRun<A: Allocator = Global> {
 /// learn how long to wait. It does not poll at the time of an event, and a round may begin at any
 /// time.
 ///
-/// The times of the calls must not go back, and none may be `Instant::MAX`.
+/// The times of the calls must not decrease, and must be before `Instant::MAX`.
 ///
 /// Contracts: these calls are a loop in the sense of the law `any_loop_sends_in_time`, with the
 /// delay `late` that the call has measured. So if nothing disturbs the request, no retransmission

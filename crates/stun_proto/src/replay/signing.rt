@@ -1,5 +1,5 @@
-//! Signs a message for an address: writes the attributes of the message again, and then those that
-//! signing adds.
+//! Signs a message for an address: writes the attributes of the message again, and then the
+//! attributes that signing adds.
 
 ghost use Rattle.std.specs.Prelude.{◌≡◌, ◌≢◌, ⊤, None, OnOk, OnErr, IfOk, IsErr, IsOk, IsOkAnd};
 ghost use Rattle.stun_base.specs.Header.{type_field};

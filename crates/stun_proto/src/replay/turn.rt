@@ -51,7 +51,8 @@ fn send_all<A: Memory>(alloc: A, agent: &mut StunAgent<A>, now: Instant, log: &m
     }
 }
 
-/// Calls `poll` at the time `now` until no more requests end. Returns the time to wait until.
+/// Calls `poll` at the time `now` until it returns `WaitUntil`, and returns the time in this
+/// `WaitUntil`.
 fn end_all<A: Memory>(agent: &mut StunAgent<A>, now: Instant, log: &mut StepLog<A>) -> Instant
     ensures ends { EndsAll now agent.old agent.new (kept_steps log.old) (kept_steps log.new) result }
     ensures granted { A.grants → IsKept log.old → IsKept log.new }
@@ -84,7 +85,7 @@ pub(crate) fn send_one<A: Memory>(
 }
 
 /// Makes one call of `poll`. If a request ended, adds the step to `log` and returns `None`.
-/// Otherwise returns the time to wait until.
+/// Otherwise returns the time in `WaitUntil`.
 pub(crate) fn end_one<A: Memory>(
     agent: &mut StunAgent<A>,
     now: Instant,

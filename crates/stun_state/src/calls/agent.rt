@@ -38,8 +38,8 @@ use stun_handles::address::Address;
 use stun_handles::kind::{AGENT, EMPTY, missing};
 use stun_numbers::refusal::Refusal;
 
-/// Creates an agent that sends from a local address over a transport: 0 is UDP, and 1 is TCP. Fails
-/// with `FullHandle` if the handle is not empty, then with `BadArgument` if there is no such
+/// Creates an agent that sends from the address `local` over a transport: 0 is UDP, and 1 is TCP.
+/// Fails with `FullHandle` if the handle is not empty, then with `BadArgument` if there is no such
 /// transport or `local` is not an IPv4 or IPv6 address, then with `OutOfMemory`.
 #[unsafe(no_mangle)]
 pub extern "C" fn stunp_agent_new(
@@ -124,7 +124,8 @@ pub extern "C" fn stunp_agent_clear(alloc: Global, handle: &mut StateHandle)
     let _agent = handle.take(alloc, AGENT);
 }
 
-/// Stores a request to an address, starts its retransmission timer, and counts it.
+/// Stores a request that you send to the address `to`, starts its retransmission timer at the time
+/// `now`, and counts it.
 ///
 /// # Errors
 ///
@@ -161,7 +162,7 @@ pub extern "C" fn stunp_agent_send_request(
     answer
 }
 
-/// Counts a response or an indication that is sent to an address.
+/// Counts a response or an indication that you send to the address `to`.
 ///
 /// Fails with `BadArgument` if `to` is not an IPv4 or IPv6 address, then with `Truncated`,
 /// `NotStun` or `TooLarge` if `message` is not a message, then with `ProtocolViolation` if the
@@ -186,8 +187,8 @@ pub extern "C" fn stunp_agent_send(
     answer
 }
 
-/// Processes a message that arrived from an address. Returns 1 if it is accepted, and 0 if it is a
-/// response to no outstanding request.
+/// Processes a message that arrived from the address `from`. Returns 1 if the message is accepted,
+/// and 0 if it is a response that answers no outstanding request to this address.
 ///
 /// Fails with `BadArgument` if `from` is not an IPv4 or IPv6 address, then with `Truncated`,
 /// `NotStun` or `TooLarge` if `message` is not a message, then with `OutOfMemory`.
@@ -250,10 +251,10 @@ pub extern "C" fn stunp_agent_poll_transmit(
     answer
 }
 
-/// Reports a request that has ended, or how long to wait. Returns 1 if a request has timed out, or
-/// 2 if one was canceled, and writes its transaction ID to the first 12 bytes of `id`. Otherwise
-/// returns 0, and writes to `until` the time to wait until. Fails with `BufferTooSmall` if `id` has
-/// fewer than 12 bytes.
+/// Reports a request that has ended without a response, or the time to wait until. Returns 1 if a
+/// request has timed out, or 2 if a request was canceled, and writes the transaction ID of the
+/// request to the first 12 bytes of `id`. Otherwise returns 0, and writes to `until` the time to
+/// wait until. Fails with `BufferTooSmall` if `id` has fewer than 12 bytes.
 #[unsafe(no_mangle)]
 pub extern "C" fn stunp_agent_poll(
     alloc: Global,
@@ -391,8 +392,8 @@ pub extern "C" fn stunp_agent_validated_peer(
     answer
 }
 
-/// Returns 1 if an address is a validated peer, because a message from it was accepted or because
-/// it was added, and otherwise 0. Fails with `BadArgument` if `peer` is not an IPv4 or IPv6
+/// Returns 1 if the address `peer` is a validated peer, because a message from it was accepted or
+/// because it was added, and otherwise 0. Fails with `BadArgument` if `peer` is not an IPv4 or IPv6
 /// address.
 #[unsafe(no_mangle)]
 pub extern "C" fn stunp_agent_is_validated_peer(

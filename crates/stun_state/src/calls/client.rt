@@ -92,8 +92,8 @@ pub extern "C" fn stunp_client_set_algorithms(
     answer
 }
 
-/// Sets when the user name is sent as a hash: 0 means if the server accepts hashes, 1 means always,
-/// and 2 means never. Fails with `BadArgument` if `feature` is another number.
+/// Sets when the client sends the user name as a hash: 0 means if the server accepts hashes, 1
+/// means always, and 2 means never. Fails with `BadArgument` if `feature` is another number.
 #[unsafe(no_mangle)]
 pub extern "C" fn stunp_client_set_anonymous_username(
     alloc: Global,
@@ -174,13 +174,14 @@ pub extern "C" fn stunp_client_signing_algorithm(alloc: Global, handle: &mut Sta
     answer
 }
 
-/// Judges a response. Returns 1 or 2 if it is accepted, because its HMAC-SHA1 or HMAC-SHA256
-/// signature is valid. Returns 3 if it asks for another request. Returns 4 or 5 in place of 3 if
-/// its HMAC-SHA1 or HMAC-SHA256 signature is valid under the key that the client had before.
+/// Judges a response. Returns 1 or 2 if the response is accepted, because its HMAC-SHA1 or
+/// HMAC-SHA256 signature is valid. Returns 3 if the response asks for another request, or 4 or 5 in
+/// place of 3 if its HMAC-SHA1 or HMAC-SHA256 signature is also valid under the key that the client
+/// had before.
 ///
 /// Fails with `Truncated`, `NotStun` or `TooLarge` if `message` is not a message, then with the
-/// error with which the authenticator refuses it. It fails with `OutOfMemory` only in place of 3, 4
-/// or 5.
+/// error with which the authenticator refuses the response. It fails with `OutOfMemory` only in
+/// place of 3, 4 or 5.
 #[unsafe(no_mangle)]
 pub extern "C" fn stunp_client_validate(
     alloc: Global,

@@ -1,5 +1,6 @@
 //! The calls on a server whose users are looked up elsewhere, such as in a database. The caller
-//! first asks which user a message names, and then validates and signs with that user.
+//! first finds out which user a message names, and then validates the message and signs the
+//! response with that user.
 //!
 //! A call fails first with `EmptyHandle` if its handle is empty, or with `WrongHandle` if it has an
 //! object of another type. For bytes that are not a message, a call fails with `Truncated`,
@@ -25,15 +26,16 @@ use std::alloc::Global;
 use stun_handles::address::Address;
 use stun_handles::kind::{SERVER, missing};
 
-/// Determines the user with whose key a message that arrived from an address will be verified.
-/// Returns 1 and writes the name of the user to `name`, or returns 2 and writes the hash of the
-/// name, which has 32 bytes. In both cases it writes the length to `name_length`. Returns 0 if the
-/// message names nobody. A message with a USERHASH names nobody if the server does not accept
-/// hashes, even if it has a USERNAME too.
+/// Determines the user with whose key a message that arrived from the address `from` will be
+/// verified. Returns 1 and writes the name of the user to `name`, or returns 2 and writes the hash
+/// of the name, which has 32 bytes. In both cases it writes the length of the name or the hash to
+/// `name_length`. Returns 0 if the message names nobody. A request or an indication with a USERHASH
+/// names nobody if the server does not accept hashes, even if it has a USERNAME too.
 ///
 /// Fails with `BadArgument` if `from` is not an IPv4 or IPv6 address, then with `Truncated`,
 /// `NotStun` or `TooLarge` if `message` is not a message, then with `BufferTooSmall` if the name or
-/// the hash does not fit into `name`.
+/// the hash does not fit into `name`. After `BufferTooSmall`, its length is in `name_length` all
+/// the same.
 #[unsafe(no_mangle)]
 pub extern "C" fn stunp_server_named_user(
     alloc: Global,
@@ -67,9 +69,10 @@ pub extern "C" fn stunp_server_named_user(
     answer
 }
 
-/// Authenticates a message like `stunp_server_validate`, as a server whose only user has this name
-/// and password. It also fails with `NotText` if the name or the password is not UTF-8, right after
-/// `TooManyAddresses`. After that, `OutOfMemory` may take the place of any result.
+/// Authenticates a message like `stunp_server_validate`, but as if the user with this name and
+/// password were the only user of the server. It also fails with `NotText` if the name or the
+/// password is not UTF-8, right after `TooManyAddresses`. After that, it may fail with
+/// `OutOfMemory` in place of any result.
 #[unsafe(no_mangle)]
 pub extern "C" fn stunp_server_validate_of(
     alloc: Global,
@@ -94,10 +97,10 @@ pub extern "C" fn stunp_server_validate_of(
     answer
 }
 
-/// Signs a message like `stunp_server_sign`, as a server whose only user has this name and
-/// password. It fails with `NotText` if the name or the password is not UTF-8, before all other
-/// errors except the errors of the handle. After that, `OutOfMemory` may take the place of any
-/// result.
+/// Signs a message like `stunp_server_sign`, but as if the user with this name and password were
+/// the only user of the server. It fails with `NotText` if the name or the password is not UTF-8,
+/// before all other errors except the errors of the handle. After that, it may fail with
+/// `OutOfMemory` in place of any result.
 #[unsafe(no_mangle)]
 pub extern "C" fn stunp_server_sign_of(
     alloc: Global,
@@ -129,7 +132,7 @@ pub extern "C" fn stunp_server_sign_of(
     answer
 }
 
-/// Authenticates a message like `stunp_server_validate_of`, with stored keys in place of the
+/// Authenticates a message like `stunp_server_validate_of`, but with stored keys in place of the
 /// password. Fails with `NotText` only if the name is not UTF-8, and right after that with
 /// `BadArgument` if a key has a wrong length.
 #[unsafe(no_mangle)]
@@ -157,9 +160,9 @@ pub extern "C" fn stunp_server_validate_of_keys(
     answer
 }
 
-/// Signs a message like `stunp_server_sign_of`, with stored keys in place of the password. Fails
-/// with `NotText` only if the name is not UTF-8, and right after that with `BadArgument` if a key
-/// has a wrong length.
+/// Signs a message like `stunp_server_sign_of`, but with stored keys in place of the password.
+/// Fails with `NotText` only if the name is not UTF-8, and right after that with `BadArgument` if a
+/// key has a wrong length.
 #[unsafe(no_mangle)]
 pub extern "C" fn stunp_server_sign_of_keys(
     alloc: Global,

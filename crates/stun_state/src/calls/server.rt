@@ -206,10 +206,10 @@ pub extern "C" fn stunp_server_remove_user(
     answer
 }
 
-/// Authenticates a message that arrived from an address, and returns an algorithm: 1 is HMAC-SHA1,
-/// and 2 is HMAC-SHA256. For a request or an indication it is the algorithm of the user's key, and
-/// for a response it is the algorithm of the signature. `now` is in nanoseconds, and `words` are
-/// random numbers, which are read only if a nonce is made.
+/// Authenticates a message that arrived from the address `from`, and returns an algorithm: 1 is
+/// HMAC-SHA1, and 2 is HMAC-SHA256. For a request or an indication, this is the algorithm of the
+/// user's key, and for a response, the algorithm of the signature. `now` is in nanoseconds. `words`
+/// are random numbers, which are read only if a nonce is made.
 ///
 /// # Errors
 ///
@@ -218,7 +218,9 @@ pub extern "C" fn stunp_server_remove_user(
 /// - `BadArgument`: `from` is not an IPv4 or IPv6 address.
 /// - `Truncated`, `NotStun` or `TooLarge`: `message` is not a message.
 /// - `TooManyAddresses`: the address has no record, and the limit is reached.
-/// - The error with which the authenticator refuses the message, or `OutOfMemory`.
+/// - The error with which the authenticator refuses the message.
+/// - `OutOfMemory`: an allocation failed. This error may take the place of any verdict on a message
+///   that changes the server.
 #[unsafe(no_mangle)]
 pub extern "C" fn stunp_server_validate(
     alloc: Global,
@@ -248,10 +250,11 @@ pub extern "C" fn stunp_server_validate(
     answer
 }
 
-/// Writes the name of the user who was validated last at an address to `name`, and its length to
-/// `name_length`. Returns the algorithm of the user's key, or 0 if the address has no such user.
-/// Fails with `BadArgument` if `at` is not an IPv4 or IPv6 address, then with `BufferTooSmall` if
-/// the name does not fit into `name`.
+/// Writes the name of the user who was validated last at the address `at` to `name`, and the length
+/// of the name to `name_length`. Returns the algorithm of the user's key, or 0 if the address has
+/// no such user. Fails with `BadArgument` if `at` is not an IPv4 or IPv6 address, then with
+/// `BufferTooSmall` if the name does not fit into `name`. After `BufferTooSmall`, the length of the
+/// name is in `name_length` all the same.
 #[unsafe(no_mangle)]
 pub extern "C" fn stunp_server_client(
     alloc: Global,
@@ -282,8 +285,8 @@ pub extern "C" fn stunp_server_client(
     answer
 }
 
-/// Signs the message in the first `length` bytes of a buffer, which will be sent to an address, and
-/// returns its new length in bytes.
+/// Signs the message in the first `length` bytes of a buffer, which you then send to the address
+/// `to`, and returns the new length of the message in bytes.
 ///
 /// # Errors
 ///
@@ -337,9 +340,9 @@ pub extern "C" fn stunp_server_address_count(alloc: Global, handle: &mut StateHa
     answer
 }
 
-/// Writes the latest nonce that was made for an address to `nonce`, and returns its length in
-/// bytes, or 0 if none was made. Fails with `BadArgument` if `at` is not an IPv4 or IPv6 address,
-/// then with `BufferTooSmall` if the nonce does not fit into `nonce`.
+/// Writes the latest nonce that was made for the address `at` to `nonce`, and returns its length in
+/// bytes, or 0 if no nonce was made. Fails with `BadArgument` if `at` is not an IPv4 or IPv6
+/// address, then with `BufferTooSmall` if the nonce does not fit into `nonce`.
 #[unsafe(no_mangle)]
 pub extern "C" fn stunp_server_nonce(
     alloc: Global,
@@ -364,8 +367,8 @@ pub extern "C" fn stunp_server_nonce(
     answer
 }
 
-/// Removes the client of an address, but not the nonce of the address. Fails with `BadArgument` if
-/// `at` is not an IPv4 or IPv6 address.
+/// Removes the client of the address `at`, which is the user who was validated there last, but not
+/// the nonce of the address. Fails with `BadArgument` if `at` is not an IPv4 or IPv6 address.
 #[unsafe(no_mangle)]
 pub extern "C" fn stunp_server_remove_client(
     alloc: Global,
@@ -384,8 +387,8 @@ pub extern "C" fn stunp_server_remove_client(
     answer
 }
 
-/// Removes the record of an address. Fails with `BadArgument` if `at` is not an IPv4 or IPv6
-/// address.
+/// Removes the record of the address `at`: its client and its nonce. Fails with `BadArgument` if
+/// `at` is not an IPv4 or IPv6 address.
 #[unsafe(no_mangle)]
 pub extern "C" fn stunp_server_forget(alloc: Global, handle: &mut StateHandle, at: &Address) -> i64
     ensures { ChangesServer handle.old handle.new result
@@ -400,8 +403,10 @@ pub extern "C" fn stunp_server_forget(alloc: Global, handle: &mut StateHandle, a
     answer
 }
 
-/// Removes every record that has no client and whose nonce expired more than `age` before `now`,
-/// both in nanoseconds. If `now` is less than `age` it removes none.
+/// Removes every record that has no client and whose nonce expired more than `age` before `now`.
+/// Both are in nanoseconds. If `now` is less than `age`, the call removes no record. Pass the nonce
+/// lifetime as `age`, and make this call every few seconds, because the server removes no record by
+/// itself.
 #[unsafe(no_mangle)]
 pub extern "C" fn stunp_server_forget_expired(
     alloc: Global,

@@ -1,6 +1,6 @@
 //! The calls for a user who is prepared once, and whom the caller passes with each message. They
-//! are for a server whose users are looked up elsewhere, and whose caller can cache a prepared
-//! user.
+//! are for a server whose users are looked up elsewhere: the keys of a prepared user are made only
+//! once, so the caller can store the prepared user for further messages.
 //!
 //! A call on a server fails first with `EmptyHandle` if the server's handle is empty, or with
 //! `WrongHandle` if it has an object of another type, and then likewise for the user's handle.
@@ -65,7 +65,7 @@ pub extern "C" fn stunp_user_new(
     }
 }
 
-/// Prepares a user like `stunp_user_new`, with stored keys in place of the password. Fails with
+/// Prepares a user like `stunp_user_new`, but with stored keys in place of the password. Fails with
 /// `NotText` only if the name is not UTF-8, and right after that with `BadArgument` if a key has a
 /// wrong length.
 #[unsafe(no_mangle)]
@@ -104,8 +104,8 @@ pub extern "C" fn stunp_user_clear(alloc: Global, handle: &mut StateHandle)
     let _user = handle.take(alloc, USER);
 }
 
-/// Authenticates a message like `stunp_server_validate`, as a server whose only user is `user`. The
-/// server's own users and this user are unchanged.
+/// Authenticates a message like `stunp_server_validate`, but as if `user` were the only user of the
+/// server. The server's own users and `user` are unchanged.
 ///
 /// Fails with `EmptyHandle` or `WrongHandle` if the server's handle has no server, then likewise if
 /// the user's handle has no user, then with `WrongHandle` if the user was prepared for another
@@ -162,8 +162,8 @@ pub extern "C" fn stunp_server_validate_user(
     answer
 }
 
-/// Signs a message like `stunp_server_sign`, as a server whose only user is `user`. The server's
-/// own users and this user are unchanged.
+/// Signs a message like `stunp_server_sign`, but as if `user` were the only user of the server. The
+/// server's own users and `user` are unchanged.
 ///
 /// Fails with `EmptyHandle` or `WrongHandle` if the server's handle has no server, then likewise if
 /// the user's handle has no user, then with `WrongHandle` if the user was prepared for another

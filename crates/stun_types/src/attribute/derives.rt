@@ -117,7 +117,8 @@ pub fn copies(
     ))
 }
 
-/// Returns the constants `TYPE` of all attributes, by ascending numbers (RFC 8489, section 18.3).
+/// Returns the constant `TYPE` of each attribute of this crate, in ascending order (RFC 8489,
+/// section 18.3).
 pub fn static_types() -> [AttributeType; 10]
     ensures { map (λ kind. kind.0) result ≡
         0x0006 ∷ 0x0008 ∷ 0x0009 ∷ 0x0014 ∷ 0x0015 ∷ 0x001C ∷ 0x001D ∷ 0x001E ∷ 0x0020

@@ -22,15 +22,15 @@ pub fn takes_what_is_spelled()
     ensures { (attribute : TypedValue) → TakesWhatIsSpelled attribute }
 {}
 
-/// Each list of password algorithms has exactly one encoding: bytes that are parsed as a list are
-/// the bytes that this list is written as.
+/// Each list of password algorithms has exactly one encoding: if bytes can be parsed as a list,
+/// writing this list gives the same bytes.
 pub fn entries_are_spelled()
     ensures { (bytes : List ℕ) (list : List PasswordAlgorithmValue)
         → ((i : ℕ) → slice_index bytes i < 2 ^ 8) → ReadsSpelledEntries bytes list }
 {}
 
-/// Converts an algorithm into the hash function that derives its keys, and back, and returns the
-/// same algorithm.
+/// Converts an algorithm to the hash function that derives its keys, and converts this hash
+/// function back to the same algorithm.
 pub fn same_integrity(integrity: IntegrityAlgorithm) -> IntegrityAlgorithm
     ensures { result ≡ integrity }
 {
@@ -46,8 +46,8 @@ pub fn reserved_bits()
     ensures address_written { (address : XoredAddress) → WritesFirstZero address }
 {}
 
-/// XORs an address with a transaction ID and reads it again with the same ID: returns the same
-/// address and port, with the flow information and the scope ID set to 0.
+/// XORs an address for a message with this transaction ID, and reads it again with the same ID.
+/// Returns the same IP address and port, with the flow information and the scope ID set to 0.
 pub fn hidden_and_read(addr: SocketAddr, id: TransactionId) -> SocketAddr
     ensures ip { socket_ip result ≡ socket_ip addr }
     ensures port { socket_port result ≡ socket_port addr }

@@ -97,9 +97,9 @@ impl<'a> AttributeFromRaw<'a> for MessageIntegrity {
     }
 }
 
-/// MESSAGE-INTEGRITY-SHA256 (RFC 8489, section 14.6): the HMAC-SHA256 of a message, 16 to 32 bytes,
-/// and a multiple of 4. A truncated HMAC can be parsed, but a message with one never counts as
-/// signed.
+/// MESSAGE-INTEGRITY-SHA256 (RFC 8489, section 14.6): the HMAC-SHA256 of a message, which has 16,
+/// 20, 24, 28 or 32 bytes. An HMAC of fewer than 32 bytes is truncated: it can be parsed, but never
+/// counts as a valid signature.
 ///
 /// Contracts: the value is the list of its bytes.
 #[derive(Debug, Drop)]

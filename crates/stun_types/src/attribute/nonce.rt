@@ -9,7 +9,7 @@ use crate::attribute::{AttributeStaticType, AttributeType};
 use crate::limits::TEXT_LIMIT;
 use std::fmt;
 
-/// The number of the attribute type.
+/// The attribute type as a number, which is a parameter of `Text`.
 const KIND: u16 = AttributeType::NONCE.0;
 
 /// NONCE (RFC 8489, section 14.10): the nonce of a server, in UTF-8 of at most 763 bytes.

@@ -165,7 +165,8 @@ impl<'a> PasswordAlgorithms<'a> {
         true
     }
 
-    /// Appends the entries of the algorithms to `writer`.
+    /// Appends the entries of the algorithms to `writer`. The caller must have reserved 4 bytes for
+    /// each entry.
     fn append_entries<W: MessageWrite>(&self, writer: &mut W)
         requires { ENTRY_LENGTH * length self.now ≤ W.reserved writer.old }
         ensures bytes { W.bytes writer.new ≡ W.bytes writer.old ++ spelled_entries self.now }

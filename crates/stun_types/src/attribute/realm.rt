@@ -9,7 +9,7 @@ use crate::attribute::{AttributeStaticType, AttributeType};
 use crate::limits::TEXT_LIMIT;
 use std::fmt;
 
-/// The number of the attribute type.
+/// The attribute type as a number, which is a parameter of `Text`.
 const KIND: u16 = AttributeType::REALM.0;
 
 /// REALM (RFC 8489, section 14.9): the realm in which users are registered, in UTF-8 of at most 763

@@ -9,7 +9,7 @@ use crate::attribute::{AttributeStaticType, AttributeType};
 use crate::limits::USERNAME_LIMIT;
 use std::fmt;
 
-/// The number of the attribute type.
+/// The attribute type as a number, which is a parameter of `Text`.
 const KIND: u16 = AttributeType::USERNAME.0;
 
 /// USERNAME (RFC 8489, section 14.3): the name of a user, in UTF-8 of at most 513 bytes.

@@ -29,10 +29,10 @@ const PORT_KEY: u16 = (MAGIC_COOKIE >> 16) as u16;
 /// The number of bytes of the value before the octets: a reserved byte, the family and the port.
 const FAMILY_AND_PORT_LENGTH: usize = 4;
 
-/// The number of the family IPv4.
+/// The family number of IPv4 (RFC 8489, section 14.1).
 const IPV4: u8 = 1;
 
-/// The number of the family IPv6.
+/// The family number of IPv6 (RFC 8489, section 14.1).
 const IPV6: u8 = 2;
 
 /// The octets of an address, each XORed with the byte of the key at the same index.
@@ -204,8 +204,8 @@ impl Attribute for XorMappedAddress {
     }
 }
 
-/// Appends the attribute with this family, and with this port and these octets, which must be XORed
-/// already.
+/// Appends an XOR-MAPPED-ADDRESS with this family. The caller must have XORed `port` and `octets`,
+/// and reserved the bytes of the attribute.
 fn append_address<W: MessageWrite>(writer: &mut W, family: u8, port: u16, octets: &[u8])
     requires whole { length octets.now % 4 ≡ 0 }
     requires short { length octets.now ≤ 16 }

@@ -41,8 +41,8 @@ impl Visibility {
     }
 
     /// Returns the type of the earlier attribute that hides an attribute of this type, or `None` if
-    /// the attribute is visible. If several earlier attributes hide it, returns the type of the one
-    /// that hides the most.
+    /// the attribute is visible. If several earlier attributes hide it, returns the type of the
+    /// attribute that hides the most types.
     pub fn hider(self, kind: AttributeType) -> Option<AttributeType>
         ensures { result ≡ hider self kind.0 }
     {

@@ -256,7 +256,8 @@ pub trait MessageWriteExt: MessageWrite {
     /// Like `add_message_integrity_with_key`, but does not check first whether the message can be
     /// signed.
     ///
-    /// The caller must ensure the following, because the message would be malformed otherwise:
+    /// The caller must ensure the following. Otherwise the message can become malformed, or the
+    /// call can fail because the writer has too little room:
     ///
     /// - The message has no integrity attribute.
     /// - With the new integrity attribute, the message has at most 65532 bytes after its header.
@@ -416,7 +417,8 @@ fn sign<W: MessageWrite, K: DigestKey>(
     Ok(())
 }
 
-/// Appends the integrity attribute, whose value is the HMAC of all bytes before it.
+/// Appends the integrity attribute, whose value is the HMAC of all bytes before it. The caller must
+/// have reserved the bytes of the attribute.
 fn append_integrity<W: MessageWrite, K: DigestKey>(
     writer: &mut W,
     key: &K,

@@ -50,7 +50,7 @@ impl CandidateKind {
         }
     }
 
-    /// Returns the word of SDP: `host`, `prflx`, `srflx` or `relay`.
+    /// Returns the word for this kind in SDP: `host`, `prflx`, `srflx` or `relay`.
     #[must_use]
     pub fn name(self) -> &'static str {
         match self {
@@ -105,10 +105,10 @@ pub fn pair_priority(controlling: u32, controlled: u32) -> u64 {
 
 /// A candidate over UDP, as in SDP (RFC 8839, section 5.1).
 ///
-/// `FromStr` parses the value of an `a=candidate` line, with or without `a=` in front, which is
-/// what browsers have in `RTCIceCandidate.candidate`. `Display` writes it without `a=`. The
-/// extensions at the end of the line, whatever their names are, are stored and displayed too.
-/// Parsing and writing are tested, and not proved.
+/// `FromStr` parses the value of an `a=candidate` line, with or without `a=` in front. In browsers,
+/// `RTCIceCandidate.candidate` has this value. `Display` writes the value without `a=`. The
+/// extensions at the end of the line, whatever their names are, are stored and written too. Parsing
+/// and writing are tested, and not proved.
 ///
 /// # Examples
 ///
@@ -211,10 +211,10 @@ pub enum CandidateError {
     Component,
     /// The priority is not a number from 1 to 2147483647.
     Priority,
-    /// The address is not an IP address with a port: it may be a name, as `….local` is, which
-    /// browsers write to hide addresses.
+    /// The address is not an IP address with a port: it may be a name that ends with `.local`, with
+    /// which browsers hide addresses.
     Address,
-    /// The word after `typ` is not one of [`CandidateKind`].
+    /// The word after `typ` is not the name of a [`CandidateKind`].
     Kind,
 }
 

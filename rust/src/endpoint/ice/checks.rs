@@ -403,7 +403,7 @@ impl Checks {
         self.sent.get(&id).map(|sent| &sent.check)
     }
 
-    /// Starts a check, which [`poll`](Self::poll) sends.
+    /// Starts a check. [`poll`](Self::poll) then returns it for you to send.
     ///
     /// # Errors
     ///
@@ -442,10 +442,10 @@ impl Checks {
         Ok(())
     }
 
-    /// Stops retransmitting a check. Its answer still ends it. Call it for a check that is no
-    /// longer needed, for example because a triggered check takes its place (RFC 8445, section
-    /// 7.3.1.4). If no answer arrives, the check still ends at the same time. Returns `false` if
-    /// there is no such check.
+    /// Stops retransmitting a check, but an answer still ends the check. Call this for a check that
+    /// is no longer needed, for example because a triggered check takes its place (RFC 8445,
+    /// section 7.3.1.4). If no answer arrives, the check times out when it would have timed out
+    /// before. Returns `false` if there is no such check.
     pub fn stop_sending(&mut self, id: TransactionId) -> bool {
         self.unsent.retain(|unsent| *unsent != id);
         if let Some(mut request) = self.timers.mut_request_transaction(id) {
@@ -544,7 +544,8 @@ impl Checks {
         }
     }
 
-    /// Returns the next thing to do.
+    /// Returns the next thing to do. Call it until it returns [`ChecksOutput::Wait`]: after each
+    /// other call, and when the wait is over.
     pub fn poll(&mut self, now: Instant) -> ChecksOutput<'_> {
         match self.due(now) {
             Some(id) => match self.sent.get(&id) {

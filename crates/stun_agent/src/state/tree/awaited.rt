@@ -1,4 +1,4 @@
-//! The times that requests await: those of their next slots, and those of their ends.
+//! The times that requests await: the times of their next slots, and the times at which they end.
 //!
 //! The times are private to this module. A counted search can look at the times of a link in two
 //! ways, `is_over` and `first`, and each counts one look. The calls that do not count, and those

@@ -111,8 +111,8 @@ impl<A: Allocator, D> Leaf<A, D> {
         self.request.awaited_by(transport)
     }
 
-    /// Advances the request past the slot that is due, and writes to `awaited` the time that it
-    /// awaits next. Returns whether the request is still retransmitted.
+    /// Advances the request past the slot that is due, and writes to `awaited` the time that the
+    /// request awaits next. Returns whether the request is still retransmitted.
     fn pass_slot(&mut self, awaited: &mut Awaited, transport: TransportType, now: Instant) -> bool
         requires { is_due transport now self.old.entry.1 ≡ true }
         ensures sent { result ≡ repeats self.old.entry.1.sending }

@@ -87,7 +87,7 @@ pub(crate) fn success<A: Memory>(
     sign(server, writer, to)
 }
 
-/// Returns a 401 response to a request, not signed, with no attribute except ERROR-CODE.
+/// Returns an unsigned 401 response to a request, whose only attribute is ERROR-CODE.
 fn unauthorized<A: Memory>(
     alloc: A,
     request: &Message<'_>,

@@ -39,7 +39,7 @@ impl<A: Memory> UserNaming<A> {
         }
     }
 
-    /// Copies the name.
+    /// Copies the name or its hash. Fails if an allocation fails.
     pub fn copied(&self) -> Result<Self, AllocError>
         ensures naming { IfOk result (λ copy. naming_seen copy ≡ naming_seen self.now) }
         ensures granted { A.grants → IsOk result }

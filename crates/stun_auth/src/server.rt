@@ -61,7 +61,7 @@ pub(crate) mod verdict;
 /// The shortest time for which a nonce may be valid, in seconds.
 const MINIMUM_NONCE_EXPIRY_SECONDS: u64 = 30;
 
-/// How long a nonce is valid unless another time is set, in seconds.
+/// The time for which a nonce is valid unless another time is set, in seconds.
 const DEFAULT_NONCE_EXPIRY_SECONDS: u64 = 3600;
 
 /// Returns the shortest time for which a nonce may be valid, 30 seconds: the least that

@@ -18,8 +18,9 @@ pub enum Distrust {
     WrongFingerprint,
     /// The client requires a FINGERPRINT, and the response has none (RFC 8489, section 7.3).
     MissingFingerprint,
-    /// The response is not signed with the key of the message that it answers, or it is a 401 or a
-    /// 438 to an earlier message of the request.
+    /// The response is not signed with the key of the message that it answers or, with short-term
+    /// credentials, not with its algorithm. Or it is a 401 or a 438 to an earlier message of the
+    /// request.
     NotVerified,
     /// The response is a 401 or a 438 that the client cannot answer, and is not signed.
     UnanswerableChallenge,

@@ -1,4 +1,4 @@
-//! The outcomes of requests, and the responses that are dropped for them.
+//! The outcomes of requests, and the reasons to drop responses to them.
 ghost use Rattle.std.specs.Prelude.{◌≡◌};
 ghost use Rattle.stun_client_endpoint.specs.Ends.{after_drop, no_drops, reason_of};
 
@@ -14,7 +14,9 @@ pub enum DropReason {
     WrongFingerprint,
     /// The client requires a FINGERPRINT, and the response has none (RFC 8489, section 7.3).
     MissingFingerprint,
-    /// The response must have a valid signature, but does not have one.
+    /// The response is not signed with the key of the message that it answers or, with short-term
+    /// credentials, not with its algorithm. Or it is a 401 or a 438 to an earlier message of the
+    /// request.
     NotVerified,
     /// The response is an unsigned 401 or 438 that the client cannot answer, or a 401 or 438 whose
     /// list of algorithms is so long that the request would not fit in a message.

@@ -133,7 +133,8 @@ impl<A: Memory> Form<A> {
         self.completed(credentials, signed_for, page)
     }
 
-    /// Completes a request: adds SOFTWARE, the signature and FINGERPRINT.
+    /// Completes a request: adds SOFTWARE, the signature and FINGERPRINT, if the form and the
+    /// credentials require them.
     fn completed(
         &self,
         credentials: &Credentials<A>,
@@ -154,7 +155,8 @@ impl<A: Memory> Form<A> {
         self.closed(credentials, signed_for, page)
     }
 
-    /// Closes a request: adds the signature and FINGERPRINT.
+    /// Closes a request: adds the signature and FINGERPRINT, if the credentials and the form
+    /// require them.
     fn closed(
         &self,
         credentials: &Credentials<A>,

@@ -180,8 +180,8 @@ impl<A: Memory> Server<A> {
         self.nonce_in(&self.secret, from, now.epoch(self.lifetime))
     }
 
-    /// Returns the nonce of an address in an epoch, under a secret. The nonce has the security bit
-    /// *Password algorithms* if and only if HMAC-SHA256 is supported.
+    /// Returns the nonce that the server makes with a secret for the address `from` in this epoch.
+    /// It has the security bit *Password algorithms* if and only if HMAC-SHA256 is supported.
     #[tactic(auto, using(crate::proofs::OfferLemmas::nonce_asks, crate::proofs::OfferedLemmas::nonce_short))]
     fn nonce_in(
         &self,

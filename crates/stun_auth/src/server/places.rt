@@ -191,7 +191,7 @@ impl<A: Allocator> Place<A> {
     }
 }
 
-/// The first address of a range that has a record, and whether that record may be forgotten.
+/// The first address with a record in a range, and whether that record may be forgotten.
 #[derive(Clone, Copy)]
 struct FirstPlace {
     address: SocketAddr,
@@ -235,7 +235,7 @@ impl<A: Memory> Places<A> {
         self.by_address.len()
     }
 
-    /// Returns the record of an address.
+    /// Returns the record of an address, or `None` if the address has no record.
     pub(crate) fn get(&self, address: SocketAddr) -> Option<&Place<A>>
         ensures { option_map place_seen (option_copied result) ≡ map.get self.now.seen address }
     {

@@ -227,7 +227,7 @@ impl<A: Memory> Registry<A> {
         self.insert(name, UserSecret::Password(password))
     }
 
-    /// Adds a user with stored keys, or replaces the keys of a registered user.
+    /// Adds a user with stored keys, or replaces the password or the keys of a registered user.
     pub(crate) fn add_user_with_keys(
         &mut self,
         name: String<A>,

@@ -17,9 +17,9 @@ use stun_base::key::IntegrityKey;
 /// nothing of it.
 #[derive(Clone, Copy)]
 pub struct StoredKeys {
-    /// The key for HMAC-SHA1: the MD5 hash (section 9.2.2).
+    /// The key for HMAC-SHA1: the MD5 hash (RFC 8489, section 9.2.2).
     pub sha1: Option<[u8; 16]>,
-    /// The key for HMAC-SHA256: the SHA-256 hash (section 18.5.1).
+    /// The key for HMAC-SHA256: the SHA-256 hash (RFC 8489, section 18.5.1).
     pub sha256: Option<[u8; 32]>,
 }
 

@@ -259,7 +259,8 @@ impl<A: Memory> ClientEndpoint<A> {
         }
     }
 
-    /// Drops a response to a request.
+    /// Drops a response to a request for the reason `why`, and counts it among the dropped
+    /// responses of the request.
     pub(crate) fn drop_for(
         &mut self,
         number: u64,

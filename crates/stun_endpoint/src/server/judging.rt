@@ -21,8 +21,9 @@ use stun_base::memory::Memory;
 use stun_base::prepared_key::PreparedKey;
 
 impl<A: Memory> Server<A> {
-    /// Judges a request from an address in an epoch: under the current nonce, and if the request is
-    /// stale under it, under the earlier nonce that the request has. `nonce` is the current nonce.
+    /// Judges a request that arrived from the address `from` in this epoch. If its nonce is not the
+    /// current one, it is judged under the earlier nonce that it has. `nonce` is the current nonce,
+    /// which the server makes for `from` in this epoch.
     #[tactic(auto, using(crate::proofs::EarlierLemmas::accepted_decides, crate::proofs::EarlierLemmas::unauthorized_decides, crate::proofs::EarlierLemmas::bad_decides, crate::proofs::EarlierLemmas::no_earlier_accepts))]
     pub(super) fn judged_in<'a>(
         &self,
@@ -44,8 +45,8 @@ impl<A: Memory> Server<A> {
                 let Some(earlier) = self.earlier_nonce(read, from, epoch)? else {
                     return Ok(Err(VerdictRefusal::StaleNonce));
                 };
-                // Under an earlier nonce only an acceptance counts: a client whose request is
-                // refused needs the current nonce.
+                // A request that is refused under its earlier nonce is answered with a 438, because
+                // its client needs the current nonce.
                 match judges.judge(read, &earlier) {
                     Ok(accepted) => Ok(Ok(accepted)),
                     Err(_) => Ok(Err(VerdictRefusal::StaleNonce)),
@@ -55,8 +56,8 @@ impl<A: Memory> Server<A> {
         }
     }
 
-    /// Returns whether a request has a nonce that is accepted from its source in this epoch.
-    /// `nonce` is the current nonce.
+    /// Returns whether a request has a nonce that is accepted from the address `from` in this
+    /// epoch. `nonce` is the current nonce of this address.
     #[tactic(auto, using(crate::proofs::EarlierLemmas::has_current, crate::proofs::EarlierLemmas::has_earlier))]
     pub(super) fn has_accepted_nonce(
         &self,
@@ -77,8 +78,8 @@ impl<A: Memory> Server<A> {
         Ok(earlier.is_some())
     }
 
-    /// Returns the nonce of a request if it is not the current one but still accepted: the nonce of
-    /// the epoch before, or one of the two nonces under the previous secret.
+    /// Returns the nonce of a request if it was current earlier and is still accepted: it is the
+    /// nonce of the epoch before, or one of the two nonces that are made with the previous secret.
     fn earlier_nonce(
         &self,
         read: &ReadMessage<'_, '_>,
@@ -98,8 +99,8 @@ impl<A: Memory> Server<A> {
         }
     }
 
-    /// Returns the nonce of a request if it is the nonce under a secret of this epoch or of the
-    /// epoch before.
+    /// Returns the nonce of a request if it is the nonce that is made with a secret for this epoch,
+    /// or for the epoch before.
     #[tactic(auto, using(crate::proofs::EarlierLemmas::under_has, crate::proofs::EarlierLemmas::under_other))]
     fn nonce_under(
         &self,
@@ -119,7 +120,8 @@ impl<A: Memory> Server<A> {
         self.nonce_before(read, secret, from, epoch)
     }
 
-    /// Returns the nonce of a request if it is the nonce under a secret of the epoch before.
+    /// Returns the nonce of a request if it is the nonce that is made with a secret for the epoch
+    /// before this one.
     #[tactic(auto, using(crate::proofs::EarlierLemmas::none_before, crate::proofs::EarlierLemmas::before_has, crate::proofs::EarlierLemmas::before_other))]
     fn nonce_before(
         &self,

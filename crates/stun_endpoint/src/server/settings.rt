@@ -205,9 +205,17 @@ fn prepared_if<A: Allocator + Copy>(alloc: A, secret: &Option<[u8; 32]>) -> Opti
 }
 
 impl<A: Memory> Server<A> {
-    /// Builds a server. Fails with the first of these errors that applies: `RealmTooLong`,
-    /// `SoftwareTooLong`, `NonceLifetime`, `NoAlgorithm`, and then `OutOfMemory` if an allocation
-    /// fails.
+    /// Builds a server with these settings.
+    ///
+    /// # Errors
+    ///
+    /// The first of these that applies:
+    ///
+    /// - `RealmTooLong`: the realm has more than 763 bytes.
+    /// - `SoftwareTooLong`: the text of SOFTWARE has more than 763 bytes.
+    /// - `NonceLifetime`: the nonce lifetime is less than 30 seconds.
+    /// - `NoAlgorithm`: the settings support no algorithm.
+    /// - `OutOfMemory`: an allocation failed.
     pub fn new(alloc: A, settings: LongTerm<A>) -> Result<Server<A>, BuildError>
         ensures refused { MatchOption (build_refusal (string_bytes settings.realm)
             (option_map string_bytes settings.software) settings.nonce_lifetime

@@ -82,6 +82,11 @@ warns access stringop-over "got = $verify, 32);"
 warns warn_unused_result unused-result \
     'stunp_endpoint_server_receive(&endpoint, &users, bytes, length, &from, 0, out, 20, NULL);'
 warns nonnull nonnull 'got = stunp_endpoint_users_add(NULL, bytes, length, key, 16);'
+warns nonnull nonnull 'got = stunp_endpoint_server_new(&endpoint, NULL);'
+warns nonnull nonnull \
+    'stunp_endpoint_client client = {0}; got = stunp_endpoint_client_new(&client, NULL);'
+warns nonnull nonnull \
+    'stunp_ice_checker checker = {0}; got = stunp_ice_checker_new(&checker, NULL);'
 warns access stringop-over 'got = stunp_begin(STUNP_REQUEST, STUNP_BINDING, key, 12, out, 21);'
 
 # links OPTION..: the right program, linked and run.

@@ -25,8 +25,9 @@ pub fn a_request_is_transmitted_at_most_as_often_as_set()
     ensures { IsTransmittedAtMost }
 {}
 
-/// If `poll` returns `WaitUntil`, its time is not before the time of the call, and at most one hour
-/// after it. Until then, no retransmission is due and no request ends, unless another call is made.
+/// If `poll` returns `WaitUntil`, it has changed nothing, and its time is not before the time of
+/// the call, and at most one hour after it. Until then, no retransmission is due and no request
+/// ends, unless another call is made.
 pub fn a_poll_tells_how_long_all_is_quiet()
     ensures { WaitsAsTold }
 {}
@@ -66,14 +67,15 @@ pub fn statistics_tell_how_many_requests_are_outstanding()
 /// Over any calls of an agent whose counters begin at zero, each counter is the sum of the amounts
 /// that the calls add to it (`tally_of`): numbers of messages, or of bytes. A sum stops at the
 /// greatest value of its counter. The statistics of round trips are the shortest, the longest and
-/// the sum of all round trips. An agent without statistics never starts to keep them.
+/// the sum of all round trips (`counts`). An agent without statistics never starts to keep them
+/// (`nothing`).
 pub fn statistics_count_the_calls()
     ensures counts { CountsCalls }
     ensures nothing { CountsNothing }
 {}
 
-/// Validating an address adds only this address to the validated peers. Two addresses count as the
-/// same if and only if all their parts are equal.
+/// Validating an address adds only this address to the validated peers (`added`). Two addresses
+/// count as the same if and only if all their parts are equal (`exact`).
 pub fn validating_adds_one_peer()
     ensures added { (address other : SocketAddr) (peers : Peers)
         → is_peer other (with_peer address peers)
@@ -90,9 +92,9 @@ pub fn forgetting_removes_one_peer()
 {}
 
 /// A plan that `RequestRto::within` returns ends after the given time or when the whole plan ends,
-/// whichever is earlier. It has the same waits between transmissions as the whole plan and no
-/// further retransmissions, and it has all retransmissions of the whole plan that come before the
-/// given time.
+/// whichever is earlier (`ends`). It has the same waits between transmissions as the whole plan
+/// (`alike`) and no further retransmissions (`fewer`), and it has all retransmissions of the whole
+/// plan that come before the given time (`all`).
 pub fn a_plan_is_cut_at_a_time()
     ensures ends { (time : ℕ) (settings : Settings)
         → plan_length (cut time settings) ≡ min time (plan_length settings) }

@@ -95,9 +95,9 @@ pub fn signed_messages_are_read()
 }
 
 /// Nothing after the deciding integrity attribute is read. Two messages that agree up to the end of
-/// that attribute have the same reading. So every server and every client gives both messages the
-/// same answer, and has the same state after either of them. Under each password, both signatures
-/// are valid or both are invalid.
+/// that attribute have the same reading (`reading`). So every server (`server`) and every client
+/// (`client`) gives both messages the same answer, and has the same state after either of them.
+/// Under each short-term password, both get the same answer (`short_term`).
 pub fn what_follows_integrity_is_not_read()
     ensures reading { (bytes others : List ℕ) → AgreeUpToIntegrity bytes others
         → reading_of bytes ≡ reading_of others }
@@ -126,9 +126,9 @@ pub fn accepted_messages_are_validated()
 {}
 
 /// A server is unchanged after a response, and after a message that has an integrity attribute but
-/// lacks REALM, NONCE or a user name. While the nonce of an address is current, the server is also
-/// unchanged after a refused message from that address, and after an accepted message of the client
-/// that the address already has.
+/// lacks REALM, NONCE or a user name (`needless`). While the nonce of an address is current, the
+/// server is also unchanged after a refused message from that address (`refused`), and after an
+/// accepted message of the client that the address already has (`repeated`).
 pub fn messages_that_change_nothing()
     ensures needless { (s : Sight) (now : ℕ) (words : List ℕ) (r : Reading) → needs_nonce r ≡ false
         → ChangesNothing s now words r }
@@ -142,9 +142,8 @@ pub fn messages_that_change_nothing()
 {}
 
 /// `judge` agrees with `validate_incoming_message`, if the nonce is current at the address and all
-/// supported algorithms were offered there. The verdict of `judge` then determines the result of
-/// `validate_incoming_message` for a request or an indication, and the client of the address
-/// afterwards.
+/// algorithms were offered there. The verdict of `judge` then determines the result of that call
+/// for a request or an indication (`answer`), and the client of the address afterwards (`place`).
 pub fn judging_is_validating()
     ensures answer { (s : ServerSeen) (from : SocketAddr) (now : ℕ) (words : List ℕ) (r : Reading)
         (place : PlaceSeen) → map.get s.places from ≡ Some place
@@ -159,10 +158,11 @@ pub fn judging_is_validating()
         ≡ Some (with_accepted place (verdict_by_nonce s place.nonce r)) }
 {}
 
-/// For a message that needs a nonce, `judge` under the nonce that is made from some random numbers
-/// returns the verdict of the second validation in these calls for an address without a record:
-/// validate the message with these numbers, sign a response, validate the message again before the
-/// nonce expires, and forget the address. The calls leave no record of the address.
+/// One call of `judge` replaces four calls for an address without a record: validate the message
+/// with some random numbers, sign a response, validate the message again before the nonce expires,
+/// and forget the address. If the message needs a nonce, the second validation returns the verdict
+/// that `judge` returns under the nonce made from these numbers (`answer`). After the four calls,
+/// the server is as it was before them (`forgotten`).
 pub fn judging_is_a_run_of_calls()
     ensures answer { (s : ServerSeen) (from : SocketAddr) (now later : ℕ) (words others : List ℕ)
         (r : Reading) → map.get s.places from ≡ None → needs_nonce r ≡ true
@@ -205,9 +205,8 @@ pub fn the_named_user_is_enough_to_judge()
 
 /// `verify_found` judges a message like `judge_of` does with a prepared user. Under the message's
 /// own nonce, the verdict is that of a server whose only user is the found one (`verdict`). So if
-/// `verify_found` returns a key, the message is accepted from that user. The key is then the user's
-/// key for the agreed algorithm (`key`), and the message's signature is valid under it
-/// (`verifies`).
+/// `verify_found` returns a key, the message is accepted from that user. This key is the user's key
+/// for the agreed algorithm (`key`), and the signature is valid under it (`verifies`).
 pub fn found_users_are_judged_as_prepared_ones()
     ensures verdict { (users : Registered) (user : RegisteredUser) (feature : TheFeature)
         (bytes : List ℕ) (claim : ClaimSeen) → claim_of users.algorithms feature bytes ≡ Some claim
@@ -223,9 +222,9 @@ pub fn found_users_are_judged_as_prepared_ones()
 {}
 
 /// The answer to a message depends only on the user whose key the message must be signed with. A
-/// server that has just that user gives the same answer as the server that has all users, from the
-/// same random numbers, and stores the same record for the address. If that user is not registered,
-/// so does a server without any users.
+/// server that has just that user gives the same answer as the server that has all users
+/// (`answer`), uses the same number of random numbers (`source`), and stores the same record
+/// (`state`). If that user is not registered, this holds for a server without any users.
 pub fn the_named_user_is_enough()
     ensures answer { (s : ServerSeen) (from : SocketAddr) (now : ℕ) (words : List ℕ) (r : Reading)
         → answer (sight (with_users s (just s.registered (meant_user s from r))) from) now words r
@@ -239,10 +238,10 @@ pub fn the_named_user_is_enough()
         ≡ draws (sight s from) now r }
 {}
 
-/// When messages are judged and signed, a user who is passed with stored keys is treated like a
-/// user who is passed with a password, if the names are the same and the keys are those that the
-/// password makes at the server's realm. A key for an algorithm that the server does not support
-/// may have any value.
+/// A user who is passed with stored keys is treated like a user who is passed with a password, if
+/// the names are the same and the keys are those that the password makes at the server's realm:
+/// messages are judged (`answer`, `state`, `source`) and signed (`signed`, `additions`, `left`) in
+/// the same way. A key for an algorithm that the server does not support may have any value.
 pub fn stored_keys_are_as_their_password()
     ensures answer { (s : ServerSeen) (user : NameAndPassword) (keys : StoredKeys)
         (from : SocketAddr) (now : ℕ) (words : List ℕ) (r : Reading)
@@ -279,9 +278,9 @@ pub fn stored_keys_are_as_their_password()
 {}
 
 /// A user who is added with a password has the long-term key of name, realm and password for each
-/// supported algorithm, and no other key. A user who is added with stored keys has the stored keys
-/// for supported algorithms. A user who is removed has no key. The keys of users with other names
-/// are unchanged. `user_verifies` checks signatures with these keys.
+/// supported algorithm, and no other key (`added`). A user who is added with stored keys has those
+/// for supported algorithms (`by_keys`). A user who is removed has no key (`removed`). Users with
+/// other names have the same keys as before. `user_verifies` checks signatures with these keys.
 pub fn users_have_their_keys()
     ensures added { (users : Registered) (user : NameAndPassword) (a : IntegrityAlgorithm)
         → key_at (with_user users user) user.username a
@@ -304,8 +303,9 @@ pub fn users_have_their_keys()
 
 /// Users do not affect each other. If a user is added or removed, or gets another password or other
 /// keys, nothing changes for the other users: each message that refers to another user gets the
-/// same verdict and the same answer, and leaves the same record. Messages to the address of another
-/// user are signed as before.
+/// same verdict (`judged`) and the same answer (`answer`), uses the same number of random numbers
+/// (`source`), and leaves the same record (`state`). Messages to the address of another user are
+/// signed as before (`signed`).
 ///
 /// A message refers to another user if it has another name, or a hash that is not the hash of this
 /// user's name. A response refers to the client of its address.
@@ -341,9 +341,9 @@ pub fn users_do_not_meet()
 
 /// A refusal reveals nothing about a password. Take two servers that differ only in the password or
 /// the keys of one user, and a message whose signature is valid under neither. Both servers give
-/// the message the same verdict and the same answer, store the same record of its address, and use
-/// the same number of random numbers. A message that has the user's name is refused as if the user
-/// were not registered.
+/// the message the same verdict (`judged`) and the same answer (`answer`), store the same record of
+/// its address (`state`), and use the same number of random numbers (`source`). A message that has
+/// the user's name is refused as if the user were not registered (`unregistered`).
 ///
 /// The law does not limit the time that an answer takes.
 pub fn refusals_tell_no_password()
@@ -379,9 +379,9 @@ pub fn refusals_tell_no_password()
 {}
 
 /// Different random numbers make different nonces: two nonces of the same settings are equal only
-/// if their random numbers are equal modulo 62, which is the number of letters. This also holds for
-/// nonces without security bits, except for random numbers whose letters begin with the nonce
-/// cookie by chance, because their first letter is replaced.
+/// if their random numbers are equal modulo 62, which is the number of letters (`with_bits`). This
+/// also holds for nonces without security bits (`without_bits`), except for random numbers whose
+/// letters begin with the nonce cookie by chance, because their first letter is replaced.
 pub fn nonces_of_different_words_differ()
     ensures with_bits { (set : AlgorithmSet) (feature : TheFeature) (words others : List ℕ)
         → (contains Sha256 set || is_possible feature) ≡ true
@@ -413,9 +413,9 @@ pub fn addresses_stay_within_a_bound()
         → map.len (without_place s address).places ≤ map.len s.places }
 {}
 
-/// `forget_expired` decides about the record of each address by itself. Afterwards each remaining
-/// record has a client, or a nonce that expires at `now` or later. Every record with such a client
-/// or nonce remains, and is unchanged.
+/// `forget_expired` decides about the record of each address by itself (`place`). Afterwards each
+/// remaining record has a client, or a nonce that expires at `now` or later (`left`). Every record
+/// with such a client (`client`) or nonce (`current`) remains, and is unchanged.
 pub fn expired_nonces_are_forgotten()
     ensures place { (s : ServerSeen) (now : ℕ) (a : SocketAddr) →
         map.get (after_forgetting s now).places a ≡ place_kept now (map.get s.places a) }
@@ -437,8 +437,8 @@ pub fn steps_forget_what_has_expired()
         → after_steps s now None sizes ≡ Some left → left ≡ after_forgetting s now }
 {}
 
-/// A message that is built without attributes can be signed, and so can a message with an error
-/// code alone. A reader finds in each message the class and the error code that it was built with.
+/// A message that is built without attributes (`bare`) or with an error code alone (`error`) can be
+/// signed. A reader finds in it the class and the error code that it was built with.
 pub fn built_messages_can_be_signed()
     ensures bare { (message_type transaction_id : ℕ) → message_type < 2 ^ 14
         → IsBuilt (spelled_message message_type transaction_id []) (class_of message_type) None }
@@ -452,10 +452,10 @@ pub fn built_messages_can_be_signed()
     stun_types::laws::signed_message_stands();
 }
 
-/// If signing succeeds, the texts that it added are within their limits. Signing succeeds if the
-/// texts to add are within their limits, and the message and the writer have room for all
-/// attributes to add. These attributes take at most 2,148 bytes if at most two algorithms are
-/// listed.
+/// If signing succeeds, the texts that it added are within their limits (`within`). Signing
+/// succeeds if the texts are within their limits, and message and writer have room for all
+/// attributes to add (`succeeds`, `signable`). These take at most 2,148 bytes if at most two
+/// algorithms are listed (`growth`), so this room is enough to sign a built message (`room`).
 pub fn signing_succeeds_with_room()
     ensures within { (a : Added) (page signed : Page) → added_all (additions_of a) page ≡ Ok signed
         → IsWithinLimits a }
@@ -475,9 +475,8 @@ pub fn signing_succeeds_with_room()
     stun_types::laws::signed_message_stands();
 }
 
-/// The attributes that a client adds are those of `added_by_client`, and the attributes that a
-/// server adds are those of `added_by_server`. If a server signs without an error,
-/// `added_by_server` has a value, which is empty if no nonce was made for the address.
+/// A client adds the attributes of `added_by_client` (`client`), and a server those of
+/// `added_by_server` (`server`), which has a value if the server signs without an error (`there`).
 pub fn sides_add_by_attribute()
     ensures client { (request : Bool) (state : ClientState)
         → client_additions request state ≡ additions_of (added_by_client request state) }
@@ -488,10 +487,11 @@ pub fn sides_add_by_attribute()
         → IsOk (server_signed s response page) → IsSome (added_by_server s response) }
 {}
 
-/// The nonces that a server makes are UTF-8 (RFC 8489, section 9.2). They ask for password
-/// algorithms if and only if HMAC-SHA256 is supported, and allow a hashed user name if and only if
-/// the feature does. They have security bits if and only if they ask for password algorithms or
-/// allow a hashed user name. Nonces of the same settings have the same security bits.
+/// The nonces that a server makes are UTF-8 (`text`; RFC 8489, section 9.2). They ask for password
+/// algorithms if and only if HMAC-SHA256 is supported (`algorithms`), and allow a hashed user name
+/// if and only if the feature does (`userhash`). They have security bits if and only if they do one
+/// of both (`there`). Nonces of the same settings have the same security bits (`alike`). A nonce
+/// has at most 13 bytes in addition to its letters (`short`).
 pub fn nonces_ask_for_what_is_supported()
     ensures text { (set : AlgorithmSet) (feature : TheFeature) (words : List ℕ)
         → IsUtf8 (nonce_of set feature words) }
@@ -556,7 +556,7 @@ pub fn security_bits_are_read_back()
 {}
 
 /// A client and a server can sign a message that was built without attributes or with an error code
-/// alone, if the writer has room for 2,148 bytes.
+/// alone, if what they add is within its limits (`IsSmall`) and there is room for 2,148 bytes.
 pub fn sides_sign_with_room()
     ensures client { (request : Bool) (state : ClientState) (class : MessageClass)
         (error : Option ℕ) (message : List ℕ) (room : ℕ) → IsBuilt message class error

@@ -202,11 +202,11 @@ impl<A: Allocator> ShortTermAuth<A> {
 }
 
 impl<A: Memory> ShortTermAuth<A> {
-    /// Sets the password, and the algorithm to sign with. Signatures of both algorithms are
-    /// verified.
+    /// Sets the password, and the algorithm to sign messages with. Incoming messages may be signed
+    /// with either algorithm.
     ///
-    /// Fails if an allocation fails, and then leaves both unchanged. A password of up to 32 bytes
-    /// needs no allocation.
+    /// Fails if an allocation fails, and then leaves the password and the algorithm unchanged. A
+    /// password of up to 32 bytes needs no allocation.
     pub fn set_credentials(
         &mut self,
         credentials: ShortTermCredentials<A>,

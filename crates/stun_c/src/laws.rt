@@ -63,9 +63,9 @@ use stun_base::algorithm::IntegrityAlgorithm;
 use stun_extra::framing::Frame;
 use stun_numbers::refusal::Refusal;
 
-/// A long-term key has 16 bytes for HMAC-SHA1 and 32 for HMAC-SHA256, and a USERHASH has 32 bytes.
-/// A request of `stunp_build_signed` is as long as its header, its USERNAME and its signature
-/// together.
+/// A long-term key has 16 bytes for HMAC-SHA1 and 32 for HMAC-SHA256 (`long_term_key`), and a
+/// USERHASH has 32 bytes (`userhash`). A request of `stunp_build_signed` is as long as its header,
+/// its USERNAME and its signature together (`request`).
 pub fn stated_lengths()
     ensures long_term_key { (algorithm : IntegrityAlgorithm) (username realm password : List ℕ)
         → length (long_term_key algorithm username realm password) ≡ key_length algorithm }
@@ -134,8 +134,9 @@ pub fn verdicts_are_those_of_the_library()
         → (refusal bytes ≡ None) × (fingerprint_in bytes ≡ Right) }
 {}
 
-/// The calls that sign a message, add FINGERPRINT or make a key write the same bytes as the library
-/// does for the same arguments.
+/// The calls that sign a message (`request`, `message`), add FINGERPRINT (`fingerprint`), or make a
+/// key (`key`) or a USERHASH (`userhash`) write the same bytes as the library does for the same
+/// arguments.
 pub fn signatures_are_those_of_the_library()
     ensures request { (algorithm : IntegrityAlgorithm) (id username key bytes : List ℕ)
         → signed_request (Some algorithm) id username key ≡ Ok bytes
@@ -154,7 +155,7 @@ pub fn signatures_are_those_of_the_library()
 {}
 
 /// A call that adds an attribute writes it after the message, and changes nothing of the message
-/// except its length field. A call that fails leaves the whole buffer unchanged.
+/// except its length field. A call that fails leaves the whole buffer unchanged (`buffer`).
 pub fn attributes_are_added_behind_the_message()
     ensures any { (buffer : List ℕ) (count attribute : ℕ) (value bytes : List ℕ)
         → added_number buffer count attribute value ≡ Ok bytes
@@ -244,10 +245,10 @@ pub fn attributes_are_read_from_their_value()
 {}
 
 /// States that a call that finds an attribute finds the same attribute as the library: the first of
-/// a type, the next one after an offset, or the next one from a cursor on. The call returns the
-/// offset of the value, and writes the type of the attribute and the length of its value. If there
-/// is no such attribute, the call returns 0, or `STUNP_MISSING_ATTRIBUTE` if it was called for a
-/// type.
+/// a type (`found`), the next one after an offset (`next`), which is behind that offset (`behind`),
+/// or the next one from a cursor on (`walked`). The call returns the offset of the value, and
+/// writes the type of the attribute and the length of its value. If there is no such attribute, the
+/// call returns 0, or `STUNP_MISSING_ATTRIBUTE` if it was called for a type.
 pub fn attributes_that_are_found_are_in_the_message()
     ensures found { (bytes : List ℕ) (kind before : ℕ) (part : TypedValue → ℕ) (n : ℕ)
         → find_answer (finding_refusal kind bytes) (first_of kind (visible bytes)) ≡ pos n
@@ -270,9 +271,11 @@ pub fn attributes_that_are_found_are_in_the_message()
 {}
 
 /// States that the values that a call writes in addition to its result are those that it reads: the
-/// length of a text, a number, an address and its port, the channel number and the length of the
-/// data of ChannelData, and as many types of a list as fit into the caller's array. No call writes
-/// more than its buffer has room for.
+/// length of a text (`text`), a number (`number`), an address and its port (`address`), the channel
+/// number and the length of the data of ChannelData (`channel`), and as many types of a list as fit
+/// into the caller's array (`types`, `unknown`). A call that cuts a stream returns the length of
+/// the first message or, if this message is incomplete, the number of bytes that the stream must
+/// have before the next call (`frame`). No call writes more than its buffer has room for (`room`).
 pub fn what_is_written_is_what_was_read()
     ensures text { (x : Result (List ℕ) Refusal) (place before n : ℕ)
         → text_answer x place ≡ pos n → (text : List ℕ) × (x ≡ Ok text) × (n ≡ place + 4)

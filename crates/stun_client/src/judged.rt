@@ -56,7 +56,8 @@ pub enum Outcome {
     Success,
     /// The response is an error with this code.
     Refused(u16),
-    /// The response names another server (300; RFC 8489, section 10).
+    /// The response is an error 300, which asks the client to try another server (RFC 8489, section
+    /// 10).
     Redirected,
     /// The response has a comprehension-required attribute of this type, which the client does not
     /// understand (RFC 8489, sections 6.3.3 and 6.3.4).

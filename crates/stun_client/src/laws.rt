@@ -24,9 +24,11 @@ ghost use Rattle.stun_client.specs.Standing.{is_standing, is_stronger_than, new_
 ghost use Rattle.stun_client.specs.Standing.{standing_after_all};
 ghost use Rattle.stun_client.specs.declared.preferences.Preferences.{Preferences as ThePreferences};
 
-/// Each challenge is made by the rule from one message, whatever challenge came before. Its realm,
-/// nonce and list are those of the message, with one exception: if a 438 has no list, the list of
-/// the challenge before may be used.
+/// Each challenge that a client reads in a message follows the rule (`by_rule`): its nonce and its
+/// list determine the algorithm and whether the user name is sent as a hash, whatever challenge
+/// came before. Its realm, nonce and list are those of the message (`of_message`), with two
+/// exceptions: if a signed 438 has no list, the list of the challenge before may be used, and if
+/// the nonce does not ask for a password algorithm, the list is empty.
 pub fn challenges_are_by_the_rule()
     ensures by_rule { (p : ThePreferences) (who : NameAndPassword) (before : Option Challenge)
         (bytes : List ℕ) (c : Challenge) → challenge_of p who before bytes ≡ Some c
@@ -37,10 +39,12 @@ pub fn challenges_are_by_the_rule()
 {}
 
 /// A client answers each challenge that offers an algorithm that the client supports, whatever
-/// other algorithms the list has. The client reads the challenge (`read`). If the current message
-/// of a request was signed for another challenge, or was not signed, the client sends the request
-/// again for the challenge that it has read, unless this challenge is weaker than the challenge
-/// that a success has confirmed, or the response is dropped because of its FINGERPRINT (`sent`).
+/// other algorithms the list has, if the challenge has a realm and a nonce, and allows a hash of
+/// the user name or the client need not send one (`IsAnswerable`). The client reads such a
+/// challenge (`read`). If the current message of a request was signed for another challenge, or was
+/// not signed, the client sends the request again for the challenge that it has read, unless this
+/// challenge is weaker than the challenge that a success has confirmed, or the response is dropped
+/// because of its FINGERPRINT (`sent`).
 pub fn answerable_challenges_are_answered()
     ensures read { (p : ThePreferences) (who : NameAndPassword) (before : Option Challenge)
         (bytes : List ℕ) → IsAnswerable p before bytes → IsSome (challenge_of p who before bytes) }
@@ -53,11 +57,11 @@ pub fn answerable_challenges_are_answered()
         ≡ sent_for before bytes c }
 {}
 
-/// No downgrade. Take a message in which a reader finds the attributes that a client adds to sign
-/// for a challenge by the rule. If any server whose nonce and offer are up to date accepts the
-/// message, it accepts it with the strongest algorithm that both sides support (RFC 8489, section
-/// 9.2.5). The law assumes nothing about users, passwords or HMAC, nor about the messages that the
-/// client has read before.
+/// Challenges cannot downgrade a request. Suppose that a reader finds in a message the attributes
+/// with which a client signs for a challenge that follows the rule (`IsChosen`). If any server
+/// whose nonce and offer are up to date accepts the message, it accepts it with the strongest
+/// algorithm that client and server support (RFC 8489, section 9.2.5). The law assumes nothing
+/// about users, passwords or HMAC, nor about the messages that the client has read before.
 pub fn signed_requests_are_not_bid_down()
     ensures { (p : ThePreferences) (c : Challenge) (class : MessageClass) (error : Option ℕ)
         (bytes : List ℕ) → IsChosen p c
@@ -94,8 +98,8 @@ pub fn believed_responses_are_believable()
         → fault_in required bytes ≡ None }
 {}
 
-/// A response to an earlier message of a request, after which the request has been sent again, is
-/// believed only if it is signed with the key of that message (`signed`). Otherwise it has no
+/// A response to an earlier message of a request, which another message has replaced, is believed
+/// only if it is signed with the key of that earlier message (`signed`). Otherwise it has no
 /// effect, whatever its contents are: the request is not sent again and not refused, and no message
 /// is doubted (`only`).
 pub fn earlier_messages_end_by_signature_alone()
@@ -120,9 +124,9 @@ pub fn unsigned_errors_end_nothing()
         → (takes_unsigned identity before ≡ true) × (is_current ≡ true) }
 {}
 
-/// A request is sent again only for the challenge that the rule reads in the response, even if the
-/// response is a refusal. That challenge is not the challenge that the request was signed for, and
-/// is not ignored.
+/// If a client sends a request again for a challenge, this is the challenge that the client reads
+/// in the response by the rule, also if the response counts as a refusal. It is not the challenge
+/// that the request was signed for, and it is not a challenge that the client ignores.
 pub fn requests_are_sent_again_for_new_challenges()
     ensures { (required is_current : Bool) (who : NameAndPassword) (p : ThePreferences)
         (accepts_unsigned : Bool) (standing : StandingSeen) (before : Option Answered)
@@ -148,9 +152,9 @@ pub fn unsigned_responses_are_not_believed()
         → judged required is_current (long_term who p false) standing None bytes ≡ believed by → ⊥ }
 {}
 
-/// From a success until a request under the confirmed challenge times out, a challenge that is
-/// weaker than the confirmed one stays ignored, whatever other challenges are answered and whatever
-/// other requests succeed or time out.
+/// From a success until a request that is signed for the confirmed challenge times out, a challenge
+/// that is weaker than the confirmed one stays ignored, whatever other challenges the client
+/// answers (it answers none that is ignored), and whatever other requests succeed or time out.
 pub fn weaker_challenges_stay_ignored()
     ensures { (s : StandingSeen) (events : List StandingEvent) (c : Answered) → s.is_validated ≡ true
         → is_ignored s c ≡ true → AreUsualEvents s events

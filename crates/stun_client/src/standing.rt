@@ -83,8 +83,8 @@ impl<A: Allocator + Copy> Standing<A> {
         }
     }
 
-    /// Returns whether a challenge is stronger than the challenge that was confirmed last, or no
-    /// challenge was confirmed.
+    /// Returns `true` if there is no confirmed challenge, or if `challenge` is stronger than the
+    /// challenge that was confirmed last.
     fn is_stronger(&self, challenge: &Challenge<A>) -> bool
         ensures { result ≡ is_stronger_than challenge.now (confirmed self.now) }
     {

@@ -41,10 +41,10 @@ pub fn requests_never_turn_to_weaker_messages()
         → is_too_weak j.standing c ≡ false }
 {}
 
-/// A request has one message for each challenge, and at most one unsigned message. A new message is
-/// written for a challenge only if no message of the request is signed for that challenge
-/// (`signed`). A new unsigned message is written only if the current message is signed and no
-/// earlier message is unsigned (`unsigned`).
+/// A request has at most one message for each challenge, and at most one unsigned message. A new
+/// message is written for a challenge only if no message of the request is signed for that
+/// challenge (`signed`). A new unsigned message is written only if the current message is signed
+/// and no earlier message is unsigned (`unsigned`).
 pub fn a_request_has_one_message_for_each_challenge()
     ensures signed { (j : Judge) (now : ℕ) (a : AskedSeen) (bytes : List ℕ) (why : TheWhy)
         (c : Answered) → decision_on j true now a a.signed_for bytes ≡ turns why None (Some c)
@@ -55,9 +55,11 @@ pub fn a_request_has_one_message_for_each_challenge()
 {}
 
 /// A response that is not signed with the key of the message that it answers does not answer the
-/// request, unless the client accepts unsigned responses to the current message (`answers`). Over
-/// UDP it does not end the request either, until the request has reached the limit on refusals or
-/// on messages (`one`). So no single datagram that an attacker sends ends a signed request.
+/// request, unless the message is the current one and the client accepts unsigned responses to it
+/// (`answers`). Over UDP, a response to any other message that is not signed with this key does not
+/// end the request either, until the request has reached the limit on refusals or on messages
+/// (`one`). So no single datagram that an attacker sends over UDP ends a signed request within
+/// these limits.
 pub fn one_forged_datagram_ends_no_signed_request()
     ensures answers { (j : Judge) (is_current : Bool) (now : ℕ) (a : AskedSeen)
         (before : Option Answered) (bytes : List ℕ) (by : Option IntegrityAlgorithm)
@@ -94,12 +96,13 @@ pub fn responses_to_earlier_messages_answer_or_are_dropped()
 /// the request has ended, whatever calls come before and between (`ends`; RFC 8489, sections 6.2.1
 /// and 9.2.5).
 ///
-/// When `poll` returns `Wait`, each outstanding request is at most two plans old, and the wait ends
-/// no later than its second plan (`waits`). This holds however late `poll` is called, because
+/// When `poll` returns `Wait`, each outstanding request is less than two plans old, and the wait
+/// ends no later than its second plan (`waits`). This holds however late `poll` is called, because
 /// nothing is sent for a request after its first plan, from the creation of a client on (`begins`)
 /// and after each call (`stays`). The first plan of a request ends once a whole plan has passed
 /// since its start (`starts`), and no call changes that time (`keeps`). All this holds for a client
-/// that stores each request once (`first`, `stored`).
+/// that stores each request once, as a new client does (`first`), and each call preserves that
+/// (`stored`).
 pub fn a_request_ends_within_two_plans()
     ensures ends { EndsWithinTwoPlans }
     ensures first { BeginsStored }

@@ -26,14 +26,18 @@ ghost use Rattle.stun_client_meetings.specs.Meeting.{ClientsMeetServers};
 /// Premises: the server was built and the user is registered with it, the name is a text of at most
 /// 513 bytes, client and server agree on an algorithm, and the client sends FINGERPRINT if one of
 /// them requires it (`CanMeet`); the options of the request, if it has any, say that it is signed
-/// and that its responses come from the server (`IsMeetable`); the body is one that `Body` builds;
-/// the first plan of the request is not over; another message has become the current one less often
-/// than the limit allows; and a transaction ID is left (`CanGoOn`). If an earlier message is signed
-/// for the challenge, no current message has the ID of that earlier message. Such an ID occurs only
-/// if the seed gives two messages the same ID, and there was no memory to record the earlier
-/// message. Law `requests_can_be_written` of `stun_requests` proves that the request fits into a
-/// message with all attributes that the client adds. The law does not state that a datagram
-/// arrives, nor that the allocations succeed without which a response is dropped.
+/// and that its responses come from the server (`IsMeetable`); and the body is one that `Body`
+/// builds.
+///
+/// Further premises of `renewed` and `refreshed`: the challenge is not weaker than a challenge that
+/// a success has confirmed, because the client ignores such a challenge; the first plan of the
+/// request is not over; another message has become the current one less often than the limit
+/// allows; and a transaction ID is left (`CanGoOn`). If an earlier message is signed for the
+/// challenge, no current message has the ID of that earlier message. Such an ID occurs only if the
+/// seed gives two messages the same ID, and there was no memory to record the earlier message. Law
+/// `requests_can_be_written` of `stun_requests` proves that the request fits into a message with
+/// all attributes that the client adds. The law does not state that a datagram arrives, nor that
+/// the allocations succeed without which a response is dropped.
 pub fn clients_meet_servers()
     ensures { ClientsMeetServers }
 {

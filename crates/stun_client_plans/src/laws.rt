@@ -21,10 +21,11 @@ ghost use Rattle.stun_client_plans.specs.Plan.{RequestsAreSentByPlan};
 ///
 /// The client sends nothing for a request after the end of its plan. If polls are so late that a
 /// retransmission would come later than this, the request ends instead (`is_given_up`). This
-/// happens for retransmission k only if k times `late` is longer than the last wait of the plan. By
-/// default no retransmission is given up if polls are at most 1.3 s late: there are 6
-/// retransmissions, and the last wait is 8 s. If even the first poll comes after the end of the
-/// plan, the request ends without having been sent (`is_never_sent`).
+/// happens for retransmission k only if k times `late` is longer than the last wait of the plan, or
+/// if the plan ends at the last time that an `Instant` can have. By default no retransmission is
+/// given up if polls are at most 1.3 s late: there are 6 retransmissions, and the last wait is 8 s.
+/// If even the first poll comes after the end of the plan, the request ends without having been
+/// sent (`is_never_sent`).
 ///
 /// Polls may also come earlier than the client asks for. Any other calls may be made at any times,
 /// as long as the request keeps its transaction ID: they must not answer or cancel it, nor make

@@ -6,21 +6,21 @@ ghost use Rattle.stun_client_runs.specs.Noted.{BeginsNoted, StaysNoted};
 ghost use Rattle.stun_client_runs.specs.RoundTrips.{RoundTripsAreOfOnePoll};
 ghost use Rattle.stun_client_runs.specs.Sent.{KeepsItsBytes, SendsItsBytes};
 
-/// From the creation of a client on, whatever calls are made, each outstanding request is stored
-/// once, under the transaction ID of its current message, which is derived from the seed. This
-/// message has this ID, the method and the body of the request, and is sent to the server. Its
-/// bytes are written with the identity of the client for this request (nobody, if its options say
-/// that it is not signed), and signed for the challenge that is stored with the message. The
-/// transaction IDs of the request's earlier messages are derived from the seed, too.
+/// From the creation of a client on (`begins`), whatever calls are made (`stays`), each outstanding
+/// request is stored once, under the transaction ID of its current message, which is derived from
+/// the seed. This message has this ID, the method and the body of the request, and is sent to the
+/// server. Its bytes are written with the identity of the client for this request (nobody, if its
+/// options say that it is not signed), and signed for the challenge that is stored with the
+/// message. The transaction IDs of the request's earlier messages are derived from the seed, too.
 pub fn clients_stay_in_order()
     ensures begins { BeginsAsClient }
     ensures stays { StaysAClient }
 {}
 
-/// A client stores the transaction ID of each earlier message with the number of its request. From
-/// the creation of a client on, whatever calls are made, each number that is stored with a
-/// transaction ID is the number of an outstanding request that has an earlier message with this ID.
-/// So no ID of a request that has ended stays stored.
+/// A client stores transaction IDs of earlier messages, each with the number of its request. From
+/// the creation of a client on (`begins`), whatever calls are made (`stays`), each number that is
+/// stored with a transaction ID is the number of an outstanding request that has an earlier message
+/// with this ID. So no ID of a request that has ended stays stored.
 ///
 /// Premise: the limit on how often another message becomes the current one has 32 bits, as each
 /// `u32` has.

@@ -15,11 +15,13 @@ ghost use Rattle.stun_client_strength.specs.Unsigned.{UnsignedRequestsStayUnsign
 /// again after that, the next such response ends it as `Unauthorized`. Over a reliable transport,
 /// the first such response already ends it (`second`). Whatever is called between, the first
 /// refusal is not forgotten (`remembered`). So if the password is wrong, a server that answers each
-/// datagram in time gets the signed message twice over UDP, and once over a reliable transport. A
-/// 401 with the same realm and security bits, but another nonce or list, ends the request if the
-/// request has been sent again for two such responses before (`third`). Law
-/// `refusals_ask_for_the_same_credentials` of `stun_exchanges` states which challenges count. A
-/// request that is not signed is not refused (`unsigned_requests_change_no_challenge`).
+/// datagram in time gets the signed message twice over UDP, and once over a reliable transport.
+///
+/// A 401 with the same realm and security bits, but another nonce or list, ends the request if it
+/// arrives within the first plan of the request, and the request has been sent again for two such
+/// responses before (`third`). Law `refusals_ask_for_the_same_credentials` of `stun_exchanges`
+/// states which challenges count. A request that is not signed is not refused
+/// (`unsigned_requests_change_no_challenge`).
 pub fn refusals_end_requests()
     ensures second { SecondRefusalsEnd }
     ensures remembered { RefusalsAreRemembered }
@@ -29,9 +31,9 @@ pub fn refusals_end_requests()
 }
 
 /// A request with a wrong password costs at most three datagrams, whatever its options are: the
-/// unsigned message once, and the signed message twice. It costs two if the client already has a
-/// challenge to sign the request for, and one if its options say that it is not signed, because the
-/// client answers no challenge for such a request.
+/// unsigned message once, and the signed message twice. It costs at most two if the client already
+/// has a challenge to sign the request for, and at most one if its options say that it is not
+/// signed, because the client answers no challenge for such a request.
 ///
 /// Premises (`IsRefusedRun`): each datagram is answered before the next one is sent, an unsigned
 /// datagram with a challenge, and a signed datagram with the challenge that it is signed for. Any
@@ -44,12 +46,12 @@ pub fn a_wrong_password_costs_three_datagrams()
     stun_client_runs::laws::what_is_to_be_sent_is_there();
 }
 
-/// No downgrade in the bytes that a client sends. Whatever datagrams a client with long-term
-/// credentials has received, and whatever else was called, a reader of the bytes for which `poll`
-/// returns `Transmit` finds a request that is not signed, or is signed for a challenge by the
-/// client's own rule. If the options of the request say that it is not signed, it never is. No
-/// server whose settings do not change accepts these bytes with a weaker algorithm than the
-/// strongest that both support (`any`).
+/// No attacker can downgrade the bytes that a client sends. Whatever datagrams a client with
+/// long-term credentials has received, and whatever else was called, a reader of the bytes for
+/// which `poll` returns `Transmit` finds a request that is not signed, or that is signed for a
+/// challenge that follows the client's own rule. If the options of the request say that it is not
+/// signed, it never is. No server whose settings do not change accepts these bytes with a weaker
+/// algorithm than the strongest that client and server support (`any`).
 ///
 /// A success confirms the challenge of the message that it answers, if new requests are signed for
 /// that challenge, or if it is stronger than the challenge that was confirmed last (`confirms`).

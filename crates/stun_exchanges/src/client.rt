@@ -53,11 +53,11 @@ pub fn signed_answers_are_believed()
         ≡ believed (Some a) }
 {}
 
-/// The challenge that a request was signed for counts as a refusal of the request. Any other
-/// challenge counts only if it is a 401, and the request was signed for the same realm and for a
-/// nonce that asks for the same credentials (`only`). Each such 401 for which the request is sent
-/// again counts (`each`). A 438 does not count, because an expired nonce says nothing about the
-/// password.
+/// A response that repeats the challenge that a request was signed for counts as a refusal of the
+/// request. A response with any other challenge counts only if it is a 401, and the request was
+/// signed for the same realm and for a nonce that asks for the same credentials (`only`). Each such
+/// 401 for which the request is sent again counts (`each`). A 438 does not count, because an
+/// expired nonce says nothing about the password.
 pub fn refusals_ask_for_the_same_credentials()
     ensures only { RefusalsAreOfTheSameCredentials }
     ensures each { SameCredentialsAreRefused }

@@ -49,9 +49,10 @@ pub fn challenges_of_a_server_are_answered()
 /// accepts the request as that user's, with the algorithm on which both sides agree, which is the
 /// strongest that both support. The user may be named by a hash.
 ///
-/// Premises: the user is registered with this password and found by the hash of the name, so no
-/// earlier user in the order of names has the same hash (`IsRegisteredUser`; no two texts with the
-/// same SHA-256 are known), and the request is not dropped.
+/// Premises: both sides agree on an algorithm (`AgreeOn`); the user is registered with this
+/// password and found by the hash of the name, so no earlier user in the order of names has the
+/// same hash (`IsRegisteredUser`; no two texts with the same SHA-256 are known); and the request is
+/// not dropped.
 pub fn users_are_accepted_by_the_strongest()
     ensures { SignedAreAccepted }
 {
@@ -60,10 +61,10 @@ pub fn users_are_accepted_by_the_strongest()
 }
 
 /// A response that a server completes with its signature answers the request and is a signed
-/// answer: it ends with SOFTWARE, the signature under the key, and FINGERPRINT (`written`). Each
-/// success is such a response (`successes`), and so is the server's own answer to a Binding request
-/// (`binding`). A client believes such a response if the request was signed with that key
-/// (`signed_answers_are_believed`).
+/// answer: it ends with SOFTWARE if the server sends it, the signature under the key, and
+/// FINGERPRINT if the request has one (`written`). Each success is such a response (`successes`),
+/// and so is the server's own answer to a Binding request (`binding`). A client believes such a
+/// response if the request was signed with that key (`signed_answers_are_believed`).
 ///
 /// Premises: before these attributes are added, the response is a message with the request's method
 /// and ID, with a code other than 401 and 438, of at most 60,000 bytes (`IsPage`); the server was

@@ -42,8 +42,11 @@ pub fn each_number_is_there_once()
         ≡ cond (list_any (λ y. y == x) xs) 1 0 }
 {}
 
-/// A stream of messages is cut into exactly these messages, whatever pieces it arrives in. Any
-/// stream is refused as soon as no message can begin with the bytes that have arrived.
+/// A stream of messages is cut into exactly these messages (`cut`), whatever pieces it arrives in
+/// (`fed`). A whole message is found whatever follows it (`whole`). For a part of a message, the
+/// result is `Frame::Need` with at least 1 byte, and at most the number of bytes that are missing
+/// (`begun`). Any stream is refused as soon as no message can begin with the bytes that have
+/// arrived (`refused`).
 pub fn stream_is_cut_into_its_messages()
     ensures whole { (message rest : List ℕ) → IsMessage message
         → frame_of (message ++ rest) ≡ Frame.Message (length message) }
@@ -60,8 +63,10 @@ pub fn stream_is_cut_into_its_messages()
         ≡ cut_with_more frame_of (cut_of frame_of bytes) more }
 {}
 
-/// A stream in which each packet follows its length is cut into exactly these packets, whatever
-/// pieces it arrives in.
+/// A stream in which each packet of less than 65,536 bytes follows its length is cut into exactly
+/// these packets (`cut`), whatever pieces it arrives in (`fed`). A whole packet is found whatever
+/// follows it (`whole`). For a part of a packet, the result is `Frame::Need` with at least 1 byte,
+/// and at most the number of bytes that are missing (`begun`).
 pub fn packet_is_framed()
     ensures whole { (packet rest : List ℕ) → length packet < 2 ^ 16
         → packet_frame_of (framed_packet packet ++ rest)
@@ -76,9 +81,12 @@ pub fn packet_is_framed()
         ≡ cut_with_more packet_frame_of (cut_of packet_frame_of bytes) more }
 {}
 
-/// A stream of messages and ChannelData is cut into exactly these messages and ChannelData,
-/// whatever pieces it arrives in. Any stream is refused as soon as neither a message nor
-/// ChannelData can begin with the bytes that have arrived.
+/// A stream of messages and ChannelData is cut into exactly these messages and ChannelData (`cut`),
+/// whatever pieces it arrives in (`fed`). A whole message (`message`) and whole ChannelData
+/// (`channel`) are found whatever follows them. For a part of a message (`message_begun`) or of
+/// ChannelData (`begun`), the result is `Frame::Need` with at least 1 byte, and at most the number
+/// of bytes that are missing. Any stream is refused as soon as neither a message nor ChannelData
+/// can begin with the bytes that have arrived (`refused`).
 pub fn turn_is_framed()
     ensures message { (message rest : List ℕ) → IsMessage message
         → turn_frame_of (message ++ rest) ≡ Frame.Message (length message) }

@@ -123,8 +123,8 @@ pub fn only_checks_are_answered()
 {}
 
 /// The credentials of two agents are accepted together if and only if the credentials of each are
-/// accepted alone. Names that are accepted have no colon, so no two pairs of names have the same
-/// USERNAME: a check names its receiver and its sender, and nobody else.
+/// accepted alone (`sides`). Names that are accepted have no colon, so no two pairs of names have
+/// the same USERNAME (`names`): a check names its receiver and its sender, and nobody else.
 pub fn usernames_name_both()
     ensures sides { (name peer password peer_password : List ℕ)
         → (build_refusal name peer password peer_password ≡ None)

@@ -62,7 +62,8 @@ pub fn push_domain<A: Allocator + Copy>(
     Ok(true)
 }
 
-/// Appends the name and the number of each attribute type of a list.
+/// Appends the name and the number of each attribute type of a list, or `none` if the list is
+/// empty.
 pub fn push_types<A: Allocator + Copy>(
     line: &mut Line<A>,
     value: &[u8],

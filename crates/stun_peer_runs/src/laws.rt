@@ -4,7 +4,8 @@ ghost use Rattle.stun_peer_runs.specs.Datagrams.{RolesEnd, RolesStay};
 
 /// Two agents of one session that begin in the same role, with distinct tie-breakers, end in
 /// opposite roles: the agent that began with the larger tie-breaker has the controlling role. They
-/// have these roles as soon as one of them has received the answer to one check, and keep them
+/// have these roles as soon as one of them has received the answer to one check, and keep them.
+/// Before that, both have the role that they began in, or they already have the final roles
 /// (`settle`). Two agents that begin in opposite roles keep their roles (`stay`). The law
 /// `roles_end_opposite` of `stun_ice` states this for messages, and this law states it for
 /// datagrams: a check is the bytes that `Checker::check` writes, and an answer is the bytes that

@@ -59,9 +59,10 @@ pub fn agents_of_one_session_know_each_other<A: Allocator + Copy>(
 }
 
 /// States that the peer of an agent judges the agent's check by the roles alone: the peer either
-/// accepts the check, with the priority in the check, or answers it with a 487. `role_after_check`
-/// determines which of the two it does, by the roles and the tie-breakers of both agents. The law
-/// `roles_end_opposite` calls this the arrival of a check.
+/// accepts the check, with the priority in the check, or answers it with a 487 (`judged`).
+/// `role_after_check` determines which of the two it does, and which role it has afterwards
+/// (`role`), by the roles and the tie-breakers of both agents. In the law `roles_end_opposite`,
+/// this is the arrival of a check.
 ///
 /// The agent has the credentials of its peer (`Knows`), but the peer need not have the credentials
 /// of the agent: it may have made an offer whose answer has not arrived yet. Law
@@ -86,8 +87,8 @@ pub fn a_check_is_accepted_by_its_peer()
 
 /// States that the answer of an agent to a check of its peer has the intended effect, if it comes
 /// from the address to which the check was sent. A success makes the pair valid, with the address
-/// from which the check came. A 487 switches the role of the peer, if the peer still has the role
-/// in which it sent the check.
+/// from which the check came (`valid`, `address`). A 487 switches the role of the peer, if the peer
+/// still has the role in which it sent the check (`conflict`).
 ///
 /// `a` is the agent that sent the check, as it was then, with the credentials `sent` of its peer.
 /// `now` is this agent when the answer arrives: its role and its tie-breaker may have changed. The

@@ -61,8 +61,8 @@ use stun_base::instant::Instant;
 use stun_types::message::Message;
 use stun_types::prelude::MessageWrite;
 
-/// A list of events has at most one run: the events determine its steps and the agent after it.
-/// This holds for every time at which the run begins or ends.
+/// A list of events has at most one run: the events determine its steps and the agent after it
+/// (`driven`). This holds for every time at which the run begins or ends (`throughout`).
 pub fn runs_are_determined()
     ensures driven { IsDetermined }
     ensures throughout { IsDeterminedThroughout }
@@ -75,8 +75,9 @@ pub fn events_have_runs()
 
 /// A run that stopped because an allocation failed can be continued: the agent, as it was left, is
 /// driven through the remaining events. The continued run makes exactly the later steps of the
-/// whole run and leaves the same agent, so nothing is sent twice. It may stop again, any number of
-/// times. If no event is left, the agent is already the one that the whole run leaves.
+/// whole run and leaves the same agent, so nothing is sent twice (`left`, `parts`). It may stop
+/// again, any number of times (`again`). If no event is left, the agent is already the one that the
+/// whole run leaves (`complete`).
 pub fn stopped_runs_go_on()
     ensures left { StoppedRunsGoOn }
     ensures parts { StoppedRunsHaveTheRest }
@@ -111,10 +112,10 @@ pub fn runs_keep_plans()
 {}
 
 /// If an agent starts without outstanding requests, and its user polls it on time in a loop of
-/// whole turns (`Loop`), then it makes the steps that `drive` makes with the same events. So the
-/// third theorem of this library (the clause `headline` of `drive`) holds for this agent (RFC 8489,
-/// section 6.2.1). For any events at times that do not decrease there is such a loop, on time or
-/// late.
+/// whole turns (`Loop`), then it makes the steps that `drive` makes with the same events
+/// (`driven`). So the third theorem of this library (the clause `headline` of `drive`) holds for
+/// this agent (`plans`; RFC 8489, section 6.2.1). For any events at times that do not decrease
+/// there is such a loop, on time or late (`exist`).
 ///
 /// The law is about loops over a simulated clock: there is a whole turn at the time of each event,
 /// and no turn comes later than `poll` returned, to the nanosecond. For loops over a real clock see
@@ -135,16 +136,17 @@ pub fn loops_are_driven()
 /// settings allow, and times out once the final wait has passed, at most `late` after that. So
 /// transmission k, counted from 0, is never before its time in the plan, and at most k times `late`
 /// after it. If one of these steps is missing at the end, the last call was at most `late` after
-/// the time of that step. Any calls at times that do not go back are such a loop, for some `late`.
+/// the time of that step (`in_time`). Any calls at times that do not go back are such a loop, for
+/// some `late` (`exist`).
 pub fn any_loop_sends_in_time()
     ensures in_time { CallsSendInTime }
     ensures exist { CallsExist }
 {}
 
 /// The plan of a request with the default settings, in numbers. Over UDP, the request is sent at 0,
-/// 500, 1500, 3500, 7500, 15500 and 31500 ms, and times out at 39500 ms. Over TCP it is sent once,
-/// and times out at the same time (RFC 8489, sections 6.2.1 and 6.2.2). A new agent that sends only
-/// this request satisfies the premise of `runs_send_by_plan`.
+/// 500, 1500, 3500, 7500, 15500 and 31500 ms, and times out at 39500 ms (`udp`). Over TCP it is
+/// sent once, and times out at the same time (`tcp`; RFC 8489, sections 6.2.1 and 6.2.2). A new
+/// agent that sends only this request satisfies the premise of `runs_send_by_plan` (`asked`).
 pub fn plan_of_a_request()
     ensures udp { (to : Address) → plan Udp 0 default_settings 7 to example_request ≡ udp_steps to }
     ensures tcp { (to : Address) → plan Tcp 0 default_settings 7 to example_request ≡ tcp_steps to }
@@ -152,8 +154,8 @@ pub fn plan_of_a_request()
         → IsAskedOnce (requester (new_agent transport here)) 7 0 example_request to [] [] }
 {}
 
-/// The reply to a request or an indication is `Validated` if and only if the message is accepted
-/// (RFC 8489, section 9.2.4).
+/// The reply to a request or an indication is `Validated` with an algorithm if and only if the
+/// message is accepted with that algorithm (RFC 8489, section 9.2.4).
 pub fn one_call_validates()
     ensures { (s : Sight) (now : ℕ) (words : List ℕ) (r : Reading)
         → ValidatesOneCall s now words r (answer s now words r) }
@@ -162,13 +164,15 @@ pub fn one_call_validates()
 }
 
 /// If a program makes calls on one server, one by one, these calls are a run of `serve`: they
-/// return the replies of the run, and leave the server that the run leaves. So the first theorem of
-/// this library (the clause `headline` of `serve`) holds for them (RFC 8489, section 9.2.4).
+/// return the replies of the run, and leave the server that the run leaves (`served`). So the first
+/// theorem of this library (the clause `headline` of `serve`) holds for them (`validated`; RFC
+/// 8489, section 9.2.4).
 ///
 /// The calls must be among those that `ServerCall` has, so no user is passed with a message
 /// (`validate_incoming_message_of`), and `forget_expired_within` is not called. Each call does what
 /// the clauses of the server's own call state (`IsMade`), on the server as the previous call left
-/// it.
+/// it. A run of `serve` writes a message that was built attribute by attribute again as it is
+/// (`plain`), so it signs the message that the program signed.
 pub fn calls_are_a_run()
     ensures served { CallsAreServed }
     ensures validated { CallsAreValidated }
@@ -183,7 +187,8 @@ pub fn calls_are_a_run()
 /// stored keys (`validate_incoming_message_of`, `sign_outgoing_message_of`). The database may
 /// change between any two calls. A step of `forget_expired_within` is a list of calls of `forget`,
 /// one for each address that it forgets. So the first theorem of this library (the clause
-/// `headline` of `serve`) holds for these calls (RFC 8489, section 9.2.4).
+/// `headline` of `serve`) holds for these calls (`served`; RFC 8489, section 9.2.4). There are such
+/// calls (`exist`).
 ///
 /// Each call does what the clauses of the server's own call state (`IsMadeOf`), on the server as
 /// the previous call left it.
@@ -248,10 +253,10 @@ pub fn best_is_strongest()
 /// Suppose that two messages have the same bytes, except for the length field, up to the end of the
 /// integrity attribute that decides in both. Then the server gives both the same reply, and is in
 /// the same state after either of them, with the same record of their address. The same holds for
-/// two runs that differ only in which of these two messages they contain. So an attacker who
-/// appends to a signed request does not change how the server judges it, with one exception: if he
-/// appends a MESSAGE-INTEGRITY-SHA256 to a MESSAGE-INTEGRITY, the new attribute decides (RFC 8489,
-/// sections 14.5 to 14.7).
+/// two runs that differ only in which of these two messages they contain (`agreeing`). So an
+/// attacker who appends to a signed request does not change how the server judges it (`appended`),
+/// with one exception: if he appends a MESSAGE-INTEGRITY-SHA256 to a MESSAGE-INTEGRITY, the new
+/// attribute decides (RFC 8489, sections 14.5 to 14.7).
 pub fn appending_changes_no_reply()
     ensures agreeing { AgreeingAreAnsweredAlike }
     ensures appended { ContinuedAreAnsweredAlike }
@@ -271,7 +276,8 @@ pub fn shards_serve_as_one()
 /// If a client is ready, every message can be signed (`IsHonest`), and the client and the server
 /// can agree on an algorithm (`best_is_strongest`), then the server accepts the client's second
 /// request with that algorithm, and both sides are authenticated. If they cannot agree, the client
-/// gives up and stores nothing (RFC 8489, section 9.2).
+/// gives up and stores nothing (RFC 8489, section 9.2). Realm and user name are UTF-8, as each
+/// `str` is.
 ///
 /// The law is about the steps of a meeting, which are computed from the bytes of its messages.
 pub fn strongest_is_agreed()
@@ -284,10 +290,10 @@ pub fn strongest_is_agreed()
 }
 
 /// Suppose that the programs of a client and a server make their calls one by one, in order, each
-/// on what the other has sent (`HaveMet`). Then the two are in a meeting as in `negotiate`, of
-/// Binding messages without other attributes. They get the same outcome, and both sides are left as
-/// `negotiate` leaves them. So an honest client and its server agree as `strongest_is_agreed`
-/// states (RFC 8489, section 9.2).
+/// on what the other has sent (`HaveMet`). Then client and server are in a meeting as in
+/// `negotiate`, of Binding messages without other attributes. They get the same outcome, and both
+/// sides are left as `negotiate` leaves them (`negotiated`). So an honest client and its server
+/// agree as `strongest_is_agreed` states (`strongest`; RFC 8489, section 9.2).
 pub fn calls_are_a_meeting()
     ensures negotiated { MeetingsAreNegotiated }
     ensures strongest { MeetingsAgree }
@@ -358,9 +364,10 @@ pub fn nonce_is_renewed()
 }
 
 /// Once a client and its server are authenticated, each request that the client signs is accepted
-/// while the nonce is valid, and each response that the server signs is accepted by the client
-/// (RFC 8489, sections 9.2.4 and 9.2.5). The law holds for any list of such exchanges, with any
-/// number of renewals of the nonce (`nonce_is_renewed`) between them.
+/// while the nonce is valid, and each response that the server signs is accepted by the client (RFC
+/// 8489, sections 9.2.4 and 9.2.5). The law holds for any list of such exchanges, with any number
+/// of renewals of the nonce (`nonce_is_renewed`) between them (`go_on`). For each address, there
+/// are a client, a server and two such exchanges (`exist`).
 ///
 /// - Requests and responses are of any method, and have any attributes except those that signing
 ///   adds. A response is a success, or an error with any code except 438.
@@ -384,7 +391,8 @@ pub fn sessions_go_on()
 /// strongest algorithm that both support. The client accepts the success response, and both sides
 /// are then authenticated (RFC 8489, sections 9.2.3 to 9.2.5), so `sessions_go_on` covers what
 /// follows. If they can agree on no algorithm (`best_is_strongest`), the client gives up and stores
-/// nothing.
+/// nothing (`introduced`). For each address, there are a client and a server that exchange an
+/// Allocate request or a Binding request in this way (`exist`).
 ///
 /// - The messages are of any method, and have any attributes except those that signing adds.
 /// - The client has the credentials of a registered user, no two registered users share a USERHASH,

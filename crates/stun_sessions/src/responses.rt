@@ -9,10 +9,10 @@ ghost use Rattle.stun_sessions.specs.Responses.{ErrorsArePages, SuccessesBegin, 
 /// `answers_of_a_server_are_signed` of `stun_exchanges`, a completed response answers the request
 /// and is signed.
 ///
-/// Premises: an ID has 96 bits; the code is neither 401 nor 438, which a server answers itself, and
-/// is a code that `error` can write; an added attribute fits into the message, as `add_attribute`
-/// tests, and is not a signature, FINGERPRINT or a second ERROR-CODE; and the response has at most
-/// 60,000 bytes before it is completed.
+/// Premises: an ID has 96 bits; the code is one that `error` can write, and is neither 401 nor 438,
+/// with which the server itself asks for credentials; an added attribute fits into the message, as
+/// `add_attribute` tests, and is not a signature, FINGERPRINT or a second ERROR-CODE; and the
+/// response has at most 60,000 bytes before it is completed.
 pub fn begun_responses_are_pages()
     ensures success { SuccessesBegin }
     ensures error { ErrorsArePages }
@@ -30,8 +30,8 @@ pub fn begun_responses_are_pages()
 /// `Reply::finish`.
 ///
 /// Premises: the server was built; the request is signed, as each accepted one is, and has at most
-/// 65,552 bytes; its transaction ID has 96 bits; and if the client requires FINGERPRINT, the
-/// request has one.
+/// 65,552 bytes; its transaction ID has 96 bits; if the client requires FINGERPRINT, the request
+/// has one; and the premises of `begun_responses_are_pages` hold for the caller's response.
 pub fn accepted_requests_are_answered()
     ensures { AcceptedAreAnswered }
 {

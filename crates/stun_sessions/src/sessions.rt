@@ -6,10 +6,10 @@ ghost use Rattle.stun_sessions.specs.Sessions.{ChallengesStay, ForgottenAreStale
 /// If a client would be accepted under a nonce that has expired, the server answers its request
 /// with a 438 that has the current nonce.
 ///
-/// Premise: the expired nonce is none of the nonces that the server then accepts (`IsForgotten`).
-/// The server accepts the nonces of the current epoch and of the epoch before, each made with its
-/// current secret or with its previous secret. Two nonces of an address are the same only if the
-/// hashes that they are made from begin with the same bytes.
+/// Premises: the request is not dropped, and the expired nonce is none of the nonces that the
+/// server then accepts (`IsForgotten`). The server accepts the nonces of the current epoch and of
+/// the epoch before, each made with its current secret or with its previous secret. Two nonces of
+/// an address are the same only if the hashes that they are made from begin with the same bytes.
 pub fn forgotten_nonces_are_stale()
     ensures { ForgottenAreStale }
 {
@@ -36,11 +36,12 @@ pub fn each_request_takes_one_exchange()
 
 /// A session continues with the challenge that was answered last: new requests are signed for it
 /// until a request that is signed for a stronger challenge succeeds (`stays`). Suppose that the
-/// settings of a server do not change. Then none of its challenges is stronger than another
-/// (`alike`). The client ignores none of them, unless a success has last confirmed a challenge of
-/// another server or of other settings (`heeded`). A client that is made for one server whose
-/// settings do not change never confirms such a challenge. So once the nonce has expired, the
-/// client answers the 438 (`challenges_of_a_server_are_answered` of `stun_exchanges`).
+/// settings of a server do not change. If a request that is signed for one of its challenges
+/// succeeds, new requests are still signed for the challenge of this server that they were signed
+/// for before (`alike`). The client ignores none of the server's challenges, unless a success has
+/// last confirmed a challenge of another server or of other settings (`heeded`). So a client that
+/// has successes from this server only answers the 438 once the nonce has expired
+/// (`challenges_of_a_server_are_answered` of `stun_exchanges`).
 pub fn a_session_goes_on_with_the_last_challenge()
     ensures stays { ChallengesStay }
     ensures alike { ChallengesOfOneStay }

@@ -107,8 +107,8 @@ use stun_base::transport::TransportType;
 use stun_numbers::refusal::Refusal;
 
 /// States that different results of the library's calls have different numbers, so that a program
-/// learns from the number which result it is. For lengths this holds below 2^63, and every buffer
-/// is shorter than that.
+/// learns from the number which result it is. For lengths this holds below 2^63 (`length`), and
+/// every buffer is shorter than that.
 pub fn numbers_tell_results_apart()
     ensures done { TellsApart done_answer }
     ensures number { TellsApart number_answer }
@@ -118,8 +118,9 @@ pub fn numbers_tell_results_apart()
         → length_answer r ≡ length_answer s → r ≡ s }
 {}
 
-/// A call fails with `STUNP_EMPTY_HANDLE` if the handle begins with 0, and with
-/// `STUNP_WRONG_HANDLE` if it has a value of another kind than the call needs.
+/// A call that needs an agent (`agent`), a server (`server`), a client (`client`) or a prepared
+/// user (`user`) fails with `STUNP_EMPTY_HANDLE` if the handle begins with 0, and with
+/// `STUNP_WRONG_HANDLE` if the handle has a value of another kind.
 pub fn other_handles_are_refused()
     ensures agent { (h : StateHandle) (result : ℤ) → WithoutAgent h result ⊤
         → IsRefusedAs h agent_kind result }
@@ -175,9 +176,10 @@ pub fn objects_are_freed_by_their_kind()
         × ((k : Kept) → old.slot.kept ≡ Some k → kind_of k ≢ user_kind → new ≡ old) }
 {}
 
-/// States that if a call that creates an object returns 0, the handle was empty before, and now has
-/// the object that the library makes. After an error the handle is unchanged. A user who was
-/// prepared belongs to the server that was passed.
+/// States that if a call that creates an agent or prepares a user returns 0, the handle was empty
+/// before, and now has the object that the library makes (`agent`, `user`). After an error the
+/// handle is unchanged (`agent_error`, `user_error`). A user who was prepared belongs to the server
+/// that was passed.
 pub fn handles_are_filled_with_what_is_made()
     ensures agent { (old new : StateHandle) (made : Result Agent Refusal)
         → FillsWithAgent old new (pos 0) made → (old.kind ≡ empty_kind)
@@ -194,9 +196,9 @@ pub fn handles_are_filled_with_what_is_made()
         → IsErrorNumber result → new ≡ old }
 {}
 
-/// After an error a handle has the value that it had before the call, and the buffer with the
-/// message to sign is unchanged. This does not apply to calls that judge a message, because a
-/// server may make a nonce for a message that it refuses.
+/// After an error, a handle has the value that it had before the call, and the buffer with the
+/// message to sign is unchanged (`signed`). This does not apply to calls that judge a message,
+/// because a server may make a nonce for a message that it refuses.
 pub fn errors_leave_what_a_handle_holds()
     ensures agent { (old new : StateHandle) (result : ℤ) (number : Agent → ℤ)
         (after : Agent → Agent)
@@ -293,10 +295,10 @@ pub fn verdicts_are_those_of_the_authenticator()
         → (kept_after_handed_signing s buffer count to user).registered ≡ s.registered }
 {}
 
-/// States that a server returns the same verdict, signs the same bytes and stores the same data
-/// with a user who was prepared once as if the caller passed the name and the secret of this user
-/// with each message. Clause `answer` states this for the results that a program in C gets, if the
-/// user was prepared for the server.
+/// States that a server returns the same verdict (`verdict`), signs the same bytes (`bytes`) and
+/// stores the same data (`left`, `after_signing`) with a user who was prepared once as if the
+/// caller passed the name and the secret of this user with each message. Clause `answer` states
+/// this for the results that a program in C gets, if the user was prepared for the server.
 pub fn prepared_users_are_as_those_who_are_handed_in()
     ensures answer { (old new server : StateHandle) (user : Result RegisteredUser Refusal)
         (bytes : List ℕ) (from : Address) (now : ℕ) (words : List ℕ) (result : ℤ)
@@ -342,8 +344,9 @@ pub fn messages_are_signed_as_by_the_authenticator()
         × (length bytes ≤ length buffer) }
 {}
 
-/// A user whom the caller passes has the name that was passed, and either the password or the
-/// stored keys: 16 bytes for HMAC-SHA1 and 32 for HMAC-SHA256. A key without bytes is missing.
+/// A user whom the caller passes has the name that was passed, and either the password (`password`)
+/// or the stored keys: 16 bytes for HMAC-SHA1 and 32 for HMAC-SHA256 (`keys`). A key without bytes
+/// is missing.
 pub fn users_are_those_who_are_handed_in()
     ensures password { (name password : List ℕ) (u : RegisteredUser)
         → user_of_password name password ≡ Ok u
@@ -382,9 +385,12 @@ pub fn client_verdicts_are_those_of_the_authenticator()
 {}
 
 /// An agent in a handle is an agent of the library. A call that succeeds does what the library does
-/// with the same bytes, at the address that the caller passes: it accepts a request or another
-/// message to send only if the library does, and for a message that arrived it returns what the
-/// library returns.
+/// with the same bytes, at the address that the caller passes: it accepts a request (`request`) or
+/// another message to send (`sent`) only if the library does, and for a message that arrived it
+/// returns what the library returns (`received`). Calls that validate or forget a peer (`named`),
+/// or change a request that they find by its ID (`outstanding`, `configured`), change the agent as
+/// the library does. A call that tests whether an address is a validated peer returns what the
+/// library returns (`asked`).
 pub fn agents_are_those_of_the_library()
     ensures request { (a : Agent) (bytes : List ℕ) (to : Address) (now : ℕ)
         → done_answer (at_address (socket_address to) (request_answer a bytes)) ≡ pos 0
@@ -425,9 +431,9 @@ pub fn agents_are_those_of_the_library()
 {}
 
 /// A new agent has the transport and the address that the caller passes. It has no requests and no
-/// validated peers yet, may send to any address, and has the timeouts of RFC 8489. If the caller
-/// passes timeouts, no two transmissions of a request are due at the same time. If the caller
-/// passes a remote address, the agent only sends to that address.
+/// validated peers yet, may send to any address, and has the timeouts of RFC 8489 (`made`). If the
+/// caller passes timeouts, no two transmissions of a request are due at the same time. If the
+/// caller passes a remote address, the agent only sends to that address (`with_plan`).
 pub fn agents_are_made_as_asked_for()
     ensures made { (n : ℕ) (local : Address) (a : Agent)
         → agent_at (transport_numbered n) (socket_address local) ≡ Ok a
@@ -493,9 +499,13 @@ pub fn callers_are_told_what_a_server_has()
 {}
 
 /// States what the numbers mean that a caller passes and receives. A call that sets algorithms or a
-/// feature sets those with the number that is passed. The number of a set of algorithms is the sum
-/// of the numbers of the algorithms. A nonce is valid for at least 30 seconds. Statistics are
-/// written only to a struct of the right size.
+/// feature sets those with the number that is passed (`algorithms`, `feature`). The number of a set
+/// of algorithms is the sum of the numbers of the algorithms. A nonce is valid for at least 30
+/// seconds (`expiry`), and for the time that was passed if this time is not shorter
+/// (`longer_expiry`). A client has the name and the password that were passed, and its state is
+/// unchanged (`credentials`). If the number of the algorithm with which a client signs is 0, it
+/// signs with none (`signing`). A call that writes statistics does not change the size in the
+/// caller's struct (`statistics`).
 pub fn settings_are_those_of_their_numbers()
     ensures algorithms { (n : ℕ) (set : AlgorithmSet) (s : ServerSeen) (c : ClientSide)
         → algorithms_numbered n ≡ Some set
@@ -525,9 +535,10 @@ pub fn settings_are_those_of_their_numbers()
         → (caller_statistics_after counted before).size ≡ before.size }
 {}
 
-/// A call that fails with `STUNP_OUT_OF_MEMORY` changes nothing. If a contract rules out this
-/// error, the call has nothing to store: the message does not change the server, or adds no address
-/// to the validated peers of the agent.
+/// A call that fails with `STUNP_OUT_OF_MEMORY` changes nothing (`returned`, `signed`, `written`).
+/// If a contract rules out this error, the call has nothing to store: the message does not change
+/// the server (`server`), or adds no address to the validated peers of the agent (`naming`,
+/// `message`).
 pub fn failed_allocations_change_nothing()
     ensures returned { (result verdict : Result IntegrityAlgorithm Refusal)
         (before now after : Server) → Returns verdict before now after ⊤ result
@@ -567,8 +578,8 @@ pub fn failed_allocations_change_nothing()
         ↔ (is_resend_answer (reading_answer (client_validation c bytes)) ≡ true) }
 {}
 
-/// A user who is removed is no longer registered. A client that is removed is no longer the client
-/// of its address, and every address still has its nonce.
+/// A user who is removed is no longer registered (`user`). A client that is removed is no longer
+/// the client of its address (`client`), and every address still has its nonce (`nonce`).
 pub fn what_is_removed_is_gone()
     ensures user { (s : ServerSeen) (name : List ℕ) → is_utf8 name ≡ true
         → user_named (without_named (text_refusal name) s name).registered name ≡ None }

@@ -9,10 +9,11 @@ use stun_proto::replay::ServerCall;
 /// A script that was parsed.
 #[derive(Debug, Drop)]
 pub enum Script {
-    /// The calls of its lines.
+    /// Every line of the script that is not empty is a call. These are the calls, in the order of
+    /// the lines.
     Calls(Vec<ServerCall>),
-    /// The number of its first line that is not a call, counted from 1. Empty lines are counted
-    /// too.
+    /// The number of the first line of the script that is neither empty nor a call, counted from 1.
+    /// Empty lines are counted too.
     WrongLine(usize),
 }
 

@@ -23,8 +23,9 @@ ghost use Rattle.stun_types.specs.Writing.{length_with, with_attribute, with_int
 use crate::message::Visibility;
 use stun_base::algorithm::IntegrityAlgorithm;
 
-/// Every message is a header followed by its attributes in their encoding. A reader finds exactly
-/// these attributes, and for every list of attributes there is a message that has them.
+/// Every message is a header followed by its attributes in their encoding (`found`). A reader finds
+/// exactly these attributes (`spelled`), and for every list of attributes there is a message that
+/// has them, if their encoding has less than 65,536 bytes and each type has 16 bits (`written`).
 pub fn message_is_spelled_attributes()
     ensures found { (bytes : List ℕ)
         → ((i : ℕ) → slice_index bytes i < 2 ^ 8) → SpellsWhatIsFound bytes }
@@ -52,9 +53,11 @@ pub fn each_hiding_attribute_counts_once()
 {}
 
 /// A message that a builder has started has no attributes. It is open, so attributes can be added
-/// to it. After an attribute has been added to an open message, a reader finds the attributes that
-/// the message had before, followed by the new one. The message is then still open, unless the new
-/// attribute is an integrity attribute or FINGERPRINT.
+/// to it (`begun`). All attributes of an open message are visible (`shown`). After an attribute has
+/// been added to an open message, a reader finds the attributes that the message had before,
+/// followed by the new one (`added`). The message is then still open, unless the new attribute is
+/// an integrity attribute or FINGERPRINT (`open`). Adding an attribute to a message writes the
+/// bytes of the message that has this attribute in addition (`spelled`).
 pub fn writing_adds_one_attribute()
     ensures begun { (message_type transaction_id : ℕ) → message_type < 2 ^ 14
         → IsOpen (spelled_message message_type transaction_id [])
@@ -73,8 +76,9 @@ pub fn writing_adds_one_attribute()
 {}
 
 /// If an open message is signed, and has at most 65532 bytes after its header with the integrity
-/// attribute, the signature is valid under the same key, and the integrity attribute is the only
-/// new attribute.
+/// attribute, the signature is valid under the same key (`stands`), and the integrity attribute is
+/// the only new attribute (`added`). The signature is also valid if each algorithm has a key of its
+/// own, and the message is signed with the key of its algorithm (`stands_by`).
 pub fn signed_message_stands()
     ensures stands { (message : List ℕ) (algorithm : IntegrityAlgorithm) (key : List ℕ)
         → IsOpen message → length_with message (digest_length algorithm) ≤ max_length
@@ -101,10 +105,10 @@ pub fn tail_does_not_count()
 {}
 
 /// Every attribute after the deciding attribute is hidden, except FINGERPRINT. Two messages that
-/// agree up to the end of the deciding attribute have the same type, the same transaction ID, the
-/// same result of validation, and the same visible attributes except FINGERPRINT. This is so
-/// whatever follows the deciding attribute in each of them, unless a stronger integrity attribute
-/// follows.
+/// agree up to the end of the deciding attribute have the same type, the same transaction ID
+/// (`header`), the same result of validation (`verdict`), and the same visible attributes except
+/// FINGERPRINT (`visible`). This is so whatever follows the deciding attribute in each of them,
+/// unless a stronger integrity attribute follows (`appended`).
 pub fn what_follows_integrity_is_hidden()
     ensures header { (bytes others : List ℕ) → AgreeUpToIntegrity bytes others
         → (type_field bytes ≡ type_field others)

@@ -41,7 +41,7 @@ fn is_response<W: MessageWrite>(writer: &W) -> bool
 
 impl<A: Allocator + Copy> LongTermServerAuth<A> {
     /// Returns the number of bytes that `sign_outgoing_message` adds to a message to an address, at
-    /// most 2^64 - 1, or 0 if no nonce was made for the address.
+    /// most 2^64 - 1, or 0 if the server has no record of the address.
     ///
     /// `is_request` is true for a request or an indication, and false for a response. The call does
     /// not check whether signing would fail, for example because the client's user was removed or

@@ -73,9 +73,11 @@ pub fn requests_are_those_of_the_library()
 {}
 
 /// States that a caller receives what the library returns for the same datagram from the same
-/// address, and for a poll at the same time. If a request has ended, the caller receives how it
-/// ended, the response that ended it, the algorithm of the signature of that response, and the
-/// round-trip time. The handle then has the client as the library leaves it.
+/// address (`datagram`), and for a poll at the same time (`poll`). If a request has ended, the
+/// caller receives how it ended, the response that ended it, the algorithm of the signature of that
+/// response, and the round-trip time. The handle then has the client as the library leaves it. The
+/// kind in the caller's struct is the number that the poll returns (`kind`), and different reasons
+/// to drop a datagram have different numbers (`why`).
 pub fn callers_read_what_the_library_returns()
     ensures datagram { (c : ClientSeen) (from : Address) (bytes : List ℕ) (now n why told : ℕ)
         (before after : Option Kept)
@@ -95,10 +97,10 @@ pub fn callers_read_what_the_library_returns()
     ensures why { (one other : DropReason) → drop_told one ≡ drop_told other → one ≡ other }
 {}
 
-/// States that after an error the client is unchanged, and a failed poll writes only the event,
-/// with the kind 7 and the length 0. The exception is a poll whose bytes do not fit into the
-/// buffer: the client changes, the bytes are lost, and the event has their number, which is greater
-/// than the length of the buffer (`lost`).
+/// States that after an error the client is unchanged (`request`, `datagram`, `cancelled`, `poll`),
+/// and a failed poll writes only the event, with the kind 7 and the length 0 (`event`). The
+/// exception is a poll whose bytes do not fit into the buffer: the client changes, the bytes are
+/// lost, and the event has their number, which is greater than the length of the buffer (`lost`).
 pub fn errors_leave_the_client()
     ensures request { (c : Result ClientSeen Refusal) (method : ℕ) (bytes : List ℕ)
         (given : Option RequestOptions) (now : ℕ) (result : ℤ) (id named : ℕ)

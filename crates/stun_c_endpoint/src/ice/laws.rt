@@ -34,9 +34,12 @@ ghost use Rattle.stun_numbers.specs.declared.refusal.Refusal.TheVariants.{Buffer
 ghost use Rattle.stun_numbers.specs.declared.refusal.Refusal.TheVariants.{OutOfMemory};
 
 /// A new agent has the credentials, the tie-breaker and the role that the caller passed, and the
-/// library has accepted them. It signs its checks with the password of the peer. An agent that is
-/// created with its own credentials, and then receives those of its peer, is equal to the agent
-/// that is created with both at once.
+/// library has accepted them. It signs its checks with the password of the peer, if the caller
+/// passed the credentials of the peer (`made`), and otherwise knows no peer yet (`offering`). A
+/// call that sets the credentials of the peer (`peer`) or the tie-breaker (`tie_breaker`) leaves
+/// the other values of the agent unchanged. An agent that is created with its own credentials, and
+/// then receives those of its peer, is equal to the agent that is created with both at once
+/// (`two_steps`). Only a failed allocation is reported as `STUNP_OUT_OF_MEMORY` (`memory`).
 pub fn agents_are_made_of_what_is_passed()
     ensures made { (g : AgentGiven) (now : Option Kept) → MakesAgent g (pos 0) now
         → (a : Agent) × (now ≡ Some (kind.Checker a))
@@ -67,9 +70,11 @@ pub fn agents_are_made_of_what_is_passed()
 {}
 
 /// States that a check that a call writes is the check that the library writes for the address and
-/// the priority that the caller passed. The bytes of the check are at the front of the buffer, the
-/// call returns their number, and the caller's struct describes the check. A call that fails writes
-/// nothing.
+/// the priority that the caller passed (`written`), with the attributes of the body if there is one
+/// (`with_body`). The bytes of the check are at the front of the buffer, the call returns their
+/// number, and the caller's struct describes the check. If the agent does not know the credentials
+/// of its peer, the call fails with `STUNP_CANNOT_SIGN` (`unknown_peer`). A call that fails writes
+/// nothing (`unwritten`, `unwritten_with_body`).
 pub fn checks_are_those_of_the_library()
     ensures written { (a : Agent) (id : List ℕ) (to : Address) (priority : ℕ) (nominate : Bool)
         (n : ℕ) (out after : List ℕ) (k told : IceCheck) → length out < 2 ^ 63
@@ -114,8 +119,8 @@ pub fn checks_are_passed_again()
 
 /// States that a caller receives the outcome that the library returns for the same datagram from
 /// the same address and with the same check, and that the handle then has the agent as the library
-/// leaves it. So the caller learns that a check is accepted (`accepted`), or that a pair is valid
-/// (`valid`), if and only if this is so in the library.
+/// leaves it (`told`). So the caller learns that a check is accepted (`accepted`), or that a pair
+/// is valid (`valid`), if and only if this is so in the library.
 pub fn datagrams_are_judged_as_by_the_library()
     ensures told { (a : Agent) (has_check : Bool) (k : IceCheck) (from : Address)
         (bytes : List ℕ) (n : ℕ) (out after : List ℕ) (r told : IceReceived)
@@ -148,7 +153,8 @@ pub fn datagrams_are_judged_as_by_the_library()
 /// outcome (`unanswered`). If the answer does not fit into the buffer, the caller's struct has the
 /// length of the answer, which is greater than the length of the buffer, and the agent and the
 /// buffer are unchanged (`needed`). The kind in the struct is the number that the call returns
-/// (`kind`), or 7 with the length 0 after an error (`failed`).
+/// (`kind`), or 7 with the length 0 after an error (`failed`). Different reasons to drop a datagram
+/// have different numbers (`why`).
 pub fn only_checks_have_answers()
     ensures unanswered { (seen : Result Seen Refusal) (result : ℤ) (out after : List ℕ)
         (r told : IceReceived) (before now : Option Kept)

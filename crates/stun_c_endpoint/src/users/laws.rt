@@ -45,7 +45,8 @@ pub fn users_have_the_keys_that_were_passed()
 {}
 
 /// States that after a call has removed a user, the table has no key of that user, and still has
-/// the keys of all other users.
+/// the keys of all other users. This holds for a table of a server with long-term credentials
+/// (`realm`) and with short-term credentials (`short_term`).
 pub fn users_who_are_removed_have_no_key()
     ensures realm { (u : ServerSeen) (name : List ℕ) (before now : Option Kept)
         → LeavesTable (removing name (kind.Users u)) (pos 0) before now
@@ -56,8 +57,9 @@ pub fn users_who_are_removed_have_no_key()
         → (t : Keys) × (now ≡ Some (kind.ShortTermUsers t)) × HasKey u t name None }
 {}
 
-/// A new table has the realm and the algorithms of the server for which it is created, and has no
-/// keys. No table can be created for a server without credentials.
+/// A new table for a server with long-term credentials has the realm and the algorithms of the
+/// server, and no keys (`realm`). A new table for a server with short-term credentials has no keys
+/// (`short_term`). No table can be created for a server without credentials (`open`).
 pub fn new_tables_are_empty()
     ensures realm { (s : Settings) (k : Kept) → table_for (kind.Server s) ≡ Ok k
         → (t : ServerSeen) × (k ≡ kind.Users t) × (t.registered.realm ≡ s.realm)
@@ -69,8 +71,10 @@ pub fn new_tables_are_empty()
 {}
 
 /// States that a request whose user was looked up is judged as with a table of the server that has
-/// only the user who was found. So a client that signs as another user is refused, and the response
-/// is signed with the key of the user who was found.
+/// only the user who was found, with a password (`password`) or with stored keys (`keys`). If the
+/// user was found with a password, the server has only the keys that are made from this password
+/// (`key`), and no keys of other users (`nobody_else`). So a client that signs as another user is
+/// refused, and the response is signed with the key of the user who was found.
 pub fn only_the_user_who_was_found_is_judged()
     ensures password { (s : Settings) (name password sha1 sha256 : List ℕ) (empty table : Kept)
         → table_for (kind.Server s) ≡ Ok empty → adding name password empty ≡ Ok table

@@ -341,8 +341,8 @@ pub extern "C" fn stunp_server_address_count(alloc: Global, handle: &mut StateHa
 }
 
 /// Writes the latest nonce that was made for the address `at` to `nonce`, and returns its length in
-/// bytes, or 0 if no nonce was made. Fails with `BadArgument` if `at` is not an IPv4 or IPv6
-/// address, then with `BufferTooSmall` if the nonce does not fit into `nonce`.
+/// bytes, or 0 if the server has no record of the address. Fails with `BadArgument` if `at` is not
+/// an IPv4 or IPv6 address, then with `BufferTooSmall` if the nonce does not fit into `nonce`.
 #[unsafe(no_mangle)]
 pub extern "C" fn stunp_server_nonce(
     alloc: Global,

@@ -489,9 +489,9 @@ pub fn sides_add_by_attribute()
 
 /// The nonces that a server makes are UTF-8 (`text`; RFC 8489, section 9.2). They ask for password
 /// algorithms if and only if HMAC-SHA256 is supported (`algorithms`), and allow a hashed user name
-/// if and only if the feature does (`userhash`). They have security bits if and only if they do one
-/// of both (`there`). Nonces of the same settings have the same security bits (`alike`). A nonce
-/// has at most 13 bytes in addition to its letters (`short`).
+/// if and only if the feature does (`userhash`). They have security bits if and only if they do at
+/// least one of these (`there`). Nonces of the same settings have the same security bits (`alike`).
+/// A nonce has at most 13 bytes in addition to its letters (`short`).
 pub fn nonces_ask_for_what_is_supported()
     ensures text { (set : AlgorithmSet) (feature : TheFeature) (words : List ℕ)
         → IsUtf8 (nonce_of set feature words) }

@@ -24,11 +24,11 @@ ghost use Rattle.stun_client.specs.Standing.{is_standing, is_stronger_than, new_
 ghost use Rattle.stun_client.specs.Standing.{standing_after_all};
 ghost use Rattle.stun_client.specs.declared.preferences.Preferences.{Preferences as ThePreferences};
 
-/// Each challenge that a client reads in a message follows the rule (`by_rule`): its nonce and its
-/// list determine the algorithm and whether the user name is sent as a hash, whatever challenge
-/// came before. Its realm, nonce and list are those of the message (`of_message`), with two
-/// exceptions: if a signed 438 has no list, the list of the challenge before may be used, and if
-/// the nonce does not ask for a password algorithm, the list is empty.
+/// Each challenge that a client reads in a message follows the rule (`by_rule`): the client's
+/// preferences and the nonce and the list of the challenge determine the algorithm, and whether the
+/// user name is sent as a hash. The realm, the nonce and the list are those of the message
+/// (`of_message`), with two exceptions: if a signed 438 has no list, the list of the challenge
+/// before may be used, and if the nonce does not ask for a password algorithm, the list is empty.
 pub fn challenges_are_by_the_rule()
     ensures by_rule { (p : ThePreferences) (who : NameAndPassword) (before : Option Challenge)
         (bytes : List ℕ) (c : Challenge) → challenge_of p who before bytes ≡ Some c
@@ -57,11 +57,12 @@ pub fn answerable_challenges_are_answered()
         ≡ sent_for before bytes c }
 {}
 
-/// Challenges cannot downgrade a request. Suppose that a reader finds in a message the attributes
-/// with which a client signs for a challenge that follows the rule (`IsChosen`). If any server
-/// whose nonce and offer are up to date accepts the message, it accepts it with the strongest
-/// algorithm that client and server support (RFC 8489, section 9.2.5). The law assumes nothing
-/// about users, passwords or HMAC, nor about the messages that the client has read before.
+/// No challenge leads to a request that a server accepts with a weaker algorithm than necessary.
+/// Suppose that a reader finds in a message the attributes with which a client signs for a
+/// challenge that follows the rule (`IsChosen`). If any server whose nonce and offer are up to date
+/// accepts the message, it accepts it with the strongest algorithm that client and server support
+/// (RFC 8489, section 9.2.5). The law assumes nothing about users, passwords or HMAC, nor about the
+/// messages that the client has read before.
 pub fn signed_requests_are_not_bid_down()
     ensures { (p : ThePreferences) (c : Challenge) (class : MessageClass) (error : Option ℕ)
         (bytes : List ℕ) → IsChosen p c

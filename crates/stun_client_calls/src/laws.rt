@@ -56,10 +56,10 @@ pub fn a_request_has_one_message_for_each_challenge()
 
 /// A response that is not signed with the key of the message that it answers does not answer the
 /// request, unless the message is the current one and the client accepts unsigned responses to it
-/// (`answers`). Over UDP, a response to any other message that is not signed with this key does not
-/// end the request either, until the request has reached the limit on refusals or on messages
-/// (`one`). So no single datagram that an attacker sends over UDP ends a signed request within
-/// these limits.
+/// (`answers`). If the client does not accept unsigned responses to the message, such a response
+/// does not end the request over UDP either, until the request has reached the limit on refusals or
+/// on messages (`one`). So no single datagram that an attacker sends over UDP ends a signed request
+/// within these limits.
 pub fn one_forged_datagram_ends_no_signed_request()
     ensures answers { (j : Judge) (is_current : Bool) (now : ℕ) (a : AskedSeen)
         (before : Option Answered) (bytes : List ℕ) (by : Option IntegrityAlgorithm)

@@ -46,12 +46,12 @@ pub fn a_wrong_password_costs_three_datagrams()
     stun_client_runs::laws::what_is_to_be_sent_is_there();
 }
 
-/// No attacker can downgrade the bytes that a client sends. Whatever datagrams a client with
-/// long-term credentials has received, and whatever else was called, a reader of the bytes for
-/// which `poll` returns `Transmit` finds a request that is not signed, or that is signed for a
-/// challenge that follows the client's own rule. If the options of the request say that it is not
-/// signed, it never is. No server whose settings do not change accepts these bytes with a weaker
-/// algorithm than the strongest that client and server support (`any`).
+/// No server accepts a request of a client with a weaker algorithm than necessary. Whatever
+/// datagrams a client with long-term credentials has received, and whatever else was called, a
+/// reader of the bytes for which `poll` returns `Transmit` finds a request that is not signed, or
+/// that is signed for a challenge that follows the client's own rule. If the options of the request
+/// say that it is not signed, it never is. No server whose settings do not change accepts these
+/// bytes with a weaker algorithm than the strongest that client and server support (`any`).
 ///
 /// A success confirms the challenge of the message that it answers, if new requests are signed for
 /// that challenge, or if it is stronger than the challenge that was confirmed last (`confirms`).

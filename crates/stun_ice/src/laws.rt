@@ -33,7 +33,8 @@ ghost use Rattle.stun_ice.specs.declared.role.Role.TheVariants.{Controlling, Con
 ///
 /// This holds for every network that loses, repeats, delays and reorders datagrams: any check may
 /// arrive at any time after it was sent, any number of times, and so may any answer. It holds
-/// whatever tie-breaker an agent chooses after a 487.
+/// whatever tie-breaker an agent chooses after a 487. Clause `instance` is an example: one check
+/// and its answer.
 pub fn roles_end_opposite()
     ensures settle { (role : Role) (left right : ℕ) → (left ≡ right → ⊥) → (events : List Happening)
         → let both = after_all

@@ -782,7 +782,7 @@ impl LongTermServerAuth {
     }
 
     /// Returns the number of bytes that [`sign_outgoing_message`](Self::sign_outgoing_message) adds
-    /// to a message to this address, or 0 if no nonce was made for the address.
+    /// to a message to this address, or 0 if the server has no record of the address.
     ///
     /// `is_request` is `true` for a request or an indication, and `false` for a response.
     pub fn message_signature_bytes(&self, to: SocketAddr, is_request: bool) -> usize {

@@ -939,7 +939,7 @@ int64_t stunp_server_client(const stunp_server *server, const stunp_address *at,
  *     must repeat that list from now on, so send what you sign;
  *   - if the client uses SHA-256: PASSWORD-ALGORITHM;
  *   - if the address has a client: MESSAGE-INTEGRITY or MESSAGE-INTEGRITY-SHA256.
- * Together these have at most 848 bytes. If no nonce was made for the address yet, the message
+ * Together these have at most 848 bytes. If the server has no record of the address, the message
  * stays as it is. If you want FINGERPRINT, add it after this call.
  *
  * Does not allocate. It uses 4 KiB of stack, or 68 KiB if the signed message has more than 2048

@@ -792,8 +792,8 @@ impl LongTermServerAuth {
     /// Signs a message to a client: adds the challenge, and the signature if the address has a
     /// client.
     ///
-    /// If no nonce was made for this address, the message is returned unchanged. Otherwise these
-    /// attributes are appended, in this order:
+    /// If the server has no record of the address, the message is returned unchanged. Otherwise
+    /// these attributes are appended, in this order:
     ///
     /// - to a response, NONCE and REALM;
     /// - to a response to an address without a client, PASSWORD-ALGORITHMS. From then on, the

@@ -1,4 +1,5 @@
-//! The calls of an agent with many outstanding requests.
+//! Calls an agent that has many outstanding requests, and counts the calls that have the expected
+//! result.
 
 use crate::messages::{address, id_of, message, messages, moment};
 use std::alloc::Global;
@@ -24,7 +25,7 @@ pub enum Call {
     Poll,
     /// `poll_transmit`, while nothing is due.
     PollTransmit,
-    /// `next_awaited`.
+    /// `next_awaited`, while all requests are outstanding.
     NextAwaited,
     /// `poll_transmit`, when exactly one request is due at each call.
     TransmitsOne,
@@ -50,13 +51,13 @@ pub enum Call {
     RespondsToNone,
     /// The agent receives a request from a new peer.
     Receives,
-    /// `cancel`.
+    /// `cancel`, for a different request at each call.
     Cancels,
-    /// `cancel_retransmissions`.
+    /// `cancel_retransmissions`, for a different request at each call.
     Silences,
-    /// `configure_timeout`.
+    /// `configure_timeout`, for a different request at each call.
     Configures,
-    /// `request_transaction`.
+    /// `request_transaction`, for a different request at each call.
     Finds,
 }
 

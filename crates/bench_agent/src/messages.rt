@@ -1,4 +1,4 @@
-//! The messages and addresses of the calls.
+//! Creates the messages, transaction IDs, times and addresses that the calls use.
 
 use std::alloc::Global;
 use std::net::{IpAddr, Ipv4Addr, SocketAddr};

@@ -1,4 +1,5 @@
-//! The calls of a server with many users and addresses.
+//! Calls a server that has many users and addresses, and counts the calls that have the expected
+//! result.
 
 use crate::messages::{address, id_of, message};
 use std::alloc::Global;

@@ -20,7 +20,7 @@ const TURNED_MARK: u32 = 0x4D3C_2B1A;
 /// The smallest number of bytes of a block: its type, and its length at both ends.
 pub const BLOCK_LENGTH: usize = 12;
 
-/// An interface of a section.
+/// An interface from which the packets of a section were captured.
 #[derive(Clone, Copy)]
 pub struct Interface {
     pub link: u32,
@@ -32,12 +32,12 @@ pub struct Interface {
     pub offset: u64,
 }
 
-/// The packet of a block.
+/// The packet that a block contains.
 #[derive(Clone, Copy)]
 pub struct Captured<'a> {
-    /// The number of its interface.
+    /// The number of the interface from which the packet was captured.
     pub interface: usize,
-    /// The time of the packet in ticks, if the block has one.
+    /// The time of the packet in clock ticks of its interface, if the block states a time.
     pub ticks: Option<u64>,
     /// The length of the packet on the wire.
     pub whole: usize,

@@ -24,7 +24,7 @@ pub struct Header {
 #[derive(Clone, Copy)]
 pub struct Record<'a> {
     pub seconds: u32,
-    /// The ticks since the second began.
+    /// The clock ticks since that second began.
     pub ticks: u32,
     /// The length of the packet on the wire.
     pub whole: usize,

@@ -1,4 +1,4 @@
-//! Why a capture cannot be read further.
+//! The reasons why a capture cannot be read further.
 
 use std::alloc::AllocError;
 use std::fmt;

@@ -1,4 +1,5 @@
-//! The content of IPv4 and IPv6 packets.
+//! Reads IPv4 and IPv6 packets, and finds the UDP datagram or the segment of TCP that a packet
+//! carries.
 
 use crate::numbers::{Order, number_16};
 use std::net::{IpAddr, Ipv4Addr, Ipv6Addr, SocketAddr};

@@ -1,4 +1,4 @@
-//! The content of packets, by the type of their link layer.
+//! Finds the content of a packet according to the type of its link layer.
 
 use crate::internet::{Carried, internet, ipv4, ipv6};
 use crate::numbers::{Order, number_16};

@@ -1,4 +1,4 @@
-//! Numbers in the byte order of a capture.
+//! Parses numbers in the byte order of a capture.
 ghost use Rattle.std.specs.Prelude.{◌≡◌, ◌+◌, ◌<◌, IfSome, IfNone, drop, length};
 ghost use Rattle.captures.specs.Numbers.{number_in};
 

@@ -1,4 +1,5 @@
-//! Laws of an agent over any calls, in any order, even if the times of the calls go back.
+//! Laws about an agent that hold after any calls in any order, even if a call is passed an earlier
+//! time than the call before it.
 ghost use Rattle.std.specs.Prelude.{◌≡◌, ◌≤◌, ◌<◌, ◌&&◌, ◌||◌, ◌↔◌, ℕ, true, not, min};
 ghost use Rattle.std.specs.declared.net.socket_addr.SocketAddr.{SocketAddr};
 ghost use Rattle.stun_base.specs.Address.{same_address};

@@ -1,4 +1,4 @@
-//! Whether user names are sent as a hash.
+//! The setting that says whether user names are sent as a hash.
 ghost use Rattle.std.specs.Prelude.{◌≡◌};
 
 /// Whether user names are sent as a hash (USERHASH; RFC 8489, sections 9.2 and 14.4).

@@ -1,4 +1,4 @@
-//! Laws over the definitions that the contracts of this crate cite. They do nothing when they run.
+//! Laws about the definitions that the contracts of this crate cite. They do nothing when they run.
 ghost use Rattle.std.specs.Prelude.{map as list_map, ◌↔◌};
 ghost use Rattle.std.specs.Prelude.{◌≡◌, ◌≢◌, ◌<◌, ◌≤◌, ◌^◌, ◌||◌, ℕ, ◌+◌, Bool, true};
 ghost use Rattle.std.specs.Prelude.{false, List, [], ◌∷◌, ◌++◌, length, Ok, Err, Option};

@@ -1,4 +1,5 @@
-//! The calls on a client, without handles.
+//! The implementation of the calls on a client: its settings, the bodies and the options of its
+//! requests, and the events that a caller receives.
 
 pub mod body;
 pub mod doing;

@@ -1,4 +1,5 @@
-//! The calls on an ICE agent, without handles.
+//! The implementation of the calls on an ICE agent: creating the agent, writing checks, and judging
+//! datagrams.
 
 pub mod agent;
 pub mod extended;

@@ -1,4 +1,5 @@
-//! The calls that judge a datagram, without handles.
+//! Judges a datagram with a server, and writes the outcome and the server's own response for the
+//! caller.
 
 ghost use Rattle.std.specs.Prelude.{◌≡◌, Err, None, Ok, Some};
 ghost use Rattle.stun_handles.specs.Numbers.{number_answer};

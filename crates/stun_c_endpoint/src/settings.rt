@@ -237,7 +237,7 @@ impl<'a> Given<'a> {
         }
     }
 
-    /// Creates the server.
+    /// Creates the server from these arguments.
     #[tactic(auto, unfolding(crate::specs::Given::given_refusal))]
     fn server(&self, alloc: Global) -> Result<Server<Global>, Refusal>
         ensures { Builds (given_refusal self.now) (server_given self.now) result }

@@ -1,4 +1,4 @@
-//! The calls on a table of users, without handles.
+//! Creates tables of users, and adds users to a table and removes them from it.
 
 ghost use Rattle.std.specs.Prelude.{◌≡◌, IfErr, IfOk, MatchResult, Ok, Err, Some};
 ghost use Rattle.stun_handles.specs.Numbers.{done_answer};

@@ -1,4 +1,4 @@
-//! Reading: a command reads every input through this module.
+//! Reads inputs. A command reads every input through this module.
 ghost use Rattle.std.specs.Prelude.{◌≡◌, ◌≢◌, ◌≤◌, ◌+◌, ◌++◌, ◌↔◌, ◌⊎◌, ℕ, Bool, true, IfErr, IfOk};
 ghost use Rattle.std.specs.Prelude.{IfSome, length};
 ghost use Rattle.std.specs.Io.{ReadsAtMost};

@@ -1,4 +1,4 @@
-//! Writing: a command writes every output through this module.
+//! Writes outputs. A command writes every output through this module.
 ghost use Rattle.std.specs.Prelude.{OnOk, OnErr};
 ghost use Rattle.std.specs.Io.KnownBytes.{Appends};
 ghost use Rattle.stun_cli.specs.Output.{AppendsBeginning};

@@ -1,4 +1,4 @@
-//! Laws over the definitions that the contracts of this crate cite. They do nothing when they run.
+//! Laws about the definitions that the contracts of this crate cite. They do nothing when they run.
 ghost use Rattle.std.specs.Option.{IfSome, IsSome};
 ghost use Rattle.std.specs.Prelude.{◌≡◌, ◌++◌, ℕ, Bool, List, None, Option, Some, false, true};
 ghost use Rattle.stun_base.specs.Credentials.{NameAndPassword};
@@ -38,13 +38,15 @@ pub fn challenges_are_by_the_rule()
         → IsOfMessage before bytes c }
 {}
 
-/// A client answers each challenge that offers an algorithm that the client supports, whatever
-/// other algorithms the list has, if the challenge has a realm and a nonce, and allows a hash of
-/// the user name or the client need not send one (`IsAnswerable`). The client reads such a
-/// challenge (`read`). If the current message of a request was signed for another challenge, or was
-/// not signed, the client sends the request again for the challenge that it has read, unless this
-/// challenge is weaker than the challenge that a success has confirmed, or the response is dropped
-/// because of its FINGERPRINT (`sent`).
+/// A client reads a challenge from each message for which `IsAnswerable` holds (`read`). This is a
+/// 401 or a 438 that has a realm and a nonce, allows a hash of the user name if the client must
+/// send one, and offers an algorithm that the client supports, whatever other algorithms its list
+/// has. If a client with long-term credentials reads a challenge from a response to the current
+/// message of a request, the verdict of `judge` is that the request is sent again for this
+/// challenge, or that the response is a refusal with this challenge (`sent`). There are three
+/// exceptions: the response is dropped because of its FINGERPRINT, the message was signed for this
+/// challenge already, or the challenge is weaker than the challenge that a success has confirmed.
+/// The law does not say that the client then sends the request again.
 pub fn answerable_challenges_are_answered()
     ensures read { (p : ThePreferences) (who : NameAndPassword) (before : Option Challenge)
         (bytes : List ℕ) → IsAnswerable p before bytes → IsSome (challenge_of p who before bytes) }

@@ -38,7 +38,8 @@ pub enum Decision<A: Allocator> {
     /// The request ends as `Unauthorized`.
     Unauthorized,
     /// Another message becomes the current one: the earlier message with this rank and this
-    /// transaction ID, or a new message. It is signed for this challenge, or not signed.
+    /// transaction ID, or a new message if these are `None`. It is signed for this challenge, or
+    /// not signed if the challenge is `None`.
     Turn(Why, Option<(u32, TransactionId)>, Option<Challenge<A>>),
     /// The response repeats the challenge that the request is signed for. It is dropped, and counts
     /// as a refusal.
@@ -130,7 +131,9 @@ fn answered_refusal<A: Allocator + Copy>(
     turns_for(Why::Refused, challenge, asked)
 }
 
-/// Decides on a response that repeats the challenge that the message is signed for.
+/// Decides on a response that repeats the challenge that the message is signed for: ends the
+/// request if the transport is reliable, or if such a response arrived before the request was sent
+/// last. Otherwise drops the response as a refusal.
 fn refused_again<A: Allocator + Copy>(asked: &Asked<A>, limits: Limits) -> Decision<A>
     ensures { decision_of result ≡ refused_again limits asked.now }
 {
@@ -168,7 +171,8 @@ fn place_for<A: Allocator + Copy>(
     }
 }
 
-/// Decides on a doubt.
+/// Decides on a doubt, which is an error that casts doubt on the message that it answers (see
+/// `decide`). Fails if an allocation fails.
 fn on_doubt<A: Memory>(
     asked: &Asked<A>,
     standing: &Standing<A>,
@@ -217,7 +221,8 @@ pub(crate) fn copied<A: Memory>(
     }
 }
 
-/// Decides on a doubt if every earlier message is in doubt or too weak.
+/// Decides on a doubt if every earlier message is in doubt or too weak. Fails if an allocation
+/// fails.
 fn without_eligible<A: Memory>(
     asked: &Asked<A>,
     standing: &Standing<A>,
@@ -233,7 +238,9 @@ fn without_eligible<A: Memory>(
     }
 }
 
-/// Decides on a doubt about a signed message, if every earlier message is in doubt or too weak.
+/// Decides on a doubt about a signed message, if every earlier message is in doubt or too weak:
+/// replaces the message by a new unsigned one, or drops the response if an earlier message is
+/// unsigned already.
 fn begun_again<A: Allocator + Copy>(asked: &Asked<A>) -> Decision<A>
     ensures { decision_of result ≡ begun_again asked.now }
 {
@@ -244,7 +251,9 @@ fn begun_again<A: Allocator + Copy>(asked: &Asked<A>) -> Decision<A>
     }
 }
 
-/// Decides on a doubt about an unsigned message, if every earlier message is in doubt or too weak.
+/// Decides on a doubt about an unsigned message, if every earlier message is in doubt or too weak:
+/// goes back to the last signed message that is not too weak, or drops the response if there is
+/// none. Fails if an allocation fails.
 fn undoubted<A: Memory>(asked: &Asked<A>, standing: &Standing<A>) -> Result<Decision<A>, AllocError>
     ensures value { IfOk result (λ decision. decision_of decision
         ≡ undoubted (signed_eligible standing.now asked.now.earlier)) }

@@ -1,4 +1,5 @@
-//! The transaction ID of the next message.
+//! Finds the transaction ID of the next message, which no message of an outstanding request may
+//! have.
 ghost use Rattle.std.specs.Option.{IfSome, option_map};
 ghost use Rattle.std.specs.Prelude.{◌≡◌, ◌<◌};
 ghost use Rattle.stun_client.specs.Ids.{id_of};
@@ -15,9 +16,9 @@ use stun_types::message::{PreparedKey, TransactionId};
 /// A number, and the transaction ID that is derived from it (see `stun_client::ids::id_of`).
 #[derive(Drop)]
 pub struct NumberedId {
-    /// The number.
+    /// The number that the transaction ID is derived from.
     pub number: u64,
-    /// The transaction ID.
+    /// The transaction ID that is derived from the number.
     pub id: TransactionId,
 }
 

@@ -1,4 +1,4 @@
-//! Laws over the definitions that the contracts of this crate cite. They do nothing when they run.
+//! Laws about the definitions that the contracts of this crate cite. They do nothing when they run.
 ghost use Rattle.std.specs.Option.{IsSome};
 ghost use Rattle.std.specs.Prelude.{◌≡◌, ◌≤◌, ℕ, Bool, List, None, Option, Some, false, true};
 ghost use Rattle.stun_base.specs.declared.keys.algorithm.IntegrityAlgorithm.{IntegrityAlgorithm};

@@ -47,11 +47,11 @@ pub(crate) fn plan_by(options: Option<RequestOptions>, of_client: RequestRto) ->
 /// How often `poll` returned the bytes of a message.
 #[derive(Clone, Copy)]
 pub enum HandedOut {
-    /// `poll` never returned them.
+    /// `poll` never returned the bytes.
     Never,
-    /// `poll` returned them once, at this time.
+    /// `poll` returned the bytes once, at this time.
     Once(Instant),
-    /// `poll` returned them more than once, or the number is not known.
+    /// `poll` returned the bytes more than once, or it is not known how often.
     Again,
 }
 

@@ -1,4 +1,5 @@
-//! The next thing to do for a client.
+//! The result of polling a client: a message to send, a request that has ended, or a time to wait
+//! until.
 
 use crate::asked::End;
 use std::alloc::{Allocator, Global};

@@ -1,4 +1,4 @@
-//! The bytes of a message of a request.
+//! Writes the bytes of one message of a request.
 ghost use Rattle.std.specs.Option.{option_copied};
 ghost use Rattle.std.specs.Prelude.{◌≡◌, ◌⊎◌, ⊤, Err, IfErr, IfOk, Ok, true};
 ghost use Rattle.stun_agent.specs.Transactions.{IsRequestOf};

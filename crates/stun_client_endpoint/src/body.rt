@@ -1,4 +1,4 @@
-//! The attributes of a request.
+//! The body of a request: the attributes that the caller of a client adds to it.
 ghost use Rattle.std.specs.Prelude.{◌≡◌, ◌≤◌, ◌++◌, ◌∷◌, ◌⊎◌, ⊤, [], Err, IfErr, IfOk};
 ghost use Rattle.std.specs.Prelude.{IsOk, IsOkUnless, MatchOption, None, Ok, OnErr, OnOk, length, true};
 ghost use Rattle.stun_auth.specs.Additions.{UnlessMemory};

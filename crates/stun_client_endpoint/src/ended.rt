@@ -59,7 +59,7 @@ pub struct Drops {
 }
 
 impl Drops {
-    /// Returns the value for a request for which no response was dropped.
+    /// Returns the record of a request for which no response was dropped.
     pub fn none() -> Drops
         ensures { result ≡ no_drops }
     {
@@ -70,7 +70,8 @@ impl Drops {
         }
     }
 
-    /// Returns the value after one more response was dropped.
+    /// Returns this record with one more dropped response counted: its error code, if it had one,
+    /// is `code`, and it was dropped for the reason `why`. The count stops at `u32::MAX`.
     pub fn noted(self, why: DropReason, code: Option<u16>) -> Drops
         ensures { result ≡ after_drop why code self }
     {

@@ -1,4 +1,4 @@
-//! The bytes of a request.
+//! Writes the bytes of a request: header, body, SOFTWARE, signature and FINGERPRINT.
 ghost use Rattle.std.specs.Option.{option_copied, option_map};
 ghost use Rattle.std.specs.Prelude.{◌≡◌, ◌≤◌, ◌⊎◌, ⊤, Err, IfErr, IfOk, IsOk, Ok, OnOk, length, true};
 ghost use Rattle.std.specs.String.{string_bytes};

@@ -1,4 +1,4 @@
-//! An attribute of a body.
+//! One attribute in the body of a request.
 ghost use Rattle.std.specs.Option.{option_map};
 ghost use Rattle.std.specs.Prelude.{◌≡◌, ◌≤◌, ◌⊎◌, ⊤, Err, IfErr, IfOk, IsOk, Ok, OnErr, OnOk, length};
 ghost use Rattle.stun_auth.specs.Additions.{UnlessMemory};

@@ -1,4 +1,4 @@
-//! Reads a response.
+//! Reads the error code of a response.
 ghost use Rattle.std.specs.Prelude.{◌≡◌};
 ghost use Rattle.stun_client.specs.Challenging.{code_in};
 

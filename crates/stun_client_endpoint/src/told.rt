@@ -1,4 +1,4 @@
-//! The results and errors of a client.
+//! The outcome of a datagram at a client, and the reasons why a client cannot start a request.
 ghost use Rattle.std.specs.Prelude.{◌≡◌};
 
 use crate::ended::DropReason;

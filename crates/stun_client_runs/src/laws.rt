@@ -1,5 +1,5 @@
-//! Laws about a client that hold whatever calls are made. The calls may be made in any order, and
-//! their times may go back.
+//! Laws about a client that hold whatever calls are made. The calls may be made in any order, and a
+//! call may be passed an earlier time than the call before it.
 ghost use Rattle.stun_client_runs.specs.Kept.{BeginsAsClient, StaysAClient};
 ghost use Rattle.stun_client_runs.specs.Laws.{EndsOnce, StartsOne, StaysOver, TransmitsWhatIsThere};
 ghost use Rattle.stun_client_runs.specs.Noted.{BeginsNoted, StaysNoted};

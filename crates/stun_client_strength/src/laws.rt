@@ -1,5 +1,5 @@
-//! Laws about downgrades, which the messages of a client prevent, and about wrong passwords, which
-//! end a request soon.
+//! Laws about downgrades, which a client prevents by its choice of messages, and about wrong
+//! passwords, which end a request soon.
 ghost use Rattle.stun_client_strength.specs.Costs.{CostsThreeDatagrams};
 ghost use Rattle.stun_client_strength.specs.Refusing.{RefusalsAreRemembered, SecondRefusalsEnd};
 ghost use Rattle.stun_client_strength.specs.Refusing.{ThirdRefusalsEnd};

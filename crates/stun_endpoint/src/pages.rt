@@ -1,5 +1,5 @@
-//! Responses that have not been ended yet: an error response with ERROR-CODE, and a success
-//! response with the address that a request came from (RFC 8489, sections 14.2 and 14.8).
+//! Begins responses: an error response with ERROR-CODE, and a success response with the address
+//! that a request came from (RFC 8489, sections 14.2 and 14.8).
 
 ghost use Rattle.std.specs.Prelude.{◌≡◌, ◌≤◌, IfOk, IsOk, None, length, []};
 ghost use Rattle.stun_base.specs.declared.wire.message_type.MessageClass.TheVariants.{Success};

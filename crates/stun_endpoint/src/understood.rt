@@ -1,4 +1,4 @@
-//! Whether the attributes of a message are understood (RFC 8489, sections 6.3 and 14).
+//! Finds out whether the attributes of a message are understood (RFC 8489, sections 6.3 and 14).
 
 ghost use Rattle.std.specs.Prelude.{◌≡◌};
 ghost use Rattle.stun_endpoint.specs.Received.{is_empty};

@@ -1,4 +1,4 @@
-//! The time of a server.
+//! The time of the wall clock, which a caller passes to a server.
 
 ghost use Rattle.std.specs.Prelude.{◌≡◌, ◌<◌, ◌/◌};
 

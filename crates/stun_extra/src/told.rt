@@ -1,10 +1,10 @@
-//! The set of the types that an iterator has already returned.
+//! The set of the attribute types that an iterator has already returned.
 ghost use Rattle.std.specs.Prelude.{◌≡◌, ◌<◌, ◌^◌, ℕ, ◌==◌, ◌||◌, false};
 ghost use Rattle.stun_extra.specs.code.Told.{is_set, is_told};
 
-/// The set of the types that an iterator has returned, with a bit for each type below 0x8000. The
-/// bits are created when the first type is added, because most messages have no unknown type, and
-/// clearing the bits takes longer than searching a message for unknown types.
+/// The set of the attribute types that an iterator has returned, with a bit for each type below
+/// 0x8000. The bits are created when the first type is added, because most messages have no unknown
+/// type, and clearing the bits takes longer than searching a message for unknown types.
 #[derive(Debug, Drop)]
 pub(crate) struct Told {
     words: Option<[u64; 512]>,

@@ -1,4 +1,4 @@
-//! Attributes that a receiver must understand and does not know (RFC 8489, sections 6.3.1 to 6.3.4
+//! Attributes that a receiver must understand but does not know (RFC 8489, sections 6.3.1 to 6.3.4
 //! and 14.13).
 ghost use Rattle.std.specs.Prelude.{◌≡◌, ◌<◌, ◌^◌, ◌↔◌, IsTrue, length};
 ghost use Rattle.std.specs.Iterator.{YieldsFirst, item_count};

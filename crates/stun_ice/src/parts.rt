@@ -1,5 +1,6 @@
 //! Reads the parts of a check: USERNAME, PRIORITY, USE-CANDIDATE, and the role of its sender (RFC
-//! 8445, section 7.1).
+//! 8445, section 7.1). Also reads XOR-MAPPED-ADDRESS in the answer to a check, and finds out
+//! whether an agent understands a message.
 
 ghost use Rattle.std.specs.Option.{is_some, option_copied};
 ghost use Rattle.std.specs.Prelude.{◌≡◌};

@@ -1,4 +1,4 @@
-//! The commands: what each one reads and prints.
+//! Runs the commands: reads their inputs, and prints their results.
 ghost use Rattle.std.specs.Prelude.{◌≡◌, ◌≢◌, codes, true, IfOk, IfSome, string_bytes};
 ghost use Rattle.stun_base.specs.Keys.{long_term_key};
 ghost use Rattle.stun_base.specs.Keys.OfCredentials.{keys_of};

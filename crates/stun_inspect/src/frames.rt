@@ -82,12 +82,13 @@ pub fn cut_of(stream: &[u8]) -> Option<Cut<'_>> {
 /// How much of a TCP segment can be read.
 #[derive(Clone, Copy, PartialEq, Eq)]
 pub enum Read {
-    /// All of it.
+    /// The whole segment can be read.
     Whole,
-    /// Any number of whole parts, and then the beginning of a message that continues in another
-    /// segment.
+    /// The segment has any number of whole parts, and then the beginning of a message that
+    /// continues in another segment.
     Begun,
-    /// Nothing: the segment belongs to another protocol, or continues a message of another segment.
+    /// Nothing can be read: the segment belongs to another protocol, or continues a message of
+    /// another segment.
     Nothing,
 }
 

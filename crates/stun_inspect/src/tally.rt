@@ -9,13 +9,13 @@ use stun_cli::status::Status;
 /// Why a packet is not read.
 #[derive(Clone, Copy)]
 pub enum Unread {
-    /// Its link layer has this type, which is not supported.
+    /// The link layer of the packet has this type, which is not supported.
     Link(u32),
-    /// It is a fragment of an IP packet.
+    /// The packet is a fragment of an IP packet.
     Fragment,
-    /// The capture has cut its headers short.
+    /// The capture has cut the headers of the packet short.
     Cut,
-    /// It is a segment of TCP that ends within a message.
+    /// The packet is a segment of TCP that ends within a message.
     Begun,
 }
 
@@ -104,12 +104,12 @@ impl Counts {
 #[derive(Clone, Copy)]
 pub struct Tally {
     messages: usize,
-    /// The findings for the messages.
+    /// The number of messages with each finding.
     found: Counts,
-    /// The datagrams, or parts of a text, that are not messages.
+    /// The number of datagrams, or of parts of a text, that are not messages.
     others: usize,
     without_udp: usize,
-    /// The ChannelData that carries no message.
+    /// The number of ChannelData messages of TURN that carry no STUN message.
     channels: usize,
     fragments: Missed,
     begun: Missed,

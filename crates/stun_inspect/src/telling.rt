@@ -11,9 +11,9 @@ use stun_types::message::Visibility;
 /// An attribute of a message.
 #[derive(Debug, Drop)]
 pub struct Told<'a> {
-    /// The offset of its first byte in the message.
+    /// The offset of the first byte of the attribute in the message.
     pub place: usize,
-    /// Its type and its value.
+    /// The type and the value of the attribute.
     pub attribute: RawAttribute<'a>,
     /// The type of the earlier attribute that makes this attribute invisible (RFC 8489, sections
     /// 14.5 to 14.7), or `None` if the attribute is visible.

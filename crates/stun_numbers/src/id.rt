@@ -1,4 +1,4 @@
-//! The transaction ID that a caller passes.
+//! Parses the transaction ID that a caller passes.
 
 ghost use Rattle.std.specs.Prelude.{◌≡◌, length, IfOk, IfErr};
 ghost use Rattle.byteorder.specs.Endian.{big_number};

@@ -372,7 +372,7 @@ pub fn nonce_is_renewed()
 /// - Requests and responses are of any method, and have any attributes except those that signing
 ///   adds. A response is a success, or an error with any code except 438.
 /// - Users and settings do not change. In between, the server may read messages from the client's
-///   address until the nonce expires, and may make any calls for other addresses.
+///   address until the nonce expires, and may be called in any way for other addresses.
 /// - A request is accepted even if the client was removed before. A response is accepted if the
 ///   server still has a client at that address when it signs the response.
 pub fn sessions_go_on()

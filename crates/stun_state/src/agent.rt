@@ -1,4 +1,4 @@
-//! The calls on an agent, without handles (RFC 8489, section 6.2).
+//! The calls on an agent, which take the agent itself instead of a handle (RFC 8489, section 6.2).
 
 ghost use Rattle.std.specs.Prelude.{◌≡◌, ◌≤◌, ◌++◌, ⊤, IsTrue, length, drop, Some, None};
 ghost use Rattle.std.specs.Prelude.{IfOk, IfErr, IfSome, OnErr, OnOk};

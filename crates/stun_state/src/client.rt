@@ -1,5 +1,5 @@
-//! The calls on the authenticator of a client, without handles (RFC 8489, sections 9.2.3 and
-//! 9.2.5).
+//! The calls on the authenticator of a client, which take the authenticator itself instead of a
+//! handle (RFC 8489, sections 9.2.3 and 9.2.5).
 
 ghost use Rattle.std.specs.Prelude.{◌≡◌, ◌≤◌, ◌+◌, ◌-◌, true, length, take, Ok, Err};
 ghost use Rattle.std.specs.Prelude.{IfErr, IfOk, OnErr, OnOk};

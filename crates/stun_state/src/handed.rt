@@ -1,5 +1,5 @@
-//! The calls on the authenticator of a server with a user whom the caller passes, without handles
-//! (RFC 8489, section 9.2.4).
+//! The calls on the authenticator of a server with a user whom the caller passes. They take the
+//! authenticator itself instead of a handle (RFC 8489, section 9.2.4).
 
 ghost use Rattle.std.specs.Prelude.{◌≡◌, ⊤, length, take, Ok, Err, IfOk, IfErr, IsOk};
 ghost use Rattle.std.specs.Prelude.{OnErr, OnOk};

@@ -1,4 +1,5 @@
-//! The calls on the authenticator of a server, without handles (RFC 8489, section 9.2.4).
+//! The calls on the authenticator of a server, which take the authenticator itself instead of a
+//! handle (RFC 8489, section 9.2.4).
 
 ghost use Rattle.std.specs.Prelude.{◌≡◌, ◌≤◌, ◌<◌, ◌+◌, ◌-◌, ◌^◌, ⊤, nat_lt, true, false, length};
 ghost use Rattle.std.specs.Prelude.{IfOk, IfErr, OnErr, OnOk};

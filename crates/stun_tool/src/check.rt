@@ -1,4 +1,4 @@
-//! The command `check`.
+//! The command `check`, which verifies the signature of a message under a password.
 ghost use Rattle.std.specs.Prelude.{◌≡◌, ◌≢◌, ◌≤◌, ◌+◌, ◌↔◌, length, IfSome};
 ghost use Rattle.stun_tool.specs.Check.{Prints};
 ghost use Rattle.stun_cli.specs.Input.{most_tries};

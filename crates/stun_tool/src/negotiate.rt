@@ -1,4 +1,5 @@
-//! The command `negotiate`.
+//! The command `negotiate`, which prints the outcome of the first exchanges between a client and a
+//! server.
 ghost use Rattle.std.specs.Prelude.{◌≡◌, ◌≢◌, length, IfOk, IfSome};
 
 use crate::words::{algorithm, feature};
@@ -23,7 +24,7 @@ const PASSWORD: &str = "pass";
 /// The realm of the server.
 const REALM: &str = "realm";
 
-/// The settings of a side.
+/// The settings of the client or of the server.
 #[derive(Clone, Copy, Debug, PartialEq, Eq)]
 pub struct Side {
     /// The algorithm that is added first.

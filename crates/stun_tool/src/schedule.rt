@@ -1,4 +1,4 @@
-//! The command `schedule`.
+//! The command `schedule`, which prints the times at which a request is sent and times out.
 ghost use Rattle.std.specs.Prelude.{◌≡◌, ◌≢◌, None, length};
 
 use crate::words::{address, moment, number};

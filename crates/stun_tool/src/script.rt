@@ -1,4 +1,4 @@
-//! Parses the script of `serve`. Each line that is not empty is a call of a server.
+//! Parses the script of `serve`. Each line that is not empty is a call on the server.
 
 use crate::words::{address, algorithm, feature, moment, number};
 use hex::FromHexError;

@@ -1,4 +1,4 @@
-//! The command `serve`.
+//! The command `serve`, which makes the calls of a script on a server.
 ghost use Rattle.std.specs.Prelude.{◌≡◌, ◌≢◌, ◌≤◌, ◌+◌, ◌↔◌, length, true, false, IfOk};
 ghost use Rattle.stun_cli.specs.Input.{most_tries};
 ghost use Rattle.stun_tool.specs.Serve.{PrintsWrongLineAlone};

@@ -1,4 +1,4 @@
-//! The data that an agent returns to be sent.
+//! The data that an agent returns for its caller to send, with the transport and the addresses.
 ghost use Rattle.std.specs.Prelude.{◌≡◌, length, IsOk, IfOk, Ok, Some};
 ghost use Rattle.stun_base.specs.Data.{IsOwned};
 

@@ -1,4 +1,4 @@
-//! The user whom a message was accepted from.
+//! The user from whom a message was accepted.
 
 ghost use Rattle.std.specs.Prelude.{◌≡◌, Some, codes};
 ghost use Rattle.std.specs.Fmt.{WritesOnOk, WritesStyledOnOk};

@@ -58,8 +58,8 @@ impl<A: Allocator + Copy> LongTermServerAuth<A> {
     /// Signs a message to a client: adds the challenge, and the signature if the address has a
     /// client (RFC 8489, section 9.2.4).
     ///
-    /// If no nonce was made for the address, the message is unchanged. Otherwise these attributes
-    /// are added, in this order:
+    /// If the server has no record of the address, the message is unchanged. Otherwise these
+    /// attributes are added, in this order:
     ///
     /// - to a response, NONCE and REALM;
     /// - to a response to an address without a client, PASSWORD-ALGORITHMS, which lists the

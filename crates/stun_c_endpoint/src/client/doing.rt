@@ -1,4 +1,5 @@
-//! Makes the calls on the client that a handle has.
+//! Calls the client in a handle: starts and cancels requests, passes datagrams to the client and
+//! polls it, and writes the results for the caller in C.
 
 ghost use Rattle.std.specs.Option.{option_copied, option_map};
 ghost use Rattle.std.specs.Prelude.{◌≡◌, ◌⊎◌, Err, IfOk, IsOkUnless, MatchOption, Ok, OnErr, OnOk};

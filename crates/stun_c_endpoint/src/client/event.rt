@@ -45,7 +45,7 @@ pub struct Event {
     pub until: u64,
     /// The number of bytes that were written to the buffer.
     pub length: usize,
-    /// The number of bytes that are lost, because they did not fit into the buffer.
+    /// The length of the message that did not fit into the buffer and is lost.
     pub needed: usize,
     /// The code of an error response.
     pub code: u32,

@@ -346,7 +346,8 @@ impl<'a> ClientGiven<'a> {
         }
     }
 
-    /// Creates the client. `name`, `password` and `software` are the texts in the arguments.
+    /// Creates the client from these arguments. `name`, `password` and `software` are the texts
+    /// among them.
     fn made(
         &self,
         alloc: Global,

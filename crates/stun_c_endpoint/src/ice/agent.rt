@@ -130,7 +130,7 @@ impl<'a> Given<'a> {
         }
     }
 
-    /// Creates the agent.
+    /// Creates the agent from these arguments.
     #[tactic(auto, unfolding(crate::specs::Agents::agent_refusal))]
     fn checker(&self, alloc: Global) -> Result<Checker<Global>, Refusal>
         ensures { Builds (agent_refusal self.now) (agent_given self.now) result }
@@ -181,7 +181,7 @@ impl<'a> Side<'a> {
         }
     }
 
-    /// Creates the agent.
+    /// Creates an agent that has these credentials, and whose peer is not known yet.
     #[tactic(auto, unfolding(crate::specs::Agents::side_given_refusal))]
     fn checker(
         &self,

@@ -70,11 +70,11 @@ pub fn new_tables_are_empty()
     ensures open { (s : Responding) (k : Kept) → table_for (kind.Open s) ≢ Ok k }
 {}
 
-/// States that a request whose user was looked up is judged as with a table of the server that has
-/// only the user who was found, with a password (`password`) or with stored keys (`keys`). If the
-/// user was found with a password, the server has only the keys that are made from this password
-/// (`key`), and no keys of other users (`nobody_else`). So a client that signs as another user is
-/// refused, and the response is signed with the key of the user who was found.
+/// States that a server judges a request whose user was looked up as if its table contained only
+/// this user, with a password (`password`) or with stored keys (`keys`). If the user was found with
+/// a password, the server has the keys that are made from this password for its algorithms (`key`),
+/// and no keys of other users (`nobody_else`). So it refuses a client that signs as another user,
+/// and signs the response with the key of the user who was found.
 pub fn only_the_user_who_was_found_is_judged()
     ensures password { (s : Settings) (name password sha1 sha256 : List ℕ) (empty table : Kept)
         → table_for (kind.Server s) ≡ Ok empty → adding name password empty ≡ Ok table

@@ -1,4 +1,4 @@
-//! The next thing to do for a client.
+//! Polls a client: returns the messages to send and the requests that have ended.
 ghost use Rattle.std.specs.Prelude.{◌≡◌, Some};
 ghost use Rattle.stun_client_calls.specs.Clients.{given_up, handed_out, timed_out, told, told_of};
 ghost use Rattle.stun_client_calls.specs.Messages.{AskedSeen};

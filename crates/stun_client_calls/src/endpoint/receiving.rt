@@ -91,7 +91,7 @@ impl<A: Memory> ClientEndpoint<A> {
         self.by_class(message, from, now)
     }
 
-    /// Handles a message that came from this address, by its class.
+    /// Handles a message that came from the address `from`, according to its class.
     fn by_class<'a>(&mut self, message: Message<'a>, from: SocketAddr, now: Instant) -> Received<'a>
         ensures acted { UnlessMemory
             (λ memory. by_class memory from self.old now message.entry (class_in message.entry))

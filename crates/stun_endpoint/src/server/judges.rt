@@ -1,4 +1,4 @@
-//! The users that a request is judged by: a table, or one user.
+//! The users whose signatures a server accepts when it judges a request: a table, or one user.
 
 ghost use Rattle.std.specs.Option.{option_copied};
 ghost use Rattle.std.specs.Prelude.{◌≡◌, IfOk};
@@ -13,7 +13,7 @@ use stun_auth::auth::{
     Accepted, LongTermServerAuth, LongTermServerUser, ReadMessage, VerdictRefusal,
 };
 
-/// The users that a request is judged by.
+/// The users whose signatures a server accepts when it judges a request.
 #[derive(Drop)]
 pub(crate) enum Judges<'a, A: Allocator> {
     /// A table of users.
@@ -42,7 +42,8 @@ impl<'a, A: Allocator + Copy> Judges<'a, A> {
 }
 
 impl<A: Allocator + Copy> Server<A> {
-    /// Returns the users to judge a request by: `user` alone, or nobody if `user` is `None`.
+    /// Returns the users whose signatures the server accepts when it judges a request: `user`
+    /// alone, or nobody if `user` is `None`.
     pub(crate) fn judges<'a>(&'a self, user: Option<&'a LongTermServerUser<A>>) -> Judges<'a, A>
         ensures { realm_of result ≡ realm_of_user self.now (option_copied user.entry) }
     {

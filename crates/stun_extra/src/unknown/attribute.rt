@@ -84,8 +84,8 @@ fn bytes_fit(bytes: &[u8])
     ensures { (i : ℕ) → slice_index bytes.now i < 2 ^ 8 }
 {}
 
-/// Returns the number of types of a message that the receiver must understand and that are not in
-/// `known`.
+/// Returns the number of types of the visible attributes in `message` that the receiver must
+/// understand but that are not in `known`. Each type is counted once.
 pub(super) fn unknown_count(message: &Message<'_>, known: &[AttributeType]) -> usize
     ensures value { result ≡ length (unknown_types known.now message.now) }
     ensures few { result < 2 ^ 14 }
@@ -106,8 +106,9 @@ fn type_count(bytes: &[u8]) -> usize
 }
 
 impl<'a> UnknownAttributes<'a> {
-    /// Creates the attribute from the types of a message that the receiver must understand and that
-    /// are not in `known`, in the order of `unknown_types`. This does not allocate.
+    /// Creates UNKNOWN-ATTRIBUTES with the types of the visible attributes in `message` that the
+    /// receiver must understand but that are not in `known`, in the order of `unknown_types`. This
+    /// does not allocate.
     pub fn of(message: &'a Message<'a>, known: &'a [AttributeType]) -> Self
         ensures { result ≡ unknown_types known.now message.now }
     {
@@ -163,8 +164,8 @@ impl<'a> UnknownAttributes<'a> {
     }
 }
 
-/// Appends the types of a message that the receiver must understand and that are not in `known`.
-/// The caller must have reserved 2 bytes for each type.
+/// Appends the types of the visible attributes in `message` that the receiver must understand but
+/// that are not in `known`. The caller must have reserved 2 bytes for each of these types.
 fn append_unknown<W: MessageWrite>(message: &Message<'_>, known: &[AttributeType], writer: &mut W)
     requires { 2 * length (unknown_types known.now message.now) ≤ W.reserved writer.old }
     ensures bytes { W.bytes writer.new

@@ -1,11 +1,11 @@
-//! A box as a pointer and its allocator.
+//! A box that is taken apart into a pointer and its allocator.
 ghost use Rattle.std.specs.Prelude.{◌≡◌};
 ghost use Rattle.std.specs.Box.Ownership.{box_owns};
 
 use std::alloc::Allocator;
 use std::marker::Model;
 
-/// The parts of a box.
+/// The parts of a box: the pointer to its value, and its allocator.
 pub struct Parts<T, A: Allocator> {
     pub at: *mut T,
     pub alloc: A,

@@ -51,7 +51,7 @@ impl Kept {
         }
     }
 
-    /// Borrows the agent.
+    /// Borrows the agent. The value must be an agent.
     pub(crate) fn agent(&mut self) -> &mut StunAgent<Global>
         requires { kind_of self.old ≡ agent_kind }
         ensures* lends { sem 𝓛 (LendsAgent self.entry result) }
@@ -63,7 +63,7 @@ impl Kept {
         }
     }
 
-    /// Borrows the server.
+    /// Borrows the server. The value must be a server.
     pub(crate) fn server(&mut self) -> &mut Server
         requires { kind_of self.old ≡ server_kind }
         ensures* lends { sem 𝓛 (LendsServer self.entry result) }
@@ -75,7 +75,7 @@ impl Kept {
         }
     }
 
-    /// Borrows the client.
+    /// Borrows the client. The value must be a client.
     pub(crate) fn client(&mut self) -> &mut LongTermClientAuth<Global>
         requires { kind_of self.old ≡ client_kind }
         ensures* lends { sem 𝓛 (LendsClient self.entry result) }
@@ -87,7 +87,7 @@ impl Kept {
         }
     }
 
-    /// Borrows the prepared user.
+    /// Borrows the prepared user. The value must be a prepared user.
     pub(crate) fn user(&mut self) -> &mut LongTermServerUser<Global>
         requires { kind_of self.old ≡ user_kind }
         ensures* lends { sem 𝓛 (LendsUser self.entry result) }

@@ -28,6 +28,23 @@ IsReason NoEnd most given asked asked_now failed =
     IfSome given (λ input. most < length input) ⊎ (asked_now ≡ asked_after most_tries asked)
 IsReason Memory most given asked asked_now failed = ⊤
 
+-- why reading on fails: the last read failed, or the reader was read as often as allowed. An
+-- allocation may fail at any time
+abbrev pub IsReasonOfReads : Failure → ℕ → ℕ → Bool → Type 0
+IsReasonOfReads Io asked asked_now failed = failed ≡ true
+IsReasonOfReads NoEnd asked asked_now failed = asked_now ≡ asked_after most_tries asked
+IsReasonOfReads Memory asked asked_now failed = ⊤
+
+-- why the rest of a reader is not read: the last read failed; or the bytes before and the rest are
+-- more than allowed, or the reader was read as often as allowed, where each byte before counts as a
+-- read. An allocation may fail at any time
+abbrev pub IsReasonOfRest : Failure → ℕ → List ℕ → Option (List ℕ) → ℕ → ℕ → Bool → Type 0
+IsReasonOfRest Io most before given asked asked_now failed = failed ≡ true
+IsReasonOfRest NoEnd most before given asked asked_now failed =
+    IfSome given (λ rest. most < length before + length rest)
+    ⊎ (length before < most_tries → asked_now ≡ asked_after (most_tries - length before) asked)
+IsReasonOfRest Memory most before given asked asked_now failed = ⊤
+
 -- the bytes of the reader were appended to those before
 pub record IsReadOn (given rest : Option (List ℕ)) (before bytes : List ℕ) : Type 0 where
   pub read : List ℕ

@@ -5,6 +5,7 @@ ghost use Rattle.std.specs.Io.{ReadsAtMost};
 ghost use Rattle.std.specs.Io.KnownBytes.{ReadConsumes};
 ghost use Rattle.std.specs.Io.KnownBytes.{IsAtEnd};
 ghost use Rattle.stun_cli.specs.Input.{most_tries, asked_after, IsFailed, IsReadOn, IsReason};
+ghost use Rattle.stun_cli.specs.Input.{IsReasonOfReads, IsReasonOfRest};
 
 use crate::failure::Failure;
 use std::alloc::Allocator;
@@ -122,7 +123,13 @@ pub fn read_to_end<R: CountedRead, A: Allocator>(
 /// Reads bytes and appends them to `before`, until the result has `least` bytes or the reader has
 /// no more. The call reads only as many bytes as the result needs.
 ///
-/// Fails if a read or an allocation fails, or if it takes more than 1048576 reads.
+/// An interrupted read is repeated, and counts as a read.
+///
+/// # Errors
+///
+/// - `Io`: a read failed.
+/// - `Memory`: an allocation failed.
+/// - `NoEnd`: 1048576 reads were not enough.
 pub fn read_up_to<R: CountedRead, A: Allocator>(
     reader: &mut R,
     before: Vec<u8, A>,
@@ -132,6 +139,8 @@ pub fn read_up_to<R: CountedRead, A: Allocator>(
         before.items bytes.items) }
     ensures enough { IfOk result (λ bytes.
         (least ≤ length bytes.items) ⊎ IsAtEnd (R.remaining reader.new)) }
+    ensures reason { IfErr result (λ failure. IsReasonOfReads failure (R.asked reader.old)
+        (R.asked reader.new) (R.failed reader.new)) }
 {
     let mut bytes = before;
     let mut buffer = [0u8; READ_SIZE];
@@ -156,8 +165,14 @@ pub fn read_up_to<R: CountedRead, A: Allocator>(
 
 /// Reads all bytes that the reader still has, and appends them to `before`.
 ///
-/// Fails if a read or an allocation fails, if a read would make the result longer than `most`
-/// bytes, or if the end does not come within 1048576 reads. Each byte of `before` counts as a read.
+/// An interrupted read is repeated, and counts as a read. Each byte of `before` counts as a read
+/// too.
+///
+/// # Errors
+///
+/// - `Io`: a read failed.
+/// - `Memory`: an allocation failed.
+/// - `NoEnd`: the result would have more than `most` bytes, or 1048576 reads were not enough.
 pub fn read_rest<R: CountedRead, A: Allocator>(
     reader: &mut R,
     before: Vec<u8, A>,
@@ -165,6 +180,9 @@ pub fn read_rest<R: CountedRead, A: Allocator>(
 ) -> Result<Vec<u8, A>, Failure>
     ensures all { IfSome (R.remaining reader.old)
         (λ rest. IfOk result (λ bytes. bytes.items ≡ before.items ++ rest)) }
+    ensures reason { IfErr result (λ failure. IsReasonOfRest failure most before.items
+        (R.remaining reader.old) (R.asked reader.old) (R.asked reader.new)
+        (R.failed reader.new)) }
 {
     let mut bytes = before;
     let mut buffer = [0u8; READ_SIZE];

@@ -25,10 +25,11 @@ HEAD = """\
 `conformance/table.py` writes this page, so do not edit it. [README.md](README.md) says what a
 result means.
 
-The first table has the counts of each subject. A cell has four counts: the calls that were answered
-as written, those that differ from a MUST of an RFC, those that differ from a choice of this
-library, and those that were left out because the subject does not have the call or does not claim
-what is in the message.
+The first table has the counts of each subject. Each cell has four numbers: how many calls the
+subject answered as the suite expects, how many answers violate a MUST of an RFC, how many differ
+only from a choice of this library, and how many calls were left out because the subject lacks a
+call that they need, or does not claim what their messages need, such as the RFC that defines an
+attribute.
 
 Each of the tables after it has the differences of one subject. A row describes one difference, says
 how many calls show it, and shows the first of these calls. If an example expects a name such as

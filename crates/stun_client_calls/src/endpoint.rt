@@ -183,8 +183,8 @@ impl<A: Memory> ClientEndpoint<A> {
         }
     }
 
-    /// Returns how many responses to a request were dropped, and why the last one was, while the
-    /// request is outstanding.
+    /// Returns how many responses to the request with this number were dropped, and why the last of
+    /// them was dropped. Returns `None` if no outstanding request has this number.
     pub fn dropped(&self, number: u64) -> Option<Drops>
         ensures { result ≡ option_map (λ a. a.drops) (datum_of number self.now.requests) }
     {

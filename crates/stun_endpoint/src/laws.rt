@@ -226,12 +226,13 @@ pub fn datagrams_are_a_run_of_calls()
 {}
 
 /// A server with short-term credentials accepts a message as signed by a user if and only if
-/// `IsSignedBy` holds (`signer`). `IsSignedBy` says that the first USERNAME before the signature is
-/// the name of the user, and that the signature is the digest under the user's key. Earlier
-/// datagrams have no influence.
+/// `IsSignedBy` holds (`signer`), whatever datagrams arrived before. `IsSignedBy` says that the
+/// first USERNAME before the signature is the name of the user, and that the signature is the
+/// digest under the user's key.
 ///
-/// So a request that is not dropped has the outcome of a user's request if a user has signed it
-/// (`accepted`), and is refused otherwise (`refused`).
+/// So if a user has signed a request that is not dropped, the server accepts the request: it
+/// answers the request itself or returns it to its caller (`accepted`). If no user has signed it,
+/// the server refuses it (`refused`).
 pub fn signers_are_known_exactly()
     ensures signer { (users : Keys) (bytes : List ℕ) (signer : Signer)
         → (signer_of users bytes ≡ Ok signer) ↔ IsSignedBy users bytes signer }

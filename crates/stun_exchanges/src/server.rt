@@ -1,5 +1,6 @@
 //! Laws about a server alone: it challenges unsigned requests, its nonces last for two epochs, and
-//! no outcome reveals anything about a password (RFC 8489, section 9.2.4).
+//! a datagram has the same outcome for all passwords of a user under which its signature is invalid
+//! (RFC 8489, section 9.2.4).
 ghost use Rattle.std.specs.Prelude.{◌≡◌, ℕ, List, None, Some};
 ghost use Rattle.std.specs.declared.net.socket_addr.SocketAddr.{SocketAddr};
 ghost use Rattle.stun_base.specs.MessageType.{class_in};

@@ -105,7 +105,8 @@ pub fn push_spelled<A: Allocator + Copy>(
     }
 }
 
-/// Parses a text as hexadecimal digits or, if it has any other form, as base64.
+/// Parses a text as hexadecimal digits or, if it has any other form, as base64 whose bytes begin
+/// like a message. If neither form fits, fails with the error for the hexadecimal digits.
 pub fn read_digits<A: Allocator + Copy>(alloc: A, text: &str) -> Result<Vec<u8, A>, Failure> {
     match read_plain(alloc, text) {
         Err(Failure::Input(bad)) => match read_base64(alloc, text.as_bytes())? {

@@ -267,8 +267,9 @@ pub fn appending_changes_no_reply()
 
 /// The addresses of clients can be divided among any number of servers that start with the same
 /// state. Each server gets the calls for its own addresses, and all calls that concern every
-/// address (users, settings, forgetting). Then each address gets the replies that it would get from
-/// a single server with all the calls, and its server has the same record of it.
+/// address (users, settings, the removal of expired records). Then each address gets the replies
+/// that it would get from a single server with all the calls, and its server has the same record of
+/// it.
 pub fn shards_serve_as_one()
     ensures { ShardsServeAsOne }
 {}

@@ -125,7 +125,7 @@ pub fn remove_user(server: &mut LongTermServerAuth<Global>, name: &[u8]) -> Resu
     Ok(())
 }
 
-/// Removes the client of an address, but not the nonce of the address.
+/// Removes the client of an address, and leaves the nonce of the address unchanged.
 pub fn remove_client(server: &mut LongTermServerAuth<Global>, at: &Address) -> Result<(), Refusal>
     ensures answer { result ≡ done_if_given (socket_address at.now) }
     ensures state { server.new ≡ after_address (socket_address at.now) server.old

@@ -227,12 +227,15 @@ fn is_claimed(user: NamedUser<'_>, name: &str, realm: &str) -> bool
 }
 
 impl<A: Allocator + Copy> LongTermServerAuth<A> {
-    /// Returns the claim of a message, if only nonce, user and signature remain to be checked. Such
-    /// a message has a well-formed integrity attribute, REALM, NONCE, and a user name or, if the
-    /// server accepts hashes, its hash. Its algorithms agree with those that the server supports.
+    /// Returns the claim of a message if only the nonce, the user and the signature remain to be
+    /// checked. Such a message has a well-formed integrity attribute, a REALM, a NONCE, and a user
+    /// name or, if the server accepts hashes, the hash of a user name. If the nonce asks for
+    /// algorithms and the message has any, they agree with those that the server supports. In all
+    /// other cases the algorithm of the claim is HMAC-SHA1, even if the server does not support it.
     ///
-    /// Otherwise returns `None`, and `judge` refuses the message whatever users the server has.
-    /// Check the class first, because a response is read like a request. It does not allocate.
+    /// Returns `None` for every other message, and `judge` refuses such a message whatever users
+    /// the server has. This call does not check the class of the message, so reject responses
+    /// before you call it. It does not allocate.
     pub fn claim_in<'a, 'm, 'r>(
         &self,
         read: &'r ReadMessage<'a, 'm>,

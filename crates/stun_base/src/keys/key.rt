@@ -51,8 +51,8 @@ impl<A: Allocator> Model for IntegrityKey<A> {
 }
 
 impl<A: Memory> IntegrityKey<A> {
-    /// Creates a key from its bytes. Up to 32 bytes are stored inline, and more are allocated by
-    /// `alloc`.
+    /// Creates a key from its bytes. A key of up to 32 bytes is stored inline, and a longer key is
+    /// stored in memory from `alloc`.
     ///
     /// # Errors
     ///
@@ -82,8 +82,8 @@ impl<A: Allocator> IntegrityKey<A> {
     }
 }
 
-/// Copies the key. Up to 32 bytes are copied without an allocation, and more are allocated by the
-/// allocator of the original.
+/// Copies the key. A key of up to 32 bytes is copied without an allocation, and a longer key is
+/// copied into memory from the allocator of the original.
 impl<A: Memory> Clone for IntegrityKey<A> {
     ghost is_clone = { λ key copy. copy ≡ key };
 

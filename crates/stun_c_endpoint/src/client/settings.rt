@@ -346,8 +346,8 @@ impl<'a> ClientGiven<'a> {
         }
     }
 
-    /// Creates the client from these arguments. `name`, `password` and `software` are the texts
-    /// among them.
+    /// Creates the client from these settings. `name`, `password` and `software` are the fields of
+    /// the same names, which the caller has checked to be UTF-8.
     fn made(
         &self,
         alloc: Global,

@@ -367,8 +367,9 @@ pub extern "C" fn stunp_server_nonce(
     answer
 }
 
-/// Removes the client of the address `at`, which is the user who was validated there last, but not
-/// the nonce of the address. Fails with `BadArgument` if `at` is not an IPv4 or IPv6 address.
+/// Removes the client of the address `at`, that is, the user who was validated there last, and
+/// leaves the nonce of the address unchanged. Fails with `BadArgument` if `at` is not an IPv4 or
+/// IPv6 address.
 #[unsafe(no_mangle)]
 pub extern "C" fn stunp_server_remove_client(
     alloc: Global,

@@ -1,12 +1,13 @@
 /* stunp.h: STUN messages (RFC 8489), for C, C++ and Rust
  *
- * The calls of this header read, check, write and sign single messages, make the keys of users,
+ * The calls of this header read, check, write and sign single messages, derive the keys of users,
  * and find the messages in a stream. They store nothing between two calls. stunp_state.h adds what
  * must be stored: retransmissions, challenges and nonces. stunp_endpoint.h has whole clients,
  * servers and ICE agents.
  *
- * To begin, see `answer` below, a server that needs no credentials, and `write_check` and
- * `is_check`, for an ICE agent. A section number without an RFC means RFC 8489.
+ * To begin, see the examples below: `answer` is a server that needs no credentials, and
+ * `write_check` and `is_check` are for an ICE agent. A section number without an RFC means RFC
+ * 8489.
  *
  *
  * Linking
@@ -18,21 +19,22 @@
  * - The proved library is the archive crates/stun_c/out/libstun_c.a, which `rt lib` in
  *   crates/stun_c proves and builds. It holds ELF objects for Linux on x86-64-v2 processors, as do
  *   the proved archives for stunp_state.h and stunp_endpoint.h.
- * - The exported library is libstunp.so and libstunp.a in target/c, which `make lib` builds from
- *   the same sources with cargo and a C compiler, also for other processors. It has the calls of
- *   all three headers, and is tested, not proved. It also contains the calls that are written in C,
- *   such as stunp_strerror, so no code of these headers is compiled into your program
+ * - The exported library is libstunp.so and libstunp.a in target/c. `make lib` builds both from the
+ *   same sources with cargo and a C compiler, and can build them for other processors too. It has
+ *   the calls of all three headers, and is tested, not proved. It also contains the calls that are
+ *   written in C, such as stunp_strerror, so no code of these headers is compiled into your program
  *   (STUNP_INLINE_CALLS). It needs malloc, abort and the functions of <string.h>. If you link the
  *   archive with -Wl,--gc-sections, your program contains only what it calls.
  *
- * The archives are position independent, so you may link them into a shared library. That library
- * then exports their calls too, unless you link it with -Wl,--exclude-libs,ALL.
+ * The archives are position independent, so you may link them into a shared library. The shared
+ * library then exports the calls of the archives too, unless you link it with
+ * -Wl,--exclude-libs,ALL.
  *
  *
  * Releases
  *
- * Before 1.0, releases are compatible if their first two numbers are equal, and from 1.0 on if
- * their first number is. The shared library has these numbers in its name for the loader
+ * Before 1.0, releases are compatible if their first two numbers are equal; from 1.0 on, if their
+ * first numbers are equal. The soname of the shared library contains these numbers
  * (libstunp.so.0.3), so the loader never combines incompatible releases. Symbols have no versions,
  * so a package must depend on the release that it was built with, or on a later one. To have the
  * linker check the release of an archive, see stunp_release_0_3.
@@ -43,7 +45,8 @@
  *   found users and the outcomes of datagrams and events. The library accepts the smaller size of
  *   an earlier compatible release: settings that the program does not know count as 0, and results
  *   that it does not know are not written. The library refuses a size that is larger than its own,
- *   so a program does not run with an earlier library than the one that it was compiled for.
+ *   because it would ignore the fields that it does not know. So a program that was compiled with a
+ *   larger struct does not run with an earlier library.
  * - All other structs keep their size. This includes stunp_timeouts and stunp_statistics, which
  *   begin with their size: the library accepts only its own size. If a later release needs more
  *   fields, it adds a new struct, and calls that take the new struct.
@@ -115,11 +118,11 @@
  *
  * A call that fails returns a negative stunp_refusal and leaves its outputs unchanged. Its
  * description lists the errors in the order of testing: if several apply, the call returns the
- * first one. stunp_strerror has a text for each. A call that succeeds changes only the bytes that
- * it writes, and leaves the rest of the buffer as it was.
+ * first one. stunp_strerror returns a text for each error. A call that succeeds leaves the rest of
+ * the buffer, after the bytes that it writes, unchanged.
  *
- * Test a result with `< 0` or `> 0`, or compare it with the value that you want. An error is not 0,
- * so `if (stunp_verify(..))` would accept every forgery. If you need only yes or no, call
+ * Test a result with `< 0` or `> 0`, or compare it with the value that you expect. An error is not
+ * 0, so `if (stunp_verify(..))` would accept every forgery. If you need only yes or no, call
  * stunp_is_signed or stunp_has_right_fingerprint.
  *
  *
@@ -163,10 +166,10 @@
  * USERNAME: the peer's username fragment, a colon and your own fragment. `password` is the peer's
  * password. 0x6e0001ff is the priority of a peer-reflexive candidate (RFC 8445, section 5.1.2).
  *
- * `is_check` returns whether a request that arrived was signed with `password`, which is your own
- * password here, and reads its priority (RFC 8445, section 7.3). It does not look at USERNAME, so
- * compare USERNAME with the value that you expect. stunp_ice_checker (stunp_endpoint.h) also
- * handles responses and roles.
+ * `is_check` verifies that a request that arrived was signed with `password`, here your own
+ * password, and reads the priority in the request (RFC 8445, section 7.3). It does not look at
+ * USERNAME, so compare USERNAME with the value that you expect. stunp_ice_checker
+ * (stunp_endpoint.h) also handles responses and roles.
  *
  *     size_t write_check(const char *name, const char *password, uint64_t controlling,
  *                        const uint8_t id[12], uint8_t *out, size_t room) {
@@ -197,7 +200,7 @@
 extern "C" {
 #endif
 
-/* Attributes of declarations, for compilers that have them, such as GCC and clang. For other
+/* Attributes of declarations, for compilers that support them, such as GCC and clang. For other
  * compilers these macros are empty. The arguments of the macros are positions of parameters: 1 is
  * the first parameter.
  *
@@ -408,8 +411,8 @@ typedef enum stunp_refusal {
     STUNP_ALREADY_IN_PROGRESS = -20, /* a request with this transaction ID is outstanding */
     STUNP_PROTOCOL_VIOLATION = -21,  /* the call does not accept this message or this address */
     STUNP_UNAUTHORIZED = -22,        /* server: the message is not sufficiently authenticated;
-                                      * answer 401. Client: it cannot answer the 401 of the server;
-                                      * give up */
+                                      * answer 401. Client: it cannot answer the server's 401; give
+                                      * up */
     STUNP_BAD_REQUEST = -23,         /* server: the request is not well-formed; answer 400, or 438
                                       * in one case (see `judge` in stunp_state.h) */
     STUNP_STALE_NONCE = -24,         /* server: the nonce is not the current one; answer 438 */
@@ -436,11 +439,11 @@ enum {
     STUNP_SHA256_KEY_LENGTH = 32,      /* a long-term key for STUNP_SHA256 */
     STUNP_USERHASH_LENGTH = 32,        /* the value of a USERHASH */
     STUNP_FINGERPRINT_LENGTH = 8,      /* a FINGERPRINT, with its type and its length */
-    STUNP_LONGEST_ERROR_TEXT = 64      /* stunp_error_text writes at most this */
+    STUNP_LONGEST_ERROR_TEXT = 64      /* the most bytes that stunp_error_text writes */
 };
 
-/* The largest number of types that `known` of stunp_unknown_types and stunp_refuse_unknown may
- * have. */
+/* The largest number of types that the argument `known` of stunp_unknown_types and
+ * stunp_refuse_unknown may have. */
 enum { STUNP_MOST_KNOWN = 256 };
 
 /* The fields of a message header (section 5), which stunp_read_header writes. */
@@ -581,13 +584,13 @@ int64_t stunp_find(const uint8_t *message, size_t length, uint32_t type, size_t 
  * Returns the place of the value, writes the attribute's type to `*type` and the length of the
  * value to `*value_length`, and moves the cursor past the attribute. If there are no more
  * attributes, returns 0 and writes neither, and each further call with this cursor returns 0 too.
- * Errors, after which the cursor is unchanged too:
+ * Errors, which leave the cursor unchanged too:
  *   STUNP_TRUNCATED, STUNP_NOT_STUN, STUNP_TOO_LARGE
  *                       `cursor->place` is 0, and the bytes are not one whole message (stunp_parse)
  *   STUNP_BAD_ARGUMENT  `cursor->place` is not 0, but below 20 or above `length`
  *
  * The call reads no byte outside the message, whatever cursor you pass. If the cursor does not come
- * from a walk of this message, the call reads the bytes at the offset `cursor->place` as
+ * from earlier calls for this message, the call reads the bytes at the offset `cursor->place` as
  * attributes. */
 STUNP_USE_RESULT STUNP_READS(1, 2) STUNP_NOT_NULL(3, 4, 5)
 int64_t stunp_walk(const uint8_t *message, size_t length, stunp_cursor *cursor, uint16_t *type,
@@ -1090,7 +1093,7 @@ STUNP_INLINED int64_t stunp_written(const stunp_writer *writer);
  * USERNAME, and the integrity attribute of the algorithm. The key may have any length.
  *
  * The transaction ID must be random (section 5). The request has 28 bytes, plus the length of the
- * user name rounded up to a multiple of 4, plus 20 for STUNP_SHA1 or 32 for STUNP_SHA256, which is
+ * user name rounded up to a multiple of 4, plus 20 for STUNP_SHA1 or 32 for STUNP_SHA256. This is
  * at most STUNP_LONGEST_SIGNED.
  *
  * Returns the length of the request. Errors:
@@ -1106,7 +1109,7 @@ int64_t stunp_build_signed(stunp_algorithm algorithm, const uint8_t *id, size_t 
 
 /* Writes a keepalive of ICE, a Binding indication with only FINGERPRINT (RFC 8445, section 11), to
  * the front of `out`. Send a keepalive on each pair in use if nothing else was sent on that pair
- * for 15 seconds, so that the NATs on the path do not forget it. stunp_keepalive of
+ * for 15 seconds, so that the NATs on the path keep their bindings. stunp_keepalive of
  * stunp_endpoint.h is the timer for this. A keepalive is not answered. The transaction ID must be
  * random.
  *
@@ -1115,17 +1118,17 @@ int64_t stunp_build_signed(stunp_algorithm algorithm, const uint8_t *id, size_t 
 STUNP_USE_RESULT STUNP_NOT_NULL(1)
 STUNP_INLINED int64_t stunp_build_keepalive(const uint8_t id[12], uint8_t *out, size_t out_length);
 
-/* Writes the error response to a request that has unknown attributes, to the front of `out`
- * (sections 6.3.1 and 14.13).
+/* Writes the error response to a request with unknown attributes to the front of `out` (sections
+ * 6.3.1 and 14.13).
  *
- * If `known` has each type of the request that must be understood, the call writes nothing and
- * returns 0. Otherwise it writes a response with the method and the transaction ID of the request,
- * ERROR-CODE 420 `Unknown Attribute`, and UNKNOWN-ATTRIBUTES with the types that
+ * If `known` contains every type in the request that must be understood, the call writes nothing
+ * and returns 0. Otherwise it writes a response with the method and the transaction ID of the
+ * request, ERROR-CODE 420 `Unknown Attribute`, and UNKNOWN-ATTRIBUTES with the types that
  * stunp_unknown_types lists. You may sign the response, and add FINGERPRINT.
  *
  * `known_length` is the number of elements of `known`.
  *
- * Returns the length of the response, 56 or more, or 0 if none is needed. Errors:
+ * Returns the length of the response, which is at least 56, or 0 if no response is needed. Errors:
  *   STUNP_BAD_ARGUMENT      `known_length` is more than 256
  *   STUNP_TRUNCATED, STUNP_NOT_STUN, STUNP_TOO_LARGE
  *                           the bytes are not one whole message (stunp_parse)
@@ -1142,9 +1145,9 @@ int64_t stunp_refuse_unknown(const uint8_t *STUNP_RESTRICT request, size_t lengt
  * itself without the zero byte at its end. The length of the key is therefore strlen(password). */
 STUNP_INLINED const uint8_t *stunp_short_term_key(const char *password);
 
-/* Makes the long-term key of a user in a realm (section 9.2.2), and writes it to the front of
- * `out`. The key is the hash of `username:realm:password`, by MD5 for STUNP_SHA1 and by SHA-256 for
- * STUNP_SHA256.
+/* Derives the long-term key of a user in a realm (section 9.2.2), and writes it to the front of
+ * `out`. The key is a hash of `username:realm:password`: the MD5 hash for STUNP_SHA1, and the
+ * SHA-256 hash for STUNP_SHA256.
  *
  *     uint8_t key[STUNP_SHA256_KEY_LENGTH];
  *     int64_t key_length = stunp_long_term_key(STUNP_SHA1, "alice", 5, "example.org", 11,
@@ -1161,8 +1164,8 @@ int64_t stunp_long_term_key(stunp_algorithm algorithm, const char *username, siz
                             const char *realm, size_t realm_length, const char *password,
                             size_t password_length, uint8_t *out, size_t out_length);
 
-/* Makes the value of USERHASH for a user in a realm (section 14.4), which is the SHA-256 hash of
- * `username:realm`, and writes it to the front of `out`.
+/* Makes the value of USERHASH for a user in a realm (section 14.4): the SHA-256 hash of
+ * `username:realm`. Writes it to the front of `out`.
  *
  * Returns the length of the hash, 32. Errors:
  *   STUNP_NOT_TEXT          one of the two texts is not UTF-8
@@ -1173,7 +1176,7 @@ int64_t stunp_userhash(const char *username, size_t username_length, const char 
 
 /* ---- Packets and streams */
 
-/* Checks whether a packet is STUN, for a port that other protocols use too. A packet is STUN if it
+/* Checks whether a packet is STUN, on a port that other protocols use too. A packet is STUN if it
  * starts with a STUN header, whose first byte is 0 to 3 (section 7; RFC 7983, section 7).
  *
  * Returns 1 if the packet is STUN, and 0 if it is not. Never fails. */
@@ -1186,9 +1189,10 @@ int64_t stunp_is_stun(const uint8_t *packet, size_t length);
  * have, beginning with the first byte of a message. The result is a number of bytes:
  *
  * - If you have at least that many bytes, it is the length of the first message.
- * - If you have fewer bytes, the first message has at least that many. Read more bytes, and call
- *   again after each read: the call fails as soon as one byte shows that no message starts here,
- *   which can be the first byte, the fourth, or a byte of the magic cookie (RFC 8489, section 5).
+ * - If you have fewer bytes, it is a lower bound on the length of the first message. Read more
+ *   bytes, and call again after each read: the call fails as soon as one byte shows that no message
+ *   starts here. This can be the first byte, the fourth, or a byte of the magic cookie (RFC 8489,
+ *   section 5).
  *
  * So a reader works like this:
  *
@@ -1198,7 +1202,7 @@ int64_t stunp_is_stun(const uint8_t *packet, size_t length);
  *                             // or else read on, up to `wanted` bytes
  *
  * These calls read the length of a message from its header. Call stunp_parse or stunp_walk to check
- * that its attributes are complete. */
+ * that the attributes of the message are complete. */
 
 /* Finds the end of the first STUN message.
  *
@@ -1208,7 +1212,7 @@ int64_t stunp_is_stun(const uint8_t *packet, size_t length);
 STUNP_USE_RESULT STUNP_READS(1, 2)
 int64_t stunp_next_frame(const uint8_t *bytes, size_t length);
 
-/* Finds the end of the first packet in a stream in which each packet comes after 2 bytes with its
+/* Finds the end of the first packet in a stream in which each packet follows 2 bytes that state its
  * length, as in ICE over TCP (RFC 4571, section 2). The packet need not be STUN.
  *
  * Returns 2 or more: the length of the packet, including these 2 bytes, if `length` is at least
@@ -1345,8 +1349,8 @@ int64_t stunp_set_memory(stunp_allocate allocate, stunp_resize resize, stunp_rel
 STUNP_WRITES(2, 3)
 int64_t stunp_error_text(int64_t answer, uint8_t *out, size_t out_length);
 
-/* Returns the text that stunp_error_text writes for the result of a call. The text is a constant:
- * do not free it. */
+/* Returns the text that stunp_error_text writes for the result of a call. The text is static: do
+ * not free it. */
 STUNP_INLINED const char *stunp_strerror(int64_t answer);
 
 /* Returns the version of the archive, which equals STUNP_VERSION if the header and the archive come

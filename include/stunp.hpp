@@ -8,7 +8,7 @@
 //
 //     stunp::ask(stunp_agent_handle, agent.get(), bytes, &from, now)
 //
-// Pass a text, a vector or an array of bytes as one argument in place of two.
+// Pass a text, a vector or an array of bytes as one argument, in place of a pointer and a length.
 #ifndef STUNP_HPP
 #define STUNP_HPP
 
@@ -62,8 +62,8 @@ class view {
     bytes copy() const { return bytes(first_, first_ + size_); }
 };
 
-// A pointer to the bytes of a view. It converts to the type that a call of C takes for a text, a
-// key or a value.
+// A pointer to the bytes of a view. It converts to the type that a C call takes for a text, a key
+// or a value.
 struct pointer {
     const uint8_t *first;
     operator const uint8_t *() const { return first; }
@@ -71,8 +71,8 @@ struct pointer {
     operator const void *() const { return first; }
 };
 
-// Makes a call of C, and passes each view as a pointer and a length. A C array of bytes is passed
-// as a pointer alone, because it may be an output.
+// Makes a C call, and passes each view as a pointer and a length. A C array of bytes is passed as a
+// pointer alone, because it may be an output.
 template <class T> auto spread(T &one) {
     if constexpr (std::is_convertible_v<const T &, view>
                   && !std::is_same_v<std::remove_cv_t<std::remove_extent_t<T>>, uint8_t>) {
@@ -86,9 +86,9 @@ template <class Call, class... Arguments> auto call(Call of, Arguments &&...argu
     return std::apply(of, std::tuple_cat(spread(arguments)...));
 }
 
-// A value, or the error of a call, which is a number below zero and has a text. Test it before you
-// use the value: if there is no value, `*` and `->` stop the program (assert), or with NDEBUG give
-// a value in its initial state.
+// A value, or the error of a call: a negative number with a text. Test the result before you use
+// the value: if there is no value, `*` and `->` stop the program (assert), or with NDEBUG give a
+// value in its initial state.
 template <class T = int64_t> class [[nodiscard]] result {
     int64_t answer_;
     T value_;
@@ -106,8 +106,7 @@ template <class T = int64_t> class [[nodiscard]] result {
     const char *text() const { return stunp_strerror(answer_); }
 };
 
-// The verdict of an authenticator, or of the check of a signature: true if the message is
-// authentic.
+// The verdict of an authenticator or of a signature check: true if the message is authentic.
 class [[nodiscard]] verdict {
     int64_t answer_;
 
@@ -120,7 +119,7 @@ class [[nodiscard]] verdict {
     const char *text() const { return stunp_strerror(answer_); }
 };
 
-// Makes a call of C. The value of the result is the number that the call returns.
+// Makes a C call. The value of the result is the number that the call returns.
 template <class T = int64_t, class Call, class... Rest>
 result<T> ask(Call of, Rest &&...arguments) {
     int64_t answer = call(of, arguments...);
@@ -133,7 +132,7 @@ constexpr uint32_t both = uint32_t(STUNP_SHA1) | uint32_t(STUNP_SHA256);
 
 // ---- Keys
 
-// Makes the long-term key of a user, which you may store in place of the password
+// Derives the long-term key of a user, which you may store in place of the password
 // (stunp_long_term_key).
 inline result<bytes> long_term_key(algorithm by, view name, view realm, view password) {
     bytes key(by == STUNP_SHA256 ? STUNP_SHA256_KEY_LENGTH : STUNP_SHA1_KEY_LENGTH);
@@ -156,10 +155,10 @@ struct stored_user { view name, sha1, sha256; };
 // How a message names its user: `text` is the name, or the hash of the name.
 struct naming { stunp_naming by; std::string text; };
 
-// ---- Handles. They can be moved, but not copied. Every call on an empty handle fails. Declare
-// neither a handle of stunp_state.h const nor the `result` that has it: even a call that leaves the
-// handle as it was writes to it during the call. A server and users of stunp::endpoint may be
-// const.
+// ---- Handles. They can be moved, but not copied. Every call on an empty handle fails. Do not
+// declare a handle of stunp_state.h const, nor the `result` that contains it: even a call that
+// leaves the handle unchanged writes to it during the call. A server and users of stunp::endpoint
+// may be const.
 
 template <class H, void (*Clear)(H *)> class handle {
     H handle_{};
@@ -174,7 +173,8 @@ template <class H, void (*Clear)(H *)> class handle {
 };
 
 // A user from a database, prepared once for the realm and the algorithms of a server, and used by
-// one thread at a time. `make` makes the keys, so make the user again when the password changes.
+// one thread at a time. It contains the keys of its password, so make it again when the password
+// changes.
 struct prepared_user : handle<stunp_user, stunp_user_clear> {
     static result<prepared_user> make(const stunp_server *of, const user &by) {
         prepared_user made;
@@ -362,7 +362,8 @@ class message {
     message(bytes &&) = delete;
     message(std::string &&) = delete;
 
-    result<stunp_header> header() const { // of a whole message
+    // Reads the header of a whole message.
+    result<stunp_header> header() const {
         stunp_header header{};
         int64_t answer = call(stunp_parse, bytes_);
         if (answer == 0) answer = call(stunp_read_header, bytes_, &header);
@@ -373,13 +374,15 @@ class message {
         int64_t at = call(stunp_find, bytes_, type, &length);
         return result<view>(at, view(bytes_.data() + (at < 0 ? 0 : at), length));
     }
-    result<uint64_t> find_number(uint32_t type, int64_t size) const { // of exactly `size` bytes
+    // Reads a number of exactly `size` bytes.
+    result<uint64_t> find_number(uint32_t type, int64_t size) const {
         uint64_t number = 0;
         int64_t read = call(stunp_find_number, bytes_, type, &number);
         if (read >= 0 && read != size) read = STUNP_MALFORMED_ATTRIBUTE;
         return result<uint64_t>(read, number);
     }
-    result<address> find_address(uint32_t type) const { // of a type whose value is XORed
+    // Reads an address that is XORed.
+    result<address> find_address(uint32_t type) const {
         address out{};
         int64_t octets =
             call(stunp_find_xor_address, bytes_, type, &out.octets[0], size_t{16}, &out.port);
@@ -450,7 +453,7 @@ class received {
     view answer_;
     friend class server;
 
-    // Makes a call, and makes it again with more room if the answer needs more.
+    // Makes a call, and repeats it with more room if the answer needs more room.
     template <class Judge> result<stunp_kind> judged(Judge judge) {
         if (buffer_.size() < 2048) buffer_.resize(2048);
         int64_t kind = judge(buffer_.data(), buffer_.size(), &told_);
@@ -539,8 +542,7 @@ class server : public handle<stunp_endpoint_server, stunp_endpoint_server_clear>
     result<stunp_kind> receive(received &kept, view datagram, const address &from) const {
         return kept.judged(judge(nullptr, datagram, from, 0));
     }
-    // Judges a datagram as far as that is possible without the user
-    // (stunp_endpoint_server_identify).
+    // Judges a datagram as far as is possible without its user (stunp_endpoint_server_identify).
     result<received> identify(view datagram, const address &from, uint64_t unix_seconds) const {
         return received::of(asker(datagram, from, unix_seconds));
     }
@@ -562,11 +564,11 @@ class server : public handle<stunp_endpoint_server, stunp_endpoint_server_clear>
     result<stunp_kind> receive_with_cause(received &kept, stunp_cause &cause, const users &by,
                                           view datagram, const address &from,
                                           uint64_t unix_seconds) const;
-    // Returns why `receive` refuses a request: a stunp_cause, or 0 if it does not refuse it. For a
-    // text, pass `number()` of the result to stunp_cause_text.
+    // Returns why `receive` refuses a request: a stunp_cause, or 0 if it does not refuse it. To get
+    // a text, pass `number()` of the result to stunp_cause_text.
     result<> cause(const users &by, view datagram, const address &from,
                    uint64_t unix_seconds) const;
-    // Returns why `resume` refuses a request, or why `identify` does, if you pass no user.
+    // Returns why `resume` refuses a request or, if you pass no user, why `identify` refuses it.
     result<> cause_for(const stunp_found_user *found, view datagram, const address &from,
                        uint64_t unix_seconds) const {
         return ask(stunp_endpoint_server_cause_for, get(), found, datagram, &from, unix_seconds);
@@ -614,7 +616,7 @@ inline result<> server::cause(const users &by, view datagram, const address &fro
     return ask(stunp_endpoint_server_cause, get(), by.get(), datagram, &from, unix_seconds);
 }
 
-// Starts the answer to an accepted request. End it with `sign` of the same reply, as in
+// Starts the answer to an accepted request. To end it, call `sign` with the same reply, as in
 //
 //     auto answer = stunp::endpoint::success(*got->request())
 //                       .add_number(STUNP_LIFETIME, 600, 4).sign(*got->request()).finish();
@@ -729,8 +731,8 @@ class client : public handle<stunp_endpoint_client, stunp_endpoint_client_clear>
     result<bool> cancel(uint64_t request) {
         return ask<bool>(stunp_endpoint_client_cancel, get(), request);
     }
-    // Returns how many responses were dropped for a request, and why the last one was, or nothing
-    // if the request has ended.
+    // Returns how many responses to a request were dropped, and why the last of them was dropped,
+    // or no value if the request has ended.
     result<std::optional<stunp_dropped>> dropped(uint64_t request) {
         stunp_dropped of{};
         int64_t answer = stunp_endpoint_client_dropped(get(), request, &of);
@@ -765,7 +767,7 @@ struct checker : handle<stunp_ice_checker, stunp_ice_checker_clear> {
         int64_t answer = stunp_ice_checker_new(made.get(), &of);
         return result<checker>(answer, std::move(made));
     }
-    // Sets the credentials of the peer, if the settings did not have them.
+    // Sets the credentials of the peer (stunp_ice_checker_set_peer).
     result<> set_peer(view name, view password) {
         return ask(stunp_ice_checker_set_peer_with, get(), name, password);
     }

@@ -6,12 +6,12 @@
  * stunp_state.h, and most programs need only this header.
  *
  *   stunp_endpoint_server  the settings of a server: with long-term, short-term or no credentials
- *   stunp_endpoint_users   its users, by password or by stored keys
+ *   stunp_endpoint_users   the users of a server, each with a password or with stored keys
  *   stunp_reply            the data with which you answer a request, now or later, on any thread
  *   stunp_ice_checker      an ICE agent, with its role and the credentials of both sides
  *   stunp_ice_check        the data of a check that was sent, which you store with its pair
- *   stunp_ice_checks       the outstanding checks of the agent, with their timers
- *   stunp_ice_candidate    a candidate, which you read from a line of SDP, or write as such a line
+ *   stunp_ice_checks       the outstanding checks of an agent, with their timers
+ *   stunp_ice_candidate    a candidate, which can be read from a line of SDP and written as one
  *   stunp_endpoint_client  a client of one server, with any number of requests
  *   stunp_body             the attributes of a request of a client
  *   stunp_request_options  how a single request of a client is sent, and which address answers it
@@ -29,8 +29,8 @@
  * A server
  *
  * `serve` answers a datagram, and returns the length of the answer in `out`, or 0 if there is
- * nothing to send. It is a whole server: it challenges clients (401), sends them a new nonce (438),
- * and answers malformed requests (400) and unknown attributes (420) with errors. Each answer to an
+ * nothing to send. It is a whole server: it challenges clients (401), sends them new nonces (438),
+ * and refuses requests that are malformed (400) or have unknown attributes (420). Each answer to an
  * accepted request is signed, and so is a 420. An answer ends with FINGERPRINT if its request does.
  *
  *     #include "stunp_endpoint.h"
@@ -72,9 +72,9 @@
  *
  * Servers with short-term credentials, or with none
  *
- * These servers use the same handle and the same calls, with another value of `credentials` in the
- * settings. They have no realm and no nonces, so leave the fields that are marked with (realm) at 0
- * or null.
+ * These servers use the same handle and the same calls, but a different value of `credentials` in
+ * the settings. They have no realm and no nonces, so leave the fields that are marked with (realm)
+ * at 0 or null.
  *
  * A server with STUNP_NO_CREDENTIALS answers everybody, and signs nothing. It has no users, so pass
  * null in place of the users.
@@ -101,8 +101,8 @@
  * other clients. Whether a datagram is accepted depends on the datagram, its source, the time, the
  * settings and the users, and on no earlier datagram. A server that starts again with the same
  * secret serves its old clients at once, and several machines with the same settings and users can
- * answer each other's clients. If their clocks differ by less than a nonce lifetime, a client that
- * moves from a machine whose clock is ahead may get one more 438.
+ * answer each other's clients. If the clocks of the machines differ by less than a nonce lifetime,
+ * a client that moves away from a machine whose clock is ahead may get an additional 438.
  *
  * If a nonce was not made for the client's current address, the server answers 438 with a new
  * nonce, and the client continues with the new one.
@@ -110,16 +110,15 @@
  *
  * Users in a database
  *
- * If users are looked up one by one, a datagram is judged in two steps. The first call,
- * stunp_endpoint_server_identify, judges the datagram as far as that is possible without its user,
- * and returns STUNP_LOOKUP for a request whose user you have to look up. The second call,
+ * If your server looks users up one by one, a datagram is judged in two steps. The first call,
+ * stunp_endpoint_server_identify, judges the datagram as far as is possible without its user, and
+ * returns STUNP_LOOKUP for a request whose user you have to look up. The second call,
  * stunp_endpoint_server_resume, judges the request with the user that you found, or with no user.
  * It judges the whole request again, so pass it the same bytes, address and time. Only a request
- * with a nonce that this server made for the source address of the request causes a look-up. So a
- * request with an invented nonce causes no look-up, and a request with a forged source address
- * causes a look-up only if the attacker has seen a nonce that was sent to that address. A slow
- * look-up does not make a nonce stale, because the request is judged by the time at which it
- * arrived.
+ * with a nonce that this server made for the source address of the request causes a look-up. So an
+ * attacker who invents a nonce causes no look-up, and an attacker who forges a source address
+ * causes one only if he has seen a nonce that was sent to that address. A slow look-up does not
+ * make a nonce stale, because the request is judged by the time at which it arrived.
  *
  *     // `find` looks a user up by name, or by the hash of the name (stunp_userhash), and sets the
  *     // name and the password or the keys. It returns false if there is no such user.
@@ -198,8 +197,9 @@
  *
  * A client of one server sends requests and retransmits them, answers the challenges of the server,
  * and verifies its responses. Each request ends exactly once. `my_address` asks a server for the
- * address from which it sees a socket. `seed` is 32 random bytes, from which the client derives the
- * transaction IDs. Call `my_address` from one thread at a time, because `bytes` is static.
+ * address of a socket, as the server sees it. `seed` is 32 random bytes, from which the client
+ * derives the transaction IDs. Call `my_address` from one thread at a time, because `bytes` is
+ * static.
  *
  *     #include <poll.h>
  *     #include <sys/socket.h>
@@ -328,15 +328,15 @@
  * Calls read their arguments only during the call, and copy what is needed later. Only a
  * stunp_body, a stunp_writer, a stunp_ice_checks and a stunp_ice_candidate point to memory of
  * yours. Lengths are at most PTRDIFF_MAX. An output must not overlap any other argument. A pointer
- * that has a length may be null only if the length is 0. A pointer to a result may be null, unless
- * the description of the call or STUNP_NOT_NULL says otherwise.
+ * that is passed with a length may be null only if the length is 0. A pointer to a result may be
+ * null, unless the description of the call or STUNP_NOT_NULL says otherwise.
  *
  * Texts are UTF-8 and are used as they are. RFC 8489 asks you to prepare them with OpaqueString
- * first (RFC 8265). A text without a length of its own ends with a zero byte.
+ * first (RFC 8265). A text that is passed without a length must end with a zero byte.
  *
  * A call that fails returns a negative stunp_refusal, for which stunp_strerror has a text, and
- * changes nothing, unless its description says otherwise. A call tests its errors in the order of
- * its list: if several apply, it returns the first one.
+ * changes nothing, unless its description says otherwise. A call tests for its errors in the order
+ * in which its description lists them: if several apply, it returns the first one.
  *
  * The library does not overwrite passwords and keys before it frees them. If an attacker may read
  * memory that was freed, use an allocator that overwrites each block (stunp_set_memory of stunp.h,
@@ -350,9 +350,9 @@
  * that was cast, has undefined behavior, because the handles of stunp_state.h work differently. If
  * a handle of this header has a value of another kind, a _new call fails with STUNP_FULL_HANDLE, a
  * _free call frees the value, and any other call fails with STUNP_WRONG_HANDLE. If a call takes a
- * server or a table of users as const, a null pointer counts as an empty handle. No other pointer
- * to a handle may be null, except for _free. The _own calls take a copy of a handle (see Threads).
- * No call detects that a handle is a copy of a handle whose value was freed.
+ * server or a table of users as const, a null pointer counts as an empty handle. All other pointers
+ * to handles must not be null, except in a _free call. The _own calls take a copy of a handle (see
+ * Threads). No call detects that the value of a handle was freed through a copy of the handle.
  *
  *
  * Threads
@@ -372,7 +372,7 @@
  * proved that a call does not change its handles if nothing else uses them during the call. The
  * calls whose names end in _own need handles that nothing else uses; a copy of the two fields is
  * enough. The calls without _own make this copy themselves and write nothing through a const
- * pointer, so call these.
+ * pointer, so prefer these.
  *
  *
  * Time and random numbers
@@ -464,16 +464,16 @@ typedef enum stunp_credentials {
  *                       it, but never sends such a nonce. When you change the secret, set this to
  *                       the former secret for two nonce lifetimes. It must differ from `secret`,
  *                       and must not be one repeated byte
- *   software            the text of SOFTWARE in each answer that the server writes, of at most 763
- *                       bytes. By default answers have no SOFTWARE. Error responses have it too,
- *                       even if the sender of the request signed nothing (see below)
+ *   software            the text of SOFTWARE, of at most 763 bytes, in each answer that the server
+ *                       writes. By default answers have no SOFTWARE. Error responses to unsigned
+ *                       requests have it too (see below)
  *   understood          the types of attributes that you understand in addition to those of STUN,
  *                       as `understood_count` numbers: for a TURN server STUNP_LIFETIME and so on.
- *                       The server answers a request with a 420 if it has an attribute of any other
- *                       type that must be understood
+ *                       The server answers a request with a 420 if the request has an attribute of
+ *                       any other type that must be understood
  *   nonce_seconds       (realm) for how many seconds the server sends the same nonce to a client,
- *                       from 30 to 2592000 (30 days). It accepts a nonce for one to two times as
- *                       long. By default 3600 (an hour)
+ *                       from 30 to 2592000 (30 days). After it is sent, a nonce is accepted for one
+ *                       to two times as long. By default 3600 (an hour)
  *   algorithms          (realm) the algorithms that the server offers: STUNP_SHA1, STUNP_SHA256, or
  *                       by default both
  *   anonymous_username  (realm) STUNP_DISABLED if clients may not send a hash in place of the user
@@ -487,10 +487,10 @@ typedef enum stunp_credentials {
  *
  * To change settings, create another server with the same secret. If `realm`, `algorithms` or
  * `anonymous_username` differ, also create a new table of users (stunp_endpoint_users_new). Nonces
- * depend on the last two, so each client then gets one 401 or 438, and signs its request again. But
- * if you remove STUNP_SHA256 or forbid hashes, a client of this library that has succeeded with
- * HMAC-SHA256 or with a hash drops these challenges (STUNP_DROP_WEAKER_CHALLENGE): its next request
- * times out, and the request after that succeeds.
+ * depend on `algorithms` and `anonymous_username`, so if one of these differs, each client gets one
+ * 401 or 438, and signs its request again. But if you remove STUNP_SHA256 or forbid hashes, a
+ * client of this library that has succeeded with HMAC-SHA256 or with a hash drops these challenges
+ * (STUNP_DROP_WEAKER_CHALLENGE): its next request times out, and the request after that succeeds.
  *
  * An attacker can send requests with the source address of somebody else, who then gets the
  * answers. If the realm has 11 bytes, a request of 20 bytes causes a challenge of 96 bytes, or of
@@ -519,15 +519,16 @@ typedef struct {
 /* The outcome of a datagram, which is the result of stunp_endpoint_server_receive,
  * stunp_ice_checker_receive and stunp_endpoint_client_receive. */
 typedef enum stunp_kind {
-    STUNP_DROPPED = 0,       /* do nothing, for the reason `why` */
+    STUNP_DROPPED = 0,       /* ignore the datagram: it is dropped, for the reason in `why` */
     STUNP_ANSWER = 1,        /* send the first `length` bytes of the buffer to the address that the
                               * datagram came from */
     STUNP_IS_REQUEST = 2,    /* an accepted request: answer it with `reply`. At a server without
                               * credentials, anybody may have sent it */
-    STUNP_IS_INDICATION = 3, /* an indication whose attributes are understood. With short-term
-                              * credentials the user in `name` has signed it. Otherwise it is not
-                              * signed (section 9.2), so use its source address to decide whether to
-                              * act on it. In ICE it only keeps a path open */
+    STUNP_IS_INDICATION = 3, /* an indication. With short-term credentials the user in `name` has
+                              * signed it. Otherwise it is not signed (section 9.2), so use its
+                              * source address to decide whether to act on it. In ICE it only keeps
+                              * a path open. Its attributes are understood, except at a client,
+                              * which does not check them */
     STUNP_IS_RESPONSE = 4,   /* a response. At a server, it is for a client on the same socket. In
                               * ICE, it is the answer that ends your check: see `outcome`. At a
                               * client, it ends its request, or the client sends another message of
@@ -568,8 +569,8 @@ typedef enum stunp_drop {
                                        * check then times out */
     /* Only at clients, for responses to their requests. */
     STUNP_DROP_NOT_VERIFIED = 9,      /* the response is not signed with the key of the message that
-                                       * it answers, or it is a challenge to a message that is not
-                                       * the last message that was sent */
+                                       * it answers, or it is a challenge that answers an earlier
+                                       * message of its request, and not the current one */
     STUNP_DROP_UNANSWERABLE_CHALLENGE = 10, /* the response is an unsigned 401 or 438 that the
                                              * client cannot answer, or a challenge whose list of
                                              * algorithms is so long that the request would not fit
@@ -604,18 +605,18 @@ typedef enum stunp_cause {
     STUNP_CAUSE_OTHER_ALGORITHMS = 3,  /* 400: the request has the current nonce, but not the
                                         * password algorithms that were offered with this nonce. An
                                         * attacker on the path may have changed the list */
-    STUNP_CAUSE_OTHER_FEATURES = 4,    /* 401: the security bits of the request's nonce are not
-                                        * those of the server's nonces, but the algorithms of the
-                                        * request agree with the bits in its nonce. An attacker may
-                                        * have changed the bits, or the nonce was sent before a
-                                        * change of settings. A nonce that does not begin with the
-                                        * nonce cookie has no such bits, and counts as stale */
+    STUNP_CAUSE_OTHER_FEATURES = 4,    /* 401: the nonce of the request has other security bits than
+                                        * the server's nonces, and the algorithms of the request
+                                        * agree with these other bits. An attacker may have changed
+                                        * the bits, or the nonce was sent before a change of
+                                        * settings. A nonce that does not begin with the nonce
+                                        * cookie has no such bits, and counts as stale */
     STUNP_CAUSE_STALE_NONCE = 5,       /* 438: the nonce has expired, was sent to another address,
                                         * was made from another secret or with other settings, or
-                                        * was never made by this server. If the nonce is from the
-                                        * previous period or was made from the previous secret,
-                                        * wrong algorithms and wrong credentials have this cause
-                                        * too */
+                                        * was never made by this server. A request with wrong
+                                        * algorithms or wrong credentials has this cause too if its
+                                        * nonce is from the previous period or was made from the
+                                        * previous secret */
     STUNP_CAUSE_WRONG_CREDENTIALS = 6, /* 401: the request has the current nonce, but it names no
                                         * user of the table, the user has no key for the algorithm,
                                         * or the signature is not valid under the user's key */
@@ -658,7 +659,7 @@ enum {
      * bytes of the longest message, with SOFTWARE, a signature and FINGERPRINT. For datagrams of up
      * to 1500 bytes, 2048 bytes are enough. */
     STUNP_ANSWER_MAX = 33632,
-    /* The longest user name that a table of users, and USERNAME in this library, can have. (Section
+    /* The longest user name that this library accepts in a table of users and in USERNAME. (Section
      * 14.3 allows only names of fewer than 509 bytes.) */
     STUNP_NAME_MAX = 513,
     /* The longest check of ICE. An answer to a check has at most STUNP_ANSWER_MAX bytes. */
@@ -708,7 +709,7 @@ typedef struct {
  *                STUNP_USERHASH_LENGTH bytes
  *   reply        STUNP_IS_REQUEST: the data with which you answer the request
  *
- * Serve the user in `name`. Never use USERNAME of the message, which may name another user. */
+ * Serve the user in `name`. Never use the USERNAME of the message, which may name another user. */
 typedef struct {
     size_t size;
     stunp_kind kind;
@@ -728,9 +729,9 @@ typedef struct {
  *
  *   bytes, length  the bytes of the datagram, and their number
  *   from           the address that the datagram came from
- *   received       the struct to which stunp_endpoint_server_receive would write the outcome. Set
- *                  its `size` with STUNP_INIT. The pointer may be null, but then you cannot answer
- *                  a request
+ *   received       the struct to which the outcome of this datagram is written, with the
+ *                  stunp_reply for an accepted request. Set its `size` with STUNP_INIT. If the
+ *                  pointer is null, you cannot answer requests that are returned to you
  */
 typedef struct {
     const uint8_t *bytes;
@@ -799,9 +800,9 @@ typedef struct {
     bool is_controlling;
 } stunp_ice_settings;
 
-/* The data of a check that was written, with which its answer is judged. It is plain data, without
- * the bytes of the check. Store it with its pair until the answer arrives or the check times out.
- * You may read the fields, but do not change them.
+/* The data of a check that was written, which the agent needs to judge the answer. It is plain
+ * data, without the bytes of the check. Store it with its pair until the answer arrives or the
+ * check times out. You may read the fields, but do not change them.
  *
  *   id              the transaction ID, which the answer has too
  *   to              the address to which the check is sent
@@ -816,15 +817,15 @@ typedef struct {
 } stunp_ice_check;
 
 /* The outcome of a datagram at an ICE agent. The line of a field names the kinds or the outcomes
- * for which the field is set. For others the field is 0. After an error `kind` is STUNP_FAILED and
- * `length` is 0. If `size` is wrong, nothing else is written.
+ * for which the field is set. For all other kinds and outcomes the field is 0. After an error
+ * `kind` is STUNP_FAILED and `length` is 0. If `size` is wrong, nothing else is written.
  *
  *   size            sizeof (stunp_ice_received), set by STUNP_INIT once, before the loop
  *   kind            the outcome
  *   why             STUNP_DROPPED: why the datagram was dropped
  *   outcome         STUNP_ANSWER, STUNP_IS_RESPONSE: the outcome of the check or of its answer
  *   code            the code of an error response: 487 for STUNP_ICE_PEER_SWITCHES and _CONFLICT;
- *                   400, 401 or 420 for STUNP_ICE_REFUSED; any other code for STUNP_ICE_ERROR
+ *                   400, 401 or 420 for STUNP_ICE_REFUSED; any code except 487 for STUNP_ICE_ERROR
  *   priority        STUNP_ICE_ACCEPTED: the priority in the check. If the check came from a new
  *                   address, this is the priority of the new peer-reflexive candidate (RFC 8445,
  *                   section 7.3.1.3)
@@ -833,7 +834,8 @@ typedef struct {
  *                   pair is selected once one of your checks has succeeded on it too (section
  *                   7.3.1.5)
  *   switched        STUNP_ICE_ACCEPTED, STUNP_ICE_CONFLICT: whether this agent has switched its
- *                   role because of the datagram. The priorities of pairs depend on the role
+ *                   role because of the datagram. If so, compute the priorities of all pairs again,
+ *                   because they depend on the role
  *   length          STUNP_ANSWER: the number of bytes to send
  *   needed          STUNP_FAILED: after STUNP_BUFFER_TOO_SMALL, the length of the answer
  *   mapped          STUNP_ICE_VALID: the address from which the peer saw the check arrive. If it is
@@ -1046,18 +1048,19 @@ int64_t stunp_endpoint_server_receive_own(stunp_endpoint_server *server,
  *   - A datagram is dropped if it is not a STUN message, if its FINGERPRINT is wrong, or if it has
  *     no FINGERPRINT although the settings require it.
  *   - With long-term credentials, a request is answered with a 401 if none of these users has
- *     signed it, or if the security bits of its nonce are not those of the server's nonces although
- *     its algorithms agree with these bits; with a 438 if its nonce is not accepted, or if it has
- *     an earlier nonce that is still accepted, but wrong algorithms or a wrong signature; and with
- *     a 400 if it is signed but incomplete, or if its algorithms are not those that were offered
- *     with the current nonce. stunp_cause has the order of these tests.
+ *     signed it, or if its nonce has other security bits than the server's nonces, and its
+ *     algorithms agree with these other bits. It is answered with a 438 if its nonce is not
+ *     accepted, or if it has an earlier nonce that is still accepted, but wrong algorithms or a
+ *     wrong signature. It is answered with a 400 if it is signed but incomplete, or if its
+ *     algorithms are not those that were offered with the current nonce. stunp_cause has the order
+ *     of these tests.
  *   - With short-term credentials, a request is answered with a 400 if it is not signed or has no
  *     USERNAME, and with a 401 if USERNAME is not the name of one of these users, or if the
  *     signature was not made with the user's password. An indication with one of these faults is
  *     dropped.
- *   - A request is answered with a 420 if it has an attribute that must be understood but is not. A
- *     Binding request is answered if `answers_binding` is set. All other requests are returned to
- *     you.
+ *   - A request that has passed these tests is answered with a 420 if it has an attribute that must
+ *     be understood but is not. Otherwise, a Binding request is answered if `answers_binding` is
+ *     set, and all other requests are returned to you.
  *   - An indication is dropped if it has an attribute that must be understood but is not. Other
  *     indications are returned to you, and so are responses.
  *
@@ -1068,8 +1071,9 @@ int64_t stunp_endpoint_server_receive_own(stunp_endpoint_server *server,
  * used only with long-term credentials; otherwise pass 0. Do not use a clock that starts at zero:
  * the nonces of an earlier run of the program would become current again, and the server would
  * accept requests that an attacker recorded during that run. If the clock is set back, no call
- * fails, but clients may get one more 438, and recorded requests stay valid for as much longer. An
- * IPv4 address and the same address mapped into IPv6 (::ffff:a.b.c.d) count as one address.
+ * fails, but clients may get an additional 438, and recorded requests stay valid for longer, by the
+ * time by which the clock was set back. An IPv4 address and the same address mapped into IPv6
+ * (::ffff:a.b.c.d) count as one address.
  *
  * `received` may be null if you need only the returned kind.
  *
@@ -1189,8 +1193,8 @@ int64_t stunp_endpoint_server_cause_own(stunp_endpoint_server *server, stunp_end
 /* Returns why stunp_endpoint_server_receive refuses a datagram. Pass the arguments that you passed
  * to stunp_endpoint_server_receive, with the same time and the same users. This call judges the
  * request again, so call it only for an answer whose `code` is not 0, or call
- * stunp_endpoint_server_receive_with_cause in place of both. The client learns only the error code,
- * and not the cause.
+ * stunp_endpoint_server_receive_with_cause in place of both calls. The client learns only the error
+ * code, and not the cause.
  *
  * If your users are in a database, call stunp_endpoint_server_cause_for instead.
  *
@@ -1230,9 +1234,9 @@ int64_t stunp_endpoint_server_identify_own(stunp_endpoint_server *server,
                                            uint64_t unix_seconds, uint8_t *STUNP_RESTRICT out,
                                            size_t room, stunp_received *received);
 
-/* Judges the datagram of `length` bytes that arrived from the address `from`, as far as that is
- * possible without its user. Returns STUNP_LOOKUP for a signed request that names a user and has a
- * nonce that this server now accepts from the address `from`: look up `received->name`, and call
+/* Judges the datagram of `length` bytes that arrived from the address `from`, as far as is possible
+ * without its user. Returns STUNP_LOOKUP for a signed request that names a user and has a nonce
+ * that this server now accepts from the address `from`: look up `received->name`, and call
  * stunp_endpoint_server_resume. For every other datagram, the result does not depend on the users,
  * and is that of stunp_endpoint_server_receive. A client that sends its request again causes
  * another look-up, so merge look-ups that have the same source address and transaction ID, which is
@@ -1368,8 +1372,8 @@ STUNP_INLINED void stunp_reply_wipe(stunp_reply *reply);
  * Returns 0. Errors:
  *   STUNP_FULL_HANDLE    the handle is not empty
  *   STUNP_NOT_TEXT       a username fragment or a password is not UTF-8
- *   STUNP_BAD_ARGUMENT   a username fragment has fewer than 4 bytes, more than 256 or a colon, or a
- *                        password has fewer than 22 bytes or more than 256
+ *   STUNP_BAD_ARGUMENT   a username fragment does not have 4 to 256 bytes or contains a colon, or a
+ *                        password does not have 22 to 256 bytes
  *   STUNP_OUT_OF_MEMORY  an allocation failed */
 STUNP_READS(2, 3) STUNP_READS(4, 5) STUNP_READS(6, 7) STUNP_READS(8, 9) STUNP_NOT_NULL(1)
 int64_t stunp_ice_checker_new_with(stunp_ice_checker *checker, const char *name,
@@ -1385,8 +1389,8 @@ int64_t stunp_ice_checker_new_with(stunp_ice_checker *checker, const char *name,
  * Returns 0. Errors:
  *   STUNP_FULL_HANDLE    the handle is not empty
  *   STUNP_NOT_TEXT       the username fragment or the password is not UTF-8
- *   STUNP_BAD_ARGUMENT   the username fragment has fewer than 4 bytes, more than 256 or a colon, or
- *                        the password has fewer than 22 bytes or more than 256
+ *   STUNP_BAD_ARGUMENT   the username fragment does not have 4 to 256 bytes or contains a colon, or
+ *                        the password does not have 22 to 256 bytes
  *   STUNP_OUT_OF_MEMORY  an allocation failed */
 STUNP_READS(2, 3) STUNP_READS(4, 5) STUNP_NOT_NULL(1)
 int64_t stunp_ice_checker_offer_with(stunp_ice_checker *checker, const char *name,
@@ -1420,8 +1424,8 @@ int64_t stunp_ice_checker_set_peer_with(stunp_ice_checker *checker, const char *
  *   STUNP_EMPTY_HANDLE   the handle is empty
  *   STUNP_WRONG_HANDLE   the handle has no agent
  *   STUNP_NOT_TEXT       the username fragment or the password is not UTF-8
- *   STUNP_BAD_ARGUMENT   the username fragment has fewer than 4 bytes, more than 256 or a colon, or
- *                        the password has fewer than 22 bytes or more than 256
+ *   STUNP_BAD_ARGUMENT   the username fragment does not have 4 to 256 bytes or contains a colon, or
+ *                        the password does not have 22 to 256 bytes
  *   STUNP_OUT_OF_MEMORY  an allocation failed */
 STUNP_NOT_NULL(1, 2, 3)
 STUNP_INLINED int64_t stunp_ice_checker_set_peer(stunp_ice_checker *checker, const char *peer_name,
@@ -1452,7 +1456,7 @@ STUNP_INLINED bool stunp_ice_checker_controls(stunp_ice_checker *checker);
 /* Sets the role of the agent from now on: controlling or controlled. Call it if the answer to an
  * offer says that the peer is lite, because this agent then must have the controlling role (section
  * 6.1.1). Also call it to undo a switch of roles, if you cannot send the answer that goes with the
- * switch. Do not call it because of a role conflict: the agent then switches its role itself. An
+ * switch. Do not call it after a role conflict, because the agent switches its role itself. An
  * outstanding check still states the role in which it was written. The call changes only the role.
  *
  * Returns 0. Errors:
@@ -1478,11 +1482,11 @@ int64_t stunp_ice_checker_check_with(stunp_ice_checker *checker, const uint8_t i
                                      const stunp_address *to, uint32_t priority, bool nominate,
                                      uint8_t *out, size_t room, stunp_ice_check *check);
 
-/* Writes a check to the front of `out`, and the data with which you judge its answer to `*check`.
- * Send the check to the address `to`, and send it again until its answer arrives (section 7.2.4).
- * To know when to send it again, use stunp_agent of stunp_state.h or a timer of your own; or call
- * stunp_ice_checks_start instead, which includes the timer. A buffer of STUNP_ICE_CHECK_MAX bytes
- * is enough.
+/* Writes a check to the front of `out`, and writes to `*check` the data that is needed to judge the
+ * answer. Send the check to the address `to`, and send it again until its answer arrives (section
+ * 7.2.4). To know when to send it again, use stunp_agent of stunp_state.h or a timer of your own;
+ * or call stunp_ice_checks_start instead, which includes the timer. A buffer of STUNP_ICE_CHECK_MAX
+ * bytes is enough.
  *
  * `id` must be random and new, because the answer to a check could end another check with the same
  * ID. If the peer learns a new peer-reflexive candidate from this check, `priority` is the priority
@@ -1527,8 +1531,9 @@ int64_t stunp_ice_checker_receive_with(stunp_ice_checker *checker,
  *     signature is wrong; and with a 420 if it has an attribute that must be understood but is not.
  *     If the check states that the peer has the same role as this agent, the agent with the larger
  *     tie-breaker gets the controlling role (section 7.3.1.1). If the tie-breakers are equal, this
- *     agent's tie-breaker counts as the larger. Then either this agent switches its role, or it
- *     answers the check with a 487.
+ *     agent's tie-breaker counts as the larger. If this agent does not have the role that follows
+ *     from this, it switches its role. Otherwise it answers the check with a 487, which asks the
+ *     peer to switch.
  *   - A response is dropped if it does not answer `check`, or is not signed by the peer. Otherwise
  *     it ends the check. After a 487 this agent has the opposite of the role in which the check was
  *     sent (section 7.2.5.1).
@@ -1538,7 +1543,7 @@ int64_t stunp_ice_checker_receive_with(stunp_ice_checker *checker,
  * `received` may be null if you need only the returned kind.
  *
  * Returns a stunp_kind: STUNP_DROPPED, _ANSWER, _IS_INDICATION or _IS_RESPONSE. Errors, which leave
- * the agent and its role as they were, and after which `received->kind` is STUNP_FAILED:
+ * the agent unchanged, and after which `received->kind` is STUNP_FAILED:
  *   STUNP_EMPTY_HANDLE      the handle is empty
  *   STUNP_WRONG_HANDLE      the handle has no agent
  *   STUNP_BAD_ARGUMENT      `received->size` is wrong, or `from` or the address in `check` is not
@@ -1600,8 +1605,8 @@ STUNP_USE_RESULT
 STUNP_INLINED uint64_t stunp_ice_pair_priority(uint32_t controlling, uint32_t controlled);
 
 /* The timers of consent on a selected pair (RFC 7675, section 5.1): you send a check every 4 to 6
- * seconds, and consent ends if no check is answered for 30 seconds. These checks also keep the path
- * open.
+ * seconds, and consent ends when no check has been answered for 30 seconds. These checks also keep
+ * the path open.
  *
  *     stunp_ice_consent consent = stunp_ice_consent_from(now, random); // the pair is selected
  *     // In the loop:
@@ -1656,16 +1661,17 @@ STUNP_INLINED uint64_t stunp_ice_consent_until(const stunp_ice_consent *consent,
  * A client has one server, and any number of requests at the same time. Use a client in one thread
  * at a time.
  *
- * With long-term credentials the client sends a request as at most one message that is not signed,
- * and as one signed message for each challenge that it answers. Each message has its own
- * transaction ID. Only the last message is sent again, but a response that is signed with the key
- * of any of these messages ends the request, unless the response is a challenge. Any other response
- * counts only if it answers the last message:
+ * With long-term credentials, a request has at most one unsigned message, and one signed message
+ * for each challenge that the client answers. Each message has its own transaction ID. One of them
+ * is the current message, and only this message is sent and retransmitted, until another message
+ * takes its place. But a response to any of these messages ends the request if it is signed with
+ * the key of that message, unless the response is a challenge. Any other response counts only if it
+ * answers the current message:
  *
- *   - A challenge for which the last message is not signed: the client answers it with a message
+ *   - A challenge for which the current message is not signed: the client answers it with a message
  *     that is signed for this challenge. But the client drops a challenge that is weaker than an
  *     earlier challenge that a success response has confirmed (STUNP_DROP_WEAKER_CHALLENGE).
- *   - A challenge for which the last message is already signed: the client drops it
+ *   - A challenge for which the current message is already signed: the client drops it
  *     (STUNP_DROP_REFUSED), and sends the message again when its timer is due. If the challenge
  *     arrives once more after that, the request ends. Over a stream, where nothing is sent again,
  *     the request ends when the challenge first arrives.
@@ -1711,18 +1717,18 @@ enum { STUNP_BODY_MAX = 60000 };
  *                       of the user name if the server accepts hashes; STUNP_REQUIRED ignores
  *                       challenges of a server that does not accept hashes; STUNP_DISABLED always
  *                       sends the name
- *   challenges          how often the client may replace the message of a request by another
- *                       message, because of a challenge or an unsigned error. By default 6 times.
- *                       After that, the next challenge ends the request with
- *                       STUNP_RESULT_UNAUTHORIZED, and the next unsigned error is dropped. A
- *                       restart of the server, a new address of the client, an expired nonce and a
- *                       forged challenge each count as one replacement. A wrong password ends a
- *                       request earlier. If the server repeats the nonce for which the request is
- *                       signed, the request ends at the second refusal, or at the first refusal
- *                       over a stream. If the server sends another nonce each time, the request
- *                       ends at the third 401 with another nonce. So the first request of a client
- *                       with a wrong password takes three datagrams if the nonce is repeated, of
- *                       which the last two are equal, and four datagrams otherwise
+ *   challenges          how often another message of a request may take the place of the current
+ *                       one, because of a challenge or an unsigned error. By default 6 times. After
+ *                       that, the next challenge ends the request with STUNP_RESULT_UNAUTHORIZED,
+ *                       and the next unsigned error is dropped. A restart of the server, a new
+ *                       address of the client, an expired nonce and a forged challenge each count
+ *                       as one replacement. A wrong password ends a request earlier. If the server
+ *                       repeats the nonce for which the request is signed, the request ends at the
+ *                       second refusal (over a stream, at the first). If the server sends a new
+ *                       nonce each time, the request ends at the third 401 with a new nonce. So if
+ *                       the server repeats the nonce, the first request of a client with a wrong
+ *                       password takes three datagrams, and the last two of them are equal.
+ *                       Otherwise it takes four datagrams
  *   initial             how long to wait after the first transmission of a request, in nanoseconds.
  *                       Each further wait is twice the wait before (section 6.2.1). By default
  *                       500000000 (500 ms)
@@ -1738,10 +1744,10 @@ enum { STUNP_BODY_MAX = 60000 };
  *                       which is 79 s by default, or at the first call of
  *                       stunp_endpoint_client_poll after that
  *   is_stream           whether messages go over a stream, such as TCP. Each message is then sent
- *                       once, and the client waits for the response as long as it would over UDP.
- *                       Split the stream with stunp_next_frame, or with stunp_next_turn_frame if it
- *                       also has ChannelData, and pass one whole message to each call of
- *                       stunp_endpoint_client_receive
+ *                       once, and the client waits for the response as long as it would wait over
+ *                       UDP. Split the stream with stunp_next_frame, or with stunp_next_turn_frame
+ *                       if the stream also has ChannelData, and pass one whole message to each call
+ *                       of stunp_endpoint_client_receive
  *   accepts_unsigned    with long-term credentials: whether the client accepts an unsigned response
  *                       to an unsigned message. By default it does not, so the requests of a client
  *                       with a user time out at a server that does not ask for credentials. If you
@@ -1821,7 +1827,8 @@ typedef enum stunp_result {
     STUNP_RESULT_NOT_UNDERSTOOD = 6, /* the response has an attribute that the client must
                                       * understand, but does not (section 6.3.3). The field
                                       * `not_understood` of stunp_event has the attribute's type */
-    STUNP_RESULT_MALFORMED = 7,      /* the response is an error response without a code */
+    STUNP_RESULT_MALFORMED = 7,      /* the response is an error response without a well-formed
+                                      * code */
     STUNP_RESULT_CANCELLED = 8       /* you have called stunp_endpoint_client_cancel */
 } stunp_result;
 
@@ -1838,10 +1845,10 @@ typedef struct {
 } stunp_dropped;
 
 /* What to do next. The line of a field names the kinds or the results for which the field is set.
- * For others the field is 0. After an error `kind` is STUNP_NO_EVENT and `length` is 0. After
- * STUNP_BUFFER_TOO_SMALL the other fields are those of the event whose bytes are lost: if a request
- * has ended, `result` and `request` are set, and otherwise `result` is 0. If `size` is wrong, only
- * `kind` and `length` are written.
+ * For all other kinds and results the field is 0. After an error `kind` is STUNP_NO_EVENT and
+ * `length` is 0. After STUNP_BUFFER_TOO_SMALL the other fields describe the event whose bytes are
+ * lost: if a request has ended, `result` and `request` are set, and otherwise `result` is 0. If
+ * `size` is wrong, only `kind` and `length` are written.
  *
  *   size            sizeof (stunp_event), set by STUNP_INIT once, before the loop
  *   kind            what to do
@@ -2001,7 +2008,7 @@ STUNP_READS(3, 4)
 STUNP_INLINED int64_t stunp_body_add(stunp_body *body, uint32_t type, const void *value,
                                      size_t length);
 
-/* Adds an attribute whose value is a number of `size` bytes in network order, like stunp_body_add.
+/* Adds an attribute with a number of `size` bytes in network order, like stunp_body_add.
  *
  * Returns 0, or the first error of any call with this body. Errors:
  *   STUNP_BAD_ARGUMENT  `size` is not 1, 2, 4 or 8, or the number does not fit into `size` bytes
@@ -2062,9 +2069,9 @@ int64_t stunp_endpoint_client_request_with(stunp_endpoint_client *client, uint32
  * the number of the request to `*request`: 0 for the first request of this client, and one more for
  * each further request. The pointer `request` may be null.
  *
- * The attributes of the body are tested one after the other. The first attribute that is refused
- * decides whether the call returns the second STUNP_BAD_ARGUMENT, STUNP_NOT_ALLOWED or the first
- * STUNP_MESSAGE_TOO_LONG of the list below.
+ * The attributes of the body are tested one after the other. For the first attribute that is
+ * refused, the call returns one of three errors of the list below: the second STUNP_BAD_ARGUMENT,
+ * STUNP_NOT_ALLOWED, or the first STUNP_MESSAGE_TOO_LONG.
  *
  * Returns 0. Errors:
  *   the error of the body, if a call with this body has failed
@@ -2080,8 +2087,8 @@ int64_t stunp_endpoint_client_request_with(stunp_endpoint_client *client, uint32
  *                              writes itself; XOR-MAPPED-ADDRESS or XOR-RELAYED-ADDRESS, whose
  *                              values depend on the transaction ID; or ERROR-CODE, which no request
  *                              has
- *   STUNP_MESSAGE_TOO_LONG     the attributes have more than STUNP_BODY_MAX bytes, if each
- *                              STUNP_XOR_PEER_ADDRESS counts as 24 bytes
+ *   STUNP_MESSAGE_TOO_LONG     the attributes have more than STUNP_BODY_MAX bytes, counting 24 for
+ *                              each STUNP_XOR_PEER_ADDRESS
  *   STUNP_ALREADY_IN_PROGRESS  no transaction ID is left
  *   STUNP_MESSAGE_TOO_LONG     the request does not fit into a message
  *   STUNP_OUT_OF_MEMORY        an allocation failed. The call may return this in place of any error
@@ -2100,7 +2107,7 @@ int64_t stunp_endpoint_client_request_as_with(stunp_endpoint_client *client, uin
                                               const stunp_request_options *options, uint64_t now,
                                               uint64_t *request);
 
-/* Starts a request like stunp_endpoint_client_request, but with options that say how it is sent,
+/* Starts a request like stunp_endpoint_client_request, but with options, which say how it is sent,
  * and from which address its response comes. The options are copied. `options` must not be null.
  *
  * Returns 0. Errors:
@@ -2125,10 +2132,11 @@ int64_t stunp_endpoint_client_receive_with(stunp_endpoint_client *client, const 
  * stunp_endpoint_client_poll after this call, to learn what to do next. The result means the
  * following:
  *
- *   - STUNP_NOT_OURS: the datagram is not for this client. It is not a STUN message, but for
- *     example ChannelData or media; it is a request, or a response to no outstanding request; or it
- *     does not come from the right address, which is the server's, unless it is a response to a
- *     request whose options name another address. Pass it to the next client on the socket.
+ *   - STUNP_NOT_OURS: the datagram is not for this client, so pass it to the next client on the
+ *     socket. It is not a STUN message, but for example ChannelData or media; or it is a request;
+ *     or it is a response, but to no outstanding request; or it does not come from the server's
+ *     address. (If the options of a request name another address, its response must come from that
+ *     address instead.)
  *   - STUNP_IS_INDICATION: the datagram is an indication from the server. It is not authenticated,
  *     and the client has checked neither its FINGERPRINT nor its attributes.
  *   - STUNP_IS_RESPONSE: the datagram is a response to a request of this client. Either the
@@ -2137,10 +2145,10 @@ int64_t stunp_endpoint_client_receive_with(stunp_endpoint_client *client, const 
  *     which.
  *   - STUNP_DROPPED: the datagram is a response to a request of this client, but is not accepted.
  *     The call writes the reason to `*why`, unless `why` is null. The request continues. If an
- *     allocation fails, the response is dropped with STUNP_DROP_OUT_OF_MEMORY. If the client sends
- *     another message of a request and has no memory to store the earlier message, it forgets the
- *     earlier message, and returns STUNP_NOT_OURS for a response to it. stunp_endpoint_client_poll
- *     and stunp_endpoint_client_cancel do not allocate.
+ *     allocation fails, the response is dropped with STUNP_DROP_OUT_OF_MEMORY. If another message
+ *     of a request becomes the current one, and there is no memory to store the earlier message,
+ *     the client forgets the earlier message, and the call returns STUNP_NOT_OURS for a response to
+ *     it. stunp_endpoint_client_poll and stunp_endpoint_client_cancel do not allocate.
  *
  * An IPv4 address and the same address mapped into IPv6 (::ffff:a.b.c.d) count as one address.
  *
@@ -2202,9 +2210,9 @@ STUNP_INLINED bool stunp_endpoint_client_try_cancel(stunp_endpoint_client *clien
                                                     uint64_t request);
 
 /* Writes to `*dropped` how many responses to an outstanding request were dropped, and why the last
- * of these responses was dropped. Call it before you cancel the request, because the client forgets
- * this information when the request ends. If the request times out, the event has this information.
- * `dropped` must not be null.
+ * of them was dropped. Call it before you cancel the request, because the client forgets this
+ * information when the request ends. If the request times out, the stunp_event contains this
+ * information. `dropped` must not be null.
  *
  * Returns 1, or 0 if the request has ended already. In a condition an error would count as true:
  * compare the result with 1. Errors:
@@ -2237,7 +2245,7 @@ int64_t stunp_ice_checker_check_body_with(stunp_ice_checker *checker, const uint
 /* Writes a check like stunp_ice_checker_check, with the attributes of `body` in their order before
  * its signature, or without further attributes if `body` is null. A buffer of STUNP_ICE_CHECK_MAX
  * bytes plus the length of the body is enough. The peer refuses the check with a 420 if it does not
- * know a type below 0x8000.
+ * know the type of one of these attributes, and this type is below 0x8000.
  *
  *     uint8_t attributes[8], bytes[STUNP_ICE_CHECK_MAX + sizeof attributes];
  *     stunp_body body = stunp_body_on(attributes, sizeof attributes);
@@ -2274,12 +2282,12 @@ STUNP_INLINED int64_t stunp_ice_checker_check_body(stunp_ice_checker *checker,
 
 /* ---- Checks of ICE with their timers
  *
- * A stunp_ice_checks stores the outstanding checks of an agent: for each check, when it is sent
- * again, when it times out, and between which addresses it is sent. It uses memory that you pass,
- * and does not allocate. Each check that you start ends exactly once: in stunp_ice_checks_receive,
- * if its answer arrives; in stunp_ice_checks_poll, if no answer arrives in time; or in
- * stunp_ice_checks_cancel. You choose the order and the pace of new checks, which is at most one
- * every 50 ms (section 14.2).
+ * A stunp_ice_checks stores the outstanding checks of an agent. For each check it has the time at
+ * which the check is sent again, the time at which it times out, and the addresses between which it
+ * is sent. It uses memory that you pass, and does not allocate. Each check that you start ends
+ * exactly once: in stunp_ice_checks_receive, if its answer arrives; in stunp_ice_checks_poll, if no
+ * answer arrives in time; or in stunp_ice_checks_cancel. You choose the order and the pace of new
+ * checks, which is at most one every 50 ms (section 14.2).
  *
  *     // Sends what is due. `send` sends from an address of this agent to one of the peer.
  *     void send_checks(stunp_ice_checks *checks, uint64_t now,
@@ -2335,8 +2343,8 @@ typedef struct {
  *   from           the base of the local candidate: the address of its socket, or, if the candidate
  *                  is relayed, the relayed address. It must equal the address that you pass to
  *                  stunp_ice_checks_receive as `at` for a datagram that arrives at this candidate.
- *                  So for a socket that is bound to all addresses, you may use any one of these
- *                  addresses
+ *                  So for a socket that is bound to all addresses of a machine, you may use any one
+ *                  of these addresses
  *   to             the address of the remote candidate
  *   priority       the priority of the peer-reflexive candidate that the peer may learn from this
  *                  check (section 7.1.1), from stunp_ice_priority
@@ -2418,9 +2426,10 @@ STUNP_NOT_NULL(1, 2)
 STUNP_INLINED int64_t stunp_ice_checks_start(stunp_ice_checks *checks,
                                              const stunp_ice_new_check *check, uint64_t now);
 
-/* Judges the datagram that arrived at the address `at` of this agent from the address `from`, like
- * stunp_ice_checker_receive, with the outstanding check that has the datagram's transaction ID. If
- * the call returns STUNP_ANSWER, send the answer from the address `at` to the address `from`.
+/* Judges a datagram like stunp_ice_checker_receive, with the outstanding check that has the
+ * datagram's transaction ID. The datagram arrived at the address `at` of this agent, from the
+ * address `from`. If the call returns STUNP_ANSWER, send the answer from the address `at` to the
+ * address `from`.
  *
  * The answer to a check must come from the address to which the check was sent, and arrive at the
  * address from which the check was sent. If the peer's answer took another path, the check fails
@@ -2469,7 +2478,7 @@ STUNP_INLINED const stunp_ice_check *stunp_ice_checks_find(const stunp_ice_check
 STUNP_USE_RESULT STUNP_NOT_NULL(1)
 STUNP_INLINED size_t stunp_ice_checks_outstanding(const stunp_ice_checks *checks);
 
-/* Stops sending a check again, but its answer still ends the check. Call it for a check that is no
+/* Stops retransmitting a check, but its answer still ends the check. Call it for a check that is no
  * longer needed, for example because a triggered check replaces it (section 7.3.1.4). If no answer
  * arrives, the check still times out when it would have timed out before. Returns true, or false if
  * no outstanding check has this ID. */
@@ -2506,7 +2515,8 @@ STUNP_INLINED bool stunp_ice_checks_cancel(stunp_ice_checks *checks, const uint8
  *                      has no extensions
  *   extensions_length  the length of the extensions, in bytes
  *   address            the address to which the peer sends checks
- *   related            the base of a reflexive candidate, or the mapped address of a relayed one */
+ *   related            the base of a reflexive candidate, or the mapped address of a relayed
+ *                      candidate */
 typedef struct {
     stunp_ice_candidate_kind kind;
     uint8_t component;
@@ -2570,8 +2580,8 @@ STUNP_INLINED int64_t stunp_ice_candidate_write(const stunp_ice_candidate *candi
 
 /* ---- Keepalives
  *
- * An allocation, a permission, a channel and the path through a NAT end unless something is sent in
- * time. A stunp_keepalive has the time at which to send something. It sends nothing itself, and is
+ * An allocation, a permission, a channel and the path through a NAT all end unless something is
+ * sent in time. A stunp_keepalive stores when to send something. It sends nothing itself, and is
  * plain data. Times are nanoseconds of the clock that you pass to a client.
  *
  *     // After a STUNP_ALLOCATE or STUNP_REFRESH request has succeeded with this lifetime:

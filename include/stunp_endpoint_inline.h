@@ -87,8 +87,8 @@ STUNP_INLINED void stunp_endpoint_users_free(stunp_endpoint_users *users) {
     if (users != NULL) stunp_endpoint_users_clear(users);
 }
 
-/* Copies the caller's struct to `all`, which has the size of this release. Returns whether it has a
- * user: a name, and a password that is not empty or, without a password, a key. */
+/* Copies the caller's struct to `all`, which has the size of this release. Returns whether the
+ * struct has a user: a name, and a password that is not empty or, without a password, a key. */
 static inline bool stunp_is_found(const stunp_found_user *found, stunp_found_user *all) {
     if (!STUNP_HAS_SIZE(stunp_found_user, sha256_key, found->size)) return false;
     memcpy(all, found, found->size);

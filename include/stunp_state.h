@@ -1,8 +1,8 @@
 /* stunp_state.h: STUN (RFC 8489) with state, for C, C++ and Rust
  *
  * Most programs need only stunp_endpoint.h, which contains the loops of a client and of a server.
- * stunp.h reads and writes single messages. This header adds what must be remembered between
- * messages, in four objects:
+ * stunp.h reads and writes single messages. This header adds what must be stored between messages,
+ * in four objects:
  *
  *   stunp_agent   sends requests, retransmits them, and reports when they time out
  *   stunp_server  authenticates clients by user name and password (long-term credentials)
@@ -15,9 +15,9 @@
  * stunp_sign and stunp_verify of stunp.h.
  *
  * To begin, copy the complete client (`ask`) or the complete server (`judge` and `serve`) below.
- * examples/c/udp_client.c does the same as `ask` with a socket and the client of stunp_endpoint.h,
- * which contains the loop of `ask`. For a server that stores nothing about its clients, see
- * stunp_endpoint.h. A section number without an RFC means RFC 8489.
+ * examples/c/udp_client.c does the same as `ask` over a socket, but with the client of
+ * stunp_endpoint.h, which contains such a loop. For a server that stores nothing about its clients,
+ * see stunp_endpoint.h. A section number without an RFC means RFC 8489.
  *
  *
  * Linking
@@ -81,7 +81,7 @@
  * - If a handle has an object of another type, because a pointer was cast, a _new call fails with
  *   STUNP_FULL_HANDLE, and a _free call does nothing. Any other call fails with STUNP_WRONG_HANDLE
  *   before it looks at anything else. Calls also refuse a handle that was never initialized, unless
- *   its memory happens to begin with the number of the type.
+ *   its memory happens to begin with the right `kind`.
  * - Do not write to the fields, and do not declare a handle const. In this header const means that
  *   the handle is the same after a call as before it, and not that the call only reads the handle.
  *   Each call writes to the handle twice: at its start the call takes the object out of the handle,
@@ -121,7 +121,7 @@
  * Time and random numbers
  *
  * No call reads a clock, a socket or a source of random numbers. A time is a number of nanoseconds
- * since a start that you choose once for each handle. It must not run backwards, so use
+ * since a start time that you choose once for each handle. Times must not run backwards, so use
  * CLOCK_MONOTONIC. Random numbers are arguments too, and must be unpredictable, for example from
  * getrandom.
  *
@@ -203,9 +203,9 @@
  *         }
  *     }
  *
- * This client drops unsigned responses as forged. A server that does not ask for credentials sends
- * unsigned responses, so do not use a stunp_client with such a server. The client of
- * stunp_endpoint.h contains this loop, and you can also create that client without a user.
+ * This client drops unsigned responses, because they may be forged. A server that does not ask for
+ * credentials sends unsigned responses, so do not use a stunp_client with such a server. The client
+ * of stunp_endpoint.h contains this loop, and you can also create that client without a user.
  *
  * docs/PARTS.md of the repository gives the reason for each step. Call stunp_agent_poll_transmit
  * before stunp_agent_poll, because only the former advances the timers.
@@ -213,8 +213,8 @@
  *
  * A server
  *
- * This server answers each user of its realm with the address from which it sees the user. `serve`
- * writes the response to a datagram and returns its length: send it if that is above 0.
+ * This server answers each user of its realm with the address from which the request arrived.
+ * `serve` writes the response to a datagram and returns its length: send it if that is above 0.
  * docs/PARTS.md of the repository gives the steps, and the reason for each.
  *
  * Set the server up with stunp_server_new, stunp_server_set_algorithms and stunp_server_add_user.
@@ -222,7 +222,8 @@
  * is known. It returns 200, or the code of an error: 400 if the request is malformed, or 420 if it
  * has attributes that you do not know (stunp_unknown_types). It returns 0 to drop the request, for
  * example because of its method. A TURN server adds its own attributes to a success response.
- * examples/c/udp_server.c shows the sockets and epoll around a server, but over stunp_endpoint.h.
+ * examples/c/udp_server.c shows the sockets and epoll around a server, but around a server of
+ * stunp_endpoint.h.
  *
  *     // Returns the algorithm with which a request is authentic (stunp_is_authentic), or the error
  *     // that says how to refuse it.
@@ -312,8 +313,8 @@ extern "C" {
  *
  * A program without these functions does not link with the proved archive. The exported libstunp.a
  * and libstunp.so then use malloc, or the functions that the program passes to stunp_set_memory
- * (stunp.h), which is the simpler way to give them an allocator. If the program has only one or two
- * of the three, each call that allocates fails with STUNP_OUT_OF_MEMORY.
+ * (stunp.h), which is the simpler way to replace malloc. If the program has only one or two of the
+ * three, each call that allocates fails with STUNP_OUT_OF_MEMORY.
  *
  * The exported libraries find the three functions in any object file of the program, in whatever
  * order it is linked. But they refer to the functions weakly, and a linker takes no object file
@@ -374,7 +375,7 @@ typedef struct stunp_server { uint32_t kind; void *state; } stunp_server;
 typedef struct stunp_client { uint32_t kind; void *state; } stunp_client;
 
 /* A handle to a prepared user: the keys of one user for the realm and the algorithms of a server.
- * You pass it with each message of this user. Initialize it with {0}; stunp_user_new or
+ * Pass it with each message of this user. Initialize it with {0}; stunp_user_new or
  * stunp_user_new_of_keys fills it, and stunp_user_free empties it. Use it in only one thread at a
  * time. Do not write to the fields. */
 typedef struct stunp_user { uint32_t kind; void *state; } stunp_user;
@@ -393,8 +394,7 @@ typedef enum stunp_naming {
                         * 14.4) */
 } stunp_naming;
 
-/* The results of stunp_agent_poll and stunp_client_validate that are above zero and not an
- * algorithm. */
+/* The positive results of stunp_agent_poll and stunp_client_validate that are not an algorithm. */
 typedef enum stunp_ending {
     /* results of stunp_agent_poll */
     STUNP_TIMED_OUT = 1, /* a request has ended: no response arrived in time */
@@ -419,13 +419,13 @@ typedef enum stunp_ending {
  *   transmissions  how often the request is sent over UDP, including the first time (Rc in the
  *                  RFC). 0 counts as 1
  *
- * Over TCP a request is sent once, and the agent waits for the response as long as it would over
- * UDP in total.
+ * Over TCP a request is sent once, and the agent waits for the response as long as it would wait
+ * over UDP in total.
  *
  * A call that takes timeouts fails
  *   with STUNP_BAD_ARGUMENT if `size` is wrong; it then reads no other field;
  *   with STUNP_NO_WAIT, over TCP too, if `transmissions` is above 1 and `initial` or `longest` is
- *   0, because all transmissions, up to UINT32_MAX, would be due at the same time.
+ *   0, because all transmissions (up to UINT32_MAX of them) would be due at the same time.
  * If `initial` and `longest` are above 0, at most one transmission of a request is due at any
  * time. */
 typedef struct {
@@ -443,8 +443,9 @@ typedef struct {
 /* The counters of an agent, which stunp_agent_statistics writes.
  *
  *   size                    sizeof (stunp_statistics). Set it before the call
- *   .._sent                 messages passed to stunp_agent_send_request and stunp_agent_send. A
- *                           request counts once, however often it is retransmitted
+ *   .._sent                 messages that were passed to stunp_agent_send_request and
+ *                           stunp_agent_send. A request counts once, however often it is
+ *                           retransmitted
  *   .._received             messages for which stunp_agent_handle returned 1
  *   transactions_timed_out, transactions_cancelled
  *                           requests that ended without a response
@@ -624,7 +625,7 @@ STUNP_USE_RESULT STUNP_WRITES(3, 4) STUNP_NOT_NULL(1, 5)
 int64_t stunp_agent_poll_transmit(stunp_agent *agent, uint64_t now, uint8_t *out, size_t room,
                                   stunp_address *to);
 
-/* Reports a request that has ended without a response, or how long you may sleep.
+/* Reports a request that has ended without a response, or the time until which you may sleep.
  *
  * Call stunp_agent_poll_transmit first, until it returns 0, because only that call advances the
  * timers. A loop that does not call stunp_agent_poll_transmit never retransmits and never times
@@ -887,7 +888,7 @@ int64_t stunp_server_remove_user(stunp_server *server, const char *name, size_t 
  *                              are not those that this address was offered. A message that names no
  *                              algorithms counts as naming HMAC-SHA1
  *   STUNP_UNAUTHORIZED         (answer 401) the nonce is not the current one, and its security bits
- *                              were changed
+ *                              differ from those of the current nonce
  *   STUNP_STALE_NONCE          (answer 438) the nonce is not the current one
  *   STUNP_UNAUTHORIZED         (answer 401) the user is unknown, the server does not support the
  *                              algorithm, or the signature is wrong
@@ -972,7 +973,7 @@ STUNP_INLINED void stunp_write_server_sign(stunp_writer *writer, stunp_server *s
 
 /* ---- Servers: messages with users in a database
  *
- * These calls are for servers that do not add all their users with stunp_server_add_user. Call
+ * These calls are for servers that do not add all of their users with stunp_server_add_user. Call
  * stunp_server_named_user to learn which user a message names, look that user up, and pass the
  * user's password or stored keys with the message. Users that were added to the server are ignored.
  *
@@ -994,8 +995,8 @@ STUNP_INLINED void stunp_write_server_sign(stunp_writer *writer, stunp_server *s
  * Each of these calls makes the keys of the user again. If one user sends many messages, as a TURN
  * client does, prepare the user once (stunp_user_new below). */
 
-/* Determines with which user's key a message from the address `from` will be verified, so that you
- * can look that user up:
+/* Finds the user with whose key a message from the address `from` will be verified, so that you can
+ * look that user up:
  *
  *   - for a request or an indication, the user of the last visible USERHASH, or of the last visible
  *     USERNAME if there is no USERHASH. A message with USERHASH names nobody if the server does not
@@ -1412,13 +1413,13 @@ int64_t stunp_client_set_credentials(stunp_client *client, const char *name, siz
 /* Sets the algorithms that the client supports: STUNP_SHA1, STUNP_SHA256, or
  * STUNP_SHA1 | STUNP_SHA256. They take effect when the client accepts its next 401.
  *
- * If that 401 has a list of algorithms, the client uses the first algorithm of the list that is set
- * here. But if the nonce of the 401 has no security bits, the client can use only STUNP_SHA1. And
- * if the 401 has no list, and its nonce has security bits but not *Password algorithms*, the client
- * uses STUNP_SHA1 even if it is not set here.
+ * If that 401 has a list of algorithms, the client uses the first algorithm in this list that it
+ * supports. But if the nonce of the 401 has no security bits, the client can use only STUNP_SHA1.
+ * And if the 401 has no list, and its nonce has security bits but not *Password algorithms*, the
+ * client uses STUNP_SHA1 even if it does not support it.
  *
- * So STUNP_SHA256 alone does not protect you from a downgrade, because an attacker can forge such a
- * 401. To refuse STUNP_SHA1, see stunp_client_signing_algorithm.
+ * So a client that supports only STUNP_SHA256 is not protected from a downgrade, because an
+ * attacker can forge such a 401. To refuse STUNP_SHA1, see stunp_client_signing_algorithm.
  *
  * Returns 0. Errors:
  *   STUNP_EMPTY_HANDLE, STUNP_WRONG_HANDLE
@@ -1491,8 +1492,8 @@ STUNP_INLINED void stunp_write_client_sign(stunp_writer *writer, const stunp_cli
  *     if (stunp_is_resend(verdict) && stunp_client_signing_algorithm(&client) == STUNP_SHA1)
  *         return STUNP_UNSUPPORTED_FEATURE;
  *
- * Returns STUNP_SHA1 or STUNP_SHA256; or 0 if the client has not accepted a challenge yet, so that
- * it would not sign. Errors:
+ * Returns STUNP_SHA1 or STUNP_SHA256; or 0 if the client has not accepted a challenge yet, and so
+ * would not sign. Errors:
  *   STUNP_EMPTY_HANDLE, STUNP_WRONG_HANDLE */
 STUNP_USE_RESULT STUNP_NOT_NULL(1)
 int64_t stunp_client_signing_algorithm(const stunp_client *client);
@@ -1518,7 +1519,7 @@ int64_t stunp_client_signing_algorithm(const stunp_client *client);
  *       the signature is valid. The response may be a success or a signed error
  *   STUNP_RESEND, STUNP_RESEND_SHA1, STUNP_RESEND_SHA256 (stunp_is_resend)
  *       sign a new request, with a new ID, and send it. STUNP_RESEND_SHA1 and STUNP_RESEND_SHA256
- *       mean that the 401 or 438 itself was signed with the previous key
+ *       mean that the 401 or 438 itself was signed with the key that the client had before
  * Errors:
  *   STUNP_EMPTY_HANDLE, STUNP_WRONG_HANDLE
  *   STUNP_TRUNCATED, STUNP_NOT_STUN, STUNP_TOO_LARGE

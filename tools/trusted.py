@@ -26,9 +26,9 @@ HEADLINE = [("Rattle.stun_proto.specs.Headline", name) for name in
 HEADLINE += [("Rattle.stun_proto.specs." + file, name) for file, name in
              (("Replies", "message_read"), ("Serving", "replies"), ("Run", "IsDriven"))]
 ENDPOINTS = {
-    "A server of datagrams: `endpoint::Server` and its like": ("stun_endpoint",),
-    "A client: `endpoint::Client`": ("stun_client_calls",),
-    "A check of ICE: `endpoint::ice`": ("stun_ice",),
+    "The servers: `endpoint::Server`, `ShortTermServer`, `OpenServer`": ("stun_endpoint",),
+    "The client: `endpoint::Client`": ("stun_client_calls",),
+    "The ICE agent: `endpoint::ice`": ("stun_ice",),
     "The calls for C": ("stun_c", "stun_state", "stun_c_endpoint"),
 }
 OF_LAWS = "The laws of items 1 to 3 of README"
@@ -46,12 +46,12 @@ FRONT = ("rust/src/endpoint.rs", "rust/src/endpoint/**/*.rs")
 KIT = ("rust/src/kit/**/*.rs",)
 # Each piece that no proof covers: its files, and which of its lines count.
 PIECES = {
-    "the front of the endpoints in Rust (`rust/src/endpoint`)": FRONT,
-    "the rest of the crate by hand (`rust/src`)": ("rust/src/**/*.rs",),
-    "the library under the exported sources (`rust/src/kit`)": KIT,
-    "the border to C by hand (`rust/capi/src`)": ("rust/capi/src/**/*.rs",),
-    "inline calls of the headers": ("include/*_inline.h", "include/stunp_sockaddr.h",
-                                    "include/stunp_log.h"),
+    "the hand-written Rust wrappers of the endpoints (`rust/src/endpoint`)": FRONT,
+    "the other hand-written code of the crate (`rust/src`)": ("rust/src/**/*.rs",),
+    "the hand-written library that the exported code uses (`rust/src/kit`)": KIT,
+    "the hand-written code at the border with C (`rust/capi/src`)": ("rust/capi/src/**/*.rs",),
+    "the inline calls of the headers": ("include/*_inline.h", "include/stunp_sockaddr.h",
+                                        "include/stunp_log.h"),
     "the wrappers for C++ (`stunp.hpp`)": ("include/stunp.hpp",),
     "the exporter (`tools/export`)": ("tools/export/*.py",),
 }
@@ -87,7 +87,7 @@ def of_laws(repository):
 
 def definitions():
     repository = Repository(".")
-    found = {"The three theorems, of calls":
+    found = {"The three theorems about the parts":
              repository.closure([repository.named[name] for name in HEADLINE])}
     found |= {name: closed(repository, crates) for name, crates in ENDPOINTS.items()}
     found[OF_LAWS] = of_laws(repository)

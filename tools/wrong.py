@@ -8,6 +8,7 @@
                                    if the record is of another toolchain
     tools/wrong.py --whole         says whether the record is of the files as they are
     tools/wrong.py --look          says which edits cannot be made in the files as they are
+    tools/wrong.py --grown COMMIT  takes edits over from the record of a commit, without trying them
     tools/wrong.py CRATE[/NAME] .. tries these
 
 The record, tests/wrong/RECORD, has a line for each edit that was tried and refused: its sum, with
@@ -18,6 +19,10 @@ edit: a proof cannot make a wrong body right. The line `kit:` names the toolchai
 tried by. WRONG_RECORD names another record: --gate writes target/gate/edits.record, where those of
 the record that stay are too. What is random is drawn by the sums of the edits, or by WRONG_SEED,
 and the seed is printed.
+
+An item that was added to what decides, and is no impl of a trait, makes no wrong body right: neither
+the body nor anything that it names has changed. So --grown takes over those edits that the record
+of the commit has, and whose sum has changed since for added items alone.
 
 An edit is a line `file: src/..`, and then pairs of lines `old: TEXT` and `new: TEXT`; further lines
 `file:` begin the pairs of other files. It is made in a copy of the crate: first the function or the
@@ -37,6 +42,7 @@ import concurrent.futures
 import functools
 import hashlib
 import itertools
+import json
 import os
 import random
 import re
@@ -80,8 +86,9 @@ def name_of(edit):
 
 
 @functools.lru_cache(None)
-def line_of(edit):
-    """The line of the record for an edit as it is."""
+def parts_of(edit):
+    """What the sum of an edit is of: its text, the lines of crates.txt that it reads, and what decides
+    whether it is wrong, which begins with the files that it changes; and the number of these."""
     crate, text = edit.parent.name, edit.read_text()
     law = LAW.match(text)
     paths = {line[len("file: "):].strip() for line in text.splitlines() if line.startswith("file: ")}
@@ -89,7 +96,13 @@ def line_of(edit):
     read = [crates.lines()[one] for one in sorted(of)]
     decides = shown.decides(crate, crates.below(crate), paths, text,
                             (law[1], law[2], crates.below(law[1])) if law else None)
-    return f"{name_of(edit)} {hashlib.sha256(repr([text, read, decides]).encode()).hexdigest()[:32]}"
+    return [text, read, decides], len(paths)
+
+
+def line_of(edit):
+    """The line of the record for an edit as it is."""
+    summed = hashlib.sha256(repr(parts_of(edit)[0]).encode()).hexdigest()[:32]
+    return f"{name_of(edit)} {summed}"
 
 
 def known_lines():
@@ -347,6 +360,40 @@ def try_for_gate():
     return try_changed(found, at_random(found)[0], OF_GATE)
 
 
+def has_grown(before, now, count):
+    """Whether parts of an edit, of which `count` files are changed by it, differ from those before by
+    items alone that were added, none of which is an impl of a trait."""
+    added = collections.Counter(now[2]) - collections.Counter(before[2])
+    gone = collections.Counter(before[2]) - collections.Counter(now[2])
+    return (before[:2] == now[:2] and before[2][:count] == now[2][:count] and not gone
+            and not any(map(shown.OF_TRAIT.match, added)))
+
+
+def take_over(commit):
+    """Takes edits over from the record of a commit, and returns the status."""
+    with tempfile.TemporaryDirectory(prefix=f"wrong-{os.getpid()}-") as room:
+        archived = subprocess.run(["git", "-C", crates.TOP, "archive", commit], check=True,
+                                  stdout=subprocess.PIPE).stdout
+        subprocess.run(["tar", "-x", "-C", room], input=archived, check=True)
+        # Both sides are summed by the tools as they are now.
+        shutil.copytree(crates.TOP / "tools", f"{room}/tools", dirs_exist_ok=True)
+        told = subprocess.run([sys.executable, f"{room}/tools/wrong.py", "--parts"], check=True,
+                              stdout=subprocess.PIPE, text=True).stdout
+        tried = Path(room, "tests/wrong/RECORD").read_text().splitlines()
+    before = {name: parts for name, line, parts in json.loads(told) if line in tried}
+    now = {name_of(edit): [json.loads(json.dumps(parts)), count] for edit in changed()
+           for parts, count in [parts_of(edit)]}
+    taken = {name for name, (parts, count) in now.items()
+             if name in before and has_grown(before[name], parts, count)}
+    lines = {line_of(edit) for edit in every_edit()}
+    kept = [line for line in known_lines() if line in lines]
+    kept += [line_of(edit) for edit in every_edit() if name_of(edit) in taken]
+    kits = [line for line in known_lines() if line.startswith("kit: ")]
+    RECORD.write_text(HEAD + "".join(line + "\n" for line in [*kits, *sorted(kept)]))
+    print(f"wrong: {len(taken)} edits taken over from {commit}, {len(now) - len(taken)} to try")
+    return 0
+
+
 def look():
     """Prints which edits cannot be made, and returns the status."""
     count = wrong = 0
@@ -375,6 +422,12 @@ def main():
         return 1 if found else 0
     if words == ["--gate"]:
         return try_for_gate()
+    if words == ["--parts"]:
+        print(json.dumps([(name_of(edit), line_of(edit), parts_of(edit)[0])
+                          for edit in every_edit()]))
+        return 0
+    if words[:1] == ["--grown"] and len(words) == 2:
+        return take_over(words[1])
     if words in ([], ["--all"]):
         return try_changed(every_edit() if words else changed(), [], RECORD)
     is_shown = words[0] == "--show"

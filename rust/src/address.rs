@@ -1,5 +1,5 @@
 //! Attributes whose value is an address, each as a type of its own. The types with an XORed address
-//! take the [`TransactionId`] of this crate, which contains the transaction ID of the core.
+//! take the [`TransactionId`] of this crate, which wraps the transaction ID of the core.
 
 use crate::exported::stun_types::attribute::{
     self as proved, Attribute, AttributeFromRaw, AttributeStaticType, AttributeType, RawAttribute,
@@ -42,7 +42,7 @@ macro_rules! hidden_address {
 
             /// Like `addr`, but returns an address `::ffff:a.b.c.d` as the IPv4 address `a.b.c.d`.
             /// Compare this address with lists of networks, and not the result of `addr`, because
-            /// `::ffff:127.0.0.1` is in no IPv4 network.
+            /// the form `::ffff:127.0.0.1` is in no IPv4 network.
             pub fn canonical_addr(&self, id: TransactionId) -> SocketAddr {
                 $crate::extra::canonical(self.0.addr(id.0))
             }
@@ -83,7 +83,7 @@ macro_rules! plain_address {
 
             /// Like `addr`, but returns an address `::ffff:a.b.c.d` as the IPv4 address `a.b.c.d`.
             /// Compare this address with lists of networks, and not the result of `addr`, because
-            /// `::ffff:127.0.0.1` is in no IPv4 network.
+            /// the form `::ffff:127.0.0.1` is in no IPv4 network.
             pub fn canonical_addr(&self) -> SocketAddr {
                 $crate::extra::canonical(self.0.addr())
             }

@@ -111,7 +111,7 @@ pub enum StunAgentPollRet {
 ///
 /// # Examples
 ///
-/// An agent that sends to one server only, gives up after 3 seconds, and counts what it does:
+/// An agent that sends only to one server, gives up after 3 seconds, and keeps statistics:
 ///
 /// ```
 /// use seatcrane_stun::agent::{StunAgent, StunError};
@@ -156,7 +156,7 @@ impl StunAgentBuilder {
     /// The default is 500 ms, no upper bound, 7 transmissions and 8 s.
     ///
     /// Over TCP a request is sent once, and the agent waits for the response as long as it would
-    /// over UDP in total.
+    /// wait over UDP in total.
     ///
     /// If `initial` or `max` is zero, all transmissions are due at the same time.
     pub fn request_retransmits(
@@ -189,13 +189,13 @@ impl StunAgentBuilder {
 /// An agent can have any number of requests outstanding, to any number of servers or peers. The
 /// [module documentation](self) shows how to drive it.
 ///
-/// The agent also remembers the source address of every message that it accepted. It calls these
-/// addresses *validated peers*. The list grows until you call
+/// The agent also stores the source address of every message that it accepted. These addresses are
+/// called *validated peers*. The list grows until you call
 /// [`forget_validated_peer`](StunAgent::forget_validated_peer), so limit the number of strangers
 /// whose messages you pass to the agent.
 ///
-/// An agent does not verify signatures. Use the [authenticators](crate::auth) to find out whether
-/// to believe a message.
+/// An agent does not verify signatures. Use the [authenticators](crate::auth) to find out who sent
+/// a message.
 pub struct StunAgent(proved::StunAgent);
 
 impl fmt::Debug for StunAgent {
@@ -379,8 +379,8 @@ impl StunAgent {
 
     /// Removes an address from the validated peers.
     ///
-    /// Requests to that address stay outstanding. When the next message from it is accepted, the
-    /// address is added again.
+    /// Requests to that address stay outstanding. When the next message from that address is
+    /// accepted, the address is added again.
     pub fn forget_validated_peer(&mut self, address: SocketAddr) {
         self.0.forget_validated_peer(address);
     }
@@ -458,7 +458,8 @@ impl StunAgent {
         is_accepted
     }
 
-    /// Returns the outstanding request with this transaction ID, or `None` if there is none.
+    /// Returns the outstanding request with this transaction ID, or `None` if there is no such
+    /// request.
     pub fn request_transaction(&self, id: TransactionId) -> Option<StunRequest<'_>> {
         let request = self.0.request_transaction(id.0)?;
         let (peer_address, integrity) = (request.peer_address(), request.integrity());
@@ -470,7 +471,7 @@ impl StunAgent {
     }
 
     /// Returns a handle to the outstanding request with this transaction ID, or `None` if there is
-    /// none. Use it to cancel the request, or to change its timeouts.
+    /// no such request. Use it to cancel the request, or to change its timeouts.
     ///
     /// # Examples
     ///
@@ -533,7 +534,7 @@ impl StunAgent {
         }
     }
 
-    /// Returns the next retransmission that is due, or `None` if none is due.
+    /// Returns the next retransmission that is due, or `None` if no retransmission is due.
     ///
     /// Each call returns one request at most, so call until it returns `None`. When many requests
     /// are due at once, you may send some of them, read from your socket, and continue: no
@@ -554,7 +555,7 @@ impl StunAgent {
     }
 }
 
-/// Converts a `Transmit` of the core back to the caller's own type of bytes.
+/// Converts a `Transmit` of the core to one with the caller's type of bytes.
 fn lent<T: AsRef<[u8]>>(sent: proved::Transmit<Lent<T>>) -> Transmit<T> {
     Transmit::new(sent.data.0, sent.transport, sent.from, sent.to)
 }
@@ -616,7 +617,7 @@ impl StunRequest<'_> {
 ///
 /// # Examples
 ///
-/// Timeouts of a single request:
+/// Changing the timeouts of a single request:
 ///
 /// ```
 /// use seatcrane_stun::agent::StunAgent;
@@ -710,7 +711,7 @@ impl StunRequestMut<'_> {
     /// Like [`configure_timeout`](StunRequestMut::configure_timeout), with an upper bound on the
     /// waits between transmissions.
     ///
-    /// Waits of zero behave as described at [`StunAgentBuilder::request_retransmits`].
+    /// [`StunAgentBuilder::request_retransmits`] describes what waits of zero do.
     pub fn configure_timeout_with_max(
         &mut self,
         initial: Duration,

@@ -1,6 +1,6 @@
-//! The table of the further attributes. Each row has the name of the constant of `AttributeType`,
-//! the RFC, and a form, which is a macro. The arguments of the form are the name of the type and,
-//! for some forms, the name of its value. The comment above a row becomes the page of the type. The
+//! The table of the further attributes. Each row has the name of a constant of `AttributeType`, the
+//! RFC, and a form, which is a macro. The arguments of the form are the name of the type and, for
+//! some forms, the name of its value. The comment above a row becomes the page of the type. The
 //! numbers are those of the proved sources.
 //!
 //! The table generates the types of [`extra::attribute`](crate::extra::attribute), the constants of
@@ -80,7 +80,7 @@ table! {
     /// use seatcrane_stun::types::message::Message;
     /// use std::net::SocketAddr;
     ///
-    /// /// Returns the address that a server saw, also that of an old server.
+    /// /// Returns the address that the server saw, even if the server is an old one.
     /// fn mapped(success: &Message<'_>) -> Option<SocketAddr> {
     ///     let old = || Some(success.attribute::<MappedAddress>().ok()?.addr());
     ///     success.xor_mapped_address().ok().or_else(old)
@@ -96,8 +96,8 @@ table! {
     UNKNOWN_ATTRIBUTES, "UNKNOWN-ATTRIBUTES (RFC 8489, section 14.13)":
         own_attribute(UnknownAttributes, unknown);
 
-    /// SOFTWARE (RFC 8489, section 14.14): a description of the software that the sender uses, in
-    /// UTF-8 of at most 763 bytes.
+    /// SOFTWARE (RFC 8489, section 14.14): a description of the sender's software, at most 763
+    /// bytes of UTF-8.
     ///
     /// # Examples
     ///
@@ -455,8 +455,8 @@ table! {
     CONNECTION_ID, "CONNECTION-ID (RFC 6062, section 6.2.1)":
         number_attribute(ConnectionId, number, connection: u32, "the number of the connection");
 
-    /// MOBILITY-TICKET (RFC 8016, section 3.3): the ticket with which a TURN server recognizes an
-    /// allocation when its client has a new address. To ask for a ticket, a client sends an empty
+    /// MOBILITY-TICKET (RFC 8016, section 3.3): the ticket by which a TURN server recognizes the
+    /// allocation of a client that has a new address. To ask for a ticket, a client sends an empty
     /// MOBILITY-TICKET.
     ///
     /// # Examples
@@ -538,8 +538,7 @@ table! {
     /// use seatcrane_stun::extra::attribute::EcnCheck;
     /// use seatcrane_stun::types::message::{Message, StunParseError};
     ///
-    /// /// Returns the ECN field that the request had when it arrived, if the response says
-    /// /// it.
+    /// /// Returns the ECN field with which the request arrived, if the response states it.
     /// fn echoed(success: &Message<'_>) -> Result<Option<u32>, StunParseError> {
     ///     let bits = success.attribute::<EcnCheck>()?.bits();
     ///     Ok((bits & 1 == 1).then_some(bits >> 1 & 3))

@@ -1,6 +1,6 @@
-//! Message authentication (RFC 8489, section 9): who signed a message?
+//! Message authentication (RFC 8489, section 9): finding out who signed a message.
 //!
-//! STUN has two mechanisms. The protocol that uses STUN decides which of them applies.
+//! STUN has two mechanisms for this. The protocol that uses STUN decides which of them applies.
 //!
 //! - **Short-term credentials**: both sides share a password that is valid for one session. ICE
 //!   uses them. [`ShortTermAuth`] signs and verifies.
@@ -121,8 +121,8 @@ macro_rules! debug {
 /// section 9.1).
 ///
 /// Short-term credentials also have a USERNAME. This type neither writes nor reads it: add it
-/// before you sign, and compare it yourself when a message arrives. Until then you know that the
-/// sender has the password, but not for which session the message was meant.
+/// before you sign, and compare it yourself when a message arrives. Without this comparison you
+/// know that the sender has the password, but not for which session the message was meant.
 ///
 /// # Examples
 ///
@@ -252,13 +252,13 @@ impl ShortTermAuth {
     /// If the message has MESSAGE-INTEGRITY-SHA256, only that attribute is checked. Otherwise
     /// MESSAGE-INTEGRITY is checked.
     ///
-    /// Returns `Ok(None)` if no credentials were set, because nothing was checked then. Do not
-    /// mistake it for a valid signature.
+    /// Returns `Ok(None)` if no credentials were set, because then nothing was checked. Do not
+    /// mistake this result for a valid signature.
     ///
     /// # Errors
     ///
     /// - [`ValidateError::Parse`]: the message has no integrity attribute (`MissingAttribute`), or
-    ///   its length is wrong (`InvalidAttributeData`).
+    ///   the attribute has a wrong length (`InvalidAttributeData`).
     /// - [`ValidateError::IntegrityFailed`]: the signature was not made with this password.
     pub fn validate_incoming_message(
         &mut self,
@@ -349,7 +349,7 @@ impl Default for LongTermClientAuth {
 impl LongTermClientAuth {
     /// Creates a client without credentials.
     ///
-    /// It supports HMAC-SHA1 only, and sends the user name as a hash if the server accepts that
+    /// It supports only HMAC-SHA1, and sends the user name as a hash if the server accepts hashes
     /// ([`Feature::Auto`]).
     #[must_use]
     pub fn new() -> LongTermClientAuth {
@@ -454,7 +454,7 @@ impl LongTermClientAuth {
     ///   message already has a signature, or an attribute of the type to add.
     /// - [`StunWriteError::TooLarge`]: the message would be too long, or the user name has more
     ///   than 513 bytes.
-    /// - [`StunWriteError::TooSmall`]: the writer has no room.
+    /// - [`StunWriteError::TooSmall`]: the writer has no room for these attributes.
     /// - [`StunWriteError::OutOfMemory`]: an allocation failed.
     pub fn sign_outgoing_message<W: MessageWrite>(
         &mut self,
@@ -590,8 +590,8 @@ debug!(LongTermServerAuth);
 impl LongTermServerAuth {
     /// Creates a server for a realm, without users.
     ///
-    /// It supports HMAC-SHA1 only, accepts hashed user names ([`Feature::Auto`]), and its nonces
-    /// are valid for one hour.
+    /// It supports only HMAC-SHA1, accepts hashed user names ([`Feature::Auto`]), and makes nonces
+    /// that are valid for one hour.
     ///
     /// A realm longer than 763 bytes is accepted here, but then no response can be signed. Keep it
     /// short, because it is part of every challenge, and the server sends a challenge to anybody
@@ -643,7 +643,7 @@ impl LongTermServerAuth {
     /// Removes a user. Requests that name this user are refused from now on.
     ///
     /// If the user is still the client of an address, messages to that address cannot be signed
-    /// until you call [`remove_client`](Self::remove_client) for it.
+    /// until you call [`remove_client`](Self::remove_client) for this address.
     pub fn remove_user(&mut self, user: &str) {
         self.proved.remove_user(user);
     }
@@ -806,9 +806,9 @@ impl LongTermServerAuth {
     /// [`Validated`](LongTermServerValidation::Validated), whatever its error code: a client drops
     /// an unsigned response to a signed request, and waits until its request times out. Pass the
     /// 401 and the 438 of a refused request to this call too, because they need the nonce and the
-    /// realm. Only the 400 to a request that this server refused with
-    /// [`BadRequest`](LongTermServerAuthErrorReason::BadRequest) is sent without this call (RFC
-    /// 8489, section 9.2.4).
+    /// realm. Only if this server refused a request with
+    /// [`BadRequest`](LongTermServerAuthErrorReason::BadRequest), send the 400 without this call
+    /// (RFC 8489, section 9.2.4).
     ///
     /// # Errors
     ///
@@ -820,7 +820,7 @@ impl LongTermServerAuth {
     ///   message already has a signature, or an attribute of the type to add.
     /// - [`StunWriteError::TooLarge`]: the message would be too long, or the realm has more than
     ///   763 bytes.
-    /// - [`StunWriteError::TooSmall`]: the writer has no room.
+    /// - [`StunWriteError::TooSmall`]: the writer has no room for these attributes.
     /// - [`StunWriteError::IntegrityFailed`]: the client's user was removed, or its algorithm is no
     ///   longer supported.
     /// - [`StunWriteError::OutOfMemory`]: an allocation failed.
@@ -880,9 +880,9 @@ impl LongTermServerAuth {
     /// The user is then the [`client`](Self::client) of the address. A response is validated if its
     /// signature is valid under the key of that client.
     ///
-    /// If the address has no current nonce, a new one is made, from sixteen random numbers. This
-    /// happens for a message without an integrity attribute, and for a message that has REALM,
-    /// NONCE and a user name.
+    /// If the address has no current nonce, a new nonce is made from sixteen random numbers, but
+    /// only for a message without an integrity attribute, or for a message that has REALM, NONCE
+    /// and a user name.
     ///
     /// # Errors
     ///
@@ -894,7 +894,7 @@ impl LongTermServerAuth {
     /// | `Unauthorized` | there is no well-formed integrity attribute | 401 |
     /// | `BadRequest` | REALM, NONCE or the user name is missing | 400 |
     /// | `BadRequest` | the algorithms disagree with the offer | 400, or 438 (see below) |
-    /// | `Unauthorized` | the nonce is not current, and its security bits differ | 401 |
+    /// | `Unauthorized` | neither the nonce nor its security bits are the current ones | 401 |
     /// | `StaleNonce` | the nonce is not current | 438 |
     /// | `Unauthorized` | the user is unknown or has no key, or the signature is wrong | 401 |
     ///
@@ -912,7 +912,7 @@ impl LongTermServerAuth {
     ///
     /// # Examples
     ///
-    /// Choosing the code that a request is answered with, where 200 stands for a success:
+    /// Choosing the code with which a request is answered, where 200 stands for a success:
     ///
     /// ```
     /// use seatcrane_stun::auth::LongTermServerAuthErrorReason as Reason;
@@ -1009,7 +1009,7 @@ impl LongTermServerAuth {
         judged(message, verdict)
     }
 
-    /// Returns the user whose key a message will be verified with, so that you can look that user
+    /// Returns the user with whose key a message will be verified, so that you can look that user
     /// up in a database.
     ///
     /// - For a request or an indication, this is the user of the last visible USERHASH, or of the
@@ -1104,18 +1104,19 @@ impl LongTermServerAuth {
         self.proved.user_verifies(name, algorithm, &message.0)
     }
 
-    /// Returns the nonce that is made of 16 random numbers, with the security bits of the current
-    /// settings (RFC 8489, section 9.2). It has at most 29 bytes.
+    /// Returns a nonce that is made of these 16 random numbers and has the security bits of the
+    /// current settings (RFC 8489, section 9.2). It has at most 29 bytes.
     ///
-    /// [`judge`](Self::judge) takes such a nonce, and [`add_challenge`](Self::add_challenge) writes
-    /// it into a response. A server that stores no nonces derives the numbers from a secret, the
-    /// address of the client and the time, because anybody who can predict them can predict nonces.
+    /// Pass such a nonce to [`judge`](Self::judge), and to [`add_challenge`](Self::add_challenge),
+    /// which writes it into a response. A server that stores no nonces derives the numbers from a
+    /// secret, the address of the client and the time, because anybody who can predict them can
+    /// predict nonces.
     pub fn nonce_of_words(&self, words: &[u32; 16]) -> String {
         String::from(granted(self.proved.nonce_of_words(words)).as_str())
     }
 
-    /// Judges a request or an indication under the nonce that you pass, as if all supported
-    /// algorithms had been offered with it.
+    /// Judges a request or an indication as if the nonce that you pass were the current one, and
+    /// all supported algorithms had been offered with it.
     ///
     /// The call reads no record of an address and stores none, so threads can share a server whose
     /// nonces are a function of the address and the time, made by
@@ -1132,8 +1133,8 @@ impl LongTermServerAuth {
     ///
     /// # Security
     ///
-    /// Pass a nonce that `nonce_of_words` made, because a message under a nonce without the
-    /// security bit *Password algorithms* is judged with HMAC-SHA1 even if the server supports
+    /// Pass a nonce that `nonce_of_words` made. If a nonce lacks the security bit *Password
+    /// algorithms*, a message with this nonce is judged with HMAC-SHA1 even if the server supports
     /// HMAC-SHA256.
     ///
     /// # Errors
@@ -1144,8 +1145,8 @@ impl LongTermServerAuth {
     ///   integrity attribute.
     /// - [`BadRequest`](VerdictRefusal::BadRequest) (answer 400): REALM, NONCE or the user name is
     ///   missing, or the algorithms are not those that the server supports. If the message has
-    ///   another nonce than `nonce`, answer 438, because its sender repeats an old offer, and would
-    ///   treat an unsigned 400 as forged.
+    ///   another nonce than `nonce`, answer 438 instead, because the sender repeats algorithms that
+    ///   it was offered with an earlier nonce, and would treat an unsigned 400 as forged.
     /// - [`Unauthorized`](VerdictRefusal::Unauthorized) (answer 401): the message has another
     ///   nonce, whose security bits differ from those of `nonce`.
     /// - [`StaleNonce`](VerdictRefusal::StaleNonce) (answer 438): the message has another nonce
@@ -1188,7 +1189,7 @@ impl LongTermServerAuth {
     /// is `user`.
     ///
     /// The server's own users are ignored. If `user` is the user whom [`named_in`](Self::named_in)
-    /// returned, the verdict is the same as that of a server that has all users. If your database
+    /// returned, the verdict is the same as that of a server with all your users. If your database
     /// has no such user, call [`judge`](Self::judge) on a server without users, which refuses the
     /// message like a message that names an unknown user.
     ///
@@ -1205,13 +1206,12 @@ impl LongTermServerAuth {
         judged(message, accepted.map(Accepted))
     }
 
-    /// Adds to a response the attributes that a client needs to sign its next request under a
-    /// nonce: NONCE, REALM and, if the nonce has the security bit *Password algorithms*,
-    /// PASSWORD-ALGORITHMS with the supported algorithms, the strongest first (RFC 8489, section
-    /// 9.2.4).
+    /// Adds to a response the attributes that a client needs to sign its next request with a nonce
+    /// (RFC 8489, section 9.2.4): NONCE, REALM and, if the nonce has the security bit *Password
+    /// algorithms*, PASSWORD-ALGORITHMS with the supported algorithms, the strongest first.
     ///
-    /// Call it for a 401 or a 438 of a server that stores no nonces, with the nonce under which you
-    /// will [`judge`](Self::judge) the next request. Nothing is signed, and the records of
+    /// Call it for a 401 or a 438 of a server that stores no nonces, with the nonce that you will
+    /// pass to [`judge`](Self::judge) for the next request. Nothing is signed, and the records of
     /// addresses are neither read nor changed.
     ///
     /// # Errors
@@ -1224,7 +1224,7 @@ impl LongTermServerAuth {
     ///   message already has a signature, or an attribute of the type to add.
     /// - [`StunWriteError::TooLarge`]: the message would be too long, or the nonce or the realm has
     ///   more than 763 bytes.
-    /// - [`StunWriteError::TooSmall`]: the writer has no room.
+    /// - [`StunWriteError::TooSmall`]: the writer has no room for these attributes.
     /// - [`StunWriteError::OutOfMemory`]: an allocation failed.
     ///
     /// # Examples
@@ -1287,8 +1287,8 @@ impl LongTermServerAuth {
     /// rng.fill_bytes(bytes)`.
     ///
     /// The server's own users are ignored. If `user` is the user whom
-    /// [`named_user`](Self::named_user) returned, the verdict is the same as that of a server that
-    /// has all users. If your database has no such user, call
+    /// [`named_user`](Self::named_user) returned, the verdict is the same as that of a server with
+    /// all your users. If your database has no such user, call
     /// [`validate_incoming_message_with_rng`](Self::validate_incoming_message_with_rng) on a server
     /// without users.
     ///
@@ -1318,8 +1318,8 @@ impl LongTermServerAuth {
     /// your own.
     ///
     /// The server's own users are ignored. If `user` is the user whom
-    /// [`named_user`](Self::named_user) returned, the verdict is the same as that of a server that
-    /// has all users. If your database has no such user, call
+    /// [`named_user`](Self::named_user) returned, the verdict is the same as that of a server with
+    /// all your users. If your database has no such user, call
     /// [`validate_incoming_message_with_words`](Self::validate_incoming_message_with_words) on a
     /// server without users.
     ///

@@ -13,8 +13,8 @@ use core::fmt;
 /// Derives the long-term key of a user in a realm (RFC 8489, section 9.2.2): 16 bytes for `Sha1`,
 /// 32 bytes for `Sha256`.
 ///
-/// The texts are used without preparation: apply OpaqueString (RFC 8265, section 4.2) yourself.
-/// This does not allocate.
+/// The texts are used without preparation: apply OpaqueString (RFC 8265, section 4.2) yourself. The
+/// call does not allocate.
 ///
 /// A database can store these keys instead of passwords: see
 /// [`StoredKeys`](crate::auth::StoredKeys).
@@ -123,7 +123,7 @@ impl ShortTermCredentials {
         ShortTermCredentials(proved::ShortTermCredentials::new(text(password)).into())
     }
 
-    /// Returns the credentials of the core that `new` made.
+    /// Returns the core's credentials, which `new` made.
     fn kept(&self) -> &proved::ShortTermCredentials {
         match &self.0 {
             Proved::ShortTerm(kept) => kept,
@@ -253,7 +253,7 @@ pub struct LongTermKeyCredentials(Proved);
 credentials!(LongTermKeyCredentials);
 
 impl LongTermKeyCredentials {
-    /// Returns the credentials of the core that `LongTermCredentials::to_key` made.
+    /// Returns the core's credentials, which `LongTermCredentials::to_key` made.
     fn kept(&self) -> &proved::LongTermKeyCredentials {
         match &self.0 {
             Proved::LongTerm(kept) => kept,

@@ -44,7 +44,9 @@
 //! ```
 
 use crate::exported::stun_client_endpoint::ended;
-use crate::exported::stun_endpoint::received;
+use crate::exported::stun_auth::auth::AlgorithmSet;
+use crate::exported::stun_endpoint::{received, server as core_server};
+use crate::exported::stun_types::message::IntegrityAlgorithm;
 use core::fmt;
 
 mod batch;
@@ -68,7 +70,7 @@ pub mod ice;
 
 pub use crate::exported::stun_endpoint::received::Refusal;
 pub use crate::exported::stun_endpoint::server::{
-    BuildError, Cause, DEFAULT_NONCE_LIFETIME, SHORTEST_NONCE_LIFETIME,
+    Cause, DEFAULT_NONCE_LIFETIME, SHORTEST_NONCE_LIFETIME,
 };
 pub use crate::exported::stun_endpoint::unix_time::UnixTime;
 pub use batch::Answers;
@@ -104,10 +106,69 @@ pub mod types {
     pub use crate::types::{ICE, TURN};
 }
 
+/// Why a server was not built.
+///
+/// # Examples
+///
+/// ```
+/// use seatcrane_stun::endpoint::{BuildError, LongTerm, Server};
+///
+/// # let secret = [1; 32]; // yours must be random
+/// let settings = LongTerm::new("example.org", secret).algorithms(&[]);
+/// let built = Server::builder(settings).build();
+/// assert_eq!(built.err(), Some(BuildError::NoAlgorithm));
+/// ```
+#[derive(Clone, Copy, Debug, PartialEq, Eq, Hash)]
+#[non_exhaustive]
+pub enum BuildError {
+    /// The realm has more than 763 bytes, so no response could carry it.
+    RealmTooLong,
+    /// The text of SOFTWARE has more than 763 bytes, so no response could carry it.
+    SoftwareTooLong,
+    /// The nonce lifetime is less than 30 seconds.
+    NonceLifetime,
+    /// The list of algorithms is empty.
+    NoAlgorithm,
+    /// An allocation failed.
+    OutOfMemory,
+}
+
+impl fmt::Display for BuildError {
+    fn fmt(&self, f: &mut fmt::Formatter<'_>) -> fmt::Result {
+        f.write_str(match self {
+            BuildError::RealmTooLong => "the realm has more than 763 bytes",
+            BuildError::SoftwareTooLong => "the text of SOFTWARE has more than 763 bytes",
+            BuildError::NonceLifetime => "a nonce lasts for less than 30 seconds",
+            BuildError::NoAlgorithm => "the list of algorithms is empty",
+            BuildError::OutOfMemory => "out of memory",
+        })
+    }
+}
+
+impl core::error::Error for BuildError {}
+
+impl From<core_server::BuildError> for BuildError {
+    fn from(why: core_server::BuildError) -> BuildError {
+        match why {
+            core_server::BuildError::RealmTooLong => BuildError::RealmTooLong,
+            core_server::BuildError::SoftwareTooLong => BuildError::SoftwareTooLong,
+            core_server::BuildError::NonceLifetime => BuildError::NonceLifetime,
+            core_server::BuildError::OutOfMemory => BuildError::OutOfMemory,
+        }
+    }
+}
+
+/// Returns the set of the algorithms in a list, or `None` if the list is empty.
+fn set_of(list: &[IntegrityAlgorithm]) -> Option<AlgorithmSet> {
+    let (first, others) = list.split_first()?;
+    let set = AlgorithmSet::only(*first);
+    Some(others.iter().fold(set, |set, other| set.with(*other)))
+}
+
 /// Returns 32 random bytes from the operating system, for the seed of a [`Client`], the secret of a
 /// server with [`LongTerm`] credentials, or the password and the tie-breaker of an agent of
-/// [`ice`]. Call it again for each of these, because the password, for example, is sent to the
-/// peer, who must not learn a seed.
+/// [`ice`]. Call it once for each of these, because the password, for example, is sent to the peer,
+/// who must not learn a seed.
 ///
 /// # Panics
 ///
@@ -133,7 +194,7 @@ pub fn random_seed() -> [u8; 32] {
 }
 
 impl UnixTime {
-    /// Returns the current time, or the beginning of 1970 if the clock says that it is earlier.
+    /// Returns the current time, or the beginning of 1970 if the clock is set to an earlier time.
     #[cfg(feature = "std")]
     #[cfg_attr(docsrs, doc(cfg(feature = "std")))]
     #[must_use]
@@ -274,18 +335,19 @@ pub enum DropReason {
     /// Or it is a 401 or a 438, signed or not, whose list of algorithms is so long that the request
     /// would not fit in a message.
     UnanswerableChallenge,
-    /// The datagram is a 401 or a 438 that is weaker than a challenge with which a request has
-    /// succeeded. It offers only a weaker algorithm, or it does not allow hashed names although
-    /// that challenge did.
+    /// The datagram is a 401 or a 438 that is weaker than an earlier challenge for which a signed
+    /// request has succeeded. It offers only a weaker algorithm, or it does not allow hashed names
+    /// although the earlier challenge did.
     WeakerChallenge,
     /// An allocation failed, or a client has no transaction ID left for another message of a
     /// request. The client continues to retransmit the request until it times out.
     OutOfMemory,
     /// The datagram has no FINGERPRINT, although the settings require one (RFC 8489, section 7.3).
     MissingFingerprint,
-    /// The datagram is a 401 or a 438 that arrived later than one plan after the request was
-    /// started (a plan takes 39.5 seconds by default; see [`Retransmission`]). The client no longer
-    /// answers challenges of this request, so that it ends within two plans.
+    /// The datagram is a 401 or a 438 that arrived after the end of the first plan of its request,
+    /// which is 39.5 seconds after the start of the request by default (see [`Retransmission`]).
+    /// The client no longer answers challenges to this request, so that the request ends within two
+    /// plans.
     LateChallenge,
     /// The datagram repeats the challenge for which the request is signed. The client retransmits
     /// the request when its timer fires. If the challenge arrives again after that, the request
@@ -294,6 +356,14 @@ pub enum DropReason {
     /// The datagram is a request or an indication with a method that you do not serve
     /// ([`ServerBuilder::methods`], [`ResponseSettings::methods`]; RFC 8489, section 6.3).
     OtherMethod,
+    /// The datagram is an indication without MESSAGE-INTEGRITY and MESSAGE-INTEGRITY-SHA256, or
+    /// without USERNAME before these, at a [`ShortTermServer`]. A request with the same attributes
+    /// would get a 400.
+    UnsignedIndication,
+    /// The datagram is an indication that no user has signed, at a [`ShortTermServer`]: USERNAME is
+    /// not the name of a user, or the signature is not made with the user's password. A request
+    /// with the same attributes would get a 401.
+    UnauthenticatedIndication,
 }
 
 impl DropReason {
@@ -311,10 +381,12 @@ impl DropReason {
         DropReason::LateChallenge,
         DropReason::Refused,
         DropReason::OtherMethod,
+        DropReason::UnsignedIndication,
+        DropReason::UnauthenticatedIndication,
     ];
 
     /// The number of reasons.
-    pub const COUNT: usize = 12;
+    pub const COUNT: usize = 14;
 
     /// Returns the index of this reason in [`ALL`](Self::ALL), for an array of counters.
     #[must_use]
@@ -338,6 +410,8 @@ impl DropReason {
             DropReason::LateChallenge => "LateChallenge",
             DropReason::Refused => "Refused",
             DropReason::OtherMethod => "OtherMethod",
+            DropReason::UnsignedIndication => "UnsignedIndication",
+            DropReason::UnauthenticatedIndication => "UnauthenticatedIndication",
         }
     }
 }
@@ -357,6 +431,8 @@ impl fmt::Display for DropReason {
             DropReason::LateChallenge => "its challenge arrived too late",
             DropReason::Refused => "it repeats the challenge for which its request is signed",
             DropReason::OtherMethod => "its method is not served",
+            DropReason::UnsignedIndication => "an indication is not signed, or names no user",
+            DropReason::UnauthenticatedIndication => "an indication is not signed by a user",
         })
     }
 }
@@ -369,6 +445,8 @@ impl From<received::DropReason> for DropReason {
             received::DropReason::WrongFingerprint => DropReason::WrongFingerprint,
             received::DropReason::MissingFingerprint => DropReason::MissingFingerprint,
             received::DropReason::UnknownAttribute => DropReason::UnknownAttribute,
+            received::DropReason::NotSigned(Refusal::BadRequest) => DropReason::UnsignedIndication,
+            received::DropReason::NotSigned(_) => DropReason::UnauthenticatedIndication,
         }
     }
 }

@@ -105,9 +105,9 @@ pub mod attribute {
 /// byte must be the first byte of a message.
 ///
 /// [`Frame::Need`] counts the bytes that the header lacks or, after a complete header, those that
-/// the message lacks. [`Frame::NotStun`] is returned as soon as one of these bytes shows that the
-/// stream is not STUN: the first, the fourth, or one of the magic cookie, which are the fifth to
-/// the eighth (section 5).
+/// the message lacks. [`Frame::NotStun`] is returned as soon as the first byte, the fourth byte, or
+/// a byte of the magic cookie (the fifth to the eighth byte) shows that the stream is not STUN
+/// (section 5).
 ///
 /// # Examples
 ///
@@ -128,8 +128,8 @@ pub fn next_frame(bytes: &[u8]) -> Frame {
 /// or of ChannelData.
 ///
 /// [`Frame::Message`] is ChannelData if the first byte is 0x40 to 0x7F, and then it counts the
-/// header of 4 bytes and the padding. RFC 8656 uses only channels that begin with 0x40 to 0x4F, and
-/// RFC 5766 uses all of them. [`Frame::NotStun`] is returned as soon as a byte shows that the
+/// header of 4 bytes and the padding. RFC 8656 uses only channels whose first byte is 0x40 to 0x4F.
+/// RFC 5766 uses all channels. [`Frame::NotStun`] is returned as soon as a byte shows that the
 /// stream is neither STUN nor ChannelData, as in [`next_frame`].
 ///
 /// # Examples
@@ -146,9 +146,9 @@ pub fn next_turn_frame(bytes: &[u8]) -> Frame {
     framing::next_turn_frame(bytes)
 }
 
-/// Finds the packet at the front of the bytes of a stream in which each packet comes after 2 bytes
-/// with its length, as ICE sends packets over TCP (RFC 4571, section 2). The first byte must be the
-/// first byte of a length.
+/// Finds the packet at the front of the bytes of a stream in which each packet follows 2 bytes that
+/// state its length, as ICE sends packets over TCP (RFC 4571, section 2). The first byte must be
+/// the first byte of a length.
 ///
 /// [`Frame::Message`] counts these 2 bytes too, and the packet may be empty. The call never returns
 /// [`Frame::NotStun`], because a packet may contain any bytes.
@@ -252,9 +252,9 @@ pub fn check_fingerprint(message: &Message<'_>) -> Fingerprint {
     fingerprint::check_fingerprint(&message.0)
 }
 
-/// Adds FINGERPRINT to a message, and finishes the writer, so that nothing can follow it.
+/// Adds FINGERPRINT to a message, and finishes the writer, so that nothing can follow FINGERPRINT.
 ///
-/// If you want to sign the message, do so first. Its signature stays valid.
+/// If you want to sign the message, sign it first. FINGERPRINT does not invalidate the signature.
 ///
 /// # Errors
 ///
@@ -288,9 +288,9 @@ pub fn finish_with_fingerprint<W: MessageWrite>(writer: W) -> Result<W::Output, 
     fingerprint::finish_with_fingerprint(with_header(writer)?)
 }
 
-/// Returns the types of the visible attributes that a receiver must understand (those below
-/// 0x8000), but that are not in `known`. Each type occurs once, in the order of the message (RFC
-/// 8489, section 6.3.1).
+/// Returns the types of the visible attributes that a receiver must understand but does not know:
+/// the types that are below 0x8000 and not in `known`. Each type occurs once, in the order of the
+/// message (RFC 8489, section 6.3.1).
 ///
 /// # Examples
 ///
@@ -311,7 +311,7 @@ pub fn unknown_types<'a>(message: &Message<'a>, known: &'a [AttributeType]) -> U
     unknown::unknown_types(&message.0, known)
 }
 
-/// Returns `true` if a message has a visible attribute that a receiver must understand, but whose
+/// Returns `true` if a message has a visible attribute that a receiver must understand and whose
 /// type is not in `known`. If the message is an indication, drop it (RFC 8489, section 6.3.2).
 ///
 /// # Examples
@@ -378,8 +378,8 @@ pub fn answer_unknown<W: MessageWrite>(
     unknown::answer_unknown(&request.0, known, writer)
 }
 
-/// Returns `true` if a response ends its request as failed, whatever else it contains (RFC 8489,
-/// sections 6.3.3 and 6.3.4).
+/// Returns `true` if a response makes its request fail, whatever else the response contains (RFC
+/// 8489, sections 6.3.3 and 6.3.4).
 ///
 /// A response does so if it has a visible attribute that the client must understand and whose type
 /// is not in `known`, or if it is an error response without ERROR-CODE.

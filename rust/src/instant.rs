@@ -5,7 +5,7 @@ use core::ops::{AddAssign, Sub, SubAssign};
 use core::time::Duration;
 
 impl Instant {
-    /// Returns the time elapsed since `start`, by the standard library's clock.
+    /// Returns the time that has elapsed since `start` on the standard library's clock.
     ///
     /// Choose one `start` for the whole program, so that all times can be compared.
     ///

@@ -7,11 +7,11 @@ use crate::exported::stun_types::message::{self as proved, IntegrityAlgorithm};
 use crate::kit::alloc::Global;
 use core::fmt;
 
-/// A key that messages are signed and verified with: the bytes of a password, or a hash that
+/// A key with which messages are signed and verified: the bytes of a password, or a hash that
 /// [`long_term_key`](crate::types::message::long_term_key) makes.
 ///
-/// Up to 32 bytes are stored in the key itself; a longer key is allocated. `Debug` shows none of
-/// it.
+/// Up to 32 bytes are stored in the value itself; a longer key is allocated. `Debug` does not show
+/// the key.
 ///
 /// # Examples
 ///
@@ -66,12 +66,12 @@ impl fmt::Debug for IntegrityKey {
     }
 }
 
-/// A key with the part of an HMAC that does not depend on the text, computed in advance for one
-/// algorithm (RFC 2104, section 4).
+/// A key, and the part of its HMAC that does not depend on the text, which is computed in advance
+/// for one algorithm (RFC 2104, section 4).
 ///
 /// An HMAC with that algorithm then hashes two blocks fewer than with the key alone. The key also
 /// works with the other algorithm, at the usual cost. Everything in a `PreparedKey` is as secret as
-/// the key, and `Debug` shows none of it.
+/// the key, so `Debug` does not show it.
 ///
 /// # Examples
 ///
@@ -132,13 +132,13 @@ impl fmt::Debug for PreparedKey {
     }
 }
 
-/// The user whom a request or an indication was accepted from, with the algorithm that both sides
-/// agreed on and the user's key for it.
+/// The user from whom a request or an indication was accepted, with the algorithm that both sides
+/// agreed on, and the user's key for this algorithm.
 ///
 /// It borrows from the server, from the user that was passed, or from the message. Sign the
 /// response with `key` and `algorithm`
 /// ([`add_message_integrity_with_prepared_key`](crate::types::prelude::MessageWriteExt::add_message_integrity_with_prepared_key)).
-/// `Debug` shows nothing of it, because it has a key.
+/// `Debug` does not show the contents, because they include a key.
 ///
 /// # Examples
 ///

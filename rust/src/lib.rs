@@ -66,7 +66,7 @@
 //! The event `received` has one of these verdicts. It has no `id` if the datagram has no STUN
 //! header.
 //!
-//! | Verdict | Of | Meaning |
+//! | Verdict | Recorded by | Meaning |
 //! |---|---|---|
 //! | *answered* | servers | the server wrote a success response |
 //! | *refused* | servers, ICE agents | the answer is an error with this `code`; `reason` is the name of the [`endpoint::Cause`], or the reason phrase if the server has no causes |
@@ -133,6 +133,6 @@ mod write;
 
 pub use exported::stun_base::instant::Instant;
 
-/// This module is empty, like `prelude` of the crate `stun-proto`. The traits of attributes and
-/// writers are in [`types::prelude`].
+/// An empty module, like `prelude` of the crate `stun-proto`. The traits of attributes and writers
+/// are in [`types::prelude`].
 pub mod prelude {}

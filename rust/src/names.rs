@@ -57,7 +57,7 @@ impl AttributeType {
     }
 }
 
-/// Further registered codes. The builder leaves their reason phrase empty unless you set one;
+/// Further registered codes. The builder leaves their reason phrases empty unless you set one;
 /// [`reason_phrase`](crate::extra::reason_phrase) returns the registered phrase.
 impl<'a> ErrorCode<'a> {
     /// 300: the client should try a different server.

@@ -1,8 +1,8 @@
 //! The macro for types of this crate that contain an attribute of the core.
 
 /// Implements the traits of attributes for a tuple struct around an attribute of the core. For any
-/// other struct, also pass an expression for the attribute of the core in a value of the struct,
-/// and a function that makes the struct from such an attribute.
+/// other struct, also pass an expression that gets the core's attribute from a value of the struct,
+/// and a function that makes the struct from an attribute of the core.
 macro_rules! forward_attribute {
     ($name:ident, $proved:ty) => {
         forward_attribute!($name, $proved, $name, 'a);

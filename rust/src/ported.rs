@@ -31,8 +31,9 @@ use core::cmp::Ordering;
 /// ```
 pub const MAGIC_COOKIE: u32 = 0x2112_A442;
 
-/// The attribute types that a STUN client or server must understand: those below 0x8000 of RFC 8489
-/// (section 18.3), for calls such as [`answer_unknown`](crate::extra::answer_unknown).
+/// The attribute types that a STUN client or server must understand: the types of RFC 8489 that are
+/// below 0x8000 (section 18.3). Pass them to calls such as
+/// [`answer_unknown`](crate::extra::answer_unknown).
 ///
 /// # Examples
 ///
@@ -61,8 +62,8 @@ pub const STUN: &[AttributeType] = &[
     AttributeType::XOR_MAPPED_ADDRESS,
 ];
 
-/// The attribute types that an ICE agent must understand: those of [`STUN`], and those below 0x8000
-/// of RFC 8445 (section 16.1).
+/// The attribute types that an ICE agent must understand: those in [`STUN`], and the types of RFC
+/// 8445 that are below 0x8000 (section 16.1).
 ///
 /// # Examples
 ///
@@ -77,22 +78,22 @@ pub const ICE: &[AttributeType] = &joined::<13>(
     &[AttributeType::PRIORITY, AttributeType::USE_CANDIDATE],
 );
 
-/// The attribute types that a TURN client or server must understand: those of [`STUN`], and those
-/// below 0x8000 of RFC 8656 (section 18).
+/// The attribute types that a TURN client or server must understand: those in [`STUN`], and the
+/// types of RFC 8656 that are below 0x8000 (section 18).
 ///
 /// A server that passes this list to
 /// [`understands`](crate::endpoint::ServerBuilder::understands) promises to do what each attribute
-/// asks for, because a request with one of them no longer gets a 420. These three ask for something
-/// that not every server does:
+/// asks for, because a request with one of them no longer gets a 420. Three of these attributes ask
+/// for something that not every server does:
 ///
 /// - DONT-FRAGMENT (section 18.9): the server sets the DF bit in the datagrams that it relays.
-/// - EVEN-PORT (section 18.7): the relayed address has an even port, and the server reserves the
-///   next port if the R bit of the attribute is set.
-/// - RESERVATION-TOKEN (section 18.10): the relayed address is the one that was reserved under this
-///   token.
+/// - EVEN-PORT (section 18.7): the server chooses a relayed address with an even port, and reserves
+///   the next port if the R bit of the attribute is set.
+/// - RESERVATION-TOKEN (section 18.10): the server uses the relayed address that it reserved under
+///   this token.
 ///
 /// Use [`does_not_understand`](crate::endpoint::ServerBuilder::does_not_understand) to leave out
-/// those that your server does not implement.
+/// the types that your server does not implement.
 ///
 /// # Examples
 ///
@@ -299,7 +300,7 @@ impl<'a> TryFrom<&'a [u8]> for RawAttribute<'a> {
 
 impl<'a> Message<'a> {
     /// Returns the first visible attribute of this type and its offset in the message, or `None` if
-    /// there is none. Its value is not parsed.
+    /// no such attribute is visible. The value is not parsed.
     #[must_use]
     pub fn raw_attribute_and_offset(
         &self,
@@ -318,7 +319,8 @@ impl<'a> Message<'a> {
     /// # Errors
     ///
     /// - [`StunParseError::MissingAttribute`]: no attribute of this type is visible.
-    /// - [`StunParseError::InvalidAttributeData`]: the first of these attributes is malformed.
+    /// - [`StunParseError::InvalidAttributeData`]: the first visible attribute of this type is
+    ///   malformed.
     ///
     /// # Examples
     ///
@@ -346,8 +348,8 @@ impl<'a> Message<'a> {
     ///
     /// The request is refused with the code 420 if it has a visible attribute whose type is below
     /// 0x8000 and not in `supported` (RFC 8489, section 6.3.1). Otherwise it is refused with the
-    /// code 400 if it lacks a visible attribute of one of the types in `required`. Returns `None`
-    /// if the request need not be refused.
+    /// code 400 if `required` contains a type of which no attribute is visible. Returns `None` if
+    /// the request need not be refused.
     ///
     /// # Panics
     ///
@@ -510,7 +512,7 @@ macro_rules! dyn_attribute {
 dyn_attribute!(Box<dyn DynAttribute + '_>);
 dyn_attribute!(&(dyn DynAttribute + '_));
 
-/// The bytes of a TCP connection on which each packet comes after 2 bytes with its length, as ICE
+/// The bytes of a TCP connection on which each packet follows 2 bytes that state its length, as ICE
 /// sends STUN and other packets over TCP (RFC 4571, section 2; RFC 6544).
 ///
 /// STUN and TURN do not send such lengths over TCP: use [`next_frame`](crate::extra::next_frame)
@@ -585,7 +587,7 @@ impl From<TcpBuffer> for Vec<u8> {
 }
 
 /// Fails with `AttributeExists` if the message ends with a FINGERPRINT, because nothing may follow
-/// it.
+/// a FINGERPRINT.
 pub(crate) fn not_after_fingerprint<W: MessageWrite>(writer: &W) -> Result<(), StunWriteError> {
     let message = writer.data();
     let has_its_head = message

@@ -4,9 +4,10 @@ use crate::kit::random::Rng;
 
 /// Random numbers from a function that fills a slice with random bytes.
 ///
-/// Calling this function can be costly, for example if it asks the operating system. So the first
-/// random number reads as many bytes as one call of the core can need, `LENGTH`, and a call that
-/// needs no random number reads nothing.
+/// Calling this function can be costly, for example if it asks the operating system. So when the
+/// core asks for its first random number, the function fills `LENGTH` bytes, which is as many as
+/// one call of the core can need. A call of the core that needs no random number does not call the
+/// function.
 pub(crate) struct Once<F: FnMut(&mut [u8]), const LENGTH: usize> {
     fill: F,
     bytes: [u8; LENGTH],
@@ -60,7 +61,8 @@ impl<F: FnMut(&mut [u8]), const LENGTH: usize> Rng for Once<F, LENGTH> {
     }
 }
 
-/// Fills a slice with random bytes of the operating system, and panics if the system provides none.
+/// Fills a slice with random bytes from the operating system, and panics if the system provides
+/// none.
 #[cfg(feature = "rand")]
 pub(crate) fn system(bytes: &mut [u8]) {
     getrandom::getrandom(bytes).expect("the operating system provides no random numbers");

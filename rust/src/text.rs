@@ -81,7 +81,7 @@ macro_rules! text_attribute {
 pub(crate) use text_attribute;
 
 text_attribute!(
-    /// USERNAME (RFC 8489, section 14.3): the name of a user, in UTF-8 of at most 513 bytes.
+    /// USERNAME (RFC 8489, section 14.3): the name of a user, at most 513 bytes of UTF-8.
     ///
     /// # Examples
     ///
@@ -106,7 +106,7 @@ text_attribute!(
 );
 
 text_attribute!(
-    /// REALM (RFC 8489, section 14.9): the realm of a server, in UTF-8 of at most 763 bytes.
+    /// REALM (RFC 8489, section 14.9): the realm of a server, at most 763 bytes of UTF-8.
     ///
     /// # Examples
     ///
@@ -125,7 +125,7 @@ text_attribute!(
 );
 
 text_attribute!(
-    /// NONCE (RFC 8489, section 14.10): the nonce of a server, in UTF-8 of at most 763 bytes.
+    /// NONCE (RFC 8489, section 14.10): the nonce of a server, at most 763 bytes of UTF-8.
     ///
     /// A nonce may begin with security bits, which
     /// [`NonceSecurityBits`](crate::auth::NonceSecurityBits) parses.

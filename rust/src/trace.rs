@@ -9,7 +9,7 @@ use core::fmt::Debug;
 #[cfg(feature = "tracing")]
 use tracing::field::DisplayValue;
 
-/// Records an event of the level DEBUG with the target `seatcrane_stun`.
+/// Records an event with the level DEBUG and the target `seatcrane_stun`.
 macro_rules! event {
     ($($words:tt)*) => {
         #[cfg(feature = "tracing")]

@@ -28,7 +28,7 @@ use core::fmt;
 pub struct TransactionId(pub(crate) proved::TransactionId);
 
 impl TransactionId {
-    /// Creates a random transaction ID, with random numbers of the operating system.
+    /// Creates a random transaction ID with random numbers from the operating system.
     ///
     /// # Panics
     ///

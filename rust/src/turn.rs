@@ -84,7 +84,7 @@ impl TurnMethod {
         }
     }
 
-    /// Converts to the [`Method`] that messages have.
+    /// Converts this method of TURN to a [`Method`].
     #[expect(clippy::missing_panics_doc, reason = "each number has 12 bits")]
     #[must_use]
     pub fn method(self) -> Method {
@@ -116,7 +116,7 @@ impl From<TurnMethod> for Method {
 }
 
 /// The methods of TURN (RFC 8656, section 17) and of TURN with TCP to the peers (RFC 6062, section
-/// 6.1). [`TurnMethod`] has them as an enum, to match on.
+/// 6.1). [`TurnMethod`] is an enum of the same methods, to match on.
 ///
 /// # Examples
 ///
@@ -195,9 +195,9 @@ impl<'a> Packet<'a> {
     }
 }
 
-/// Writes a Data indication into a buffer that you keep, replacing its contents. The indication
-/// carries data that came from a peer to the client (RFC 8656, section 11.3). An address
-/// `::ffff:a.b.c.d` is written as the IPv4 address `a.b.c.d`.
+/// Writes a Data indication into a buffer that you keep between indications, replacing its
+/// contents. The indication carries data that came from a peer to the client (RFC 8656, section
+/// 11.3). An address `::ffff:a.b.c.d` is written as the IPv4 address `a.b.c.d`.
 ///
 /// An indication is not answered, so its transaction ID need not be unpredictable, and may be a
 /// counter. [`Message::builder_indication`](crate::types::message::Message::builder_indication)
@@ -241,10 +241,10 @@ pub fn data_indication(
     indication(Method::DATA, id, peer, data, buffer)
 }
 
-/// Writes a Send indication into a buffer that you keep, replacing its contents. The indication
-/// carries data that the server relays to a peer (RFC 8656, section 11.1). It is not signed, so it
-/// needs no [`Client`], and its transaction ID may be a counter, as in [`data_indication`]. An
-/// address `::ffff:a.b.c.d` is written as the IPv4 address `a.b.c.d`.
+/// Writes a Send indication into a buffer that you keep between indications, replacing its
+/// contents. The indication carries data that the server relays to a peer (RFC 8656, section 11.1).
+/// It is not signed, so it needs no [`Client`], and its transaction ID may be a counter, as in
+/// [`data_indication`]. An address `::ffff:a.b.c.d` is written as the IPv4 address `a.b.c.d`.
 ///
 /// [`Client`]: crate::endpoint::Client
 ///
@@ -327,7 +327,7 @@ pub struct ChannelData<'a> {
     data: &'a [u8],
 }
 
-/// Shows how many bytes there are, and none of the bytes.
+/// Shows how many bytes there are, but not the bytes themselves.
 impl fmt::Debug for ChannelData<'_> {
     fn fmt(&self, f: &mut fmt::Formatter<'_>) -> fmt::Result {
         let (channel, length) = (self.channel, self.length);
@@ -351,10 +351,10 @@ impl<'a> ChannelData<'a> {
         })
     }
 
-    /// Reads a datagram, or a frame of a stream that
-    /// [`FrameBuffer::for_turn`](crate::endpoint::FrameBuffer::for_turn) has cut. Returns `None` if
-    /// it is not ChannelData, because its first byte is not from 0x40 to 0x7F, or if the data is
-    /// incomplete.
+    /// Reads ChannelData from a datagram, or from a frame of a stream that
+    /// [`FrameBuffer::for_turn`](crate::endpoint::FrameBuffer::for_turn) has split. Returns `None`
+    /// if the bytes are not ChannelData, because the first byte is not from 0x40 to 0x7F, or if the
+    /// data is incomplete.
     ///
     /// Bytes after the data are ignored, because a sender may pad the data (RFC 8656, section
     /// 12.5).
@@ -377,15 +377,15 @@ impl<'a> ChannelData<'a> {
         self.data
     }
 
-    /// Appends the header and the data to `bytes`, as a datagram has them.
+    /// Appends the header and the data to `bytes`, in the form for a datagram.
     pub fn write(&self, bytes: &mut Vec<u8>) {
         bytes.extend_from_slice(&self.channel.to_be_bytes());
         bytes.extend_from_slice(&self.length.to_be_bytes());
         bytes.extend_from_slice(self.data);
     }
 
-    /// Appends the header and the data to `bytes`, as a stream such as TCP has them: padded with
-    /// zero bytes to a multiple of 4 (RFC 8656, section 12.5).
+    /// Appends the header and the data to `bytes`, in the form for a stream such as TCP: padded
+    /// with zero bytes to a multiple of 4 (RFC 8656, section 12.5).
     pub fn write_padded(&self, bytes: &mut Vec<u8>) {
         self.write(bytes);
         let padding = self.data.len().next_multiple_of(4) - self.data.len();

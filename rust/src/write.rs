@@ -28,14 +28,14 @@ use core::ops::Deref;
 /// and sign it. A call that fails leaves the message unchanged.
 ///
 /// The writer must hold a message: start one with the builders of
-/// [`Message`](crate::types::message::Message). FINGERPRINT comes last, with
+/// [`Message`](crate::types::message::Message). Add FINGERPRINT last, with
 /// [`add_fingerprint`](MessageWriteExt::add_fingerprint): after it, every call that adds something
 /// fails with [`StunWriteError::AttributeExists`].
 ///
-/// On an empty writer these calls panic, with two exceptions.
-/// [`has_attribute`](MessageWriteExt::has_attribute) returns `false`, and a call still returns an
-/// error whose condition is tested before the length. In a build without overflow checks, such as a
-/// release build, [`add_attribute`](MessageWriteExt::add_attribute),
+/// On an empty writer these calls panic, with two exceptions:
+/// [`has_attribute`](MessageWriteExt::has_attribute) returns `false`, and a call that finds an
+/// error before it reads the length of the message returns this error. In a build without overflow
+/// checks, such as a release build, [`add_attribute`](MessageWriteExt::add_attribute),
 /// [`add_another_attribute`](MessageWriteExt::add_another_attribute),
 /// [`add_error_code`](MessageWriteExt::add_error_code) and the calls that sign fail with
 /// [`StunWriteError::TooLarge`] instead of panicking.
@@ -113,7 +113,7 @@ pub trait MessageWriteExt: MessageWrite + Sized {
     /// - [`StunWriteError::AttributeExists`]: the message has an attribute of this type.
     /// - [`StunWriteError::TooLarge`]: the message would have more than 65532 bytes after its
     ///   header.
-    /// - [`StunWriteError::TooSmall`]: the writer has no room.
+    /// - [`StunWriteError::TooSmall`]: the writer has no room for the attribute.
     /// - [`StunWriteError::OutOfMemory`]: an allocation failed.
     ///
     /// # Panics
@@ -168,7 +168,7 @@ pub trait MessageWriteExt: MessageWrite + Sized {
     /// - [`StunWriteError::MessageIntegrityExists`]: the message has an integrity attribute.
     /// - [`StunWriteError::TooLarge`]: the message would have more than 65532 bytes after its
     ///   header.
-    /// - [`StunWriteError::TooSmall`]: the writer has no room.
+    /// - [`StunWriteError::TooSmall`]: the writer has no room for the attribute.
     /// - [`StunWriteError::OutOfMemory`]: an allocation failed.
     ///
     /// # Panics
@@ -219,7 +219,7 @@ pub trait MessageWriteExt: MessageWrite + Sized {
     /// - [`StunWriteError::MessageIntegrityExists`]: the message has an integrity attribute.
     /// - [`StunWriteError::TooLarge`]: the message would have more than 65532 bytes after its
     ///   header.
-    /// - [`StunWriteError::TooSmall`]: the writer has no room.
+    /// - [`StunWriteError::TooSmall`]: the writer has no room for the attribute.
     /// - [`StunWriteError::OutOfMemory`]: an allocation failed.
     ///
     /// # Examples
@@ -263,7 +263,7 @@ pub trait MessageWriteExt: MessageWrite + Sized {
     /// - [`StunWriteError::MessageIntegrityExists`]: the message has an integrity attribute.
     /// - [`StunWriteError::TooLarge`]: the message would have more than 65532 bytes after its
     ///   header.
-    /// - [`StunWriteError::TooSmall`]: the writer has no room.
+    /// - [`StunWriteError::TooSmall`]: the writer has no room for the attribute.
     /// - [`StunWriteError::OutOfMemory`]: an allocation failed.
     fn add_message_integrity_with_key<K: AsRef<[u8]> + ?Sized>(
         &mut self,
@@ -319,7 +319,7 @@ pub trait MessageWriteExt: MessageWrite + Sized {
     }
 
     /// Adds FINGERPRINT (RFC 8489, section 14.7), after which nothing can be added. If you want to
-    /// sign the message, do so first. Its signature stays valid.
+    /// sign the message, sign it first. FINGERPRINT does not invalidate the signature.
     ///
     /// # Errors
     ///
@@ -397,8 +397,9 @@ impl<'w, W: MessageWrite> MessageWrite for Lent<'w, W> {
 /// Panics unless the message ends with this attribute, which must begin at the offset `at` and be
 /// complete.
 ///
-/// The attributes of this crate are proved to append exactly their own bytes. An attribute of a
-/// user's own type could append other bytes, so that a receiver would misread what follows it.
+/// The attributes of this crate are proved to append exactly their own bytes. An attribute whose
+/// type the user has defined could append other bytes, so that a receiver would misread the rest of
+/// the message.
 pub(crate) fn check_appended<A: Attribute>(message: &[u8], at: usize, attribute: &A) {
     let length = attribute.length();
     let [k0, k1] = attribute.get_type().value().to_be_bytes();
@@ -445,7 +446,7 @@ const CAPACITY: usize = 256;
 
 impl MessageWriteVec {
     /// Creates an empty writer, with the capacity for a message of 256 bytes. Most messages are
-    /// shorter, so that no call that adds to them has to allocate.
+    /// shorter, so that no call has to allocate when it adds an attribute.
     ///
     /// If the allocation fails, the writer has no capacity yet, and the first call that adds to it
     /// allocates.

@@ -335,18 +335,18 @@ fn indications_must_be_signed() {
     assert!(signed.message().has_class(MessageClass::Indication));
 
     for (bytes, expected) in [
-        (indication().finish(), Refusal::BadRequest),
+        (indication().finish(), DropReason::UnsignedIndication),
         (
             signed_by(indication(), "bob", "wonderland", Sha1),
-            Refusal::Unauthenticated,
+            DropReason::UnauthenticatedIndication,
         ),
         (
             signed_by(indication(), "alice", "wrong", Sha1),
-            Refusal::Unauthenticated,
+            DropReason::UnauthenticatedIndication,
         ),
     ] {
         match server.receive(&bytes, from(), &users) {
-            ShortTermReceived::NotSigned(refusal) => assert_eq!(refusal, expected),
+            ShortTermReceived::Dropped(why) => assert_eq!(why, expected),
             other => panic!("{other:?}"),
         }
     }

@@ -234,7 +234,7 @@ fn servers_without_a_realm_record_each_datagram(trace: &Trace) {
         (
             indication(),
             "verdict=\"indication\"",
-            "verdict=\"dropped\" reason=\"Bad Request\"",
+            "verdict=\"dropped\" reason=\"UnsignedIndication\"",
         ),
         (
             vec![0; 20],

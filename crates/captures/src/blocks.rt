@@ -144,8 +144,8 @@ fn option_of<'a>(order: Order, options: &'a [u8]) -> Option<(u16, &'a [u8], &'a 
     Some((kind, value, after))
 }
 
-/// Parses the number of 64 bits at the front. Its upper half comes first in `Big` byte order, and
-/// its lower half in `Little`.
+/// Parses the 64-bit number at the front. Its upper half comes first in `Big` byte order, and its
+/// lower half in `Little`.
 fn number_64(order: Order, bytes: &[u8]) -> Option<u64> {
     let first = u64::from(number_32(order, bytes, 0)?);
     let second = u64::from(number_32(order, bytes, 4)?);
@@ -155,7 +155,7 @@ fn number_64(order: Order, bytes: &[u8]) -> Option<u64> {
     })
 }
 
-/// Joins the halves of a number of 64 bits.
+/// Joins the halves of a 64-bit number.
 fn joined(high: u64, low: u64) -> u64 {
     (high << 32) | low
 }

@@ -91,7 +91,7 @@ impl<A: Allocator> Capture<A> {
         })
     }
 
-    /// Returns the number of bytes from the front of a record that `record_length` needs.
+    /// Returns how many bytes at the front of a record `record_length` needs.
     pub fn front_length(&self) -> usize {
         match self.format {
             Format::Classic(_) => classic::RECORD_LENGTH,

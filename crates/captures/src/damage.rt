@@ -12,7 +12,8 @@ pub enum Fault {
     RecordCut,
     /// A record or a block has this length, which is longer than can be read.
     RecordLength(usize),
-    /// A block states this length, which no block can have, or it states another length at its end.
+    /// A block states this length, which no block can have, or which differs from the length at its
+    /// end.
     BlockLength(usize),
     /// The byte-order magic of a section is unknown.
     Order,

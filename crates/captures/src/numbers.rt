@@ -11,7 +11,7 @@ pub enum Order {
     Little,
 }
 
-/// Parses the number of 16 bits at an offset. Returns `None` if it is not whole.
+/// Parses the 16-bit number at an offset. Returns `None` if the bytes end before it does.
 pub fn number_16(order: Order, bytes: &[u8], place: usize) -> Option<u16>
     ensures none { IfNone result (length bytes.now < place + 2) }
     ensures some { IfSome result (λ number. number ≡ number_in order 2 (drop place bytes.now)) }
@@ -26,7 +26,7 @@ pub fn number_16(order: Order, bytes: &[u8], place: usize) -> Option<u16>
     })
 }
 
-/// Parses the number of 32 bits at an offset. Returns `None` if it is not whole.
+/// Parses the 32-bit number at an offset. Returns `None` if the bytes end before it does.
 pub fn number_32(order: Order, bytes: &[u8], place: usize) -> Option<u32>
     ensures none { IfNone result (length bytes.now < place + 4) }
     ensures some { IfSome result (λ number. number ≡ number_in order 4 (drop place bytes.now)) }
@@ -41,7 +41,7 @@ pub fn number_32(order: Order, bytes: &[u8], place: usize) -> Option<u32>
     })
 }
 
-/// Parses a number of 32 bits at an offset as a count of bytes.
+/// Parses the 32-bit number at an offset as a count of bytes.
 pub fn count_32(order: Order, bytes: &[u8], place: usize) -> Option<usize>
     ensures none { IfNone result (length bytes.now < place + 4) }
     ensures some { IfSome result (λ number. number ≡ number_in order 4 (drop place bytes.now)) }

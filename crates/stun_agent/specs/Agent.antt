@@ -31,7 +31,7 @@ use Rattle.stun_agent.specs.Transactions.{Transaction, Transactions, repeats}
 use Rattle.stun_agent.specs.Transactions.{new_transaction, at, with, without, first_over}
 use Rattle.stun_agent.specs.Transactions.{wake_up, next_sent, after_slots, round_trip}
 
--- an agent. It counts if it has statistics
+-- an agent. It counts messages if it has statistics
 pub record Agent : Type 0 where
   pub transport : TransportType
   pub local_addr : SocketAddr
@@ -87,17 +87,17 @@ sending_tally Error count = response_sent count
 abbrev pub is_elsewhere : Agent → SocketAddr → Bool
 is_elsewhere agent to = option_map_or (λ peer. not (same_address to peer)) agent.remote_addr false
 
--- why nothing is sent to an address, if nothing is
+-- the reason why nothing can be sent to an address, if there is one
 abbrev pub address_refusal : Agent → SocketAddr → Option StunError
 address_refusal agent to = if is_elsewhere agent to then Some ProtocolViolation else None
 
--- why bytes are neither an indication nor a response: the first reason that applies
+-- the reason why bytes are neither an indication nor a response: the first that applies
 abbrev pub class_refusal : List ℕ → Option StunError
 class_refusal bytes =
     option_map_or (λ error. Some (ParseError error)) (header_refusal bytes)
     (if is_request (class_in bytes) then Some ProtocolViolation else None)
 
--- why bytes are not sent as an indication or a response: the first reason that applies
+-- the reason why bytes are not sent as an indication or a response: the first that applies
 abbrev pub sending_refusal : Agent → List ℕ → SocketAddr → Option StunError
 sending_refusal agent bytes to = option_or (class_refusal bytes) (address_refusal agent to)
 
@@ -105,7 +105,7 @@ sending_refusal agent bytes to = option_or (class_refusal bytes) (address_refusa
 abbrev pub after_send : List ℕ → Agent → Agent
 after_send bytes agent = with_tally (sending_tally (class_in bytes) (length bytes)) agent
 
--- why bytes are not sent as a request: the first reason that applies
+-- the reason why bytes are not sent as a request: the first that applies
 abbrev pub request_refusal : Agent → List ℕ → SocketAddr → Option StunError
 request_refusal agent bytes to =
     option_map_or (λ error. Some (ParseError error)) (header_refusal bytes)
@@ -132,19 +132,19 @@ abbrev pub datagram_of : Agent → Transaction → Datagram
 datagram_of agent t = (t.bytes, agent.transport, agent.local_addr, t.to)
 
 -- ---- receiving
--- the transaction that was found, if its request was sent to this address
+-- the transaction, if there is one and its request was sent to this address
 abbrev pub went_to : SocketAddr → Option Transaction → Option Transaction
 went_to address None = None
 went_to address (Some t) = if same_address address t.to then Some t else None
 
--- the outstanding request that a response answers: that of its transaction, if it was sent to the
--- sender of the response
+-- the outstanding request that a response answers: the request with the same transaction ID, if it
+-- was sent to the sender of the response
 abbrev pub answered_request : List ℕ → SocketAddr → Agent → Option Transaction
 answered_request bytes from agent =
     went_to from (at (transaction_id_field bytes) agent.transactions)
 
--- a response ends the request that it answers and validates its sender. If it answers none, nothing
--- changes
+-- the agent after a response: the request that it answers ends, and its sender is validated. If the
+-- response answers no request, nothing changes
 abbrev pub after_response : Option ℕ → List ℕ → SocketAddr → Agent → Agent
 after_response moment bytes from agent =
     option_map_or
@@ -179,8 +179,8 @@ abbrev pub after_message : Option ℕ → List ℕ → SocketAddr → Agent → 
 after_message moment bytes from agent = after_class (class_in bytes) moment bytes from agent
 
 -- ---- ends
--- how a transaction ends without a response: as canceled, if its user has stopped it or its
--- retransmissions
+-- how a transaction ends without a response: as canceled if its user has canceled it or its
+-- retransmissions, and otherwise as timed out
 abbrev pub end_of : ℕ × Transaction → StunAgentPollRet
 end_of e = if repeats e.1.sending then TransactionTimedOut e.0 else TransactionCancelled e.0
 
@@ -192,7 +192,7 @@ tally_of_end t = if repeats t.sending then one_timed_out else one_cancelled
 abbrev pub ended_by_poll : ℕ → Agent → Option (ℕ × Transaction)
 ended_by_poll now agent = first_over agent.transport now agent.transactions
 
--- what a poll returns: the end, or until when to wait
+-- the result of a poll: how a transaction ended, or the time to wait until
 abbrev pub poll_answer : ℕ → Agent → StunAgentPollRet
 poll_answer now agent =
     option_map_or end_of (ended_by_poll now agent)

@@ -19,8 +19,8 @@ use Rattle.stun_agent.specs.Timing.{Settings}
 use Rattle.stun_agent.specs.Transactions.{at, with_change_at, without_retransmissions}
 use Rattle.stun_agent.specs.Transactions.{with_cancellation, with_settings}
 
--- a call. A message or a request is sent, a message arrives, an address is validated or forgotten;
--- one of the two polls; or a change of a request by its user
+-- a call: it sends a message or a request, handles a message that arrived, validates or forgets an
+-- address, polls for a transmission or for an end, or changes a request
 pub data AgentCall : Type 0 where
   send : List ℕ → SocketAddr → AgentCall
   send_request : List ℕ → SocketAddr → ℕ → AgentCall
@@ -58,7 +58,7 @@ after_agent_calls [] agent = agent
 after_agent_calls (call ∷ calls) agent = after_agent_calls calls (after_agent_call call agent)
 
 -- ---- one transaction
--- a number is the id
+-- whether a number is the ID
 abbrev pub is_id : ℕ → ℕ → Bool
 is_id id other = is_at (nat_cmp id) other
 
@@ -120,7 +120,7 @@ repeats_request id (configure other settings) agent = false
 abbrev pub one_if : Bool → ℕ
 one_if b = if b then 1 else 0
 
--- how many of the calls do this to the transaction
+-- how many of the calls satisfy this predicate for the transaction
 abbrev pub count : (ℕ → AgentCall → Agent → Bool) → ℕ → List AgentCall → Agent → ℕ
 count happens id [] agent = 0
 count happens id (call ∷ calls) agent =

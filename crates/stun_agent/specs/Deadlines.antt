@@ -4,11 +4,11 @@ use Rattle.std.specs.Prelude.{ℕ, ◌≡◌, ◌+◌, ◌*◌, ◌<◌, Bool, �
 use Rattle.stun_base.specs.declared.wire.transport.TransportType.{TransportType}
 use Rattle.stun_agent.specs.Transactions.{Transaction, Transactions, awaited_moment, is_cancelled}
 
--- a transaction that is canceled, or awaits at most this time
+-- whether a transaction is canceled, or awaits a time that is not later than this one
 abbrev pub is_early : TransportType → ℕ → Transaction → Bool
 is_early transport now t = is_cancelled t.sending || nat_le (awaited_moment transport t) now
 
--- how many of them there are
+-- the number of such transactions
 abbrev pub early_requests : TransportType → ℕ → Transactions → ℕ
 early_requests transport now all = count_by (λ e. is_early transport now e.1) all
 
@@ -22,8 +22,8 @@ pub record Work : Type 0 where
 abbrev pub most_reads : ℕ
 most_reads = 1
 
--- the largest number of forks that are below one another in a tree: each has a quarter of the IDs
--- of the one above it, and there are 4 to the 48 IDs
+-- the largest number of forks on a path from the root of a tree: each fork has a quarter of the IDs
+-- of the fork above it, and there are 4 to the 48 IDs
 abbrev pub most_levels : ℕ
 most_levels = 48
 
@@ -32,7 +32,7 @@ most_levels = 48
 abbrev pub most_looks : ℕ → ℕ
 most_looks entries = 2 + entries * (4 * most_levels)
 
--- a blank of a ledger that is unused, and that has a part for each count
+-- a blank belongs to an unused ledger, which has a part for each count
 pub record IsUnused (name parts ledger_name ledger_parts : ℕ) : Type 0 where
   pub same_name : name ≡ ledger_name
   pub same_parts : parts ≡ ledger_parts

@@ -1,4 +1,5 @@
--- Laws of an agent over any calls. Their times may go back (RFC 8489, section 6.2).
+-- Laws of an agent over any calls, even if the times that are passed go back (RFC 8489, section
+-- 6.2).
 use Rattle.std.specs.Prelude.{◌≡◌, ◌≢◌, ◌≤◌, ◌<◌, ◌+◌, ℕ, false, max, List}
 use Rattle.std.specs.Prelude.{[], Option, Some, None, IfSome, length}
 use Rattle.std.specs.declared.net.socket_addr.SocketAddr.{SocketAddr}
@@ -16,7 +17,8 @@ use Rattle.stun_agent.specs.Calls.{repetitions_until_end, most_transmissions_all
 use Rattle.stun_agent.specs.Timing.{Settings, timeout, planned_end}
 use Rattle.stun_agent.specs.Transactions.{Transaction, at, an_hour}
 
--- a request is sent again no earlier than its timeout after it was sent, or after its last timeout
+-- a request is sent again only once its current timeout has passed, counted from the end of the
+-- timeout before or, for the first timeout, from the time at which the request was sent
 abbrev pub IsNeverEarly : Type 0
 IsNeverEarly =
     (now : ℕ) (agent : Agent) (e : ℕ × Transaction) → sent_by_poll now agent ≡ Some e
@@ -46,7 +48,8 @@ IgnoresUnknown =
     → IsResponse (class_in bytes) → at (transaction_id_field bytes) agent.transactions ≡ None
     → (takes_message bytes from agent ≡ false) × (after_message moment bytes from agent ≡ agent)
 
--- a response from another address than its request was sent to is not accepted, and changes nothing
+-- a response that does not come from the address that its request was sent to is not accepted, and
+-- changes nothing
 abbrev pub IgnoresElsewhere : Type 0
 IgnoresElsewhere =
     (moment : Option ℕ) (bytes : List ℕ) (from : SocketAddr) (agent : Agent) (t : Transaction)
@@ -59,15 +62,15 @@ abbrev pub EndsAlike : Type 0
 EndsAlike = (settings : Settings) (start : ℕ)
     → planned_end Udp settings start ≡ planned_end Tcp settings start
 
--- over any calls, each request that was accepted is outstanding or has ended once
+-- after any calls, each request that was sent is outstanding or has ended exactly once
 abbrev pub EndsOnce : Type 0
 EndsOnce =
     (id : ℕ) (calls : List AgentCall) (start : Agent) → start.transactions ≡ []
     → count begins id calls start
     ≡ count ends id calls start + one_if (is_outstanding id (after_agent_calls calls start))
 
--- a request is transmitted at most as often as its settings ever allow, and once over TCP: from
--- when it is sent until it ends, over any calls
+-- over any calls, from the time at which a request is sent until it ends, the request is
+-- transmitted at most as often as its settings ever allow, and only once over TCP
 abbrev pub IsTransmittedAtMost : Type 0
 IsTransmittedAtMost =
     (earlier later : List AgentCall) (start : Agent) (bytes : List ℕ) (to : SocketAddr) (now : ℕ)

@@ -17,7 +17,7 @@ use Rattle.stun_agent.specs.Transactions.{with, without, first_over, wake_up, ne
 use Rattle.stun_agent.specs.Transactions.{after_slots, round_trip}
 
 -- ---- the data of the owner
--- each datum under the id of its request, in the order of the ids
+-- each datum under the ID of its request, in the order of the IDs
 abbrev pub Attached : Type 0 → Type 0
 Attached D = List (ℕ × D)
 
@@ -25,7 +25,7 @@ Attached D = List (ℕ × D)
 abbrev pub datum_at : {D : Type 0} → ℕ → Attached D → Option D
 datum_at id all = lookup (is_at (nat_cmp id)) all
 
--- the data with one more, or another one, at an ID
+-- the data with this one at an ID, added or in place of another
 abbrev pub with_datum : {D : Type 0} → ℕ → D → Attached D → Attached D
 with_datum id datum all = insert_entry nat_cmp all id datum
 
@@ -33,7 +33,7 @@ with_datum id datum all = insert_entry nat_cmp all id datum
 abbrev pub without_datum : {D : Type 0} → ℕ → Attached D → Attached D
 without_datum id all = remove_entry (is_at (nat_cmp id)) all
 
--- the datum at an ID is replaced, if there is one
+-- the data after the datum at an ID is replaced, if there is one
 abbrev pub set_datum : {D : Type 0} → ℕ → D → Attached D → Attached D
 set_datum id datum all = set_value (is_at (nat_cmp id)) all datum
 
@@ -47,7 +47,7 @@ pub record TableSeen (D : Type 0) : Type 0 where
   pub requests : Transactions
   pub attached : Attached D
 
--- the IDs ascend, each is that of its request, and has one datum
+-- the IDs ascend, and each request is stored under its own transaction ID and has one datum
 pub record IsTable {D : Type 0} (table : TableSeen D) : Type 0 where
   pub kept : AreKept table.requests
   pub same : keys_of table.attached ≡ keys_of table.requests
@@ -127,7 +127,7 @@ after_transmission now table =
 abbrev pub over_in : {D : Type 0} → ℕ → TableSeen D → Option (ℕ × Transaction)
 over_in now table = first_over table.transport now table.requests
 
--- until when to wait if none ends
+-- the time to wait until, if no request ends
 abbrev pub until_in : {D : Type 0} → ℕ → TableSeen D → ℕ
 until_in now table = wake_up table.transport now table.requests
 

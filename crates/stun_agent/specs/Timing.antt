@@ -49,20 +49,20 @@ sum_of_timeouts settings (suc k) = sum_of_timeouts settings k + timeout settings
 abbrev pub repetitions : Settings → ℕ
 repetitions settings = max 1 settings.transmissions - 1
 
--- how many timeouts pass, each with a transmission at its end
+-- the number of timeouts, each of which ends with a retransmission
 abbrev pub slots : TransportType → Settings → ℕ
 slots Udp settings = repetitions settings
 slots Tcp settings = 0
 
--- the wait after the last transmission. Over a reliable transport a request is sent once, and the
--- whole wait is as long
+-- the wait after the last transmission. Over a reliable transport a request is sent once, and this
+-- wait is as long as all waits over UDP together
 abbrev pub final_wait : TransportType → Settings → ℕ
 final_wait Udp settings = settings.last_wait
 final_wait Tcp settings =
     min (settings.last_wait + sum_of_timeouts settings (repetitions settings)) max_nanos
 
--- the end of a request that is sent at a time and never answered, and whose agent is polled at each
--- time that it awaits: all timeouts have passed, and the final wait
+-- the time at which a request ends that is sent at a time and never answered, if its agent is
+-- polled at each time that the request awaits: when all timeouts and the final wait have passed
 abbrev pub planned_end : TransportType → Settings → ℕ → ℕ
 planned_end transport settings start =
     moment_after start
@@ -73,15 +73,15 @@ planned_end transport settings start =
 abbrev pub plan_length : Settings → ℕ
 plan_length settings = sum_of_timeouts settings (repetitions settings) + settings.last_wait
 
--- the largest number of timeouts, at most k, that together are shorter than a time
+-- the largest number of timeouts, at most k, whose sum is less than a time
 unfoldable pub timeouts_before : ℕ → Settings → ℕ → ℕ
 timeouts_before time settings zero = 0
 timeouts_before time settings (suc k) =
     if nat_lt (sum_of_timeouts settings (suc k)) time then suc k
     else timeouts_before time settings k
 
--- the settings whose plan is the beginning of this one, and ends at a time if this one ends later:
--- the transmissions before that time, and after the last of them the rest of the time
+-- the settings, cut short so that the plan takes at most this time: the transmissions before the
+-- time stay, and after the last of them the request waits for the rest of the time
 abbrev pub cut : ℕ → Settings → Settings
 cut time settings =
     if nat_le (plan_length settings) time then settings

@@ -18,9 +18,9 @@ use Rattle.stun_agent.specs.declared.state.transaction.Sending.TheVariants.{Repe
 use Rattle.stun_agent.specs.declared.state.transaction.Sending.TheVariants.{Cancelled}
 use Rattle.stun_agent.specs.Timing.{Settings, timeout, slots, final_wait}
 
--- an outstanding request. `slot` counts the timeouts that have passed: each is the slot of one
--- retransmission. `last` is the time of the last one, at first that of sending. `sending` says
--- whether the request is still sent again
+-- an outstanding request. `slot` counts the timeouts that have passed, each of which is a slot for
+-- one retransmission. `last` is the time of the last slot, or at first the time at which the
+-- request was sent. `sending` says whether the request is still retransmitted
 pub record Transaction : Type 0 where
   pub bytes : List ℕ
   pub to : SocketAddr
@@ -102,7 +102,8 @@ is_over transport now t =
     is_cancelled t.sending
     || (not (has_slots transport t) && nat_le (awaited_moment transport t) now)
 
--- the round trip of a response that is accepted at a time: only before any timeout has passed
+-- the round trip of a response that is accepted at a time. It is known only if no timeout has
+-- passed
 abbrev pub round_trip : Option ℕ → Transaction → Option ℕ
 round_trip moment t = if t.slot == 0 then option_map (λ now. now - t.last) moment else None
 
@@ -120,11 +121,11 @@ pub record IsRequestOf (id : ℕ) (bytes : List ℕ) : Type 0 where
   pub header : BeginsWithHeader bytes
   pub id_is : transaction_id_field bytes ≡ id
 
--- the request at an ID is one of that transaction
+-- the request that is stored under an ID has this transaction ID
 abbrev pub IsNamed : ℕ × Transaction → Type 0
 IsNamed e = IsRequestOf e.0 e.1.bytes
 
--- the IDs ascend, and each is that of its request
+-- the IDs ascend, and each request is stored under its own transaction ID
 pub record AreKept (all : Transactions) : Type 0 where
   pub ascending : IsAscending all
   pub named : AllByRecursion IsNamed all
@@ -133,7 +134,7 @@ pub record AreKept (all : Transactions) : Type 0 where
 abbrev pub at : ℕ → Transactions → Option Transaction
 at id all = lookup (is_at (nat_cmp id)) all
 
--- the transactions with one more, or another one, at an ID
+-- the transactions with this one at an ID, added or in place of another
 abbrev pub with : ℕ → Transaction → Transactions → Transactions
 with id t all = insert_entry nat_cmp all id t
 
@@ -141,13 +142,13 @@ with id t all = insert_entry nat_cmp all id t
 abbrev pub without : ℕ → Transactions → Transactions
 without id all = remove_entry (is_at (nat_cmp id)) all
 
--- the transaction at an ID is changed, if there is one
+-- the transactions after a change of the one at an ID, if there is one
 abbrev pub with_change_at : (Transaction → Transaction) → ℕ → Transactions → Transactions
 with_change_at f id all =
     option_map_or (λ t. set_value (is_at (nat_cmp id)) all (f t)) (at id all) all
 
 -- ---- ends
--- the one with the least ID among those that are over
+-- the transaction with the least ID among those that are over
 abbrev pub first_over : TransportType → ℕ → Transactions → Option (ℕ × Transaction)
 first_over transport now all = find (λ e. is_over transport now e.1) all
 
@@ -155,7 +156,7 @@ first_over transport now all = find (λ e. is_over transport now e.1) all
 abbrev pub an_hour : ℕ
 an_hour = 3600 * 1_000_000_000
 
--- the least awaited time, or an hour from now, and never before `now`
+-- the earliest awaited time, but at most an hour from now, and never before `now`
 abbrev pub wake_up : TransportType → ℕ → Transactions → ℕ
 wake_up transport now all =
     max now (fold min (moment_after now an_hour) (map (λ e. awaited_moment transport e.1) all))
@@ -170,20 +171,21 @@ abbrev pub sooner : Option ℕ → ℕ → Option ℕ
 sooner None moment = Some moment
 sooner (Some least) moment = Some (min least moment)
 
--- the least of these times, if there are any
+-- the earliest of these times, if there are any
 abbrev pub next_awaited : TransportType → Transactions → Option ℕ
 next_awaited transport all = fold sooner None (awaited_moments transport all)
 
 -- ---- retransmission
--- the one with the least ID among those that are due and repeat
+-- the transaction with the least ID among those that are due and still retransmitted
 abbrev pub next_sent : TransportType → ℕ → Transactions → Option (ℕ × Transaction)
 next_sent transport now all = find (λ e. is_due transport now e.1 && repeats e.1.sending) all
 
--- whether an ID is up to the one that is sent; if none is sent, every ID is
+-- whether an ID is at most the ID of the request that is sent. If no request is sent, every ID is
 abbrev pub is_reached : Option ℕ → ℕ → Bool
 is_reached sent id = option_map_or (λ last. nat_le id last) sent true
 
--- the timeout (slot) of a transaction that is due passes, up to the one that is sent
+-- a transaction after its timeout (slot) has passed, if the timeout is due and the transaction does
+-- not come after the one that is sent
 abbrev pub slot_passed : TransportType → ℕ → Option ℕ → ℕ × Transaction → Transaction
 slot_passed transport now sent e =
     if is_reached sent e.0 && is_due transport now e.1 then after_slot now e.1 else e.1

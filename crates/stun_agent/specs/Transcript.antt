@@ -54,15 +54,15 @@ abbrev pub tallies : List AgentCall → Agent → List Tally
 tallies [] agent = []
 tallies (call ∷ calls) agent = tally_of call agent ∷ tallies calls (after_agent_call call agent)
 
--- over any calls from the start of counting, each counter is the sum over their tallies, capped
--- once, and the round trips are theirs
+-- over any calls from the start of counting, each counter is the sum over the tallies of the calls,
+-- capped once at the end, and the round trips are those of the tallies
 abbrev pub CountsCalls : Type 0
 CountsCalls =
     (calls : List AgentCall) (agent : Agent) → agent.statistics ≡ Some new_statistics
     → (after_agent_calls calls agent).statistics
     ≡ Some (statistics_after (total (tallies calls agent)) new_statistics)
 
--- an agent that does not count never starts to
+-- an agent without statistics never gets any
 abbrev pub CountsNothing : Type 0
 CountsNothing = (calls : List AgentCall) (agent : Agent) → agent.statistics ≡ None
     → (after_agent_calls calls agent).statistics ≡ None

@@ -3,8 +3,8 @@
 //!
 //! You own the socket, the clock and the source of random numbers. After every call that can change
 //! the agent, call `poll_transmit` until it returns `None`, and then `poll`. The order matters,
-//! because only `poll_transmit` advances the timers. `rust/checks/src/api/client_loop.rs` is a
-//! whole loop, and docs/PARTS.md gives its steps.
+//! because only `poll_transmit` advances the timers. `rust/checks/src/api/client_loop.rs` contains
+//! a complete loop, and docs/PARTS.md gives its steps.
 ghost use Rattle.std.specs.Prelude.{◌≡◌};
 ghost use Rattle.std.specs.Borrow.{sem};
 ghost use Rattle.std.specs.Option.{option_copied, option_copied_mut};
@@ -47,7 +47,7 @@ pub enum StunAgentPollRet {
 ///
 /// The agent also remembers the source address of every message that it accepted. It calls these
 /// addresses *validated peers*. The list grows until you call `forget_validated_peer`, so limit the
-/// number of strangers whose messages you pass to the agent.
+/// number of unknown addresses whose messages you pass to the agent.
 ///
 /// An agent does not verify signatures. The authenticators decide whether a message may be
 /// believed.

@@ -1,5 +1,5 @@
 //! The calls of an agent, except `poll`: sending, receiving, retransmissions, and the handles to
-//! requests. Their searches of the requests are not counted (`uncounted`).
+//! requests. When these calls search the requests, nothing is counted (see `uncounted`).
 
 pub(crate) mod builder;
 pub(crate) mod receive;

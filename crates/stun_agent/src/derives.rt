@@ -1,5 +1,5 @@
-//! The derived impls of an agent, each behind a function whose contract states what it does:
-//! comparisons, copies and default values.
+//! The derived impls of an agent (comparisons, copies and default values), each behind a function
+//! whose contract states what it does.
 ghost use Rattle.std.specs.Prelude.{◌≡◌, ◌↔◌, IsTrue, Ok};
 ghost use Rattle.stun_agent.specs.Statistics.{new_statistics};
 ghost use Rattle.stun_agent.specs.Timing.{settings_of, default_settings};

@@ -1,5 +1,5 @@
-//! Laws about an agent that hold after any calls in any order, even if a call is passed an earlier
-//! time than the call before it.
+//! Laws about an agent that hold after any calls in any order, even if the time that is passed to a
+//! call is earlier than the time that was passed to the call before it.
 ghost use Rattle.std.specs.Prelude.{◌≡◌, ◌≤◌, ◌<◌, ◌&&◌, ◌||◌, ◌↔◌, ℕ, true, not, min};
 ghost use Rattle.std.specs.declared.net.socket_addr.SocketAddr.{SocketAddr};
 ghost use Rattle.stun_base.specs.Address.{same_address};
@@ -12,7 +12,7 @@ ghost use Rattle.stun_agent.specs.Transcript.{CountsCalls, CountsNothing};
 ghost use Rattle.stun_agent.specs.Peers.{Peers, is_peer, with_peer, without_peer};
 
 /// A request is retransmitted only after its timeout has passed. The timeout starts when the
-/// request was sent, or when its previous timeout passed (RFC 8489, section 6.2.1).
+/// request is sent, or when its previous timeout has passed (RFC 8489, section 6.2.1).
 pub fn a_request_is_never_sent_early()
     ensures { IsNeverEarly }
 {}
@@ -26,9 +26,9 @@ pub fn a_request_is_transmitted_at_most_as_often_as_set()
     ensures { IsTransmittedAtMost }
 {}
 
-/// If `poll` returns `WaitUntil`, it has changed nothing, and its time is not before the time of
-/// the call, and at most one hour after it. Until then, no retransmission is due and no request
-/// ends, unless another call is made.
+/// If `poll` returns `WaitUntil`, it has changed nothing. The time that it returns is at or after
+/// the time of the call, and at most one hour later. Until then, no retransmission is due and no
+/// request ends, unless another call is made.
 pub fn a_poll_tells_how_long_all_is_quiet()
     ensures { WaitsAsTold }
 {}
@@ -58,18 +58,17 @@ pub fn both_transports_end_at_one_moment()
     ensures { EndsAlike }
 {}
 
-/// While no counter is full, each call preserves this equation: the number of requests sent is the
-/// number of those that were answered, timed out or were canceled, plus the number of those that
-/// are outstanding.
+/// While no counter is full, each call preserves this equation: the number of requests that were
+/// sent equals the number of requests that were answered, have timed out or were canceled, plus the
+/// number of outstanding requests.
 pub fn statistics_tell_how_many_requests_are_outstanding()
     ensures { KeepsCount }
 {}
 
-/// Over any calls of an agent whose counters begin at zero, each counter is the sum of the amounts
-/// that the calls add to it (`tally_of`): numbers of messages, or of bytes. A sum stops at the
-/// greatest value of its counter. The statistics of round trips are the shortest, the longest and
-/// the sum of all round trips (`counts`). An agent without statistics never starts to keep them
-/// (`nothing`).
+/// If the counters of an agent begin at zero, each counter is the sum of the amounts that the calls
+/// add to it (`tally_of`), which are numbers of messages or of bytes. Each counter saturates at its
+/// greatest value. The statistics of round trips are the shortest, the longest and the sum of all
+/// round trips (`counts`). An agent without statistics never starts to keep them (`nothing`).
 pub fn statistics_count_the_calls()
     ensures counts { CountsCalls }
     ensures nothing { CountsNothing }
@@ -92,10 +91,10 @@ pub fn forgetting_removes_one_peer()
         ≡ (not (same_address other address) && is_peer other peers) }
 {}
 
-/// A plan that `RequestRto::within` returns ends after the given time or when the whole plan ends,
-/// whichever is earlier (`ends`). It has the same waits between transmissions as the whole plan
-/// (`alike`) and no further retransmissions (`fewer`), and it has all retransmissions of the whole
-/// plan that come before the given time (`all`).
+/// States how `RequestRto::within` shortens a plan. The new plan ends after the given time or when
+/// the original plan ends, whichever is earlier (`ends`). It has the same waits between
+/// transmissions as the original plan (`alike`), and at most as many retransmissions (`fewer`). It
+/// has all retransmissions of the original plan that come before the given time (`all`).
 pub fn a_plan_is_cut_at_a_time()
     ensures ends { (time : ℕ) (settings : Settings)
         → plan_length (cut time settings) ≡ min time (plan_length settings) }

@@ -20,9 +20,9 @@ pub(crate) mod counting;
 
 /// The statistics of an agent since it was built, or since the last `reset`.
 ///
-/// Bytes are counted over whole messages. Counters do not wrap around: each stops at the greatest
-/// 64-bit number, and the sum of the round trips at the greatest 128-bit number. The calls do not
-/// allocate.
+/// The bytes of a message include its header. Counters do not wrap around: each counter stops at
+/// the greatest 64-bit number, and the sum of the round trips stops at the greatest 128-bit number.
+/// The calls do not allocate.
 #[derive(Clone, Debug, Default, Drop, PartialEq, Eq)]
 pub struct StunAgentStats {
     requests_sent: u64,
@@ -220,8 +220,8 @@ impl StunAgentStats {
         self.bytes_received = self.bytes_received.saturating_add(bytes);
     }
 
-    /// Counts a response to an outstanding request and, unless it is `None`, its round trip in
-    /// nanoseconds.
+    /// Counts a response to an outstanding request, and its round trip in nanoseconds if
+    /// `round_trip` is not `None`.
     pub(crate) fn count_response_received(&mut self, bytes: u64, round_trip: Option<u64>)
         ensures { self.new ≡ statistics_after (response_received bytes round_trip) self.old }
     {

@@ -7,8 +7,8 @@ use Rattle.stun_types.specs.Attribute.{TypedValue}
 use Rattle.stun_attributes.specs.AttributeTypes.{CHANGE_REQUEST}
 use Rattle.stun_attributes.specs.declared.change_request.ChangeRequest.{ChangeRequest}
 
--- CHANGE-REQUEST (section 7.2): 32 bits, of which two ask for another address (A) and another port
--- (B). The others are zero when written, and ignored when read.
+-- CHANGE-REQUEST (section 7.2): 32 bits, two of which ask for a response from a different address
+-- (A) and from a different port (B). The other bits are zero when written, and ignored when read.
 abbrev pub change_request_value : ChangeRequest → List ℕ
 change_request_value request =
     0 ∷ 0 ∷ 0 ∷ ((if request.ip then 0x04 else 0) + (if request.port then 0x02 else 0)) ∷ []

@@ -42,12 +42,13 @@ same_address_error_equivalence =
     and_equiv (on_equiv (λ (a : AddressError). family_number a.family) nat_eq_equiv)
     (on_equiv (λ (a : AddressError). a.error) same_error_equivalence)
 
--- ADDRESS-ERROR-CODE (section 18.12): the number of the family, and then what ERROR-CODE has after
--- its first byte, which is reserved: 13 reserved bits, class, number and reason phrase
+-- ADDRESS-ERROR-CODE (section 18.12): the number of the family takes the place of the first byte of
+-- an ERROR-CODE, which is reserved there. Then follow, as in ERROR-CODE, 13 reserved bits, class,
+-- number and reason phrase
 abbrev pub address_error_value : AddressError → List ℕ
 address_error_value address = family_number address.family ∷ drop 1 (error_value address.error)
 
--- the error with a family, a code and a reason, if there are all of them
+-- the error with a family, a code and a reason, if all of them are present
 abbrev pub address_error_with : Option AddressFamily → Option CodeAndReason → Option AddressError
 address_error_with (Some family) (Some error) = Some (record { family = family; error = error })
 address_error_with (Some family) None = None
@@ -74,7 +75,7 @@ pub record IsReport (report : IcmpReport) : Type 0 where
   pub code : report.code < 2 ^ 9
   pub error_data : report.error_data < 2 ^ 32
 
--- the result of creating a report: the type or the code may have too many bits
+-- the result of creating a report, which fails if the type or the code has too many bits
 abbrev pub report_answer : ℕ → ℕ → ℕ → Result IcmpReport StunWriteError
 report_answer icmp_type code error_data =
     if nat_le (2 ^ 7) icmp_type || nat_le (2 ^ 9) code then Err NotAllowed

@@ -1,5 +1,5 @@
--- How values of one form are read, besides those of `stun_extra`. A value of another length than
--- its type has is malformed.
+-- How further values of one form are read, in addition to those of `stun_extra`. A value whose
+-- length differs from that of its type is malformed.
 use Rattle.std.specs.Prelude.{◌≡◌, ◌<◌, ◌^◌, ◌+◌, ℕ, List, length, Option, Some, None, ◌==◌, ◌&&◌}
 use Rattle.std.specs.Prelude.{◌||◌, if◌then◌else◌}
 use Rattle.std.proofs.Common.{arith, rules, ◌/◌, ◌%◌, ◌*◌}
@@ -12,8 +12,8 @@ value_of_length kind count attribute =
     if attribute.kind == kind && (length attribute.value == count) then Some attribute.value
     else None
 
--- the number of 16 bits that is the value of an attribute of this type. Two bytes of padding follow
--- it, which some senders count in the length of the value and others do not
+-- the 16-bit number that is the value of an attribute of this type. Two bytes of padding follow it,
+-- which some senders include in the length of the value
 abbrev pub short_of : ℕ → TypedValue → Option ℕ
 short_of kind attribute =
     if attribute.kind == kind && (length attribute.value == 2 || (length attribute.value == 4))

@@ -191,8 +191,8 @@ fn append_octets<W: MessageWrite>(
 }
 
 /// Parses the address in a raw attribute of this type. Fails with `InvalidAttributeData` if the
-/// attribute has another type or an unknown family, or if its address has the wrong length for the
-/// family.
+/// attribute is of a different type, if the family is unknown, or if the address has the wrong
+/// length for the family.
 fn read_address(raw: &RawAttribute<'_>, kind: AttributeType) -> Result<Address, StunParseError>
     ensures { result ≡ attribute_answer (address_of kind.0 raw.now) }
 {
@@ -208,7 +208,7 @@ fn read_address(raw: &RawAttribute<'_>, kind: AttributeType) -> Result<Address, 
 }
 
 /// Returns the address of this family with these octets. Returns `None` if the family is unknown,
-/// or if its addresses have another number of octets.
+/// or if its addresses do not have this number of octets.
 fn read_ip(family: u8, octets: &[u8]) -> Option<IpAddr>
     ensures { result ≡ ip_of family octets.now }
 {

@@ -11,15 +11,15 @@ use stun_types::prelude::*;
 /// The number of bytes of the value.
 const LENGTH: usize = 4;
 
-/// The bit A in the last byte of the value: the response should come from another address.
+/// The bit A in the last byte of the value: the response should come from a different address.
 const CHANGE_IP: u8 = 0x04;
 
-/// The bit B in the last byte of the value: the response should come from another port.
+/// The bit B in the last byte of the value: the response should come from a different port.
 const CHANGE_PORT: u8 = 0x02;
 
-/// CHANGE-REQUEST (RFC 5780, section 7.2): asks a server to answer a Binding request from another
-/// address, from another port, or from both. From the responses that arrive, a client learns which
-/// packets its NAT lets in.
+/// CHANGE-REQUEST (RFC 5780, section 7.2): asks a server to send the response to a Binding request
+/// from an address, or a port, or both, that differ from those to which the request was sent. From
+/// the responses that arrive, a client learns which packets its NAT lets in.
 ///
 /// # Examples
 ///
@@ -45,22 +45,22 @@ pub struct ChangeRequest {
 }
 
 impl ChangeRequest {
-    /// Creates the attribute from its two flags: whether the response should come from another
-    /// address, and whether it should come from another port.
+    /// Creates the attribute from its two flags: whether the response should come from a different
+    /// address, and whether it should come from a different port.
     pub fn new(ip: bool, port: bool) -> Self
         ensures { result ≡ record { ip = ip; port = port } }
     {
         ChangeRequest { ip, port }
     }
 
-    /// Returns `true` if the response should come from another address.
+    /// Returns `true` if the response should come from a different address.
     pub fn change_ip(&self) -> bool
         ensures { result ≡ self.now.ip }
     {
         self.ip
     }
 
-    /// Returns `true` if the response should come from another port.
+    /// Returns `true` if the response should come from a different port.
     pub fn change_port(&self) -> bool
         ensures { result ≡ self.now.port }
     {

@@ -78,9 +78,9 @@ impl Model for Icmp {
 }
 
 impl Icmp {
-    /// Creates the attribute from the type and the code of an ICMP message, and its error data: the
-    /// MTU of the next hop if the message reports that a datagram was too big, and otherwise 0 (RFC
-    /// 8656, section 18.13). The error data is not checked.
+    /// Creates the attribute from the type, the code and the error data of an ICMP message. The
+    /// error data is the MTU of the next hop if the message reports that a datagram was too big,
+    /// and otherwise 0 (RFC 8656, section 18.13). This call does not check it.
     ///
     /// # Errors
     ///

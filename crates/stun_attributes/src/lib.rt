@@ -1,6 +1,6 @@
 //! Further attributes: of STUN (RFC 8489, section 14), of ICE (RFC 8445, section 16.1), of TURN
-//! (RFC 8656, section 18; RFC 6062; RFC 8016), of third-party authorization (RFC 7635), of ECN
-//! (RFC 6679), of the transmissions of a transaction (RFC 7982), and of NAT behavior discovery
+//! (RFC 8656, section 18; RFC 6062; RFC 8016), of third-party authorization (RFC 7635), of ECN (RFC
+//! 6679), of counting the transmissions of a transaction (RFC 7982), and of NAT behavior discovery
 //! (RFC 5780, section 7). The attributes that calls of this library read or write are in
 //! `stun_extra`.
 //!
@@ -106,16 +106,16 @@ pub type ThirdPartyAuthorization<'a> = Text<'a, 0x802E, VALUE_LIMIT>;
 /// the STUN server can decrypt it.
 pub type AccessToken<'a> = Bytes<'a, 0x001B>;
 
-/// ECN-CHECK (RFC 6679, section 7.2.2): the two bits of the ECN field with which a request arrived,
-/// for the response to return. The lowest bit is 1 if these two bits are valid, and all other bits
-/// are reserved.
+/// ECN-CHECK (RFC 6679, section 7.2.2): the two bits of the ECN field with which a request arrived.
+/// The server returns them in its response. The lowest bit is 1 if these two bits are valid, and
+/// all other bits are reserved.
 pub type EcnCheck = Number<0x802D>;
 
 /// RESPONSE-ORIGIN (RFC 5780, section 7.3): the address that a response was sent from.
 pub type ResponseOrigin = PlainAddress<0x802B>;
 
 /// OTHER-ADDRESS (RFC 5780, section 7.4): the address and the port from which a server responds if
-/// a client asks for another address and another port.
+/// a client asks for both a different address and a different port.
 pub type OtherAddress = PlainAddress<0x802C>;
 
 /// RESPONSE-PORT (RFC 5780, section 7.5): the port, at the address of the client, to which a server

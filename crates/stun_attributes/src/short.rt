@@ -1,4 +1,4 @@
-//! Attributes whose value is a number of 16 bits.
+//! Attributes whose value is a 16-bit number.
 ghost use Rattle.std.specs.Prelude.{◌≡◌, ◌<◌, ◌^◌};
 ghost use Rattle.byteorder.specs.Endian.{big_bytes};
 ghost use Rattle.stun_attributes.specs.Values.{short_of, short_of-written};
@@ -9,7 +9,7 @@ use stun_base::error::StunParseError;
 use stun_types::attribute::{AttributeType, RawAttribute};
 use stun_types::prelude::*;
 
-/// An attribute of type `KIND` whose value is a number of 16 bits, in network order.
+/// An attribute of type `KIND` whose value is a 16-bit number in network order.
 ///
 /// The value is written with a length of 2, so the two bytes after the number are padding. It can
 /// be parsed with a length of 2 or 4, because senders differ in this.

@@ -1,5 +1,5 @@
--- What signing adds to a message, one after another (RFC 8489, section 9): attributes, and last the
--- integrity attribute.
+-- What signing adds to a message (RFC 8489, section 9): attributes, one after another, and the
+-- integrity attribute last.
 use Rattle.std.specs.Prelude.{◌≡◌, ◌<◌, ℕ, ◌-◌, ◌==◌, nat_lt, Bool, ◌&&◌, ◌||◌}
 use Rattle.std.specs.Prelude.{if◌then◌else◌, List, [], ◌∷◌, ◌++◌, length}
 use Rattle.std.specs.Prelude.{sum_by, Option, Some, None, Result, Ok, Err, IsOk}
@@ -48,8 +48,8 @@ is_text_too_long a =
     (a.kind == USERNAME && nat_lt USERNAME_LIMIT (length a.value))
     || ((a.kind == REALM || (a.kind == NONCE)) && nat_lt TEXT_LIMIT (length a.value))
 
--- why an addition is refused. An attribute is created before it is added, so its length is tested
--- first
+-- the reason why an addition is refused. An attribute is created before it is added, so its length
+-- is tested first
 abbrev pub addition_refusal : Addition → Page → Option StunWriteError
 addition_refusal (attribute a) page =
     if is_text_too_long a then Some TooLarge
@@ -66,7 +66,7 @@ abbrev pub page_unless_refused : Option StunWriteError → Page → Result Page 
 page_unless_refused None page = Ok page
 page_unless_refused (Some reason) page = Err reason
 
--- the page after one addition, or why that is refused
+-- the page after one addition, or the reason why the addition is refused
 unfoldable pub added_one : Addition → Page → Result Page StunWriteError
 added_one addition page =
     page_unless_refused (addition_refusal addition page)
@@ -83,8 +83,8 @@ abbrev pub added_all : List Addition → Page → Result Page StunWriteError
 added_all [] page = Ok page
 added_all (addition ∷ others) page = after (added_one addition page) (added_all others)
 
--- an allocation fails for additions of which this many bytes are reserved. The additions up to one
--- of them are not refused, and have more bytes than are reserved
+-- the additions need an allocation, which can fail, although this many bytes are reserved: the
+-- first ones of them are not refused, and together have more bytes than are reserved
 pub record WantsMemory (list : List Addition) (page : Page) (reserved : ℕ) : Type 0 where
   pub first : List Addition
   pub others : List Addition

@@ -54,8 +54,8 @@ abbrev pub or_unsupported : Option IntegrityAlgorithm → Result IntegrityAlgori
 or_unsupported None = Err Refused.UnsupportedFeature
 or_unsupported (Some algorithm) = Ok algorithm
 
--- the choice by the server's list. Without a list, the nonce must not ask for a choice, and it is
--- HMAC-SHA1
+-- the choice by the server's list. Without a list, the choice is HMAC-SHA1, but if the nonce asks
+-- for a choice, the challenge is refused
 abbrev pub choose_by_list : List IntegrityAlgorithm → Bool → Option (List IntegrityAlgorithm)
     → Result IntegrityAlgorithm ChallengeRefusal
 choose_by_list supported asks (Some list) = or_unsupported (first_supported supported list)
@@ -74,14 +74,16 @@ unless_missing missing (Err refusal) = Err refusal
 unless_missing missing (Ok algorithm) =
     if missing then Err Refused.UnsupportedFeature else Ok algorithm
 
--- the choice without security bits: names are not hashed, and it is HMAC-SHA1
+-- the choice for a nonce without security bits: HMAC-SHA1, unless the client does not support it,
+-- or must hash its name
 abbrev pub choose_without_bits : List IntegrityAlgorithm → Feature
     → Result IntegrityAlgorithm ChallengeRefusal
 choose_without_bits supported feature =
     if is_required feature then Err Refused.UnsupportedFeature
     else if has Sha1 supported then Ok Sha1 else Err Refused.UnsupportedFeature
 
--- the algorithm, by the nonce's security bits and the server's list, if there are any
+-- the algorithm that a client chooses, by the security bits of the nonce, if it has them, and by
+-- the server's list, if there is one
 abbrev pub choose : List IntegrityAlgorithm → Feature → List ℕ → Option (List IntegrityAlgorithm)
     → Result IntegrityAlgorithm ChallengeRefusal
 choose supported feature nonce list =
@@ -99,7 +101,8 @@ abbrev pub list_or_none : Option (List IntegrityAlgorithm) → List IntegrityAlg
 list_or_none None = []
 list_or_none (Some list) = list
 
--- the challenge that is stored. The name is hashed if the nonce allows it and the client does it
+-- the challenge that is stored. The name is hashed if the nonce allows hashes and the client's
+-- settings do too
 abbrev pub new_challenge : Feature → NameAndPassword → List ℕ → List ℕ
     → Option (List IntegrityAlgorithm)
     → IntegrityAlgorithm → Challenge
@@ -125,7 +128,7 @@ is_repeated initial realm nonce = false
 is_repeated (authenticating c) realm nonce = bytes_eq realm c.realm && bytes_eq nonce c.nonce
 is_repeated (authenticated c) realm nonce = false
 
--- what is stored of a challenge with this realm, nonce and list, or why it is refused
+-- the challenge to store for this realm, nonce and list, or the reason to refuse it
 abbrev pub taken_up : ClientSettings → ClientState → Option NameAndPassword → Option (List ℕ)
     → Option (List ℕ) → Option (List IntegrityAlgorithm) → Result Challenge ChallengeRefusal
 taken_up s state None _ _ list = Err Refused.Unauthorized
@@ -159,13 +162,14 @@ is_authenticated initial = false
 is_authenticated (authenticating c) = false
 is_authenticated (authenticated c) = true
 
--- the same state, except that the server is known to have the key
+-- the state after a success response has confirmed that the server has the key
 abbrev pub after_confirmation : ClientState → ClientState
 after_confirmation initial = initial
 after_confirmation (authenticating c) = authenticated c
 after_confirmation (authenticated c) = authenticated c
 
--- the answer by the digest alone. A success confirms the challenge that is being answered
+-- the answer to a message that is judged by its digest alone. A success response confirms the
+-- challenge that is being answered
 abbrev pub after_digest : ClientState → Bool → Option IntegrityAlgorithm → ClientStep
 after_digest state success None = record { answer = Err IntegrityFailed; state = state }
 after_digest state success (Some algorithm) =
@@ -182,7 +186,8 @@ with_realm_and_nonce (authenticating c) realm nonce =
 with_realm_and_nonce (authenticated c) realm nonce =
     authenticated (record c { realm = realm; nonce = nonce })
 
--- after a 438: its realm and nonce are stored. If one of them is missing, its digest alone decides
+-- the answer to a 438, and the state after it: realm and nonce are stored. If one of them is
+-- missing, the 438 is judged by its digest alone
 abbrev pub after_stale : ClientState → Option IntegrityAlgorithm → Option (List ℕ) → Option (List ℕ)
     → ClientStep
 after_stale state digest (Some realm) (Some nonce) =
@@ -213,7 +218,8 @@ client_step s state r =
     then after_stale state (verified_under_kept state r) r.realm r.nonce
     else after_digest state (is_success r.class) (verified_under_kept state r)
 
--- the request must be sent again: only these answers store something new
+-- the answer says to send the request again. Only with such an answer does the client store
+-- something new
 abbrev pub IsResend : ClientAnswer → Type 0
 IsResend (Ok (ResendRequest algorithm)) = ⊤
 IsResend (Ok (Validated algorithm)) = ⊥

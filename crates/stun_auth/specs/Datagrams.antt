@@ -36,8 +36,8 @@ abbrev pub judged_datagram : ServerSeen → Derivation → TimedDatagram
 judged_datagram s how d =
     judged_in s (how.words d.from) (how.epoch d.now) (reading_of d.bytes)
 
--- the refusal that a client is sent: a bad request stays one if the message is malformed or has the
--- current nonce, and otherwise becomes a stale nonce
+-- the refusal that is sent to a client: a bad request is sent as such if the message is malformed
+-- or has the current nonce, and otherwise as a stale nonce
 abbrev pub told_refusal : List ℕ → Reading → VerdictRefusal → VerdictRefusal
 told_refusal ours r Unauthorized = Unauthorized
 told_refusal ours r StaleNonce = StaleNonce
@@ -47,7 +47,7 @@ told_refusal ours r BadRequest =
 -- each datagram is judged alone
 pub record JudgesEachDatagram (s : ServerSeen) (how : Derivation) (datagrams : List TimedDatagram)
     (given : List (Result ClientSeen VerdictRefusal)) : Type 0 where
-  -- a client is accepted if and only if the conjunction holds, under one of two nonces
+  -- a client is accepted if and only if `IsAccepted` holds under one of the two nonces
   pub accepted : (i : ℕ) (d : TimedDatagram) (client : ClientSeen) → slice_get datagrams i ≡ Some d
       → (slice_get given i ≡ Some (Ok client))
       ↔ IsAcceptedIn s (how.words d.from) (how.epoch d.now) (reading_of d.bytes) client

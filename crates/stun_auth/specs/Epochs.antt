@@ -1,5 +1,6 @@
--- Which client a server accepts that stores nothing about an address: the words of its nonces are a
--- function of the address and of an epoch. The nonce of the epoch before is accepted too.
+-- Which client is accepted by a server that stores nothing about an address. The words of its
+-- nonces are a function of the address and of an epoch, and the nonce of the epoch before is
+-- accepted too.
 use Rattle.std.specs.Prelude.{ℕ, zero, suc, List, Some, ◌⊎◌}
 use Rattle.std.specs.declared.result.Result.{Result}
 use Rattle.std.specs.declared.result.Result.TheVariants.{Ok, Err}
@@ -18,7 +19,8 @@ use Rattle.stun_auth.specs.Validation.{ServerSeen}
 abbrev pub nonce_in : ServerSeen → (ℕ → List ℕ) → ℕ → List ℕ
 nonce_in s words epoch = nonce_of s.registered.algorithms s.feature (words epoch)
 
--- a verdict, or if the nonce is stale the acceptance under the nonce before
+-- a verdict or, if the verdict is that the nonce is stale, an acceptance under the nonce of the
+-- epoch before
 abbrev pub or_before : Result ClientSeen VerdictRefusal → Result ClientSeen VerdictRefusal
     → Result ClientSeen VerdictRefusal
 or_before (Ok client) before = Ok client

@@ -55,8 +55,8 @@ protection_in (attribute a ∷ others) = protection_in others
 protection_in (integrity algorithm key ∷ others) =
     Some (record { algorithm = algorithm; key = key })
 
--- a message with additions. Its type and ID are unchanged. What was visible is still visible, and
--- so are the additions after it, in their order
+-- the message after additions. Its type and ID are unchanged. Attributes that were visible are
+-- still visible, followed by the additions in their order
 pub record HasAdded (before : List ℕ) (list : List Addition) (after : List ℕ) : Type 0 where
   pub is_message : IsMessage after
   pub type_is : type_field after ≡ type_field before
@@ -64,9 +64,9 @@ pub record HasAdded (before : List ℕ) (list : List Addition) (after : List ℕ
   pub visible_is : visible after ≡ visible before ++ added_members before list
   -- there is a well-formed integrity attribute if and only if a digest was added
   pub integrity_is : has_visible_integrity after ≡ is_some (protection_in list)
-  -- without a digest more can be added
+  -- if no digest was added, more attributes can be added
   pub is_open : protection_in list ≡ None → IsOpen after
-  -- with one, it verifies under its key
+  -- if a digest was added, it verifies under its key
   pub digest_verifies : (p : Protection) → protection_in list ≡ Some p
       → verified_algorithm after p.key ≡ Some p.algorithm
 

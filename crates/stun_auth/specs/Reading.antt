@@ -22,8 +22,8 @@ use Rattle.stun_types.specs.Visible.{visible}
 abbrev pub last_of : ℕ → List Member → Option Member
 last_of kind members = first_of kind (reverse members)
 
--- the reading of the last visible attribute of a type. If that is malformed there is none, even if
--- an earlier one is well formed
+-- the reading of the last visible attribute of a type. If that attribute is malformed, there is no
+-- reading, even if an earlier one is well formed
 abbrev pub last : {A : Type 0} → (TypedValue → Option A) → ℕ → List ℕ → Option A
 last reading kind bytes = option_and_then (λ m. reading m.1) (last_of kind (visible bytes))
 
@@ -31,7 +31,7 @@ last reading kind bytes = option_and_then (λ m. reading m.1) (last_of kind (vis
 abbrev pub has_visible_integrity : List ℕ → Bool
 has_visible_integrity bytes = is_some (find (λ m. is_integrity m.1) (visible bytes))
 
--- Each attribute is the last visible one of its type, if that is well formed.
+-- the reading of a message: for each type, the last visible attribute, if that one is well formed
 pub record Reading : Type 0 where
   pub class : MessageClass
   -- the code of an error response
@@ -40,7 +40,7 @@ pub record Reading : Type 0 where
   pub nonce : Option (List ℕ)
   pub username : Option (List ℕ)
   pub userhash : Option (List ℕ)
-  -- the algorithms whose keys the listed, and the chosen, password algorithms make
+  -- the algorithms whose keys are made by the listed password algorithms, and by the chosen one
   pub algorithms : Option (List IntegrityAlgorithm)
   pub algorithm : Option IntegrityAlgorithm
   -- if an integrity attribute is visible and well formed, the algorithm whose digest verifies under

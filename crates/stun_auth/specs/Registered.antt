@@ -79,8 +79,8 @@ abbrev pub stored_key : StoredKeys → IntegrityAlgorithm → Option (List ℕ)
 stored_key keys Sha1 = keys.sha1
 stored_key keys Sha256 = keys.sha256
 
--- the key that a secret makes for an algorithm for the user of a name at a realm: derived from the
--- password, or as it is stored
+-- the key for an algorithm that the user with this name and this secret has at a realm: derived
+-- from the password, or the stored key
 abbrev pub key_from : IntegrityAlgorithm → List ℕ → List ℕ → UserSecret → Option (List ℕ)
 key_from a name realm (of_password password) = Some (long_term_key a name realm password)
 key_from a name realm (of_keys keys) = stored_key keys a
@@ -89,8 +89,8 @@ key_from a name realm (of_keys keys) = stored_key keys a
 abbrev pub key_if : Bool → IntegrityAlgorithm → List ℕ → List ℕ → UserSecret → Option (List ℕ)
 key_if supported a name realm secret = if supported then key_from a name realm secret else None
 
--- the key that a user has for an algorithm: the one that the user's secret makes, if the algorithm
--- is supported, and otherwise none
+-- the key that a user has for an algorithm: the key from the user's secret if the algorithm is
+-- supported, and otherwise none
 abbrev pub key_of : Registered → RegisteredUser → IntegrityAlgorithm → Option (List ℕ)
 key_of r user a = key_if (contains a r.algorithms) a user.username r.realm user.secret
 

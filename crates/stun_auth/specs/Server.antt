@@ -34,19 +34,19 @@ pub record Sight : Type 0 where
 
 -- ---- nonces
 
--- whether a nonce is current at a time: it is until it expires, that time included
+-- whether a nonce is current at a time, which must not be later than its expiry time
 abbrev pub has_current_nonce : ℕ → Option PlaceSeen → Bool
 has_current_nonce now None = false
 has_current_nonce now (Some place) = nat_le now place.expires
 
--- the record whose nonce is current, or else the record with a new nonce
+-- the record if its nonce is current, and otherwise the record with this new nonce
 abbrev pub current_place_of : Option PlaceSeen → List ℕ → ℕ → ℕ → PlaceSeen
 current_place_of None nonce now end = renewed_place None nonce end
 current_place_of (Some place) nonce now end =
     if nat_le now place.expires then place else renewed_place (Some place) nonce end
 
--- the record when a nonce is needed: the current one stays, or else one is made from the random
--- words
+-- the record of the address when a nonce is needed: a current nonce stays, and otherwise a new
+-- nonce is made from the random words
 abbrev pub current_place : Sight → ℕ → List ℕ → PlaceSeen
 current_place s now words =
     current_place_of s.place (nonce_of s.registered.algorithms s.feature words) now
@@ -64,14 +64,15 @@ choice (Some list) (Some a) offered =
 choice (Some list) None offered = None
 choice None (Some a) offered = None
 
--- the algorithm that both sides agree on: by that choice, or HMAC-SHA1 if the message's nonce asks
--- for none
+-- the algorithm that both sides agree on: the choice of the message if the nonce asks for one, and
+-- otherwise HMAC-SHA1
 abbrev pub agreement : Reading → List ℕ → Option AlgorithmSet → Option IntegrityAlgorithm
 agreement r nonce offered =
     if asks_for_algorithms nonce then choice r.algorithms r.algorithm (offered_list offered)
     else Some Sha1
 
--- the registered user whom a message names: by a hash, if hashes are accepted, or else by name
+-- the registered user whom a message names. If the message has a hash, this is the user with the
+-- hash, or nobody if hashes are not accepted. Otherwise it is the user with the name
 abbrev pub named_by : Option (List ℕ) → Option (List ℕ) → Registered → Feature
     → Option RegisteredUser
 named_by (Some hash) username users feature =
@@ -84,8 +85,8 @@ named_user users feature r = named_by r.userhash r.username users feature
 
 -- ---- acceptance, in one conjunction
 
--- a realm, the server's nonce, algorithms that agree, a registered user who is named, and the
--- digest under that user's key
+-- a message is accepted from a client: it has a realm and the server's nonce, its algorithms agree
+-- with the offer, it names a registered user, and its digest verifies under the key of that user
 pub record IsAccepted (users : Registered) (feature : Feature) (ours : List ℕ)
     (offered : Option AlgorithmSet) (r : Reading) (client : ClientSeen) : Type 0 where
   pub secret : UserSecret
@@ -96,23 +97,25 @@ pub record IsAccepted (users : Registered) (feature : Feature) (ours : List ℕ)
   pub named : named_user users feature r ≡ Some (record { username = client.name; secret = secret })
   pub present : map.get users.secrets client.name ≡ Some secret
   pub supported : contains client.algorithm users.algorithms ≡ true
-  -- the key that the password makes, or that is stored
+  -- the key that is derived from the password, or the stored key
   pub key_is : key_from client.algorithm client.name users.realm secret ≡ Some key
   pub digest : IsSome (verified_under r key)
 
 -- ---- the refusals, in a table
 
--- the nonce of a message. A message without one is refused by the second row, before this is used
+-- the nonce of a message, or an empty one if the message has none. Such a message is refused by the
+-- second row of the table, before the nonce is used
 abbrev pub their_nonce : Reading → List ℕ
 their_nonce r = unwrap_or r.nonce []
 
--- whether both nonces have security bits and these differ
+-- whether both nonces have security bits, and the bits differ
 abbrev pub bits_differ : Option (List ℕ) → Option (List ℕ) → Bool
 bits_differ None theirs = false
 bits_differ (Some ours) None = false
 bits_differ (Some ours) (Some theirs) = not (bytes_eq ours theirs)
 
--- how a nonce that is not the current one is refused: one with other security bits is not stale
+-- the refusal of a nonce that is not the current one: a nonce with different security bits is not
+-- stale
 abbrev pub nonce_refusal : List ℕ → List ℕ → VerdictRefusal
 nonce_refusal ours theirs =
     if bits_differ (security_bits ours) (security_bits theirs) then Unauthorized else StaleNonce
@@ -122,8 +125,8 @@ abbrev pub verified_for : Registered → Reading → IntegrityAlgorithm → Regi
     → Option IntegrityAlgorithm
 verified_for users r a user = option_and_then (verified_under r) (key_of users user a)
 
--- the algorithm whose digest verifies, for the user who is named and the algorithm that both sides
--- agree on
+-- the algorithm whose digest verifies under the key that the named user has for the agreed
+-- algorithm
 abbrev pub verified_named : Registered → Feature → Reading → Option IntegrityAlgorithm
     → Option IntegrityAlgorithm
 verified_named users feature r chosen =
@@ -142,7 +145,7 @@ refusals users feature ours offered r =
     ∷ (is_none (verified_named users feature r (agreement r (their_nonce r) offered)), Unauthorized)
     ∷ []
 
--- the first that applies, if any
+-- the first refusal that applies, if there is one
 abbrev pub verdict_refusal : Registered → Feature → List ℕ → Option AlgorithmSet → Reading
     → Option VerdictRefusal
 verdict_refusal users feature ours offered r =
@@ -163,8 +166,8 @@ abbrev pub or_refused : Option VerdictRefusal → ClientSeen → Result ClientSe
 or_refused None client = Ok client
 or_refused (Some refusal) client = Err refusal
 
--- the client that is accepted if this nonce is current and these algorithms were offered, or the
--- first refusal that applies
+-- the verdict if this nonce is current and these algorithms were offered: the client that is
+-- accepted, or the first refusal that applies
 abbrev pub verdict : Registered → Feature → List ℕ → Option AlgorithmSet → Reading
     → Result ClientSeen VerdictRefusal
 verdict users feature ours offered r =

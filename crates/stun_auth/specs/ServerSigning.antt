@@ -33,8 +33,9 @@ offer response users =
     if response then attribute (added.password_algorithms (algorithms_of users.algorithms)) ∷ []
     else []
 
--- what a response adds for a client that will sign under a nonce: nonce and realm, and the
--- algorithms if the nonce asks for a choice. A server that lists algorithms must set that bit
+-- the attributes that a client needs in a response to sign its next request under a nonce: nonce
+-- and realm, and the algorithms if the nonce asks for a choice. A server that lists algorithms must
+-- set that security bit
 abbrev pub challenge_under : Registered → List ℕ → List Addition
 challenge_under users nonce = challenge true users nonce ++ offer (asks_for_algorithms nonce) users
 

@@ -209,8 +209,8 @@ added_under_key response users nonce algorithm key = record {
   integrity = Some (record { algorithm = algorithm; key = key });
 }
 
--- what is added to an address with this nonce and this client. There is nothing to add if the user
--- or the key was removed
+-- what is added to a message to an address with this nonce and this client. If the client's user or
+-- key was removed, the message cannot be signed, and nothing is added
 abbrev pub added_for : Bool → Registered → List ℕ → Option ClientSeen → Option Added
 added_for response users nonce None = Some (added_without_client response users nonce)
 added_for response users nonce (Some c) =
@@ -250,8 +250,8 @@ abbrev pub IsSignableAtClient : Bool → ClientState → List ℕ → ℕ → Ty
 IsSignableAtClient request state message room =
     IsSignableByClient (added_by_client request state) message room
 
--- what the caller of an unchecked signing at a server must know, whose client's user and key are
--- still there
+-- what the caller of an unchecked signing at a server must know: the client's user and key are
+-- still there, and the message is signable
 abbrev pub IsSignableAtServer : Sight → Bool → List ℕ → ℕ → Type 0
 IsSignableAtServer s response message room =
     IsSomeAnd (added_by_server s response) (λ a. IsSignableByServer a message room)

@@ -1,4 +1,5 @@
-//! The integrity algorithms that a server supports or has offered.
+//! The set of integrity algorithms that a server or a client supports, or that a server has
+//! offered.
 ghost use Rattle.std.specs.Prelude.{◌≡◌, map};
 ghost use Rattle.stun_types.specs.PasswordAlgorithms.{integrity_of};
 ghost use Rattle.stun_auth.specs.Algorithms.{algorithms_of};
@@ -6,11 +7,15 @@ ghost use Rattle.stun_auth.specs.Algorithms.{algorithms_of};
 use stun_base::algorithm::IntegrityAlgorithm;
 use stun_types::attribute::PasswordAlgorithmValue;
 
-/// One of the two integrity algorithms, or both. A server supports at least one.
+/// A set of integrity algorithms (RFC 8489, sections 14.5 and 14.6) that is not empty, because a
+/// server or a client with long-term credentials supports at least one.
 #[derive(Clone, Copy, Debug, PartialEq, Eq)]
-pub(crate) enum AlgorithmSet {
+pub enum AlgorithmSet {
+    /// HMAC-SHA1 alone. Its long-term keys are made with MD5.
     OnlySha1,
+    /// HMAC-SHA256 alone. Its long-term keys are made with SHA-256.
     OnlySha256,
+    /// HMAC-SHA1 and HMAC-SHA256.
     Both,
 }
 
@@ -18,7 +23,7 @@ impl AlgorithmSet {
     ghost use Rattle.stun_auth.specs.Algorithms.{contains, only, with_algorithm};
 
     /// Returns the set that contains only this algorithm.
-    pub(crate) fn only(algorithm: IntegrityAlgorithm) -> AlgorithmSet
+    pub fn only(algorithm: IntegrityAlgorithm) -> AlgorithmSet
         ensures { result ≡ only algorithm }
     {
         match algorithm {
@@ -28,7 +33,7 @@ impl AlgorithmSet {
     }
 
     /// Returns this set with `algorithm` added.
-    pub(crate) fn with(self, algorithm: IntegrityAlgorithm) -> AlgorithmSet
+    pub fn with(self, algorithm: IntegrityAlgorithm) -> AlgorithmSet
         ensures { result ≡ with_algorithm algorithm self }
     {
         match (self, algorithm) {
@@ -39,7 +44,7 @@ impl AlgorithmSet {
     }
 
     /// Returns whether the algorithm is in the set.
-    pub(crate) fn contains(self, algorithm: IntegrityAlgorithm) -> bool
+    pub fn contains(self, algorithm: IntegrityAlgorithm) -> bool
         ensures { result ≡ contains algorithm self }
     {
         match algorithm {
@@ -61,7 +66,7 @@ impl AlgorithmSet {
     }
 
     /// Returns the algorithms, the strongest first.
-    pub(crate) fn as_slice(self) -> &'static [IntegrityAlgorithm]
+    pub fn as_slice(self) -> &'static [IntegrityAlgorithm]
         ensures { result.now ≡ algorithms_of self }
     {
         match self {

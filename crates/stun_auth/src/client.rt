@@ -97,35 +97,36 @@ fn is_code(code: u16, error: Option<u16>) -> bool
 /// The client side of long-term authentication: answers a server's challenges, signs requests and
 /// verifies responses (RFC 8489, section 9.2).
 ///
-/// A client starts without a key, so its first request goes out unsigned. The server answers 401,
-/// with a realm and a nonce. The client accepts this challenge: it derives its key from user name,
-/// realm and password, and its next request is signed. A success response with a valid signature
-/// confirms the key. After that, a 401 is no longer treated as a challenge, because an attacker
-/// could have sent it.
+/// A client starts without a key, so its first request goes out unsigned. The server answers with a
+/// 401 that has a realm and a nonce. The client accepts this challenge: it derives its key from
+/// user name, realm and password, and its next request is signed. A success response with a valid
+/// signature confirms the key. After that, a 401 is no longer treated as a challenge, because an
+/// attacker could have sent it.
 ///
-/// Until the key is confirmed, an attacker who can forge a response chooses the realm, and with it
-/// the key, and also the algorithm. If client and server both support HMAC-SHA256 and HMAC-SHA1,
-/// one forged message is enough to make both use HMAC-SHA1 under an MD5 key. The attacker has to
-/// see a request, and to answer it from the server's address before the server does:
+/// Until the key is confirmed, an attacker who can forge a response chooses the realm, from which
+/// the key is derived, and the algorithm. If client and server both support HMAC-SHA256 and
+/// HMAC-SHA1, one forged message is enough to make both use HMAC-SHA1 under an MD5 key. For this,
+/// the attacker has to see a request, and to answer it from the server's address before the server
+/// does. The attack has four steps:
 ///
 /// 1. The attacker answers the first request with a 401 that has the server's realm and the nonce
 ///    `x`. This nonce has no security bits, so the client assumes an older server: it derives the
 ///    MD5 key, stores no list of algorithms, and from now on sends its user name in clear.
 /// 2. The server answers the next request, signed under the nonce `x`, with a true 438: its own
 ///    nonce, whose security bits ask for password algorithms, and its list.
-/// 3. The client takes realm and nonce from a 438, and nothing else. The key, the algorithm, the
-///    list and the form of the user name are still those of the forged 401.
+/// 3. The client takes only the realm and the nonce from a 438. The key, the algorithm, the list
+///    and the form of the user name are still those of the forged 401.
 /// 4. The third request has the current nonce, but neither PASSWORD-ALGORITHMS nor
 ///    PASSWORD-ALGORITHM. By section 9.2.4 that means MD5, so the server validates it. Client and
 ///    server both return `Validated` with HMAC-SHA1.
 ///
-/// A client that supports only HMAC-SHA256 refuses the nonce `x`, but can be downgraded by two
-/// forged messages: a 401 whose nonce has security bits that ask for no password algorithms, such
-/// as `obMatJos2QAAAx`, and a 438 with the nonce of the server.
+/// A client that supports only HMAC-SHA256 refuses the nonce `x`. But two forged messages are
+/// enough to downgrade it: a 401 whose nonce has security bits that ask for no password algorithms,
+/// such as `obMatJos2QAAAx`, and a 438 with the nonce of the server.
 ///
 /// The attacker learns no key and cannot sign. But the stronger algorithm, which both sides have,
-/// does not protect the session. To notice it, call `signing_algorithm` after every
-/// `ResendRequest`, before you sign, and give up if it is not the algorithm that you want.
+/// does not protect the session. To notice a downgrade, call `signing_algorithm` after every
+/// `ResendRequest`, before you sign, and give up if it does not return the algorithm that you want.
 /// SECURITY.md lists further measures for clients and servers.
 ///
 /// Use one client for each server and user. To change the user after a success, create a new
@@ -239,7 +240,7 @@ impl<A: Allocator> LongTermClientAuth<A> {
     ///
     /// This does not protect a client that supports only HMAC-SHA256 from being downgraded by a
     /// forged challenge. Call `signing_algorithm` after each `ResendRequest`, before you sign, and
-    /// give up if it is not the algorithm that you want.
+    /// give up if it does not return the algorithm that you want.
     ///
     /// A client that supports only HMAC-SHA256 handles a challenge as follows:
     ///
@@ -249,7 +250,7 @@ impl<A: Allocator> LongTermClientAuth<A> {
     /// - If the challenge has no list, but its security bits ask for password algorithms, it is
     ///   refused with `Unauthorized`.
     /// - If the challenge has no list, and its security bits ask for no password algorithms, the
-    ///   client uses HMAC-SHA1 all the same.
+    ///   client uses HMAC-SHA1, although it does not support this algorithm.
     pub fn set_supported_integrity(&mut self, algorithm: IntegrityAlgorithm)
         ensures { self.new ≡ record self.old {
           settings = record self.old.settings { supported = algorithm ∷ [] };

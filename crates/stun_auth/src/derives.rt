@@ -14,7 +14,8 @@ use crate::server::reason::{
 use crate::server::stored_keys::StoredKeys;
 use std::alloc::AllocError;
 
-/// Returns the default feature, `Auto`: user names are sent as a hash if the peer supports it too.
+/// Returns the default feature, `Auto`: user names are sent as a hash if the peer supports hashes
+/// too.
 pub fn default_feature() -> Feature
     ensures { result ≡ Feature.Auto }
 {
@@ -87,7 +88,7 @@ pub fn are_same_security_bits(one: NonceSecurityBits, other: NonceSecurityBits) 
     one == other
 }
 
-/// Returns whether two results of a server are equal: validated with the same algorithm.
+/// Returns whether two results of a server are equal: they have the same algorithm.
 pub fn is_same_server_validation(
     one: LongTermServerValidation,
     other: LongTermServerValidation,

@@ -4,7 +4,7 @@ ghost use Rattle.std.specs.Prelude.{◌≡◌};
 /// Whether user names are sent as a hash (USERHASH; RFC 8489, sections 9.2 and 14.4).
 #[derive(Clone, Copy, Debug, Default, PartialEq, Eq, Hash)]
 pub enum Feature {
-    /// User names are sent as a hash if the peer supports it too.
+    /// User names are sent as a hash if the peer supports hashes too.
     #[default]
     Auto,
     /// User names are always sent as a hash. A client refuses a challenge whose nonce does not
@@ -15,15 +15,26 @@ pub enum Feature {
 }
 
 impl Feature {
+    ghost use Rattle.stun_auth.specs.ClientStep.{is_required};
     ghost use Rattle.stun_auth.specs.Feature.{is_possible};
 
-    /// Returns whether user names may be sent as a hash at all: unless the feature is `Disabled`.
-    pub(crate) fn is_possible(self) -> bool
+    /// Returns `true` unless the feature is `Disabled`: user names may be sent as a hash.
+    pub fn is_possible(self) -> bool
         ensures { result ≡ is_possible self }
     {
         match self {
             Feature::Auto | Feature::Required => true,
             Feature::Disabled => false,
+        }
+    }
+
+    /// Returns `true` if the feature is `Required`: a client must send its user name as a hash.
+    pub fn is_required(self) -> bool
+        ensures { result ≡ is_required self }
+    {
+        match self {
+            Feature::Required => true,
+            Feature::Auto | Feature::Disabled => false,
         }
     }
 }

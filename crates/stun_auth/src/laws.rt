@@ -64,9 +64,9 @@ ghost use Rattle.stun_auth.specs.Validation.{ValidatesAccepted, after_validation
 ghost use Rattle.stun_auth.specs.Validation.{answer_to, draws, needs_nonce, place_after, sight};
 ghost use Rattle.stun_auth.specs.Validation.{verdict_at, with_accepted};
 
-/// If attributes are added to a message without an integrity attribute and FINGERPRINT (`IsOpen`),
-/// a reader finds them after the attributes that the message had, which stay visible (`added`). If
-/// a signature was added last, it is valid under its key (`read`).
+/// If attributes are added to a message that has neither an integrity attribute nor FINGERPRINT
+/// (`IsOpen`), a reader finds the new attributes after the attributes that the message had, which
+/// stay visible (`added`). If a signature was added last, it is valid under its key (`read`).
 pub fn additions_are_read_back()
     ensures added { (list : List Addition) (message : List ℕ) (room : ℕ) (page : Page)
         → IsOpen message → AllByRecursion IsTyped list
@@ -81,9 +81,9 @@ pub fn additions_are_read_back()
     stun_types::laws::signed_message_stands();
 }
 
-/// If a message had no attribute that signing adds and no FINGERPRINT (`IsUnsigned`), a reader of
-/// the signed message finds its class, its error code, and exactly the attributes that signing
-/// added, if their texts are UTF-8. The signature is valid under the key that it was made with.
+/// A reader of a signed message finds its class, its error code, and exactly the attributes that
+/// signing added, with a valid signature. Premises: the added texts are UTF-8, and the message had
+/// no FINGERPRINT and no attribute of a type that signing adds (`IsUnsigned`).
 pub fn signed_messages_are_read()
     ensures { (a : Added) (message : List ℕ) (room : ℕ) (page : Page) → IsUnsigned message
         → IsText a
@@ -94,10 +94,10 @@ pub fn signed_messages_are_read()
     stun_types::laws::signed_message_stands();
 }
 
-/// Nothing after the deciding integrity attribute is read. Two messages that agree up to the end of
-/// that attribute have the same reading (`reading`). So every server (`server`) and every client
-/// (`client`) gives both messages the same answer, and has the same state after either of them.
-/// Under each short-term password, both get the same answer (`short_term`).
+/// Nothing is read after the integrity attribute with which a message is verified. Two messages
+/// that are equal up to the end of this attribute have the same reading (`reading`). So each server
+/// (`server`) and client (`client`) returns the same result for both, and is then in the same
+/// state. The result is also the same under each short-term password (`short_term`).
 pub fn what_follows_integrity_is_not_read()
     ensures reading { (bytes others : List ℕ) → AgreeUpToIntegrity bytes others
         → reading_of bytes ≡ reading_of others }
@@ -141,9 +141,9 @@ pub fn messages_that_change_nothing()
         → ChangesNothing s now words r }
 {}
 
-/// `judge` agrees with `validate_incoming_message`, if the nonce is current at the address and all
-/// algorithms were offered there. The verdict of `judge` then determines the result of that call
-/// for a request or an indication (`answer`), and the client of the address afterwards (`place`).
+/// If all algorithms were offered to an address, the verdict of `judge` under the current nonce of
+/// the address determines what `validate_incoming_message` returns for a request or an indication
+/// (`answer`), and which client the address has afterwards (`place`).
 pub fn judging_is_validating()
     ensures answer { (s : ServerSeen) (from : SocketAddr) (now : ℕ) (words : List ℕ) (r : Reading)
         (place : PlaceSeen) → map.get s.places from ≡ Some place
@@ -184,17 +184,17 @@ pub fn two_epochs_accept_what_one_does()
         → (judged_in s words epoch r ≡ Ok client) ↔ IsAcceptedIn s words epoch r client }
 {}
 
-/// Each datagram of a list is judged by itself, however the random numbers of nonces are derived
-/// from address and epoch. So its verdict depends only on the datagram, its source, the time, and
-/// the settings and the users of the server.
+/// Each datagram of a list is judged by itself, however the random numbers for nonces are derived
+/// from the address and the epoch. So its verdict depends only on the datagram, its source, the
+/// time, and the settings and the users of the server.
 pub fn datagrams_are_judged_alone()
     ensures { (s : ServerSeen) (how : Derivation) (datagrams : List TimedDatagram)
         → JudgesEachDatagram s how datagrams (list_map (judged_datagram s how) datagrams) }
 {}
 
-/// The verdict on a message depends only on the user whom the message names. A server that has just
-/// that user judges the message, under each nonce and offer, like the server that has all users. If
-/// that user is not registered, a server without any users returns the same verdict.
+/// The verdict on a message depends only on the user whom the message names. A server that has only
+/// this user judges the message, under each nonce and offer, like the server that has all users. If
+/// this user is not registered, a server without any users returns the same verdict.
 pub fn the_named_user_is_enough_to_judge()
     ensures { (users : Registered) (feature : TheFeature) (nonce : List ℕ)
         (offered : Option AlgorithmSet) (r : Reading)
@@ -203,8 +203,8 @@ pub fn the_named_user_is_enough_to_judge()
         ≡ verdict users feature nonce offered r }
 {}
 
-/// `verify_found` judges a message like `judge_of` does with a prepared user. Under the message's
-/// own nonce, the verdict is that of a server whose only user is the found one (`verdict`). So if
+/// `verify_found` judges a message like `judge_of` with a prepared user. It returns the verdict
+/// that a server with only the found user returns under the message's own nonce (`verdict`). So if
 /// `verify_found` returns a key, the message is accepted from that user. This key is the user's key
 /// for the agreed algorithm (`key`), and the signature is valid under it (`verifies`).
 pub fn found_users_are_judged_as_prepared_ones()
@@ -222,9 +222,9 @@ pub fn found_users_are_judged_as_prepared_ones()
 {}
 
 /// The answer to a message depends only on the user whose key the message must be signed with. A
-/// server that has just that user gives the same answer as the server that has all users
+/// server that has only this user gives the same answer as the server that has all users
 /// (`answer`), uses the same number of random numbers (`source`), and stores the same record
-/// (`state`). If that user is not registered, this holds for a server without any users.
+/// (`state`). If this user is not registered, this holds for a server without any users.
 pub fn the_named_user_is_enough()
     ensures answer { (s : ServerSeen) (from : SocketAddr) (now : ℕ) (words : List ℕ) (r : Reading)
         → answer (sight (with_users s (just s.registered (meant_user s from r))) from) now words r
@@ -239,9 +239,9 @@ pub fn the_named_user_is_enough()
 {}
 
 /// A user who is passed with stored keys is treated like a user who is passed with a password, if
-/// the names are the same and the keys are those that the password makes at the server's realm:
-/// messages are judged (`answer`, `state`, `source`) and signed (`signed`, `additions`, `left`) in
-/// the same way. A key for an algorithm that the server does not support may have any value.
+/// the names are the same and the keys are made from the password for the server's realm: messages
+/// are judged (`answer`, `state`, `source`) and signed (`signed`, `additions`, `left`) in the same
+/// way. A key for an algorithm that the server does not support may have any value.
 pub fn stored_keys_are_as_their_password()
     ensures answer { (s : ServerSeen) (user : NameAndPassword) (keys : StoredKeys)
         (from : SocketAddr) (now : ℕ) (words : List ℕ) (r : Reading)
@@ -277,10 +277,10 @@ pub fn stored_keys_are_as_their_password()
         response) s.registered }
 {}
 
-/// A user who is added with a password has the long-term key of name, realm and password for each
-/// supported algorithm, and no other key (`added`). A user who is added with stored keys has those
-/// for supported algorithms (`by_keys`). A user who is removed has no key (`removed`). Users with
-/// other names have the same keys as before. `user_verifies` checks signatures with these keys.
+/// A user who is added with a password has the long-term key of this name, realm and password for
+/// each supported algorithm, and no other key (`added`). A user who is added with stored keys has
+/// only the keys for supported algorithms (`by_keys`). A user who is removed has no key
+/// (`removed`). Other users keep their keys. `user_verifies` checks signatures with these keys.
 pub fn users_have_their_keys()
     ensures added { (users : Registered) (user : NameAndPassword) (a : IntegrityAlgorithm)
         → key_at (with_user users user) user.username a
@@ -301,8 +301,8 @@ pub fn users_have_their_keys()
         → name ≢ gone → key_at (without_user users gone) name a ≡ key_at users name a }
 {}
 
-/// Users do not affect each other. If a user is added or removed, or gets another password or other
-/// keys, nothing changes for the other users: each message that refers to another user gets the
+/// Users do not affect each other. If a user is added or removed, or gets a new password or new
+/// keys, nothing changes for the other users. Each message that refers to another user gets the
 /// same verdict (`judged`) and the same answer (`answer`), uses the same number of random numbers
 /// (`source`), and leaves the same record (`state`). Messages to the address of another user are
 /// signed as before (`signed`).
@@ -340,12 +340,12 @@ pub fn users_do_not_meet()
 {}
 
 /// A refusal reveals nothing about a password. Take two servers that differ only in the password or
-/// the keys of one user, and a message whose signature is valid under neither. Both servers give
-/// the message the same verdict (`judged`) and the same answer (`answer`), store the same record of
-/// its address (`state`), and use the same number of random numbers (`source`). A message that has
-/// the user's name is refused as if the user were not registered (`unregistered`).
+/// keys of one user, and a message whose signature is valid under neither of them. Both servers
+/// give it the same verdict (`judged`) and the same answer (`answer`), store the same record of its
+/// address (`state`), and use the same number of random numbers (`source`). A message with the name
+/// in USERNAME and no USERHASH is refused as if the user were not registered (`unregistered`).
 ///
-/// The law does not limit the time that an answer takes.
+/// The law says nothing about the time that an answer takes.
 pub fn refusals_tell_no_password()
     ensures judged { (users : Registered) (name : List ℕ) (one other : UserSecret) (r : Reading)
         → VerifiesUnderNone users name one r → VerifiesUnderNone users name other r
@@ -378,10 +378,10 @@ pub fn refusals_tell_no_password()
         ≡ verdict (with_secret_for users name None) feature nonce offered r }
 {}
 
-/// Different random numbers make different nonces: two nonces of the same settings are equal only
-/// if their random numbers are equal modulo 62, which is the number of letters (`with_bits`). This
-/// also holds for nonces without security bits (`without_bits`), except for random numbers whose
-/// letters begin with the nonce cookie by chance, because their first letter is replaced.
+/// Different random numbers give different nonces. Two nonces of the same settings are equal only
+/// if their random numbers are equal modulo 62, the number of letters to choose from (`with_bits`).
+/// This also holds for nonces without security bits (`without_bits`), unless their letters begin
+/// with the nonce cookie by chance, because the first letter is then replaced.
 pub fn nonces_of_different_words_differ()
     ensures with_bits { (set : AlgorithmSet) (feature : TheFeature) (words others : List ℕ)
         → (contains Sha256 set || is_possible feature) ≡ true
@@ -395,9 +395,9 @@ pub fn nonces_of_different_words_differ()
         → list_map (λ word. word % 62) words ≡ list_map (λ word. word % 62) others }
 {}
 
-/// If a server validates a message only if it has fewer records than a bound, or has a record of
-/// the message's address, the number of records never exceeds that bound (`bound`). A message adds
-/// at most one record (`grows`). Signing, removing a client and forgetting an address add none.
+/// If a server validates messages only while it has fewer records than a bound, or has a record of
+/// the message's address, it never has more records than this bound (`bound`). A message adds at
+/// most one record (`grows`). Signing, removing a client and forgetting an address add none.
 pub fn addresses_stay_within_a_bound()
     ensures bound { (bound : ℕ) (s : ServerSeen) (from : SocketAddr) (now : ℕ) (words : List ℕ)
         (r : Reading) → map.len s.places ≤ bound
@@ -413,9 +413,9 @@ pub fn addresses_stay_within_a_bound()
         → map.len (without_place s address).places ≤ map.len s.places }
 {}
 
-/// `forget_expired` decides about the record of each address by itself (`place`). Afterwards each
-/// remaining record has a client, or a nonce that expires at `now` or later (`left`). Every record
-/// with such a client (`client`) or nonce (`current`) remains, and is unchanged.
+/// `forget_expired` decides about each record separately (`place`). Afterwards, each remaining
+/// record has a client, or a nonce that expires at `now` or later (`left`). Every record with such
+/// a client (`client`) or nonce (`current`) remains, and is unchanged.
 pub fn expired_nonces_are_forgotten()
     ensures place { (s : ServerSeen) (now : ℕ) (a : SocketAddr) →
         map.get (after_forgetting s now).places a ≡ place_kept now (map.get s.places a) }
@@ -430,8 +430,8 @@ pub fn expired_nonces_are_forgotten()
         → map.get (after_forgetting s now).places a ≡ Some place }
 {}
 
-/// Calls of `forget_expired_within`, each of which continues where the one before ended, leave the
-/// same server as `forget_expired` once they have visited the last address.
+/// Calls of `forget_expired_within` that continue one another leave the server in the same state as
+/// one call of `forget_expired`, once they have visited the last address.
 pub fn steps_forget_what_has_expired()
     ensures { (s : ServerSeen) (now : ℕ) (sizes : List ℕ) (left : ServerSeen)
         → after_steps s now None sizes ≡ Some left → left ≡ after_forgetting s now }
@@ -453,9 +453,9 @@ pub fn built_messages_can_be_signed()
 }
 
 /// If signing succeeds, the texts that it added are within their limits (`within`). Signing
-/// succeeds if the texts are within their limits, and message and writer have room for all
-/// attributes to add (`succeeds`, `signable`). These take at most 2,148 bytes if at most two
-/// algorithms are listed (`growth`), so this room is enough to sign a built message (`room`).
+/// succeeds if the texts are within their limits, and the message and the writer have room for all
+/// attributes to add (`succeeds`, `signable`). These attributes take at most 2,148 bytes if at most
+/// two algorithms are listed (`growth`), so this room is enough to sign a built message (`room`).
 pub fn signing_succeeds_with_room()
     ensures within { (a : Added) (page signed : Page) → added_all (additions_of a) page ≡ Ok signed
         → IsWithinLimits a }
@@ -475,8 +475,8 @@ pub fn signing_succeeds_with_room()
     stun_types::laws::signed_message_stands();
 }
 
-/// A client adds the attributes of `added_by_client` (`client`), and a server those of
-/// `added_by_server` (`server`), which has a value if the server signs without an error (`there`).
+/// `added_by_client` gives the attributes that a client adds (`client`). `added_by_server` gives
+/// those that a server adds (`server`), and has a value if the server signs successfully (`there`).
 pub fn sides_add_by_attribute()
     ensures client { (request : Bool) (state : ClientState)
         → client_additions request state ≡ additions_of (added_by_client request state) }
@@ -489,9 +489,9 @@ pub fn sides_add_by_attribute()
 
 /// The nonces that a server makes are UTF-8 (`text`; RFC 8489, section 9.2). They ask for password
 /// algorithms if and only if HMAC-SHA256 is supported (`algorithms`), and allow a hashed user name
-/// if and only if the feature does (`userhash`). They have security bits if and only if they do at
-/// least one of these (`there`). Nonces of the same settings have the same security bits (`alike`).
-/// A nonce has at most 13 bytes in addition to its letters (`short`).
+/// if and only if the server does (`userhash`). They have security bits if and only if one of these
+/// two conditions holds (`there`), and the same bits if the settings are the same (`alike`). Before
+/// the letters made from random numbers, a nonce has at most 13 bytes (`short`).
 pub fn nonces_ask_for_what_is_supported()
     ensures text { (set : AlgorithmSet) (feature : TheFeature) (words : List ℕ)
         → IsUtf8 (nonce_of set feature words) }
@@ -508,8 +508,8 @@ pub fn nonces_ask_for_what_is_supported()
         → length (nonce_of set feature words) ≤ 13 + length words }
 {}
 
-/// A client and a server can sign each message that is signable: signing it fails only if an
-/// allocation fails.
+/// If a message is signable (`IsSignable`), a client and a server can sign it: signing fails only
+/// if an allocation fails.
 pub fn sides_sign_what_is_signable()
     ensures client { (request : Bool) (state : ClientState) (message : List ℕ) (room : ℕ)
         → IsSignable (added_by_client request state) message room
@@ -523,8 +523,8 @@ pub fn sides_sign_what_is_signable()
     sides_add_by_attribute();
 }
 
-/// If a client or a server can sign a message of a valid length that is `IsOpen` (it has no
-/// signature and no FINGERPRINT), it may also sign it unchecked, in a writer with the same room.
+/// If a client or a server can sign a message of a valid length without a signature or FINGERPRINT
+/// (`IsOpen`), `sign_outgoing_message_unchecked` may also sign it, in a writer with the same room.
 pub fn what_was_signed_may_be_signed()
     ensures client { (request : Bool) (state : ClientState) (message : List ℕ) (room : ℕ)
         → IsOpen message → length message ≤ LENGTH_LIMIT
@@ -541,7 +541,7 @@ pub fn what_was_signed_may_be_signed()
 }
 
 /// Signing does not change which attributes a server adds to later messages to the address. So a
-/// message that was signed once may be signed again unchecked.
+/// message that was signed once may be signed again with `sign_outgoing_message_unchecked`.
 pub fn signing_leaves_what_is_added()
     ensures { (s : ServerSeen) (to : SocketAddr) (response later : Bool)
         → added_by_server (sight (after_signing s to response) to) later

@@ -1,7 +1,7 @@
 //! The server side of long-term authentication (RFC 8489, section 9.2.4).
 //!
 //! docs/PARTS.md gives the steps of a server and the reason for each, and
-//! `rust/checks/src/api/server_loop.rs` is a whole loop.
+//! `rust/checks/src/api/server_loop.rs` contains a complete loop.
 //!
 //! `validate_incoming_message` and `sign_outgoing_message` keep a record of each client address. A
 //! server that stores nothing about its clients calls `nonce_of_words`, `judge` and `add_challenge`
@@ -214,8 +214,8 @@ impl<A: Memory> LongTermServerAuth<A> {
     ///
     /// Call this right after `Validated` to learn who sent the request. The first USERNAME of a
     /// message, and the algorithm of its signature, may differ from the name and the algorithm that
-    /// this call returns. A refused message changes nothing here, and a user who has been removed
-    /// since is still returned.
+    /// this call returns. A refused message does not change the client of the address, and a user
+    /// who has been removed since is still returned.
     ///
     /// Returns `None` if nobody was validated at the address, or after `remove_client`.
     pub fn client(&self, address: SocketAddr) -> Option<(&str, IntegrityAlgorithm)>
@@ -273,6 +273,26 @@ impl<A: Memory> LongTermServerAuth<A> {
         self.registry.add_user_with_keys(name, keys)
     }
 
+    /// Returns the supported algorithms as a set.
+    pub fn algorithms(&self) -> AlgorithmSet
+        ensures { result ≡ self.now.registered.algorithms }
+    {
+        self.registry.supported()
+    }
+
+    /// Sets the supported algorithms, and makes the keys of each user anew. Of a user's stored
+    /// keys, the server then uses only the keys for these algorithms. The call does not allocate.
+    ///
+    /// Call it before you add users and before the first message arrives, for the reasons that
+    /// `set_supported_integrity` gives.
+    pub fn set_algorithms(&mut self, algorithms: AlgorithmSet)
+        ensures { self.new ≡ record self.old {
+          registered = record self.old.registered { algorithms = algorithms };
+        } }
+    {
+        self.registry.set_supported(algorithms);
+    }
+
     /// Adds a supported algorithm, and makes the keys of each user anew. It does not allocate.
     ///
     /// With 100,000 users this takes most of a second, so call it before you add users.
@@ -283,13 +303,11 @@ impl<A: Memory> LongTermServerAuth<A> {
           };
         } }
     {
-        let supported = self.registry.supported().with(algorithm);
-        self.registry.set_supported(supported);
+        self.set_algorithms(self.algorithms().with(algorithm));
     }
 
-    /// Makes this the only supported algorithm. Each user then has a key for this algorithm and for
-    /// no other, or no key if the user has stored keys without one for it. The call does not
-    /// allocate.
+    /// Makes this the only supported algorithm. Each user then has only a key for this algorithm,
+    /// and a user whose stored keys include none for it has no key. The call does not allocate.
     ///
     /// Call it before you add users, because it makes the keys of each user anew. Call it also
     /// before the first message arrives, because messages to a client that uses another algorithm
@@ -299,11 +317,11 @@ impl<A: Memory> LongTermServerAuth<A> {
           registered = record self.old.registered { algorithms = only algorithm };
         } }
     {
-        self.registry.set_supported(AlgorithmSet::only(algorithm));
+        self.set_algorithms(AlgorithmSet::only(algorithm));
     }
 
     /// Sets whether clients may send a hash (USERHASH) in place of the user name (RFC 8489, section
-    /// 14.4). Nonces that are made from now on announce it.
+    /// 14.4). Nonces that are made from now on announce this setting.
     ///
     /// A server treats `Feature::Required` like `Feature::Auto`: it still accepts a plain USERNAME.
     ///
@@ -330,9 +348,9 @@ impl<A: Memory> LongTermServerAuth<A> {
         self.registry.remove_user(name);
     }
 
-    /// Forgets the client of an address, but keeps its nonce and the algorithms that it was
-    /// offered. Messages to this address get no signature until a client is validated there again.
-    /// It does not allocate.
+    /// Forgets the client of an address, but keeps the nonce of the address and the algorithms that
+    /// it was offered. Messages to this address get no signature until a client is validated there
+    /// again. It does not allocate.
     ///
     /// The record keeps the memory of the user's name until another user is validated there or the
     /// record is forgotten. So the next request of the same user from the same address needs no new
@@ -365,9 +383,9 @@ impl<A: Memory> LongTermServerAuth<A> {
     /// memory. Other records stay.
     ///
     /// Pass the current time minus the nonce lifetime, so that a record outlives its nonce by one
-    /// more lifetime. A client that returns within that time is answered 438 and can continue. If
-    /// its record were gone, and it repeated the algorithms that it was once offered, it would be
-    /// refused with `BadRequest`.
+    /// more lifetime. A client that returns within that time gets a 438 and can continue. Without
+    /// the record, a client that repeats the algorithms that it was once offered is refused with
+    /// `BadRequest`.
     ///
     /// This visits every record once, so call it every few seconds rather than for each message. It
     /// does not allocate.

@@ -147,7 +147,8 @@ impl<A: Allocator> ShortTermAuth<A> {
         Ok(writer)
     }
 
-    /// Signs a message like `sign_outgoing_message`, if you know that it is signable.
+    /// Signs a message like `sign_outgoing_message`. The caller must ensure that the message is
+    /// signable.
     ///
     /// Without credentials every message is signable. With credentials, a signable message has no
     /// integrity attribute, and its writer and its length field have room for the new one: 24 bytes

@@ -15,11 +15,11 @@ pub record UserAtRealm : Type 0 where
   pub realm : List ℕ
   pub password : List ℕ
 
--- two texts are the same bytes
+-- whether two texts have the same bytes
 abbrev pub same_text : List ℕ → List ℕ → Bool
 same_text = pointwise nat_eq
 
--- two users have the same name and password
+-- whether two users have the same name and the same password
 abbrev pub same_user : NameAndPassword → NameAndPassword → Bool
 same_user =
     eq_of_both (on (λ (u : NameAndPassword). u.username) same_text)

@@ -1,6 +1,6 @@
 -- The header of a message (RFC 8489, section 5). Its 20 bytes are the type, the number of bytes
--- after the header, the magic cookie and the transaction ID. A number of a list of bytes is that of
--- byteorder, in network order.
+-- after the header, the magic cookie and the transaction ID. Numbers are in network order, as
+-- byteorder reads them.
 use Rattle.std.specs.Prelude.{◌≤◌, ◌^◌, ◌%◌, ℕ, Bool, IsTrue, List, length, drop}
 use Rattle.std.specs.Prelude.{Option, Some, None, nat_lt, ◌&&◌, ◌==◌, if◌then◌else◌}
 use Rattle.byteorder.specs.Endian.{big_number}

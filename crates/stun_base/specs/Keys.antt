@@ -1,4 +1,5 @@
--- The keys and hashes of credentials (RFC 8489). Texts are their bytes, as the caller passes them.
+-- The keys that are derived from credentials, and the hashes of user names (RFC 8489). A text is
+-- the list of its bytes, exactly as the caller passes them.
 pub mod OfCredentials
 use Rattle.std.specs.Prelude.{ℕ, List, ◌++◌, Bool, ◌&&◌, codes}
 use Rattle.std.specs.Str.{is_utf8}
@@ -19,7 +20,7 @@ long_term_key Sha1 username realm password = md5 (with_colon (with_colon usernam
 long_term_key Sha256 username realm password =
     sha256 (with_colon (with_colon username realm) password)
 
--- whether bytes are the name, realm and password of a user: each is UTF-8
+-- whether a user's name, realm and password are all UTF-8
 abbrev pub are_utf8 : List ℕ → List ℕ → List ℕ → Bool
 are_utf8 username realm password = is_utf8 username && is_utf8 realm && is_utf8 password
 
@@ -31,6 +32,6 @@ long_term_key_of user algorithm = long_term_key algorithm user.username user.rea
 abbrev pub short_term_key : List ℕ → IntegrityAlgorithm → List ℕ
 short_term_key password algorithm = password
 
--- the hash that names a user at a realm (section 14.4)
+-- the hash of a user name and a realm, which a client sends instead of the name (section 14.4)
 abbrev pub userhash_of : List ℕ → List ℕ → List ℕ
 userhash_of username realm = sha256 (with_colon username realm)

@@ -1,6 +1,6 @@
 -- What the contracts of this crate say, in reading order.
 
--- the header of a message, and why bytes have none (RFC 8489, section 5)
+-- the header of a message, and the reasons why bytes do not begin with one (RFC 8489, section 5)
 pub mod Header
 -- class and method in the type field (section 5)
 pub mod MessageType

@@ -1,5 +1,5 @@
 -- The type field of a header (RFC 8489, section 5). Its bits, from the top, are M11..M7 C1 M6..M4
--- C0 M3..M0, of method M and class C.
+-- C0 M3..M0, where M is the method and C the class.
 use Rattle.std.specs.Prelude.{ℕ, Bool, true, false, IsTrue, ◌+◌, ◌*◌}
 use Rattle.std.specs.Prelude.{◌/◌, ◌%◌, ◌==◌, if◌then◌else◌, List}
 use Rattle.stun_base.specs.declared.wire.message_type.MessageClass.{MessageClass}
@@ -20,11 +20,11 @@ class_of_bits bits =
     if bits == 0 then Request else if bits == 1 then Indication else if bits == 2 then Success
     else Error
 
--- the class of a type: C1 is its bit of 256, and C0 its bit of 16
+-- the class of a type: C1 is the bit with the value 256, and C0 the bit with the value 16
 abbrev pub class_of : ℕ → MessageClass
 class_of number = class_of_bits (number / 256 % 2 * 2 + number / 16 % 2)
 
--- the method of a type: the bits that are left, joined together
+-- the method of a type: the other bits of the type, joined together
 abbrev pub method_of : ℕ → ℕ
 method_of number = number % 16 + number / 32 % 8 * 16 + number / 512 % 32 * 128
 

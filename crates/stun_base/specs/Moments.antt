@@ -6,6 +6,6 @@ use Rattle.std.specs.Prelude.{ℕ, ◌+◌, ◌-◌, ◌^◌, min}
 abbrev pub last_moment : ℕ
 last_moment = 2 ^ 64 - 1
 
--- the time that is a span after another, at most the last one
+-- a time plus a span, but at most the last time
 abbrev pub moment_after : ℕ → ℕ → ℕ
 moment_after moment span = min (moment + span) last_moment

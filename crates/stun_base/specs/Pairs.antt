@@ -8,10 +8,10 @@ pub record ReadPairs : Type 0 where
   pub other : List ℕ
   pub read : ℕ
 
--- this many pairs have been read
+-- two texts of which this many pairs have been read
 abbrev pub after_reads : ℕ → List ℕ → List ℕ → ReadPairs
 after_reads read one other = record { one = one; other = other; read = read }
 
--- each pair has been read once
+-- the same texts after each pair has been read once
 abbrev pub all_read : ReadPairs → ReadPairs
 all_read pairs = after_reads (length pairs.one) pairs.one pairs.other

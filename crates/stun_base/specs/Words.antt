@@ -1,5 +1,5 @@
--- The random numbers of a source, of 32 bits each. A source is the stream of rand_core: what it
--- returns from now on.
+-- The random numbers of a source, of 32 bits each. A source is a stream of rand_core: the numbers
+-- that it returns from now on.
 use Rattle.std.specs.Prelude.{ℕ, zero, suc, List, [], ◌∷◌}
 use Rattle.rand_core.specs.Stream.{Stream, next_u32}
 
@@ -13,7 +13,8 @@ unfoldable pub after_words : ℕ → Stream → Stream
 after_words zero source = source
 after_words (suc n) source = after_words n (next_u32 source).1
 
--- a source of numbers that the caller passed: the next number and the rest, or zero if none is left
+-- the next number of a source that the caller supplied, and the numbers that are left. After the
+-- last number, the next number is zero
 abbrev pub next_word : List ℕ → ℕ × List ℕ
 next_word [] = (0, [])
 next_word (word ∷ words) = (word, words)

@@ -1,5 +1,5 @@
-//! The derived impls and the constants of this crate, each behind a function whose contract states
-//! what it does: comparisons, copies and numbers.
+//! The derived impls (comparisons and copies) and the constants of this crate, each behind a
+//! function whose contract states what it does.
 ghost use Rattle.std.specs.Prelude.{◌≡◌, ◌<◌, ◌↔◌, ◌^◌, ◌-◌, ◌∷◌, [], IsTrue, Ok, Some, map};
 ghost use Rattle.std.specs.Ordering.{nat_cmp};
 ghost use Rattle.stun_base.specs.Algorithm.{strength};
@@ -61,7 +61,7 @@ pub fn is_earlier(one: Instant, other: Instant) -> bool
     one < other
 }
 
-/// Compares two times by their numbers of nanoseconds.
+/// Compares two times as numbers of nanoseconds.
 pub fn order_of_moments(one: Instant, other: Instant) -> Ordering
     ensures { result ≡ nat_cmp one other }
 {
@@ -266,8 +266,8 @@ pub fn binding_types() -> [MessageType; 4]
     ]
 }
 
-/// Returns the type of a success response with method 0x5A3, which is 0x1743. The example shows
-/// where the bits of a method are in a type.
+/// Returns 0x1743, the type of a success response with the method 0x5A3. This example shows where
+/// in a type the bits of its method are.
 pub fn spread_type() -> Option<MessageType>
     ensures { result ≡ Some 0x1743 }
 {
@@ -296,7 +296,8 @@ pub fn attribute_types() -> [AttributeType; 11]
     ]
 }
 
-/// Returns whether two sources are equal: the same numbers are left to read in both.
+/// Returns whether two sources are equal: the numbers that have not been read yet are the same in
+/// both.
 pub fn is_same_source(one: &WordSource, other: &WordSource) -> bool
     ensures { IsTrue result ↔ (one.now ≡ other.now) }
 {

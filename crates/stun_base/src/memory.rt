@@ -33,8 +33,8 @@ pub trait Memory: Allocator + Copy {
 
     /// Reserves room for `additional` more items.
     ///
-    /// Contracts: `granted` covers at most 2^17 more items. Without this limit, code could fail on
-    /// purpose: it could reserve more memory than there is.
+    /// Contracts: the clause `granted` holds only for up to 2^17 additional items. Without this
+    /// limit, code could make the call fail on purpose, by reserving more memory than there is.
     fn reserve<T>(items: &mut Vec<T, Self>, additional: usize) -> Result<(), AllocError>
         ensures items { items.new.items ≡ items.old.items }
         ensures len { vec_len items.new ≡ vec_len items.old }

@@ -69,7 +69,7 @@ fn write_hidden(value: &mut [u8], octets: &[u8], port: u16, id: TransactionId)
     xor_with(back, &xor_key(id));
 }
 
-/// Returns whether `octets` has the length of an IPv4 or IPv6 address, and `port` is below 65536.
+/// Returns `true` if `octets` has the length of an IPv4 or IPv6 address and `port` is below 65536.
 fn is_address(octets: &[u8], port: u32) -> bool
     ensures answer { result ≡ is_address octets.now port }
     ensures limits { result ≡ true → (port < 65536) × (length octets.now ≤ 16) }

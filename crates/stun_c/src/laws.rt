@@ -1,5 +1,5 @@
-//! Laws about the definitions that the contracts of this crate cite: statements of
-//! `include/stunp.h` about several calls. They do nothing when they run.
+//! Laws about the definitions that the contracts of this crate cite. They state what
+//! `include/stunp.h` says about several calls together. They do nothing when they run.
 
 ghost use Rattle.std.specs.Prelude.{◌≡◌, ◌≤◌, ◌<◌, ◌^◌, ◌+◌, ◌⊎◌, ℕ, ℤ, pos, suc, Bool, List, []};
 ghost use Rattle.std.specs.Prelude.{◌∷◌, ◌++◌, drop, take, length, map};
@@ -75,17 +75,17 @@ pub fn stated_lengths()
         ≡ 28 + padded_length (length username) + digest_length algorithm }
 {}
 
-/// If `stunp_walk` is called for one message, first with a cursor of zeros and then always with the
-/// cursor that the last call has left, it returns each visible attribute once, in the order of the
-/// message, and then reports that none is left.
+/// Suppose that `stunp_walk` is called several times for one message, first with a cursor of zeros,
+/// and then each time with the cursor as the previous call left it. The calls then return each
+/// visible attribute once, in the order of the message, and then report that no attribute is left.
 pub fn a_walk_comes_to_what_is_visible()
     ensures { (bytes : List ℕ) (cursors : ℕ → Cursor) → (cursors 0).place ≡ 0
         → ((n : ℕ) → ahead (cursors (suc n)) bytes ≡ drop 1 (ahead (cursors n) bytes))
         → (n : ℕ) → slice_get (ahead (cursors n) bytes) 0 ≡ slice_get (visible bytes) n }
 {}
 
-/// `stunp_add_fingerprint` fails for the same messages as the call of `stun_extra` that adds
-/// FINGERPRINT, and for the same reason.
+/// `stunp_add_fingerprint` fails for the same messages, and with the same errors, as the call of
+/// `stun_extra` that adds FINGERPRINT.
 pub fn fingerprint_is_refused()
     ensures { (message : List ℕ) (room : ℕ)
         → option_map (refusal_of_write true) (fingerprint_refusal message room)
@@ -93,8 +93,8 @@ pub fn fingerprint_is_refused()
         (fit_refusal message room 4) }
 {}
 
-/// The message that `stunp_refuse_unknown` writes encodes an error response with the method and the
-/// transaction ID of the request, and with the attributes ERROR-CODE and UNKNOWN-ATTRIBUTES.
+/// The message that `stunp_refuse_unknown` writes is an error response with the method and the
+/// transaction ID of the request. Its attributes are ERROR-CODE and UNKNOWN-ATTRIBUTES.
 pub fn refusal_is_spelled()
     ensures { (request : List ℕ) (types : List AttributeType) → unknown_answer request types
         ≡ spelled_message (type_number MessageClass.Error (method_of (type_field request)))
@@ -121,10 +121,10 @@ pub fn channel_data_is_read_back()
         → IsReadAs channel data_bytes (channel_item padded channel data_bytes ++ rest) }
 {}
 
-/// States that `stunp_verify` returns an algorithm only if the library finds that the signature of
-/// this algorithm is valid under the key (`valid`). `stunp_parse` returns 0 only if the library
-/// parses the bytes as a message (`message`), and `stunp_check_fingerprint` returns 1 only if they
-/// are a message whose FINGERPRINT is valid (`fingerprint`).
+/// States that `stunp_verify` returns an algorithm only if the library finds that the message's
+/// signature with this algorithm is valid under the key (`valid`). `stunp_parse` returns 0 only if
+/// the library parses the bytes as a message (`message`), and `stunp_check_fingerprint` returns 1
+/// only if the bytes are a message with a valid FINGERPRINT (`fingerprint`).
 pub fn verdicts_are_those_of_the_library()
     ensures valid { (bytes key : List ℕ) (n : ℕ) → verify_answer bytes key ≡ pos n
         → (algorithm : IntegrityAlgorithm) × (refusal bytes ≡ None)
@@ -154,8 +154,8 @@ pub fn signatures_are_those_of_the_library()
         → bytes ≡ with_fingerprint (take count buffer) }
 {}
 
-/// A call that adds an attribute writes it after the message, and changes nothing of the message
-/// except its length field. A call that fails leaves the whole buffer unchanged (`buffer`).
+/// A call that adds an attribute writes it after the message, and changes only the length field of
+/// the message itself. A call that fails leaves the whole buffer unchanged (`buffer`).
 pub fn attributes_are_added_behind_the_message()
     ensures any { (buffer : List ℕ) (count attribute : ℕ) (value bytes : List ℕ)
         → added_number buffer count attribute value ≡ Ok bytes
@@ -188,9 +188,9 @@ pub fn attributes_are_added_behind_the_message()
 {}
 
 /// States that `stunp_begin` writes a message with the class, the method and the transaction ID
-/// that were passed, and without attributes (`message`). `stunp_build_channel_data` writes the
-/// ChannelData message of the library (`channel`). `stunp_refuse_unknown` writes nothing, or the
-/// error response that lists the comprehension-required attribute types of the request that the
+/// that were passed, and without attributes (`message`). `stunp_build_channel_data` writes the same
+/// ChannelData message as the library (`channel`). `stunp_refuse_unknown` writes nothing, or the
+/// error response that lists those comprehension-required attribute types of the request that the
 /// caller does not know (`unknown`).
 pub fn what_is_begun_is_what_was_asked_for()
     ensures message { (class method : ℕ) (id bytes : List ℕ)
@@ -228,8 +228,8 @@ pub fn what_is_read_is_in_the_message()
         → transport_in bytes ≡ Ok n }
 {}
 
-/// The calls that read the attribute at an offset as a number, a text, a list of types or an
-/// address all read the same value.
+/// The calls that read the attribute at an offset, as a number, a text, a list of types or an
+/// address, all read the same bytes, which are the value of the attribute.
 pub fn attributes_are_read_from_their_value()
     ensures number { (bytes value : List ℕ) (place : ℕ) → sized_at bytes place ≡ Ok value
         → value_at bytes place ≡ Ok value }
@@ -244,11 +244,11 @@ pub fn attributes_are_read_from_their_value()
         × (octets ≡ xor_bytes a.octets (xor_key (transaction_id_field bytes))) }
 {}
 
-/// States that a call that finds an attribute finds the same attribute as the library: the first of
-/// a type (`found`), the next one after an offset (`next`), which is behind that offset (`behind`),
-/// or the next one from a cursor on (`walked`). The call returns the offset of the value, and
-/// writes the type of the attribute and the length of its value. If there is no such attribute, the
-/// call returns 0, or `STUNP_MISSING_ATTRIBUTE` if it was called for a type.
+/// States that a call that finds an attribute finds the same attribute as the library: the first
+/// attribute of a type (`found`), the next attribute after an offset (`next`, `behind`), or the
+/// next attribute at or after a cursor (`walked`). The call returns the offset of the value, and
+/// writes the type of the attribute and the length of its value. If there is no such attribute, a
+/// call for a type fails with `STUNP_MISSING_ATTRIBUTE`, and the other calls return 0.
 pub fn attributes_that_are_found_are_in_the_message()
     ensures found { (bytes : List ℕ) (kind before : ℕ) (part : TypedValue → ℕ) (n : ℕ)
         → find_answer (finding_refusal kind bytes) (first_of kind (visible bytes)) ≡ pos n
@@ -270,12 +270,18 @@ pub fn attributes_that_are_found_are_in_the_message()
         before) }
 {}
 
-/// States that the values that a call writes in addition to its result are those that it reads: the
-/// length of a text (`text`), a number (`number`), an address and its port (`address`), the channel
-/// number and the length of the data of ChannelData (`channel`), and as many types of a list as fit
-/// into the caller's array (`types`, `unknown`). A call that cuts a stream returns the length of
-/// the first message or, if this message is incomplete, the number of bytes that the stream must
-/// have before the next call (`frame`). No call writes more than its buffer has room for (`room`).
+/// States which values the calls write in addition to their results, and what the call for streams
+/// returns.
+///
+/// - `text`, `number`, `address`, `channel`: a call writes the values that it has read. These are
+///   the length of a text, a number, an address and its port, or the channel number and the data
+///   length of a ChannelData message.
+/// - `types`, `unknown`: a call that reads a list of types writes as many of them as fit into the
+///   caller's array.
+/// - `frame`: a call that finds the first message in a stream returns the length of this message.
+///   If the message is incomplete, the call returns the number of bytes that the stream must have
+///   before the next call.
+/// - `room`: no call writes more than its buffer has room for.
 pub fn what_is_written_is_what_was_read()
     ensures text { (x : Result (List ℕ) Refusal) (place before n : ℕ)
         → text_answer x place ≡ pos n → (text : List ℕ) × (x ≡ Ok text) × (n ≡ place + 4)

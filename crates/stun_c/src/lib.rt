@@ -162,7 +162,7 @@ pub extern "C" fn stunp_version() -> i64
 }
 
 /// Returns the same number as `stunp_version`. Each release that breaks compatibility changes the
-/// name of this call, so a program that was compiled against another release does not link.
+/// name of this call, so with `STUNP_CHECK_RELEASE` no program links with an incompatible release.
 #[unsafe(no_mangle)]
 pub extern "C" fn stunp_release_0_3() -> i64
     ensures { result ≡ pos 300 }
@@ -536,7 +536,7 @@ pub extern "C" fn stunp_next_frame(bytes: &[u8]) -> i64
     framing::next_frame(bytes)
 }
 
-/// Like `stunp_next_frame`, but for a stream in which each packet comes after its length in 2 bytes
+/// Like `stunp_next_frame`, but for a stream in which 2 bytes before each packet state its length
 /// (RFC 4571). The result includes these 2 bytes.
 #[unsafe(no_mangle)]
 pub extern "C" fn stunp_next_packet_frame(bytes: &[u8]) -> i64

@@ -124,7 +124,7 @@ pub fn error_code(message: &[u8]) -> i64
     }
 }
 
-/// Returns `true` if `count` is the number of octets that an address of the family `family` has.
+/// Returns `true` if an address of the family `family` has `count` octets.
 fn has_octets(family: u8, count: usize) -> bool
     ensures answer { result ≡ has_octets family count }
     ensures short { result ≡ true → count ≤ 16 }
@@ -170,8 +170,8 @@ pub fn find(message: &[u8], kind: u32, value_length: &mut usize) -> i64
     }
 }
 
-/// Returns the port and the octets of an XOR-MAPPED-ADDRESS, still XORed, or `None` if it is
-/// malformed.
+/// Returns the port and the octets of an XOR-MAPPED-ADDRESS, both still XORed, or `None` if the
+/// attribute is malformed.
 fn hidden_parts<'a>(attribute: &RawAttribute<'a>) -> Option<(u16, &'a [u8])>
     ensures none { IfNone result (xored_of attribute.now ≡ None) }
     ensures some { IfSome result (λ parts. xored_of attribute.now ≡ Some (record {
@@ -191,7 +191,7 @@ fn hidden_parts<'a>(attribute: &RawAttribute<'a>) -> Option<(u16, &'a [u8])>
     Some((BigEndian::read_u16(&value[2..]), &value[4..]))
 }
 
-/// Returns the port and the octets in the first visible XOR-MAPPED-ADDRESS of a message, still
+/// Returns the port and the octets in the first visible XOR-MAPPED-ADDRESS of a message, both still
 /// XORed.
 fn address_in<'a>(message: &Message<'a>) -> Result<(u16, &'a [u8]), Refusal>
     ensures ok { IfOk result (λ parts. (id : ℕ)
@@ -262,8 +262,8 @@ pub fn mapped_address(message: &[u8], out: &mut [u8], port: &mut u16) -> i64
     }
 }
 
-/// Returns the port and the octets in the address attribute at the offset `place` of a message, as
-/// they are in the message.
+/// Returns the port and the octets that the message has in the address attribute at the offset
+/// `place`. In an XORed address attribute, both are still XORed.
 #[tactic(auto, using(crate::proofs::Members::header_before))]
 fn hidden_at(message: &[u8], place: usize) -> Result<(u16, &[u8]), Refusal>
     ensures ok { IfOk result (λ parts. octets_at message.now place

@@ -22,8 +22,8 @@ use stun_types::message::Message;
 /// The largest number of bytes of data that the length field of ChannelData can state.
 const MOST_DATA: usize = 65535;
 
-/// Returns whether a number is a channel number of RFC 5766. Its range includes the range of RFC
-/// 8656.
+/// Returns `true` if a number is a channel number of RFC 5766, whose range includes the range of
+/// RFC 8656.
 fn is_channel_number(number: u32) -> bool
     ensures { result ≡ is_any_channel_number number }
 {
@@ -87,8 +87,8 @@ pub fn build_channel_data(channel: u32, data: &[u8], is_padded: bool, out: &mut 
 }
 
 /// Returns the channel number and the length of the data in the ChannelData message at the front of
-/// some bytes. Fails with `Truncated` if the message is not whole, and with `NotStun` if the bytes
-/// do not begin with a channel number.
+/// `bytes`. Fails with `Truncated` if the message is not whole, and with `NotStun` if the bytes do
+/// not begin with a channel number.
 fn channel_data_in(bytes: &[u8]) -> Result<(u16, usize), Refusal>
     ensures ok { OnOk result (channel_refusal bytes.now ≡ None) }
     ensures channel { IfOk result (λ parts. parts.0 ≡ big_number 2 bytes.now) }
@@ -108,7 +108,7 @@ fn channel_data_in(bytes: &[u8]) -> Result<(u16, usize), Refusal>
     Ok((BigEndian::read_u16(bytes), data_length))
 }
 
-/// Reads the ChannelData message at the front of some bytes, and writes its channel number and the
+/// Reads the ChannelData message at the front of `bytes`, and writes its channel number and the
 /// length of its data. Returns the offset of the data, or a negative error code.
 pub fn read_channel_data(bytes: &[u8], channel: &mut u16, data_length: &mut usize) -> i64
     ensures answer { result ≡ channel_answer (channel_refusal bytes.now) }

@@ -11,8 +11,8 @@ use stun_base::error::{StunParseError, ValidateError};
 use stun_numbers::refusal::Refusal;
 use stun_types::message::Message;
 
-/// Converts the error of a failed search for the integrity attribute of a message to the error that
-/// the call returns.
+/// Converts the library's error for a message whose integrity attribute cannot be read to the error
+/// that the call returns.
 fn integrity_refusal(error: StunParseError) -> Refusal
     ensures { result ≡ refusal_of_integrity error }
 {
@@ -25,7 +25,8 @@ fn integrity_refusal(error: StunParseError) -> Refusal
     }
 }
 
-/// Converts the error of a failed verification of a message to the error that the call returns.
+/// Converts the library's error for a message that cannot be verified to the error that the call
+/// returns.
 fn verdict_refusal(error: ValidateError) -> Refusal
     ensures { result ≡ refusal_of_verdict error }
 {

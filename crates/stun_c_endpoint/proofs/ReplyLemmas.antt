@@ -271,7 +271,6 @@ users_request (short.answered a) client y h = cc
 users_request (short.requested q) client y h = (q, refl, cc, cc)
 users_request (short.indicated i) client y h = cc
 users_request (short.responded m) client y h = cc
-users_request (short.not_signed why) client y h = cc
 users_request (short.dropped why) client y h = cc
 
 -- the same of the reply of a client

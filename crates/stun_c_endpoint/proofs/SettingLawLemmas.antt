@@ -6,11 +6,13 @@ use Rattle.std.specs.Prelude.{◌≢◌, nat_lt, slice_index}
 use Rattle.std.specs.Str.{bytes_eq, is_utf8}
 use Rattle.std.proofs.lemmas.Slice.Eq.{bytes_eq-Decides}
 use Rattle.std.specs.declared.net.socket_addr.SocketAddr.{SocketAddr}
+use Rattle.stun_auth.specs.declared.algorithm_set.AlgorithmSet.TheVariants.{OnlySha1}
+use Rattle.stun_auth.specs.declared.algorithm_set.AlgorithmSet.TheVariants.{OnlySha256, Both}
 use Rattle.stun_auth.specs.declared.feature.Feature.TheVariants.{Auto, Disabled, Required}
 use Rattle.stun_base.specs.declared.keys.algorithm.IntegrityAlgorithm.TheVariants.{Sha1, Sha256}
 use Rattle.stun_client.specs.Judging.{short_term, unsigned}
 use Rattle.stun_client_calls.specs.Clients.{Client as ClientSeen}
-use Rattle.stun_endpoint.specs.Realm.{algorithms_for, feature_for}
+use Rattle.stun_endpoint.specs.Realm.{feature_for}
 use Rattle.stun_endpoint.specs.Responding.{Responding}
 use Rattle.stun_endpoint.specs.Settings.{Settings}
 use Rattle.stun_handles.specs.Addresses.{socket_address}
@@ -107,16 +109,15 @@ text bytes = text_by bytes (length bytes == 0) refl
 
 -- ---- servers
 
-numbered : (n : ℕ) (two one : Bool) → (n == 2) ≡ two → (n == 1) ≡ one → n ≤ 3
-    → AreNumbered n (algorithms_for (not two) (not one))
-numbered n true true two one most = eqb-true n 1 one
-numbered n true false two one most = eqb-true n 2 two
-numbered n false true two one most = eqb-true n 1 one
-numbered zero false false two one most = inl refl
-numbered (suc zero) false false two one most = cc
-numbered (suc (suc zero)) false false two one most = cc
-numbered (suc (suc (suc zero))) false false two one most = inr refl
-numbered (suc (suc (suc (suc n)))) false false two one most = absurd (omega (arith, most))
+numbered : (n : ℕ) (one two : Bool) → (n == 1) ≡ one → (n == 2) ≡ two → n ≤ 3
+    → AreNumbered n (if one then OnlySha1 else if two then OnlySha256 else Both)
+numbered n true two is other most = eqb-true n 1 is
+numbered n false true is other most = eqb-true n 2 other
+numbered zero false false is other most = inl refl
+numbered (suc zero) false false is other most = cc
+numbered (suc (suc zero)) false false is other most = cc
+numbered (suc (suc (suc zero))) false false is other most = inr refl
+numbered (suc (suc (suc (suc n)))) false false is other most = absurd (omega (arith, most))
 
 feature_by : (n : ℕ) → n ≢ 2 → feature_for (not (n == 2)) ≡ Auto
 feature_by n other = ap (λ b. feature_for (not b)) (differ n 2 other)
@@ -140,7 +141,7 @@ is_server g h =
     let lengths = neither (nat_lt 763 (length g.realm)) (nat_lt 763 (length g.software)) none.2 in
     record {
       realm = refl;
-      algorithms = numbered g.algorithms (g.algorithms == 2) (g.algorithms == 1) refl refl
+      algorithms = numbered g.algorithms (g.algorithms == 1) (g.algorithms == 2) refl refl
           (ltb-false 3 g.algorithms algorithms.0);
       hashed = λ other. feature_by g.anonymous_username other;
       never_hashed = λ is. ap (λ n. feature_for (not (n == 2))) is;
@@ -205,13 +206,14 @@ client_feature n false false is other = (apart n 1 is, apart n 2 other)
 identity_by : (name password : List ℕ) (o : ClientOptions) (none short : Bool)
     → (length name == 0) ≡ none → (o.credentials == 1) ≡ short
     → (if not none then length password == 0 else not (length password == 0)) ≡ false
+    → o.algorithms ≤ 3
     → IsIdentity name password o
     (if not (not none) then unsigned
     else if short then short_term name password (algorithm_given o.algorithms)
     else long_term_given name password o)
-identity_by name password o true short is kind half =
+identity_by name password o true short is kind half most =
     (eqb-true (length name) 0 is, eqb-true (length password) 0 (not_false (length password == 0) half))
-identity_by name password o false true is kind half = (
+identity_by name password o false true is kind half most = (
   apart (length name) 0 is,
   apart (length password) 0 half,
   eqb-true o.credentials 1 kind,
@@ -219,15 +221,14 @@ identity_by name password o false true is kind half = (
   refl,
   algorithm_by o.algorithms (o.algorithms == 2) refl,
 )
-identity_by name password o false false is kind half = (
+identity_by name password o false false is kind half most = (
   apart (length name) 0 is,
   apart (length password) 0 half,
   apart o.credentials 1 kind,
   refl,
   refl,
   refl,
-  (λ two. ap (λ n. not (n == 2)) two, λ other. ap not (differ o.algorithms 2 other)),
-  (λ one. ap (λ n. not (n == 1)) one, λ other. ap not (differ o.algorithms 1 other)),
+  numbered o.algorithms (o.algorithms == 1) (o.algorithms == 2) refl refl most,
   client_feature o.anonymous_username (o.anonymous_username == 1) (o.anonymous_username == 2) refl
       refl,
 )
@@ -248,13 +249,15 @@ is_client g server h =
     let ranges = neither (is_client_out_of_range (has_user g.name) g.options)
     (is_half_user g.name g.password || is_repeated g.seed) none.0 in
     let halves = neither (is_half_user g.name g.password) (is_repeated g.seed) ranges.1 in
+    let algorithms = neither (nat_lt 3 g.options.algorithms) _ ranges.0 in
     record {
       server_is = refl;
       seed = refl;
       drawn = drawn g.seed halves.1;
       first = refl;
       identity = identity_by g.name g.password g.options (length g.name == 0)
-          (g.options.credentials == 1) refl refl halves.0;
+          (g.options.credentials == 1) refl refl halves.0
+          (ltb-false 3 g.options.algorithms algorithms.0);
       requires_fingerprint = refl;
       has_fingerprint = refl;
       software = text g.software;

@@ -21,7 +21,7 @@ use Rattle.stun_numbers.specs.Refusals.{refusal_number}
 use Rattle.stun_numbers.specs.declared.refusal.Refusal.{Refusal}
 use Rattle.stun_numbers.specs.declared.refusal.Refusal.TheVariants.{BadArgument, NotText}
 use Rattle.stun_numbers.specs.declared.refusal.Refusal.TheVariants.{TextTooLong}
-use Rattle.stun_c_endpoint.specs.Given.{Makes, if_any, is_repeated}
+use Rattle.stun_c_endpoint.specs.Given.{Makes, algorithms_given, if_any, is_repeated}
 use Rattle.stun_c_endpoint.specs.declared.client.settings.ClientOptions.{ClientOptions}
 use Rattle.stun_c_endpoint.specs.declared.client.settings.TheConstants.{UNDERSTOOD}
 use Rattle.stun_c_endpoint.specs.declared.handle.endpoint.Kept.{Kept}
@@ -54,8 +54,7 @@ feature_given number =
 
 abbrev pub preferences_given : ClientOptions → Preferences
 preferences_given o = record {
-  hmac_sha1 = not (o.algorithms == 2);
-  hmac_sha256 = not (o.algorithms == 1);
+  algorithms = algorithms_given o.algorithms;
   anonymous_username = feature_given o.anonymous_username;
 }
 

@@ -5,7 +5,10 @@ use Rattle.std.specs.Prelude.{replicate, slice_index}
 use Rattle.std.specs.Str.{bytes_eq, is_utf8}
 use Rattle.stun_types.specs.Limits.{TEXT_LIMIT}
 use Rattle.stun_extra.specs.Unknown.{types_of}
-use Rattle.stun_endpoint.specs.Realm.{algorithms_for, feature_for}
+use Rattle.stun_auth.specs.declared.algorithm_set.AlgorithmSet.{AlgorithmSet}
+use Rattle.stun_auth.specs.declared.algorithm_set.AlgorithmSet.TheVariants.{OnlySha1}
+use Rattle.stun_auth.specs.declared.algorithm_set.AlgorithmSet.TheVariants.{OnlySha256, Both}
+use Rattle.stun_endpoint.specs.Realm.{feature_for}
 use Rattle.stun_endpoint.specs.Responding.{Responding}
 use Rattle.stun_endpoint.specs.Settings.{Settings}
 use Rattle.stun_endpoint.specs.declared.server.settings.TheConstants.{STUN_ATTRIBUTES}
@@ -36,11 +39,9 @@ abbrev pub nonce_seconds : ℕ → ℕ
 nonce_seconds seconds = if seconds == 0 then 3600 else seconds
 
 -- the algorithms that a number stands for: 1 is HMAC-SHA1, 2 is HMAC-SHA256, 0 and 3 are both
-abbrev pub has_sha1 : ℕ → Bool
-has_sha1 number = not (number == 2)
-
-abbrev pub has_sha256 : ℕ → Bool
-has_sha256 number = not (number == 1)
+abbrev pub algorithms_given : ℕ → AlgorithmSet
+algorithms_given number =
+    if number == 1 then OnlySha1 else if number == 2 then OnlySha256 else Both
 
 -- whether 32 bytes are one byte that is repeated, and so are not random
 abbrev pub is_repeated : List ℕ → Bool
@@ -83,7 +84,7 @@ if_any bytes = if length bytes == 0 then None else Some bytes
 abbrev pub server_given : Given → Settings
 server_given g = record {
   realm = g.realm;
-  algorithms = algorithms_for (has_sha1 g.algorithms) (has_sha256 g.algorithms);
+  algorithms = algorithms_given g.algorithms;
   feature = feature_for (not (g.anonymous_username == 2));
   secret = g.secret;
   previous = g.previous_secret;

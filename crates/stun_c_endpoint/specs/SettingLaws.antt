@@ -1,5 +1,5 @@
 -- The statements of the laws over the settings of servers and clients.
-use Rattle.std.specs.Prelude.{◌≡◌, ◌≢◌, ◌≤◌, ◌⊎◌, ℕ, List, true, false, length}
+use Rattle.std.specs.Prelude.{◌≡◌, ◌≢◌, ◌≤◌, ◌⊎◌, ℕ, List, true, length}
 use Rattle.std.specs.Prelude.{Option, Some, None, replicate}
 use Rattle.std.specs.Str.{is_utf8}
 use Rattle.std.specs.declared.net.socket_addr.SocketAddr.{SocketAddr}
@@ -95,9 +95,7 @@ IsIdentity name password o (short_term user secret algorithm) =
 IsIdentity name password o (long_term user p accepts_unsigned) =
     (length name ≢ 0) × (length password ≢ 0) × (o.credentials ≢ 1) × (user.username ≡ name)
     × (user.password ≡ password) × (accepts_unsigned ≡ o.accepts_unsigned)
-    × ((o.algorithms ≡ 2 → p.hmac_sha1 ≡ false) × (o.algorithms ≢ 2 → p.hmac_sha1 ≡ true))
-    × ((o.algorithms ≡ 1 → p.hmac_sha256 ≡ false) × (o.algorithms ≢ 1 → p.hmac_sha256 ≡ true))
-    × IsFeature o.anonymous_username p.anonymous_username
+    × AreNumbered o.algorithms p.algorithms × IsFeature o.anonymous_username p.anonymous_username
 
 -- a number that is passed, or its default for 0
 abbrev pub IsOr : ℕ → ℕ → ℕ → Type 0

@@ -14,18 +14,17 @@ use Rattle.stun_base.specs.Header.{type_field}
 use Rattle.stun_base.specs.MessageType.{method_of}
 use Rattle.stun_endpoint.specs.Answers.{Signature}
 use Rattle.stun_endpoint.specs.Judged.{realm_of_table}
-use Rattle.stun_endpoint.specs.Open.{OpenOutcome, received_openly}
-use Rattle.stun_endpoint.specs.Open as plain
-use Rattle.stun_endpoint.specs.Received.{Outcome, received_by}
-use Rattle.stun_endpoint.specs.Received as realm
-use Rattle.stun_endpoint.specs.Responding.{Answer, Reply as TheReply}
-use Rattle.stun_endpoint.specs.ShortTerm.{ShortTermOutcome, received_signed}
-use Rattle.stun_endpoint.specs.ShortTerm as short
+use Rattle.stun_endpoint.specs.Open.{OpenOutcome, OpenRequest, received_openly}
+use Rattle.stun_endpoint.specs.Received.{AcceptedRequest, Outcome, received_by}
+use Rattle.stun_endpoint.specs.Responding.{Answer, OutcomeOf, Reply as TheReply}
+use Rattle.stun_endpoint.specs.Responding as plain
+use Rattle.stun_endpoint.specs.ShortTerm.{ShortTermOutcome, SignedIndication, received_signed}
 use Rattle.stun_endpoint.specs.Refusals.{code_of}
 use Rattle.stun_endpoint.specs.declared.received.DropReason.{DropReason}
 use Rattle.stun_endpoint.specs.declared.received.DropReason.TheVariants.{NotStun, Malformed}
 use Rattle.stun_endpoint.specs.declared.received.DropReason.TheVariants.{MissingFingerprint}
 use Rattle.stun_endpoint.specs.declared.received.DropReason.TheVariants.{WrongFingerprint}
+use Rattle.stun_endpoint.specs.declared.received.DropReason.TheVariants.{NotSigned}
 use Rattle.stun_endpoint.specs.declared.received.DropReason.TheVariants.{UnknownAttribute}
 use Rattle.stun_endpoint.specs.declared.received.Refusal.{Refusal as Refused}
 use Rattle.std.specs.declared.net.socket_addr.SocketAddr.{SocketAddr}
@@ -60,35 +59,52 @@ drop_number Malformed = 2
 drop_number WrongFingerprint = 3
 drop_number UnknownAttribute = 4
 drop_number MissingFingerprint = 13
+drop_number (NotSigned refusal) = 8
 
--- the number of one more reason: an indication that is not signed by a user (section 9.1.3)
-abbrev pub NOT_SIGNED : ℕ
-NOT_SIGNED = 8
+-- the code with which a request with the same attributes would be refused, or 0 if the datagram is
+-- dropped for another reason
+abbrev pub drop_code : DropReason → ℕ
+drop_code NotStun = 0
+drop_code Malformed = 0
+drop_code WrongFingerprint = 0
+drop_code UnknownAttribute = 0
+drop_code MissingFingerprint = 0
+drop_code (NotSigned refusal) = code_of refusal
+
+-- the outcome at a server, given what a request and an indication are to a caller
+abbrev pub told_by : {R I : Type 0} → (R → AnyOutcome) → (I → AnyOutcome) → OutcomeOf R I
+    → AnyOutcome
+told_by request indication (plain.answered a) = answered a
+told_by request indication (plain.requested q) = request q
+told_by request indication (plain.indicated i) = indication i
+told_by request indication (plain.responded m) = responded m
+told_by request indication (plain.dropped why) = dropped (drop_number why) (drop_code why)
+
+-- a request that a user has signed, and one that anybody may have sent
+abbrev pub told_request : AcceptedRequest → AnyOutcome
+told_request q = requested (Some q.client) q.reply
+
+abbrev pub told_open_request : OpenRequest → AnyOutcome
+told_open_request q = requested None q.reply
+
+-- an indication that anybody may have sent, and one that a user has signed
+abbrev pub told_indication : List ℕ → AnyOutcome
+told_indication m = indicated None m
+
+abbrev pub told_signed_indication : SignedIndication → AnyOutcome
+told_signed_indication i = indicated (Some i.client) i.message
 
 -- the outcome with long-term credentials, with which indications are not signed (section 9.2)
 abbrev pub of_realm : Outcome → AnyOutcome
-of_realm (realm.answered a) = answered a
-of_realm (realm.requested q) = requested (Some q.client) q.reply
-of_realm (realm.indicated m) = indicated None m
-of_realm (realm.responded m) = responded m
-of_realm (realm.dropped why) = dropped (drop_number why) 0
+of_realm outcome = told_by told_request told_indication outcome
 
 -- the outcome with short-term credentials
 abbrev pub of_users : ShortTermOutcome → AnyOutcome
-of_users (short.answered a) = answered a
-of_users (short.requested q) = requested (Some q.client) q.reply
-of_users (short.indicated i) = indicated (Some i.client) i.message
-of_users (short.responded m) = responded m
-of_users (short.not_signed refusal) = dropped NOT_SIGNED (code_of refusal)
-of_users (short.dropped why) = dropped (drop_number why) 0
+of_users outcome = told_by told_request told_signed_indication outcome
 
 -- the outcome without credentials
 abbrev pub of_open : OpenOutcome → AnyOutcome
-of_open (plain.answered a) = answered a
-of_open (plain.requested q) = requested None q.reply
-of_open (plain.indicated m) = indicated None m
-of_open (plain.responded m) = responded m
-of_open (plain.dropped why) = dropped (drop_number why) 0
+of_open outcome = told_by told_open_request told_indication outcome
 
 abbrev pub outcome_by : Judge → SocketAddr → ℕ → List ℕ → AnyOutcome
 outcome_by (by_realm s u) from seconds bytes =

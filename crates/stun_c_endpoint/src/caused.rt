@@ -18,7 +18,8 @@ use stun_handles::address::Address;
 use stun_numbers::refusal::Refusal;
 
 /// Judges a datagram with a server and a table of users, and writes the outcome to `received`, the
-/// server's own response to `out`, and the `stunp_cause` to `cause`, which the caller has set to 0.
+/// server's own response to `out`, and the `stunp_cause` to `cause`, which must be 0 before the
+/// call.
 pub fn receive(
     server: &Kept,
     users: &Kept,

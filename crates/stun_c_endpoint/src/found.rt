@@ -31,7 +31,7 @@ pub struct Found<'f> {
 }
 
 /// Converts a user with a password. Fails with `NotText` if a text is not UTF-8, then with
-/// `TextTooLong` if the name is too long, then with `BadArgument` if the password has no bytes.
+/// `TextTooLong` if the name is too long, then with `BadArgument` if the password is empty.
 fn by_password<'f>(name: &'f [u8], password: &'f [u8]) -> Result<FoundUser<'f>, Refusal>
     ensures { result ≡ password_user name.entry.now password.entry.now }
 {

@@ -19,9 +19,9 @@ ghost use Rattle.stun_numbers.specs.declared.refusal.Refusal.{Refusal};
 ghost use Rattle.stun_numbers.specs.declared.refusal.Refusal.TheVariants.{NotAllowed};
 ghost use Rattle.stun_types.specs.Attribute.{first_attribute, has_attribute};
 
-/// States that a call that returns `STUNP_IS_REQUEST` writes a reply whose signatures are valid
-/// under the key of the user in `name`. So `stunp_verify` accepts what `stunp_reply_finish` signs,
-/// whatever the length of the user's password is.
+/// States that if a call returns `STUNP_IS_REQUEST`, a response that is signed with the data in
+/// `reply` has a valid signature under the key of the user in `name`. So `stunp_verify` accepts
+/// each response that `stunp_reply_finish` signs, however long the user's password is.
 pub fn replies_sign_for_the_user()
     ensures { (judge : Judge) (from : SocketAddr) (seconds : ℕ) (bytes : List ℕ) (result : ℤ)
         (out out' : List ℕ) (r r' : Received)
@@ -29,18 +29,20 @@ pub fn replies_sign_for_the_user()
         → result ≡ pos 2 → SignsForUser judge r' }
 {}
 
-/// After `stunp_ice_checker_set_role` on a handle with an agent, `stunp_ice_checker_is_controlling`
-/// returns 1 if that call set the controlling role, and otherwise 0.
+/// If `stunp_ice_checker_set_role` has set the controlling role of the agent in a handle,
+/// `stunp_ice_checker_is_controlling` returns 1. If it has set the controlled role, the result is
+/// 0.
 pub fn set_roles_are_told()
     ensures { (a : Agent) (controls : Bool) (result : ℤ) (before now : Option Kept)
         → SetsRole (Ok a) controls result before now
         → controlling_answer (agent_in now) ≡ (if controls then pos 1 else pos 0) }
 {}
 
-/// States that a check with an empty body has the same bytes as the check that
-/// `stunp_ice_checker_check_with` writes (`nothing`). USE-CANDIDATE, ICE-CONTROLLING and
-/// ICE-CONTROLLED in a body are refused, because the agent writes them itself, and XOR-PEER-ADDRESS
-/// is refused too, because a body stores its address without the XOR (`refused`).
+/// States which attributes the body of a check may have. If the body is empty, the check is the
+/// same as the one that `stunp_ice_checker_check_with` writes (`nothing`). A body with
+/// USE-CANDIDATE, ICE-CONTROLLING or ICE-CONTROLLED is refused, because the agent writes these
+/// attributes itself. XOR-PEER-ADDRESS is refused too, because a body stores the address of this
+/// attribute without the XOR (`refused`).
 pub fn bodies_say_nothing_of_ice()
     ensures nothing { (a : Agent) (peer : Peer) (id : ℕ) (to : SocketAddr) (priority : ℕ)
         (nominate : Bool) (check : SentCheck)
@@ -51,8 +53,8 @@ pub fn bodies_say_nothing_of_ice()
         → AddsFurther page bytes result → result ≡ Err NotAllowed }
 {}
 
-/// The call that writes the outcome of a datagram and its cause writes the same cause as the call
-/// that returns only the cause.
+/// Two calls report the cause for which a request is refused: one returns only the cause, and one
+/// writes both the outcome of the datagram and the cause. Both report the same cause.
 pub fn both_calls_name_one_cause()
     ensures { (server users : Option Kept) (from : Address) (seconds : ℕ) (bytes : List ℕ)
         (r : Received) (cause : Option Cause) (result : ℤ) (told : ℕ) → r.size ≡ RECEIVED_SIZE

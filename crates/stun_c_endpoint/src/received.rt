@@ -1,16 +1,17 @@
 //! The outcome of a datagram at a server, in the struct that a caller in C receives
 //! (`stunp_received`).
 
-ghost use Rattle.std.specs.Prelude.{◌≡◌, ◌≤◌, None, Some, length};
+ghost use Rattle.std.specs.Prelude.{◌≡◌, ◌≤◌, List, None, Some, length, pos, ℕ};
 ghost use Rattle.byteorder.specs.Endian.{big_bytes};
 ghost use Rattle.sha1.specs.Sha1.{sha1};
 ghost use Rattle.sha2.specs.Sha256.{sha256};
 ghost use Rattle.stun_base.specs.Hmac.{block_of, key_block, short_key};
-ghost use Rattle.stun_endpoint.specs.Refusals.{code_of};
-ghost use Rattle.stun_c_endpoint.specs.Told.{NAME_PLACE, NAME_ROOM as most_name, NOT_SIGNED};
-ghost use Rattle.stun_c_endpoint.specs.Told.{at_front, blank, drop_number, signer_told};
-ghost use Rattle.stun_c_endpoint.specs.Told.{dropped, failed, indicated, integrity_number};
-ghost use Rattle.stun_c_endpoint.specs.Told.{requested};
+ghost use Rattle.stun_c_endpoint.specs.Told.{NAME_PLACE, NAME_ROOM as most_name};
+ghost use Rattle.stun_c_endpoint.specs.Told.{at_front, blank, drop_code, drop_number, signer_told};
+ghost use Rattle.stun_c_endpoint.specs.Told.{AnyOutcome, IsTold, dropped, failed, indicated};
+ghost use Rattle.stun_c_endpoint.specs.Told.{integrity_number, requested, told_indication};
+ghost use Rattle.stun_c_endpoint.specs.Told.{told_open_request, told_request};
+ghost use Rattle.stun_c_endpoint.specs.Told.{told_signed_indication};
 ghost use Rattle.stun_c_endpoint.specs.Lookups.{lookup_told, named_told};
 ghost use Rattle.stun_c_endpoint.specs.Told.{block_told, hash_by, key_length_told, reply_told};
 ghost use Rattle.stun_c_endpoint.specs.Told.{responded, told_of};
@@ -23,16 +24,13 @@ use std::alloc::Global;
 use stun_auth::auth::NamedUser;
 use stun_endpoint::lookup::Lookup;
 use stun_endpoint::open::OpenRequest;
-use stun_endpoint::received::{DropReason, Refusal as Refused, Request};
+use stun_endpoint::received::{DropReason, Request};
 use stun_endpoint::reply::Reply as EndpointReply;
 use stun_endpoint::short_term::ShortTermIndication;
 use stun_types::message::{IntegrityAlgorithm, Message, TransactionId};
 
 /// The number of bytes of a block of HMAC, which is the greatest length of a key in a reply.
 const KEY_ROOM: usize = 64;
-
-/// The `stunp_drop` of an indication that no user has signed.
-const NOT_SIGNED: u32 = 8;
 
 /// The greatest length of a user name for which the caller's struct has room, in bytes.
 pub const NAME_ROOM: usize = 513;
@@ -221,8 +219,67 @@ pub fn drop_number(why: DropReason) -> u32
         DropReason::WrongFingerprint => 3,
         DropReason::UnknownAttribute => 4,
         DropReason::MissingFingerprint => 13,
+        DropReason::NotSigned(_) => 8,
         // There is no other variant in this release.
         _ => 0,
+    }
+}
+
+/// Returns the code with which a request with the same attributes would be refused, for an
+/// indication that no user has signed, and otherwise 0.
+pub fn drop_code(why: DropReason) -> u32
+    ensures { result ≡ drop_code why }
+{
+    match why {
+        DropReason::NotSigned(refusal) => u32::from(refusal.code()),
+        _ => 0,
+    }
+}
+
+/// A request or an indication that a server returns, whatever its credentials are.
+pub trait Accepted {
+    // The outcome that a caller receives.
+    ghost told: { Self → AnyOutcome };
+
+    /// Sets the outcome of a caller to this message, and returns its `stunp_kind`.
+    fn tell(&self, received: &mut Received) -> u32
+        ensures { (out : List ℕ) → IsTold (told self.now) (pos result) out out received.old
+            received.new };
+}
+
+impl Accepted for Request<'_, Global> {
+    ghost told = { told_request };
+
+    fn tell(&self, received: &mut Received) -> u32 {
+        received.requested(self);
+        2
+    }
+}
+
+impl Accepted for OpenRequest<'_, Global> {
+    ghost told = { told_open_request };
+
+    fn tell(&self, received: &mut Received) -> u32 {
+        received.requested_openly(self);
+        2
+    }
+}
+
+impl Accepted for Message<'_> {
+    ghost told = { told_indication };
+
+    fn tell(&self, received: &mut Received) -> u32 {
+        received.indicated(self);
+        3
+    }
+}
+
+impl Accepted for ShortTermIndication<'_> {
+    ghost told = { told_signed_indication };
+
+    fn tell(&self, received: &mut Received) -> u32 {
+        received.indicated_by(self);
+        3
     }
 }
 
@@ -257,10 +314,11 @@ impl Received {
 
     /// Sets the outcome to a datagram that is dropped for this reason.
     pub fn dropped(&mut self, why: DropReason)
-        ensures { self.new ≡ told_of (dropped (drop_number why) 0) self.old }
+        ensures { self.new ≡ told_of (dropped (drop_number why) (drop_code why)) self.old }
     {
         self.begin(0);
         self.why = drop_number(why);
+        self.code = drop_code(why);
     }
 
     /// Sets the outcome to a response to send, with its length, and with its code if it is an error
@@ -271,16 +329,6 @@ impl Received {
         self.begin(1);
         self.code = u32::from(code);
         self.length = length;
-    }
-
-    /// Sets the outcome to an indication that is dropped because no user has signed it, with the
-    /// code with which a request would be refused.
-    pub fn not_signed(&mut self, refusal: Refused)
-        ensures { self.new ≡ told_of (dropped NOT_SIGNED (code_of refusal)) self.old }
-    {
-        self.begin(0);
-        self.why = NOT_SIGNED;
-        self.code = u32::from(refusal.code());
     }
 
     /// Sets the user who has signed the message.

@@ -14,8 +14,9 @@ pub extern "C" fn stunp_endpoint_version() -> i64
     VERSION
 }
 
-/// Returns the version of the archive. A program that is compiled against the header of this
-/// release refers to this name, so that it cannot be linked with another release.
+/// Returns the version of the archive. Each release that breaks compatibility changes the name of
+/// this call. A program that defines `STUNP_CHECK_RELEASE` refers to this name, so it does not link
+/// with an archive of an incompatible release.
 #[unsafe(no_mangle)]
 pub extern "C" fn stunp_endpoint_release_0_3() -> i64
     ensures { result ≡ pos 300 }

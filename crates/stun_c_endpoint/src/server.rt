@@ -7,20 +7,18 @@ ghost use Rattle.stun_c_endpoint.specs.Causes.{CausedAs, cause_at, cause_number,
 ghost use Rattle.stun_c_endpoint.specs.Causes.{long_term_with};
 ghost use Rattle.stun_c_endpoint.specs.Kept.{by_realm, by_users, judge_with, openly};
 ghost use Rattle.stun_c_endpoint.specs.Lookups.{IdentifiesAs, identified_at, long_term_of};
-ghost use Rattle.stun_endpoint.specs.OpenOutcomes.{open_outcome_of};
 ghost use Rattle.stun_endpoint.specs.Outcomes.{outcome_of};
-ghost use Rattle.stun_endpoint.specs.ShortTermOutcomes.{short_term_outcome_of};
-ghost use Rattle.stun_c_endpoint.specs.Told.{IsTold, ReceivesAs, answered, code_told, of_open};
-ghost use Rattle.stun_c_endpoint.specs.Told.{of_realm, of_users, outcome_at};
+ghost use Rattle.stun_c_endpoint.specs.Told.{IsTold, ReceivesAs, answered, code_told, outcome_at};
+ghost use Rattle.stun_c_endpoint.specs.Told.{told_by};
 
 use crate::handle::endpoint::Kept;
-use crate::received::{RECEIVED_SIZE, Received};
+use crate::received::{Accepted, RECEIVED_SIZE, Received};
 use std::alloc::Global;
 use stun_endpoint::lookup::Identified;
-use stun_endpoint::open::{OpenReceived, OpenServer};
+use stun_endpoint::open::OpenServer;
 use stun_endpoint::received::{Answer, Received as Outcome, Refusal as Refused};
 use stun_endpoint::server::{Cause, Server};
-use stun_endpoint::short_term::{ShortTermReceived, ShortTermServer, ShortTermUsers};
+use stun_endpoint::short_term::{ShortTermServer, ShortTermUsers};
 use stun_endpoint::unix_time::UnixTime;
 use stun_endpoint::users::Users;
 use stun_handles::address::Address;
@@ -63,101 +61,25 @@ fn answered(
     Ok(1)
 }
 
-/// Writes the outcome of a datagram at a server with long-term credentials to `received`, and the
-/// server's own response, if there is one, to `out`. Returns the `stunp_kind`.
-pub fn tell(
-    outcome: &Outcome<'_, Global>,
+/// Writes the outcome of a datagram at a server to `received`, and the server's own response, if there
+/// is one, to `out`. Returns the `stunp_kind`.
+pub fn tell<R: Accepted, I: Accepted>(
+    outcome: &Outcome<'_, Global, R, I>,
     out: &mut [u8],
     received: &mut Received,
 ) -> Result<u32, Refusal>
-    ensures { IsTold (of_realm (outcome_of outcome.now)) (number_answer result) out.old out.new
-        received.old received.new }
+    ensures { IsTold (told_by R.told I.told (outcome_of outcome.now)) (number_answer result) out.old
+        out.new received.old received.new }
 {
     match outcome {
         Outcome::Answer(answer) => answered(answer, out, received),
-        Outcome::Request(request) => {
-            received.requested(request);
-            Ok(2)
-        }
-        Outcome::Indication(message) => {
-            received.indicated(message);
-            Ok(3)
-        }
+        Outcome::Request(request) => Ok(request.tell(received)),
+        Outcome::Indication(indication) => Ok(indication.tell(received)),
         Outcome::Response(message) => {
             received.responded(message);
             Ok(4)
         }
         Outcome::Dropped(why) => {
-            received.dropped(*why);
-            Ok(0)
-        }
-        // There is no other variant in this release.
-        _ => Err(Refusal::BadArgument),
-    }
-}
-
-/// Writes the outcome of a datagram at a server with short-term credentials to `received`, and the
-/// server's own response, if there is one, to `out`. Returns the `stunp_kind`.
-fn tell_short_term(
-    outcome: &ShortTermReceived<'_, Global>,
-    out: &mut [u8],
-    received: &mut Received,
-) -> Result<u32, Refusal>
-    ensures { IsTold (of_users (short_term_outcome_of outcome.now)) (number_answer result) out.old
-        out.new received.old received.new }
-{
-    match outcome {
-        ShortTermReceived::Answer(answer) => answered(answer, out, received),
-        ShortTermReceived::Request(request) => {
-            received.requested(request);
-            Ok(2)
-        }
-        ShortTermReceived::Indication(indication) => {
-            received.indicated_by(indication);
-            Ok(3)
-        }
-        ShortTermReceived::Response(message) => {
-            received.responded(message);
-            Ok(4)
-        }
-        ShortTermReceived::NotSigned(refusal) => {
-            received.not_signed(*refusal);
-            Ok(0)
-        }
-        ShortTermReceived::Dropped(why) => {
-            received.dropped(*why);
-            Ok(0)
-        }
-        // There is no other variant in this release.
-        _ => Err(Refusal::BadArgument),
-    }
-}
-
-/// Writes the outcome of a datagram at a server without credentials to `received`, and the server's
-/// own response, if there is one, to `out`. Returns the `stunp_kind`.
-fn tell_openly(
-    outcome: &OpenReceived<'_, Global>,
-    out: &mut [u8],
-    received: &mut Received,
-) -> Result<u32, Refusal>
-    ensures { IsTold (of_open (open_outcome_of outcome.now)) (number_answer result) out.old out.new
-        received.old received.new }
-{
-    match outcome {
-        OpenReceived::Answer(answer) => answered(answer, out, received),
-        OpenReceived::Request(request) => {
-            received.requested_openly(request);
-            Ok(2)
-        }
-        OpenReceived::Indication(message) => {
-            received.indicated(message);
-            Ok(3)
-        }
-        OpenReceived::Response(message) => {
-            received.responded(message);
-            Ok(4)
-        }
-        OpenReceived::Dropped(why) => {
             received.dropped(*why);
             Ok(0)
         }
@@ -262,7 +184,7 @@ pub fn judge_short_term(
         return Err(Refusal::BadArgument);
     }
     let outcome = server.receive(message, from.socket()?, users)?;
-    tell_short_term(&outcome, out, received)
+    tell(&outcome, out, received)
 }
 
 /// Judges a datagram with a server without credentials, and writes the outcome.
@@ -281,7 +203,7 @@ pub fn judge_openly(
         return Err(Refusal::BadArgument);
     }
     let outcome = server.receive(message, from.socket()?)?;
-    tell_openly(&outcome, out, received)
+    tell(&outcome, out, received)
 }
 
 /// Judges a datagram with a server as far as that is possible without the user, and writes the

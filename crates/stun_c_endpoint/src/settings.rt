@@ -8,7 +8,7 @@ ghost use Rattle.std.specs.String.{string_bytes};
 ghost use Rattle.stun_extra.specs.Unknown.{types_of};
 ghost use Rattle.stun_handles.specs.Numbers.{OrOutOfMemory};
 ghost use Rattle.stun_c_endpoint.specs.Given.{MakesOpen, MakesServer, MakesShortTerm};
-ghost use Rattle.stun_c_endpoint.specs.Given.{alone_refusal, given_refusal, has_sha1, has_sha256};
+ghost use Rattle.stun_c_endpoint.specs.Given.{algorithms_given, alone_refusal, given_refusal};
 ghost use Rattle.stun_c_endpoint.specs.Given.{if_any, is_out_of_range, is_repeated};
 ghost use Rattle.stun_c_endpoint.specs.Given.{is_wrong_previous, is_wrong_secret, nonce_seconds};
 ghost use Rattle.stun_c_endpoint.specs.Given.{responding_given, server_given};
@@ -19,6 +19,7 @@ pub mod laws;
 use crate::handle::endpoint::{EndpointHandle, Kept};
 use std::alloc::{AllocError, Global};
 use std::marker::Model;
+use stun_auth::auth::AlgorithmSet;
 use stun_base::attribute_type::AttributeType;
 use stun_base::compare::is_same_text;
 use stun_endpoint::open::OpenServer;
@@ -30,11 +31,11 @@ use stun_numbers::refusal::Refusal;
 use stun_numbers::text::text;
 use stun_types::limits::TEXT_LIMIT;
 
-/// The number in `Given::algorithms` for HMAC-SHA1 alone.
+/// The number for HMAC-SHA1 alone.
 const ONLY_SHA1: u32 = 1;
 
-/// The number in `Given::algorithms` for HMAC-SHA256 alone.
-const ONLY_SHA256: u32 = 2;
+/// The number for HMAC-SHA256 alone.
+pub const ONLY_SHA256: u32 = 2;
 
 /// The greatest valid number in `Given::algorithms`, which means both algorithms.
 const MOST_ALGORITHMS: u32 = 3;
@@ -93,6 +94,18 @@ fn nonce_seconds(seconds: u64) -> u64
     seconds
 }
 
+/// Returns the algorithms with this number: HMAC-SHA1 for 1, HMAC-SHA256 for 2, and both for any
+/// other number. The header has 0 and 3 for both, and the callers refuse greater numbers.
+pub fn algorithms(number: u32) -> AlgorithmSet
+    ensures { result ≡ algorithms_given number }
+{
+    match number {
+        ONLY_SHA1 => AlgorithmSet::OnlySha1,
+        ONLY_SHA256 => AlgorithmSet::OnlySha256,
+        _ => AlgorithmSet::Both,
+    }
+}
+
 /// Returns `true` if two secrets are equal.
 fn is_same(one: &[u8; 32], other: &[u8; 32]) -> bool
     ensures { result ≡ bytes_eq one.now other.now }
@@ -139,7 +152,7 @@ fn copy_types(types: &mut [AttributeType], numbers: &[u16])
     }
 }
 
-/// Copies a text, or returns `None` if the text has no bytes.
+/// Copies a text, or returns `None` if the text is empty.
 pub fn text_if_any(alloc: Global, text: &str) -> Result<Option<String<Global>>, AllocError>
     ensures { IfOk result (λ copy. option_map string_bytes copy ≡ if_any text.now) }
 {
@@ -195,9 +208,8 @@ impl<'a> Given<'a> {
             ≡ if_any software.now) }
         ensures secret { IfOk result (λ made. made.secret ≡ self.now.secret) }
         ensures previous { IfOk result (λ made. made.previous_secret ≡ self.now.previous_secret) }
-        ensures sha1 { IfOk result (λ made. made.hmac_sha1 ≡ has_sha1 self.now.algorithms) }
-        ensures sha256 { IfOk result (λ made. made.hmac_sha256
-            ≡ has_sha256 self.now.algorithms) }
+        ensures algorithms { IfOk result (λ made. made.algorithms
+            ≡ algorithms_given self.now.algorithms) }
         ensures hashes { IfOk result (λ made. made.user_hashes
             ≡ not (self.now.anonymous_username == 2)) }
         ensures lifetime { IfOk result (λ made. made.nonce_lifetime
@@ -215,8 +227,7 @@ impl<'a> Given<'a> {
             realm: copied(alloc, realm)?,
             secret: self.secret,
             previous_secret: self.previous_secret,
-            hmac_sha1: self.algorithms != ONLY_SHA256,
-            hmac_sha256: self.algorithms != ONLY_SHA1,
+            algorithms: algorithms(self.algorithms),
             user_hashes: self.anonymous_username != DISABLED,
             nonce_lifetime: nonce_seconds(self.nonce_seconds),
             understood,

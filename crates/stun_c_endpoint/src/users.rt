@@ -32,7 +32,7 @@ pub fn check_name(name: &str) -> Result<(), Refusal>
     Ok(())
 }
 
-/// Checks that a password is not empty. Fails with `BadArgument` if it has no bytes.
+/// Checks that a password is not empty. Fails with `BadArgument` if it is.
 pub fn check_password(password: &str) -> Result<(), Refusal>
     ensures { result ≡ refusal_or (password_refusal password.now) (Ok tt) }
 {

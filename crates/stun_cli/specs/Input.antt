@@ -16,28 +16,29 @@ most_tries = 1048576
 abbrev pub asked_after : ℕ → ℕ → ℕ
 asked_after reads asked = min (asked + reads) (2 ^ 32 - 1)
 
--- a read failed; one that was interrupted is tried again
+-- a read failed. A read that was interrupted does not count as failed, because it is repeated
 abbrev pub IsFailed : Result ℕ Error → Type 0
 IsFailed read = MatchResult read (λ _. ⊥) (λ error. error_kind error ≢ Interrupted)
 
--- why a reader that had these bytes left is not read to its end: its last read failed; or it had
--- more bytes than allowed, or was read as often as allowed. An allocation may fail at any time
+-- the reason why a reader that had these bytes left is not read to its end: its last read failed,
+-- it had more bytes than allowed, or it was read as often as allowed. An allocation may fail at any
+-- time
 abbrev pub IsReason : Failure → ℕ → Option (List ℕ) → ℕ → ℕ → Bool → Type 0
 IsReason Io most given asked asked_now failed = failed ≡ true
 IsReason NoEnd most given asked asked_now failed =
     IfSome given (λ input. most < length input) ⊎ (asked_now ≡ asked_after most_tries asked)
 IsReason Memory most given asked asked_now failed = ⊤
 
--- why reading on fails: the last read failed, or the reader was read as often as allowed. An
--- allocation may fail at any time
+-- the reason why reading on fails: the last read failed, or the reader was read as often as
+-- allowed. An allocation may fail at any time
 abbrev pub IsReasonOfReads : Failure → ℕ → ℕ → Bool → Type 0
 IsReasonOfReads Io asked asked_now failed = failed ≡ true
 IsReasonOfReads NoEnd asked asked_now failed = asked_now ≡ asked_after most_tries asked
 IsReasonOfReads Memory asked asked_now failed = ⊤
 
--- why the rest of a reader is not read: the last read failed; or the bytes before and the rest are
--- more than allowed, or the reader was read as often as allowed, where each byte before counts as a
--- read. An allocation may fail at any time
+-- the reason why the rest of a reader is not read: the last read failed, the bytes before and the
+-- rest together are more than allowed, or the reader was read as often as allowed, where each byte
+-- before counts as a read. An allocation may fail at any time
 abbrev pub IsReasonOfRest : Failure → ℕ → List ℕ → Option (List ℕ) → ℕ → ℕ → Bool → Type 0
 IsReasonOfRest Io most before given asked asked_now failed = failed ≡ true
 IsReasonOfRest NoEnd most before given asked asked_now failed =

@@ -16,8 +16,8 @@ use Rattle.stun_cli.specs.declared.verdict.Verdict.TheVariants.{MalformedIntegri
 use Rattle.stun_cli.specs.declared.status.Status.{Status}
 use Rattle.stun_cli.specs.declared.status.Status.TheVariants.{Good, Bad}
 
--- the verdict if no digest verifies: an integrity attribute is missing or malformed, or its digest
--- is another
+-- the verdict if no digest verifies: the integrity attribute is missing or malformed, or its digest
+-- is wrong
 abbrev pub verdict_without_digest : ValidateError → Verdict
 verdict_without_digest (Parse (MissingAttribute _)) = NoIntegrity
 verdict_without_digest (Parse _) = MalformedIntegrity
@@ -28,7 +28,7 @@ abbrev pub verdict_on_integrity : Option IntegrityAlgorithm → ValidateError �
 verdict_on_integrity (Some algorithm) error = Valid algorithm
 verdict_on_integrity None error = verdict_without_digest error
 
--- the verdict on bytes: why they are not a message, or that on the message
+-- the verdict on bytes: the reason why they are not a message, or the verdict on the message
 abbrev pub verdict_on_refusal : Option StunParseError → Verdict → Verdict
 verdict_on_refusal (Some error) verdict = NotAMessage error
 verdict_on_refusal None verdict = verdict
@@ -51,7 +51,7 @@ parse_error_text InvalidAttributeData = codes "malformed attribute"
 abbrev pub refusal_line : StunParseError → List ℕ
 refusal_line error = codes "not a message: " ++ (parse_error_text error ++ 10 ∷ [])
 
--- the status that goes with a verdict
+-- the status for a verdict
 abbrev pub status_of : Verdict → Status
 status_of (Valid _) = Good
 status_of verdict = Bad

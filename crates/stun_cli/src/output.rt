@@ -13,8 +13,8 @@ const MAX_WRITES: u32 = 1_048_576;
 ///
 /// # Errors
 ///
-/// `Io`: a write failed or wrote nothing, or 1048576 writes were not enough. Only a beginning of
-/// the text is then written.
+/// `Io`: a write failed or wrote nothing, or 1048576 writes were not enough. In this case, at most
+/// the beginning of the text was written.
 pub fn write_text<W: Write>(writer: &mut W, text: &[u8]) -> Result<(), Failure>
     ensures ok { OnOk result (Appends (W.contents writer.old) (W.contents writer.new) text.now) }
     ensures err { OnErr result (AppendsBeginning (W.contents writer.old)

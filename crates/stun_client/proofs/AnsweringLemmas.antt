@@ -55,10 +55,10 @@ choice_is p nonce list a can = by (asks_for_algorithms nonce)
   where
     by : (asks : Bool) → cond asks (has a (algorithms_in list)) (same_algorithm a Sha1) ≡ true
         → is_some (cond asks (find (supports p) (algorithms_in list))
-        (cond p.hmac_sha1 (Some Sha1) None)) ≡ true
+        (cond (supports p Sha1) (Some Sha1) None)) ≡ true
     by true there = found p (algorithms_in list) a can there
     by false there =
-        let ours : p.hmac_sha1 ≡ true = subst (λ x. supports p x ≡ true) (same a Sha1 there) can in
+        let ours : supports p Sha1 ≡ true = subst (λ x. supports p x ≡ true) (same a Sha1 there) can in
         ap (λ b. is_some (cond b (Some Sha1) None)) ours
 
 mapped : {X Y : Type 0} (f : X → Y) (o : Option X) → is_some o ≡ true

@@ -37,24 +37,24 @@ pub strongest_found : (p : Preferences) (set : AlgorithmSet) (a : IntegrityAlgor
     → find (supports p) (algorithms_of set) ≡ Some a → contains a set ≡ true
     → IsStrongestOfBoth p set a
 strongest_found p OnlySha1 a found there =
-    let is = one p.hmac_sha1 Sha1 a found in
+    let is = one (supports p Sha1) Sha1 a found in
     record {
       ours = ap (supports p) (sym is.1) ∙ is.0;
       theirs = there;
       strongest = λ ours theirs. cc;
     }
 strongest_found p OnlySha256 a found there =
-    let is = one p.hmac_sha256 Sha256 a found in
+    let is = one (supports p Sha256) Sha256 a found in
     record {
       ours = ap (supports p) (sym is.1) ∙ is.0;
       theirs = there;
       strongest = λ ours theirs. sym is.1;
     }
 strongest_found p Both a found there =
-    both p.hmac_sha256 refl found
+    both (supports p Sha256) refl found
   where
-    both : (b : Bool) → p.hmac_sha256 ≡ b
-        → cond b (Some Sha256) (cond p.hmac_sha1 (Some Sha1) None) ≡ Some a
+    both : (b : Bool) → supports p Sha256 ≡ b
+        → cond b (Some Sha256) (cond (supports p Sha1) (Some Sha1) None) ≡ Some a
         → IsStrongestOfBoth p Both a
     both true is found =
         let same : Sha256 ≡ a = cc in
@@ -64,7 +64,7 @@ strongest_found p Both a found there =
           strongest = λ ours theirs. sym same;
         }
     both false is found =
-        let found = one p.hmac_sha1 Sha1 a found in
+        let found = one (supports p Sha1) Sha1 a found in
         record {
           ours = ap (supports p) (sym found.1) ∙ found.0;
           theirs = there;
@@ -74,8 +74,8 @@ strongest_found p Both a found there =
 -- the list that a request repeats gives the same choice
 kept-same : (asks : Bool) (p : Preferences) (list : List ℕ)
     → cond asks (find (supports p) (algorithms_in (cond asks list [])))
-    (cond p.hmac_sha1 (Some Sha1) None)
-    ≡ cond asks (find (supports p) (algorithms_in list)) (cond p.hmac_sha1 (Some Sha1) None)
+    (cond (supports p Sha1) (Some Sha1) None)
+    ≡ cond asks (find (supports p) (algorithms_in list)) (cond (supports p Sha1) (Some Sha1) None)
 kept-same true p list = refl
 kept-same false p list = refl
 

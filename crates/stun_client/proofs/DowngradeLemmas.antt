@@ -156,7 +156,7 @@ module _ (p : Preferences) (c : Challenge) (class : MessageClass) (error : Optio
   agreed client accepted true asks =
       let r = reading_of bytes in
       let found : find (supports p) (algorithms_in c.offered) ≡ Some c.algorithm =
-      sym (ap (λ b. cond b (find (supports p) (algorithms_in c.offered)) (cond p.hmac_sha1 (Some Sha1) None))
+      sym (ap (λ b. cond b (find (supports p) (algorithms_in c.offered)) (cond (supports p Sha1) (Some Sha1) None))
       (ap asks_for_algorithms (nonce-same client accepted) ∙ asks)) ∙ by_rule.by_rule in
       let agreement_is : choice r.algorithms r.algorithm (offered_list offered)
       ≡ Some client.algorithm =
@@ -176,14 +176,14 @@ module _ (p : Preferences) (c : Challenge) (class : MessageClass) (error : Optio
       )
   agreed client accepted false asks =
       let r = reading_of bytes in
-      let only : cond p.hmac_sha1 (Some Sha1) None ≡ Some c.algorithm =
-      sym (ap (λ b. cond b (find (supports p) (algorithms_in c.offered)) (cond p.hmac_sha1 (Some Sha1) None))
+      let only : cond (supports p Sha1) (Some Sha1) None ≡ Some c.algorithm =
+      sym (ap (λ b. cond b (find (supports p) (algorithms_in c.offered)) (cond (supports p Sha1) (Some Sha1) None))
       (ap asks_for_algorithms (nonce-same client accepted) ∙ asks)) ∙ by_rule.by_rule in
       let agreement_is : Some Sha1 ≡ Some client.algorithm =
       sym (ap (λ b. cond b (choice r.algorithms r.algorithm (offered_list offered)) (Some Sha1))
       asks) ∙ accepted.algorithm in
       let same : Sha1 ≡ client.algorithm = some-same Sha1 client.algorithm agreement_is in
-      let parts = allowed p.hmac_sha1 refl only in (
+      let parts = allowed (supports p Sha1) refl only in (
         sym parts.1 ∙ same,
         record {
           ours = sym (ap (supports p) same) ∙ parts.0;
@@ -192,8 +192,8 @@ module _ (p : Preferences) (c : Challenge) (class : MessageClass) (error : Optio
         },
       )
     where
-      allowed : (b : Bool) → p.hmac_sha1 ≡ b → cond b (Some Sha1) None ≡ Some c.algorithm
-          → (p.hmac_sha1 ≡ true) × (Sha1 ≡ c.algorithm)
+      allowed : (b : Bool) → supports p Sha1 ≡ b → cond b (Some Sha1) None ≡ Some c.algorithm
+          → (supports p Sha1 ≡ true) × (Sha1 ≡ c.algorithm)
       allowed true is found = (is, cc)
       allowed false is found = cc
 

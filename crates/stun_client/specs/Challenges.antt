@@ -34,8 +34,9 @@ abbrev pub list_or_none : Option (List ℕ) → List ℕ
 list_or_none None = []
 list_or_none (Some list) = list
 
--- the list that a message is judged with. It is the message's own. For a signed 438 without a list,
--- it is the list of the challenge before, because the server that has the key still offers the same
+-- the list from which the algorithm is chosen: the list of the message, with one exception. For a
+-- 438 without a list that is signed with the key of the challenge before, it is the list of that
+-- challenge, because the server that has the key still offers the same list
 abbrev pub list_for : Option Challenge → List ℕ → List ℕ
 list_for None bytes = list_or_none (list_in bytes)
 list_for (Some before) bytes =
@@ -53,14 +54,15 @@ by_rule p who realm nonce list =
     else option_map (new_challenge p.anonymous_username who realm nonce (list_kept nonce list))
     (chosen p nonce list)
 
--- the challenge if realm and nonce may be missing: then there is none
+-- the challenge with this realm, nonce and list, or none if the realm or the nonce is missing
 abbrev pub by_rule_if : Preferences → NameAndPassword → Option (List ℕ) → Option (List ℕ) → List ℕ
     → Option Challenge
 by_rule_if p who None _ list = None
 by_rule_if p who (Some realm) None list = None
 by_rule_if p who (Some realm) (Some nonce) list = by_rule p who realm nonce list
 
--- the challenge in a message, given the one before, unless the rule ignores it
+-- the challenge in a message, unless the rule ignores it. `before` is the challenge that the
+-- request was signed for
 abbrev pub challenge_of : Preferences → NameAndPassword → Option Challenge → List ℕ
     → Option Challenge
 challenge_of p who before bytes =
@@ -68,16 +70,16 @@ challenge_of p who before bytes =
     then by_rule_if p who (realm_in bytes) (nonce_in bytes) (list_for before bytes)
     else None
 
--- a challenge is that of a message that asks for one: realm, nonce and list are those of the
--- message
+-- a challenge is read from a message, which is a 401 or a 438: realm, nonce and list are those of
+-- the message
 pub record IsOfMessage (before : Option Challenge) (bytes : List ℕ) (c : Challenge) : Type 0 where
   pub asks : is_challenge bytes ≡ true
   pub realm : realm_in bytes ≡ Some c.realm
   pub nonce : nonce_in bytes ≡ Some c.nonce
   pub offered : c.offered ≡ list_kept c.nonce (list_for before bytes)
 
--- whether a challenge offers an algorithm: in its list, if the nonce asks for a choice. Otherwise
--- it offers HMAC-SHA1
+-- whether a challenge offers an algorithm: an algorithm in its list if the nonce asks for a choice,
+-- and otherwise HMAC-SHA1
 abbrev pub is_offered : List ℕ → List ℕ → IntegrityAlgorithm → Bool
 is_offered nonce list a =
     if asks_for_algorithms nonce then has a (algorithms_in list) else same_algorithm a Sha1
@@ -95,14 +97,14 @@ pub record IsAnswerable (p : Preferences) (before : Option Challenge) (bytes : L
   pub supported : supports p algorithm ≡ true
   pub offered : is_offered nonce (list_for before bytes) algorithm ≡ true
 
--- whether a request for a challenge is less protected than one for another: by HMAC-SHA1 in place
--- of HMAC-SHA256, or with a user name in place of a hash
+-- whether a request that is signed for a challenge is less protected than a request that is signed
+-- for another challenge: by HMAC-SHA1 instead of HMAC-SHA256, or with a user name instead of a hash
 abbrev pub is_weaker : Challenge → Challenge → Bool
 is_weaker c other =
     (is_sha256 other.algorithm && not (is_sha256 c.algorithm))
     || (is_none (plain_name other.naming) && not (is_none (plain_name c.naming)))
 
--- whether two nonces have the same security bits, among those that a client knows
+-- whether two security bits are equal
 abbrev pub is_same_bit : Bool → Bool → Bool
 is_same_bit one other = if one then other else not other
 
@@ -111,12 +113,13 @@ has_same_bits nonce other =
     is_same_bit (asks_for_algorithms nonce) (asks_for_algorithms other)
     && is_same_bit (asks_for_userhash nonce) (asks_for_userhash other)
 
--- whether two challenges ask for the same credentials: they have the same realm and security bits
+-- whether two challenges have the same realm and the same security bits, among those that a client
+-- knows
 abbrev pub is_alike : Challenge → Challenge → Bool
 is_alike c other = bytes_eq c.realm other.realm && has_same_bits c.nonce other.nonce
 
--- whether two challenges are the same: they have the same nonce, realm, list and algorithm. The
--- nonce determines whether the user is named by a hash
+-- whether two challenges are the same: they have the same nonce, realm, list and algorithm. Whether
+-- the user is named by a hash need not be compared, because the nonce determines it
 abbrev pub is_same : Challenge → Challenge → Bool
 is_same c other =
     bytes_eq c.nonce other.nonce && bytes_eq c.realm other.realm

@@ -20,7 +20,7 @@ pub record IsStrongestOfBoth (p : Preferences) (server : AlgorithmSet)
     (a : IntegrityAlgorithm) : Type 0 where
   pub ours : supports p a ≡ true
   pub theirs : contains a server ≡ true
-  pub strongest : p.hmac_sha256 ≡ true → contains Sha256 server ≡ true → a ≡ Sha256
+  pub strongest : supports p Sha256 ≡ true → contains Sha256 server ≡ true → a ≡ Sha256
 
 -- a server's nonce, and what it offered with it, belong to its current settings
 pub record IsUpToDate (users : Registered) (feature : Feature) (nonce : List ℕ)
@@ -29,9 +29,9 @@ pub record IsUpToDate (users : Registered) (feature : Feature) (nonce : List ℕ
   pub hashes : asks_for_userhash nonce ≡ is_possible feature
   pub offer : (offered ≡ None) ⊎ (offered ≡ Some users.algorithms)
 
--- a client that is accepted by this reading is not bid down. The algorithm is the strongest that
--- both support, a digest that verifies under any key is of that algorithm, and the user is named by
--- a hash alone if both sides accept hashes
+-- a client whose message has this reading is not bid down if a server accepts it. The algorithm is
+-- the strongest that both sides support, a digest that verifies under any key has that algorithm,
+-- and if both sides accept hashes, the user is named only by a hash
 pub record IsNotBidDown (p : Preferences) (users : Registered) (feature : Feature)
     (nonce : List ℕ) (offered : Option AlgorithmSet) (r : Reading) : Type 0 where
   pub strongest : (client : ClientSeen) → IsAccepted users feature nonce offered r client

@@ -43,8 +43,8 @@ identity_of (LongTerm l) = long_term l.user l.preferences l.accepts_unsigned
 
 -- the response ends its request and has this signature, its request is sent again for a challenge,
 -- it refuses its request, it casts doubt on the message that it answers, or it is dropped. A
--- refusal is the challenge that the request was signed for, or another one that asks for the same
--- credentials
+-- refusal is the challenge that the request was signed for, or a 401 with another challenge that
+-- has the same realm and security bits
 pub data Verdict : Type 0 where
   believed : Option IntegrityAlgorithm → Verdict
   anew : Answered → Verdict
@@ -62,9 +62,9 @@ verdict_of (Dropped why) = dropped why
 
 -- ---- FINGERPRINT (sections 7.3 and 14.7)
 
--- why a message is dropped because of its FINGERPRINT. One that is not the last attribute, or whose
--- value does not have 4 bytes, is as wrong as one with another CRC. There must be one if the client
--- requires it
+-- the reason why a message is dropped because of its FINGERPRINT, if there is one. A FINGERPRINT is
+-- wrong if its CRC is wrong, if it is not the last attribute, or if its value does not have 4
+-- bytes. It may be missing unless the client requires it
 abbrev pub fault_of : Bool → Fingerprint → Option Distrust
 fault_of required Right = None
 fault_of required Wrong = Some WrongFingerprint
@@ -101,9 +101,9 @@ abbrev pub WRONG_CREDENTIALS : ℕ
 WRONG_CREDENTIALS = 441
 
 -- whether an error without a valid signature casts doubt on a message that was signed for this
--- challenge. Servers send such an error, unsigned, for a message that was signed for a challenge
--- which is not theirs, and a TURN server for any message under another transaction ID than the one
--- that it has accepted (437)
+-- challenge. Servers send such an error, unsigned, in response to a message that was signed for a
+-- challenge of somebody else. A TURN server also sends a 437 for a message whose transaction ID is
+-- not the one that it has accepted
 abbrev pub is_doubt : Option Answered → Option ℕ → Bool
 is_doubt None code = is_code ALLOCATION_MISMATCH code
 is_doubt (Some c) code =
@@ -114,8 +114,8 @@ abbrev pub unbelieved : Option Answered → Distrust → List ℕ → Verdict
 unbelieved before why bytes =
     if is_doubt before (code_in bytes) then doubted else dropped why
 
--- with long-term credentials, the judgement with the key that the message was signed with. The
--- response to a message that was not signed is believed only if unsigned responses are accepted
+-- the judgement with long-term credentials, by the key that the message was signed with. If the
+-- message was not signed, the response is believed only if unsigned responses are accepted
 abbrev pub by_signature : Bool → Option Answered → Distrust → List ℕ → Verdict
 by_signature accepts_unsigned None why bytes =
     if accepts_unsigned then believed None else unbelieved None why bytes
@@ -130,18 +130,19 @@ answered_in p who before bytes =
     option_map (λ c. record { preferences = p; challenge = c })
     (challenge_of p who (option_map (λ (b : Answered). b.challenge) before) bytes)
 
--- whether a challenge is a 401 to a request that was signed for the same realm and security bits
+-- whether a challenge is a 401, and the request was signed for a challenge with the same realm and
+-- security bits
 abbrev pub is_refusal : Option Answered → List ℕ → Answered → Bool
 is_refusal None bytes c = false
 is_refusal (Some before) bytes c =
     is_code UNAUTHORIZED (code_in bytes) && is_alike c.challenge before.challenge
 
--- a challenge for which the request is sent again
+-- the verdict on a challenge for which the request is sent again
 abbrev pub sent_for : Option Answered → List ℕ → Answered → Verdict
 sent_for before bytes c = if is_refusal before bytes c then refused (Some c) else anew c
 
--- the challenge that the request was signed for is not answered again. One that is weaker than what
--- a success has confirmed is dropped
+-- the verdict on a challenge. The challenge that the request was signed for is not answered again,
+-- and a challenge that is weaker than the one that a success has confirmed is dropped
 abbrev pub judged_challenge : StandingSeen → Option Answered → List ℕ → Answered → Verdict
 judged_challenge standing before bytes c =
     if is_one (Some c) before then refused None
@@ -198,7 +199,7 @@ judged_by (short_term name password algorithm) standing before bytes =
 judged_by (long_term who p accepts_unsigned) standing before bytes =
     judged_by_long_term accepts_unsigned p who standing before bytes
 
--- a fault of the FINGERPRINT is tested first
+-- the verdict, unless the message is dropped because of its FINGERPRINT, which is tested first
 abbrev pub unless_faulty : Verdict → Option Distrust → Verdict
 unless_faulty verdict None = verdict
 unless_faulty verdict (Some why) = dropped why
@@ -209,19 +210,19 @@ judged_as is_current identity standing before bytes =
     if is_current then judged_by identity standing before bytes
     else judged_earlier identity before bytes
 
--- the judgement of a response at a client that requires FINGERPRINT or does not. It answers a
--- message that was signed for this challenge, and that is the current one of its request or an
--- earlier one
+-- the judgement of a response. `required` is whether the client requires FINGERPRINT, and
+-- `is_current` whether the response answers the current message of its request or an earlier one.
+-- `before` is the challenge that the answered message was signed for
 abbrev pub judged : Bool → Bool → Identity → StandingSeen → Option Answered → List ℕ → Verdict
 judged required is_current identity standing before bytes =
     unless_faulty (judged_as is_current identity standing before bytes) (fault_in required bytes)
 
 -- ---- what follows
 
--- a response may be believed, with this signature. Without credentials each may. With short-term
--- credentials it must be signed with the password, with the algorithm of the request. With
--- long-term credentials it must be signed with the key of the request, or neither is signed and
--- that is accepted
+-- a response with this signature may be believed. Without credentials, each response may be
+-- believed. With short-term credentials, it must be signed with the password, and with the
+-- algorithm of the request. With long-term credentials, it must be signed with the key of the
+-- request, or neither is signed and the client accepts that
 abbrev pub IsBelievable : Identity → Option Answered → List ℕ → Option IntegrityAlgorithm → Type 0
 IsBelievable unsigned before bytes by = by ≡ None
 IsBelievable (short_term name password algorithm) before bytes by =

@@ -22,7 +22,7 @@ use Rattle.stun_client.specs.declared.preferences.Preferences.{Preferences}
 abbrev pub chosen : Preferences → List ℕ → List ℕ → Option IntegrityAlgorithm
 chosen p nonce list =
     if asks_for_algorithms nonce then find (supports p) (algorithms_in list)
-    else if p.hmac_sha1 then Some Sha1 else None
+    else if supports p Sha1 then Some Sha1 else None
 
 -- whether the user is named by a hash: if the nonce allows it and the client does it
 abbrev pub is_hashed : Preferences → List ℕ → Bool

@@ -30,27 +30,29 @@ is_weaker_than c (Some other) = is_weaker c.challenge other.challenge
 abbrev pub is_ignored : StandingSeen → Answered → Bool
 is_ignored s c = is_weaker_than c (confirmed s)
 
--- whether a challenge is stronger than another one: that one is weaker, and it is not weaker
--- itself. Each is stronger than none
+-- whether a challenge is stronger than another one, if there is another: the other is weaker than
+-- it, and it is not weaker than the other. Each challenge is stronger than none
 abbrev pub is_stronger_than : Answered → Option Answered → Bool
 is_stronger_than c None = true
 is_stronger_than c (Some other) =
     is_weaker other.challenge c.challenge && not (is_weaker c.challenge other.challenge)
 
--- whether the current challenge is replaced by a confirmed one: it is weaker, or there is none
+-- whether a confirmed challenge replaces the current one: the current challenge is weaker, or there
+-- is none
 abbrev pub gives_way : Option Answered → Answered → Bool
 gives_way None c = true
 gives_way (Some current) c = is_weaker current.challenge c.challenge
 
--- the state after another challenge than the current one is confirmed
+-- the state after a challenge that is not the current one is confirmed
 abbrev pub after_confirming : StandingSeen → Answered → StandingSeen
 after_confirming s c =
     if gives_way s.current c
     then record { current = Some c; is_validated = true; validated = None }
     else record { current = s.current; is_validated = false; validated = Some c }
 
--- the state after a success of a message that is signed for a challenge. That one is confirmed if
--- it is the current one, or is stronger than the one that was confirmed last
+-- the state after a success that answers a message which is signed for a challenge. The challenge
+-- is confirmed if it is the current one, or if it is stronger than the challenge that was confirmed
+-- last
 abbrev pub after_success : StandingSeen → Option Answered → StandingSeen
 after_success s None = s
 after_success s (Some c) =
@@ -58,8 +60,8 @@ after_success s (Some c) =
     else if is_stronger_than c (confirmed s) then after_confirming s c
     else s
 
--- the state after a timeout under a challenge. From the current one the client goes back to the one
--- that was confirmed last, and from there to none
+-- the state after a request that is signed for a challenge has timed out. If this challenge is the
+-- current one, the client goes back to the challenge that was confirmed before it, or to none
 abbrev pub after_timeout : StandingSeen → Option Answered → StandingSeen
 after_timeout s c =
     if is_standing s c

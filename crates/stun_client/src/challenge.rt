@@ -21,20 +21,19 @@ mod signing;
 
 use crate::challenge::kept::KeptChallenge;
 use crate::challenge::reading::{code_of, is_challenge, list_of, nonce_of, realm_of};
-use crate::challenge::rule::{
-    asks_for_algorithms, chosen, has_same_bits, is_hashed, lacks_userhash,
-};
+use crate::challenge::rule::{chosen, has_same_bits, is_hashed, lacks_userhash};
 use crate::preferences::Preferences;
 use std::alloc::{AllocError, Allocator, Global};
 use std::fmt;
 use std::marker::Model;
 use stun_auth::answering::{LimitedText, UserNaming};
+use stun_auth::auth::asks_for_algorithms;
 use stun_base::key::long_term_key;
 use stun_base::memory::Memory;
 use stun_types::attribute::ErrorCode;
 use stun_types::message::{IntegrityAlgorithm, LongTermCredentials, Message, PreparedKey};
 
-/// A server's challenge with the key that answers it: realm, nonce, the server's list of
+/// A server's challenge, and what the client made for it: realm, nonce, the server's list of
 /// algorithms, the algorithm, the name of the user, and the key (RFC 8489, section 9.2.5).
 ///
 /// A client makes the challenge from one message, a 401 or a 438, by one rule:
@@ -48,7 +47,7 @@ use stun_types::message::{IntegrityAlgorithm, LongTermCredentials, Message, Prep
 /// 3. The user name is sent as a hash if the nonce allows hashes and the client's preferences do
 ///    too. A client that must send a hash ignores a nonce that does not allow hashes.
 ///
-/// An earlier message counts in one case only: if a 438 has no list, and is signed with the key of
+/// An earlier message matters in one case only: if a 438 has no list, and is signed with the key of
 /// the challenge before it, the list of that earlier challenge is used. So an attacker who forges
 /// challenges cannot make the client send a request that the real server accepts with a weaker
 /// algorithm than the strongest one that both sides support.
@@ -98,9 +97,9 @@ impl<A: Memory> Challenge<A> {
     /// Reads a challenge: a 401 or a 438 with REALM and NONCE (RFC 8489, section 9.2.5). Returns
     /// `None` if the message is not a challenge, or if the rule ignores it (see `Challenge`).
     ///
-    /// `before` is the challenge that the request was signed for. It matters only to a 438 without
-    /// a list of algorithms: if the message is signed with that challenge's key, the list of that
-    /// challenge is used.
+    /// `before` is the challenge that the request was signed for. It matters only for a 438 without
+    /// a list of algorithms: if the 438 is signed with the key of `before`, the list of `before` is
+    /// used.
     ///
     /// Fails if an allocation fails. It allocates only for a challenge that the rule does not
     /// ignore.
@@ -340,8 +339,7 @@ impl<A: Allocator + Copy> Challenge<A> {
             && is_same_algorithm(self.algorithm(), other.algorithm())
     }
 
-    /// Returns whether this challenge asks for the same credentials as `other`: it has the same
-    /// realm and the same security bits.
+    /// Returns whether this challenge has the same realm and the same security bits as `other`.
     pub fn is_alike(&self, other: &Challenge<A>) -> bool
         ensures { result ≡ is_alike self.now.challenge other.now.challenge }
     {

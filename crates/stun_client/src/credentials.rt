@@ -187,7 +187,7 @@ impl<A: Allocator> ShortTerm<A> {
     }
 }
 
-/// Judges a response that has a valid signature of the algorithm `signed`. It is believed if this
+/// Judges a response that has a valid signature with the algorithm `signed`. It is believed if this
 /// is the algorithm `asked`, with which the request was signed, and dropped otherwise.
 fn by_sole_algorithm<A: Allocator>(
     asked: IntegrityAlgorithm,

@@ -19,8 +19,8 @@ pub enum Distrust {
     /// The client requires a FINGERPRINT, and the response has none (RFC 8489, section 7.3).
     MissingFingerprint,
     /// The response is not signed with the key of the message that it answers or, with short-term
-    /// credentials, not with its algorithm. Or it is a 401 or a 438 to an earlier message of the
-    /// request.
+    /// credentials, not with the algorithm of that message. Or it is a 401 or a 438 that answers an
+    /// earlier message of the request.
     NotVerified,
     /// The response is a 401 or a 438 that the client cannot answer, and is not signed.
     UnanswerableChallenge,
@@ -37,12 +37,12 @@ pub enum Judged<A: Allocator = Global> {
     /// Send the request again under another transaction ID, signed for this challenge.
     Anew(Challenge<A>),
     /// The response refuses the request: it is the challenge that the request was signed for
-    /// (`None`), or a 401 for the same realm and security bits with another nonce or list. The
+    /// (`None`), or a 401 for the same realm and security bits with a different nonce or list. The
     /// password is wrong, or an attacker forges challenges.
     Refused(Option<Challenge<A>>),
     /// The response has no valid signature, and is a 400, a 437 or a 441 to a signed message, or a
-    /// 437 to an unsigned message. It is not believed, but the message that it answers may be
-    /// signed for a forged challenge.
+    /// 437 to an unsigned message. It is not believed, but it casts doubt on the message that it
+    /// answers, which may be signed for a forged challenge.
     Doubted,
     /// The response is dropped, for this reason.
     Dropped(Distrust),

@@ -24,11 +24,14 @@ ghost use Rattle.stun_client.specs.Standing.{is_standing, is_stronger_than, new_
 ghost use Rattle.stun_client.specs.Standing.{standing_after_all};
 ghost use Rattle.stun_client.specs.declared.preferences.Preferences.{Preferences as ThePreferences};
 
-/// Each challenge that a client reads in a message follows the rule (`by_rule`): the client's
-/// preferences and the nonce and the list of the challenge determine the algorithm, and whether the
-/// user name is sent as a hash. The realm, the nonce and the list are those of the message
-/// (`of_message`), with two exceptions: if a signed 438 has no list, the list of the challenge
-/// before may be used, and if the nonce does not ask for a password algorithm, the list is empty.
+/// Each challenge that a client reads in a message follows the client's rule and comes from this
+/// message.
+///
+/// - `by_rule`: the algorithm, and whether the user name is sent as a hash, follow from the
+///   client's preferences and from the nonce and the list of algorithms in the challenge.
+/// - `of_message`: the challenge has the realm, the nonce and the list of algorithms that the
+///   message has, with two exceptions. If a signed 438 has no list, the list of the previous
+///   challenge may be used. If the nonce does not ask for a password algorithm, the list is empty.
 pub fn challenges_are_by_the_rule()
     ensures by_rule { (p : ThePreferences) (who : NameAndPassword) (before : Option Challenge)
         (bytes : List ℕ) (c : Challenge) → challenge_of p who before bytes ≡ Some c
@@ -38,15 +41,19 @@ pub fn challenges_are_by_the_rule()
         → IsOfMessage before bytes c }
 {}
 
-/// A client reads a challenge from each message for which `IsAnswerable` holds (`read`). This is a
-/// 401 or a 438 that has a realm and a nonce, allows a hash of the user name if the client must
-/// send one, and offers an algorithm that the client supports, whatever other algorithms its list
-/// has. If a client with long-term credentials reads a challenge from a response to the current
-/// message of a request, the verdict of `judge` is that the request is sent again for this
-/// challenge, or that the response is a refusal with this challenge (`sent`). There are three
-/// exceptions: the response is dropped because of its FINGERPRINT, the message was signed for this
-/// challenge already, or the challenge is weaker than the challenge that a success has confirmed.
-/// The law does not say that the client then sends the request again.
+/// States which messages a client reads as challenges, and how it judges them.
+///
+/// - `read`: a client reads a challenge from each message for which `IsAnswerable` holds. This is a
+///   401 or a 438 that has a realm and a nonce, and offers an algorithm that the client supports,
+///   whatever other algorithms its list has. If the client must send the user name as a hash, the
+///   nonce allows this.
+/// - `sent`: if a client with long-term credentials reads a challenge in a response to the current
+///   message of a request, `judge` returns that the request is to be sent again for this challenge,
+///   or that the response is a refusal with this challenge.
+///
+/// Premises of `sent`: the response is not dropped because of its FINGERPRINT, the message was not
+/// already signed for this challenge, and the challenge is not weaker than the challenge that was
+/// confirmed last. The law does not say that the client then sends the request again.
 pub fn answerable_challenges_are_answered()
     ensures read { (p : ThePreferences) (who : NameAndPassword) (before : Option Challenge)
         (bytes : List ℕ) → IsAnswerable p before bytes → IsSome (challenge_of p who before bytes) }
@@ -59,12 +66,12 @@ pub fn answerable_challenges_are_answered()
         ≡ sent_for before bytes c }
 {}
 
-/// No challenge leads to a request that a server accepts with a weaker algorithm than necessary.
-/// Suppose that a reader finds in a message the attributes with which a client signs for a
-/// challenge that follows the rule (`IsChosen`). If any server whose nonce and offer are up to date
-/// accepts the message, it accepts it with the strongest algorithm that client and server support
-/// (RFC 8489, section 9.2.5). The law assumes nothing about users, passwords or HMAC, nor about the
-/// messages that the client has read before.
+/// No challenge causes a server to accept a request with an algorithm that is weaker than the
+/// strongest that client and server support (RFC 8489, section 9.2.5). Suppose that a reader finds
+/// in a message the attributes with which a client signs for a challenge. Each server whose nonce
+/// and offer are up to date then accepts the message only with the strongest algorithm that both
+/// support. Premise: the challenge follows the client's rule (`IsChosen`). The law assumes nothing
+/// about users, passwords or HMAC, nor about the messages that the client has read before.
 pub fn signed_requests_are_not_bid_down()
     ensures { (p : ThePreferences) (c : Challenge) (class : MessageClass) (error : Option ℕ)
         (bytes : List ℕ) → IsChosen p c
@@ -72,10 +79,11 @@ pub fn signed_requests_are_not_bid_down()
         → IsNowhereBidDown p (reading_of bytes) }
 {}
 
-/// The nonces that a server makes are up to date, with an offer of all its algorithms: their
-/// security bits are those of the server's current settings (`IsUpToDate`). This holds for the
-/// nonces of `LongTermServerAuth` (`made`), and for all nonces that begin with the nonce cookie and
-/// these security bits, such as the nonces of `stun_endpoint` (`marked`).
+/// The nonces that a server makes, together with an offer of all its algorithms, are up to date
+/// (`IsUpToDate`). This means that the security bits of each nonce match the server's current
+/// settings. It holds for the nonces of `LongTermServerAuth` (`made`), and for all nonces that
+/// begin with the nonce cookie and these security bits, such as the nonces of `stun_endpoint`
+/// (`marked`).
 pub fn nonces_of_a_server_are_up_to_date()
     ensures made { (users : Registered) (feature : TheFeature) (words : List ℕ)
         → IsUpToDate users feature (nonce_of users.algorithms feature words)
@@ -87,9 +95,10 @@ pub fn nonces_of_a_server_are_up_to_date()
     stun_auth::laws::nonces_ask_for_what_is_supported();
 }
 
-/// A response is believed only if the client has no credentials, or accepts this response unsigned,
-/// or the response is signed like its request (`signed`). Its FINGERPRINT is valid, or it has none
-/// and the client requires none (`whole`).
+/// A client believes a response only in one of these cases: the client has no credentials, it
+/// accepts this response unsigned, or the response is signed with the same key as the request
+/// (`signed`). The FINGERPRINT of a response that is believed is valid, and the response has one if
+/// the client requires FINGERPRINT (`whole`).
 pub fn believed_responses_are_believable()
     ensures signed { (required is_current : Bool) (identity : Identity) (standing : StandingSeen)
         (before : Option Answered) (bytes : List ℕ) (by : Option IntegrityAlgorithm)
@@ -101,10 +110,10 @@ pub fn believed_responses_are_believable()
         → fault_in required bytes ≡ None }
 {}
 
-/// A response to an earlier message of a request, which another message has replaced, is believed
-/// only if it is signed with the key of that earlier message (`signed`). Otherwise it has no
-/// effect, whatever its contents are: the request is not sent again and not refused, and no message
-/// is doubted (`only`).
+/// A client believes a response to an earlier message of a request, which another message has
+/// replaced, only if the response is signed with the key of the earlier message (`signed`). Each
+/// other response to such a message has no effect, whatever its contents are: it does not cause the
+/// request to be sent again, does not refuse it, and casts no doubt on a message (`only`).
 pub fn earlier_messages_end_by_signature_alone()
     ensures signed { (required : Bool) (identity : Identity) (standing : StandingSeen)
         (before : Option Answered) (bytes : List ℕ) (by : Option IntegrityAlgorithm)
@@ -115,10 +124,9 @@ pub fn earlier_messages_end_by_signature_alone()
         → IsEndOrNothing (judged required false identity standing before bytes) }
 {}
 
-/// A response that is not signed with the key of the message that it answers is not believed,
-/// whether it is an error or a success. The exception is a response to the current message that the
-/// client accepts unsigned: either the client has no credentials, or it accepts unsigned responses
-/// and the message was not signed.
+/// A client does not believe a response, whether an error or a success, that is not signed with the
+/// key of the message that it answers. The exception is a response to the current message if the
+/// client has no credentials, or if it accepts unsigned responses and the message was not signed.
 pub fn unsigned_errors_end_nothing()
     ensures { (required is_current : Bool) (identity : Identity) (standing : StandingSeen)
         (before : Option Answered) (bytes : List ℕ) (by : Option IntegrityAlgorithm)
@@ -127,9 +135,10 @@ pub fn unsigned_errors_end_nothing()
         → (takes_unsigned identity before ≡ true) × (is_current ≡ true) }
 {}
 
-/// If a client sends a request again for a challenge, this is the challenge that the client reads
-/// in the response by the rule, also if the response counts as a refusal. It is not the challenge
-/// that the request was signed for, and it is not a challenge that the client ignores.
+/// If a response causes a client to send a request again for a challenge, this challenge is the one
+/// that the client reads in the response by its rule, even if the response counts as a refusal. It
+/// is neither the challenge that the request was signed for, nor a challenge that the client
+/// ignores.
 pub fn requests_are_sent_again_for_new_challenges()
     ensures { (required is_current : Bool) (who : NameAndPassword) (p : ThePreferences)
         (accepts_unsigned : Bool) (standing : StandingSeen) (before : Option Answered)
@@ -139,10 +148,10 @@ pub fn requests_are_sent_again_for_new_challenges()
         → IsAnsweredAnew p who standing before bytes c }
 {}
 
-/// With long-term credentials, an unsigned response is not believed if the request was signed
-/// (`signed`), nor if the client does not accept unsigned responses (`first`). Such a response is a
-/// challenge for which the request is sent again, refuses the request, casts doubt on the message
-/// that it answers, or is dropped.
+/// A client with long-term credentials does not believe an unsigned response if the request was
+/// signed (`signed`), or if the client does not accept unsigned responses (`first`). Such a
+/// response can cause the request to be sent again for a challenge, refuse the request, or cast
+/// doubt on the message that it answers. Otherwise it is dropped.
 pub fn unsigned_responses_are_not_believed()
     ensures signed { (required is_current : Bool) (who : NameAndPassword) (p : ThePreferences)
         (accepts_unsigned : Bool) (standing : StandingSeen) (before : Answered) (bytes : List ℕ)
@@ -155,21 +164,29 @@ pub fn unsigned_responses_are_not_believed()
         → judged required is_current (long_term who p false) standing None bytes ≡ believed by → ⊥ }
 {}
 
-/// From a success until a request that is signed for the confirmed challenge times out, a challenge
-/// that is weaker than the confirmed one stays ignored, whatever other challenges the client
-/// answers (it answers none that is ignored), and whatever other requests succeed or time out.
+/// A challenge that is weaker than the one that a success has confirmed stays ignored, until a
+/// request that is signed for the confirmed challenge times out. This holds whatever other
+/// challenges the client answers, and whatever other requests succeed or time out. Premise: the
+/// client answers no challenge that it ignores.
 pub fn weaker_challenges_stay_ignored()
     ensures { (s : StandingSeen) (events : List StandingEvent) (c : Answered) → s.is_validated ≡ true
         → is_ignored s c ≡ true → AreUsualEvents s events
         → is_ignored (standing_after_all s events) c ≡ true }
 {}
 
-/// A success confirms the challenge of the message that it answers, if new requests are signed for
-/// that challenge (`standing`), or if it is stronger than the challenge that was confirmed last
-/// (`stronger`). If a client answers no challenge that it must ignore, a success weakens nothing:
-/// challenges that were ignored before stay ignored (`ignored`). Whatever challenges such a client
-/// answers, and whatever requests succeed and time out, new requests are signed for a challenge
-/// that is not weaker than the challenge that was confirmed last, if there is one (`signed`).
+/// States which challenge a success confirms, and that a success never causes a client to answer
+/// weaker challenges than before.
+///
+/// - `standing`, `stronger`: a success confirms the challenge of the message that it answers, if
+///   new requests are signed for this challenge (`standing`), or if it is stronger than the
+///   challenge that was confirmed last (`stronger`).
+/// - `ignored`: challenges that were ignored before a success are still ignored after it.
+/// - `signed`: new requests are signed for a challenge that is not weaker than the challenge that
+///   was confirmed last, if there is one.
+///
+/// `ignored` and `signed` hold for a client that began without a challenge, whatever challenges it
+/// has answered, and whatever requests have succeeded or timed out. Premise: it has answered no
+/// challenge that it must ignore (`AreHeededEvents`).
 pub fn successes_weaken_nothing()
     ensures standing { (s : StandingSeen) (c : Answered) → is_standing s (Some c) ≡ true
         → confirmed (after_success s (Some c)) ≡ s.current }

@@ -15,8 +15,8 @@ use std::mem;
 /// If a challenge is forged, all requests that are signed for it time out. At the first of these
 /// timeouts, the client signs new requests for the challenge that was confirmed last. If a request
 /// that is signed for the confirmed challenge times out too, the client drops that challenge and
-/// starts from the beginning. From a success until a request under the confirmed challenge times
-/// out, a challenge that is weaker than the confirmed one is ignored.
+/// starts from the beginning. After a success, a challenge that is weaker than the confirmed one is
+/// ignored, until a request that is signed for the confirmed challenge times out.
 ///
 /// A success may answer a message that is signed for an earlier challenge. It confirms the earlier
 /// challenge if this challenge is stronger than the one that was confirmed before. New requests are
@@ -161,7 +161,7 @@ impl<A: Allocator + Copy> Standing<A> {
     }
 
     /// Makes this challenge the current one, because the client answers it. If a success has
-    /// confirmed the former one, that challenge is still stored as the one that was confirmed last.
+    /// confirmed the former one, that challenge remains the challenge that was confirmed last.
     pub fn answer(&mut self, challenge: Challenge<A>)
         ensures { self.new ≡ after_answer self.old challenge }
     {

@@ -27,14 +27,14 @@ until_of q = q.datum.until
 abbrev pub plan_in : Client → Request AskedSeen → Settings
 plan_in c q = plan_for c q.datum
 
--- each outstanding request has a timer by its plan, and was sent for the last time no later than
--- the end of its first plan
+-- each outstanding request has a timer that follows its plan, and was sent for the last time no
+-- later than the end of its first plan
 abbrev pub IsPunctual : Client → Type 0
 IsPunctual c = IsTimely (plan_in c) until_of c.requests
 
 -- ---- what each call preserves
 
--- each request of a new client is stored once, since there is none
+-- in a new client, each request is stored once, because it has no requests
 abbrev pub BeginsStored : Type 0
 BeginsStored = (transport : TransportType) (server : SocketAddr) (counts requires_fingerprint : Bool)
     (identity : Identity) (form : Form) (understood : List AttributeType) (turns : ℕ) (plan : Settings)
@@ -43,12 +43,12 @@ BeginsStored = (transport : TransportType) (server : SocketAddr) (counts require
     (new_client transport server counts requires_fingerprint identity form understood turns plan
     seed).requests
 
--- and each call preserves this
+-- each call preserves this property
 abbrev pub StaysStored : Type 0
 StaysStored = (c after : Client) (event : Event) → IsRequests c.requests → IsPunctual c
     → Call c event after → IsRequests after.requests
 
--- the requests of a new client are punctual
+-- in a new client, all requests are punctual
 abbrev pub BeginsPunctual : Type 0
 BeginsPunctual = (transport : TransportType) (server : SocketAddr) (counts requires_fingerprint : Bool)
     (identity : Identity) (form : Form) (understood : List AttributeType) (turns : ℕ) (plan : Settings)
@@ -56,7 +56,7 @@ BeginsPunctual = (transport : TransportType) (server : SocketAddr) (counts requi
     → IsPunctual
     (new_client transport server counts requires_fingerprint identity form understood turns plan seed)
 
--- and each call preserves this
+-- each call preserves this property
 abbrev pub StaysPunctual : Type 0
 StaysPunctual = (c after : Client) (event : Event) → IsRequests c.requests → IsPunctual c
     → Call c event after → IsPunctual after
@@ -65,21 +65,21 @@ StaysPunctual = (c after : Client) (event : Event) → IsRequests c.requests →
 abbrev pub HasPlan : ℕ → ℕ → Client → Type 0
 HasPlan number until c = (a : AskedSeen) → datum_of number c.requests ≡ Some a → a.until ≡ until
 
--- the first plan of a request ends once a whole plan has passed since its start
+-- the first plan of a new request ends one plan after the start of the request
 abbrev pub StartsPlan : Type 0
 StartsPlan = (c : Client) (method : ℕ) (body : Body) (options : Option Options) (now : ℕ)
     → IsRequests c.requests
     → HasPlan (next_number c) (moment_after now (plan_of (plan_by options c.plan)))
     (started method body options now c)
 
--- and no call changes when it ends
+-- no call changes the time at which the first plan of a request ends
 abbrev pub KeepsPlan : Type 0
 KeepsPlan = (c after : Client) (event : Event) (number until : ℕ) → IsRequests c.requests
     → IsPunctual c → number < c.requests.next → Call c event after → HasPlan number until c
     → HasPlan number until after
 
--- a request that a poll leaves outstanding, when it says to wait, is not older than two plans, and
--- the wait ends no later than its second plan
+-- if a poll says to wait, then two plans of each request that is still outstanding have not passed
+-- yet, and the wait ends no later than the end of its second plan
 abbrev pub WaitsInTime : Type 0
 WaitsInTime = (now : ℕ) (until : Option ℕ) (c after : Client) (number : ℕ) (a : AskedSeen)
     → IsPunctual c → told now c ≡ (waits until, after)
@@ -92,9 +92,9 @@ WaitsInTime = (now : ℕ) (until : Option ℕ) (c after : Client) (number : ℕ)
 abbrev pub two_plans_after : Settings → ℕ → ℕ
 two_plans_after plan start = moment_after (moment_after start (plan_of plan)) (plan_of plan)
 
--- a request is started after any calls of a new client, and any calls follow. Once two plans have
--- passed since its start and a poll says to wait, the request is over: its end was returned, and
--- nothing is stored of it
+-- if a request is started after any calls of a new client, and any calls follow, then the request
+-- is over once two plans have passed since its start and a poll says to wait: its end was returned,
+-- and nothing of it is stored
 abbrev pub EndsWithinTwoPlans : Type 0
 EndsWithinTwoPlans = (transport : TransportType) (server : SocketAddr)
     (counts requires_fingerprint : Bool) (identity : Identity) (form : Form)

@@ -30,10 +30,10 @@ Place = ℕ × ℕ
 abbrev pub place_of : ℕ × SentSeen → Place
 place_of e = (e.0, e.1.id)
 
--- a response ends its request, which it answers with this signature; its request ends as
--- unauthorized; another message becomes the current one, an earlier one or a new one, which is
--- signed for this challenge or is not signed; the response is a refusal, which is dropped and
--- counted; or it is dropped
+-- what happens after a response: the response ends its request, and has this signature; the request
+-- ends as unauthorized; an earlier message or a new one, which is signed for this challenge or is
+-- not signed, becomes the current one; the response is a refusal, which is dropped and counted; or
+-- the response is dropped
 pub data DecisionSeen : Type 0 where
   answered : Option IntegrityAlgorithm → DecisionSeen
   unauthorized : DecisionSeen
@@ -51,8 +51,7 @@ decision_of (Drop why) = drops why
 
 -- ---- until when another message may become the current one
 
--- none becomes the current one after the first plan of the request, nor once that has happened as
--- often as the limit allows
+-- whether another message has become the current one as often as the limit allows
 abbrev pub is_spent : Limits → AskedSeen → Bool
 is_spent limits a = nat_le limits.turns a.turns
 

@@ -10,23 +10,25 @@ use Rattle.stun_client_calls.specs.Messages.{AskedSeen, DOUBTS, is_doubt, is_ref
 use Rattle.stun_client_calls.specs.declared.deciding.Limits.{Limits}
 use Rattle.stun_client_calls.specs.declared.turning.Why.{Why}
 
--- the parts of a client that matter to a response: whether it requires FINGERPRINT, how it proves
--- who it is, its limits, and the challenge that new requests are signed for
+-- the parts of a client on which the judgement of a response depends: whether the client requires
+-- FINGERPRINT, how it proves who it is, its limits, and the challenge that new requests are signed
+-- for
 pub record Judge : Type 0 where
   pub required : Bool
   pub identity : Identity
   pub limits : Limits
   pub standing : StandingSeen
 
--- what follows from a response to a message, which is the current one or an earlier one, and is
--- signed for this challenge
+-- the decision on a response to a message that is the current one or an earlier one, and is signed
+-- for this challenge
 abbrev pub decision_on : Judge → Bool → ℕ → AskedSeen → Option Answered → List ℕ → DecisionSeen
 decision_on j is_current now a before bytes =
     decided j.limits j.standing now a
     (judged j.required is_current j.identity j.standing before bytes)
 
--- another message becomes the current one within the first plan of the request, and within the
--- limits: on all such messages, on those for doubts, and on those for refusals
+-- another message may become the current one: the first plan of the request is not over, and none
+-- of the limits is reached, which hold for all such messages, for those because of doubts, and for
+-- those because of refusals
 pub record IsWithinLimits (limits : Limits) (now : ℕ) (a : AskedSeen) (why : Why) : Type 0 where
   pub in_time : now ≤ a.until
   pub in_limit : a.turns < limits.turns

@@ -20,22 +20,22 @@ abbrev pub is_unsigned : Option Options → Bool
 is_unsigned None = false
 is_unsigned (Some o) = not o.is_signed
 
--- it is written as a client without credentials writes it, so without USERNAME, USERHASH, REALM,
--- NONCE and a signature
+-- a request that is not signed is written like a request of a client without credentials: without
+-- USERNAME, USERHASH, REALM, NONCE and a signature
 abbrev pub IsWrittenUnsigned : Type 0
 IsWrittenUnsigned = (c : Client) (method number : ℕ) (body : Body) (options : Option Options)
     → is_unsigned options ≡ true
     → first_message c method number body options
     ≡ request_bytes c.form unsigned None method (id_of c.seed number) body
 
--- it is signed for no challenge
+-- a request that is not signed is signed for no challenge
 abbrev pub StartsUnsigned : Type 0
 StartsUnsigned = (c : Client) (method : ℕ) (body : Body) (options : Option Options) (now : ℕ)
     → is_unsigned options ≡ true
     → ◌≡◌ {A = Option Answered} (first_asked c method body options now).signed_for None
 
--- a response answers it, or is dropped: no challenge is answered, and no other message of it is
--- sent
+-- a response to a request that is not signed ends the request or is dropped: no challenge is
+-- answered, and no other message of the request is sent
 abbrev pub IsNotSentOtherwise : Type 0
 IsNotSentOtherwise = (c : Client) (now : ℕ) (bytes : List ℕ) (m : Met)
     → is_unsigned m.asked.options ≡ true → IsAnswerOrDrop (decision_for c now bytes m)
@@ -45,7 +45,8 @@ abbrev pub ConfirmsNothing : Type 0
 ConfirmsNothing = (c : Client) (now : ℕ) (bytes : List ℕ) (m : Met) (end : EndSeen)
     → m.signed_for ≡ None → (answered_by c now bytes m end).1.standing ≡ c.standing
 
--- a response to a request changes nothing if it comes from another address than the request's own
+-- a response to a request changes nothing if it does not come from the address that answers the
+-- request
 abbrev pub IsNotHeardElsewhere : Type 0
 IsNotHeardElsewhere = (memory : Memory) (from : SocketAddr) (bytes : List ℕ) (now : ℕ) (c : Client)
     (m : Met) → answered_in bytes c ≡ Some m → is_same_address from (address_for c m.asked) ≡ false

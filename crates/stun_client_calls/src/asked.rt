@@ -286,7 +286,7 @@ impl<A: Memory> Asked<A> {
         &self.signed_for
     }
 
-    /// Returns how many responses were dropped for the request, and why the last one was.
+    /// Returns how many responses were dropped for the request, and why the last one was dropped.
     pub fn drops(&self) -> Drops
         ensures { result ≡ self.now.drops }
     {

@@ -55,20 +55,22 @@ pub enum Decision<A: Allocator> {
 ///   a new one. After the first plan of the request, the challenge is dropped as `LateChallenge`.
 ///   If another message has become the current one as often as the limit allows, the challenge ends
 ///   the request.
-/// - A 401 for the same realm and security bits, with another nonce or list, is answered like a
+/// - A 401 for the same realm and security bits, with a different nonce or list, is answered like a
 ///   challenge the first two times. The third such 401 ends the request.
 /// - If the response repeats the challenge that the message is signed for, it is dropped as a
 ///   refusal. It counts at most once for each time that the message was sent. The second refusal
 ///   that counts ends the request. Over a reliable transport, the first refusal ends it.
-/// - A doubt, which is an error that casts doubt on its message, is dropped after the first plan,
-///   once another message has become the current one as often as the limit allows, and once three
-///   doubts have made another message the current one. Otherwise the last eligible earlier message
-///   becomes the current one again. A message is eligible if it is not in doubt, and is not signed
-///   for a challenge that is weaker than the challenge that a success has confirmed. If there is no
-///   eligible message, a signed message is replaced by a new unsigned message, unless the request
-///   has an unsigned message already. An unsigned message is then replaced by the last signed
-///   message that is not too weak, even if it is in doubt. If that is not possible either, the
-///   doubt is dropped.
+/// - A *doubt* is an error that casts doubt on the message that it answers. It is dropped after the
+///   first plan of the request, once another message has become the current one as often as the
+///   limit allows, and once three doubts have made another message the current one. Otherwise the
+///   last eligible earlier message becomes the current one again. A message is eligible if it is
+///   not in doubt, and is not signed for a challenge that is weaker than the challenge that a
+///   success has confirmed.
+///
+///   If there is no eligible message, the effect of a doubt depends on the current message. If that
+///   message is signed, a new unsigned message replaces it, unless the request has an unsigned
+///   message already. If it is unsigned, the last signed message that is not too weak replaces it,
+///   even if that message is in doubt. If there is no message to replace it, the doubt is dropped.
 ///
 /// Fails if an allocation fails. It allocates only for a doubt.
 pub fn decide<A: Memory>(
@@ -112,8 +114,8 @@ fn answered_anew<A: Allocator + Copy>(
     turns_for(Why::Challenged, challenge, asked)
 }
 
-/// Decides on a 401 for the same realm and security bits, with another nonce or list: answers it
-/// like a challenge, but only twice.
+/// Decides on a 401 for the same realm and security bits, with a different nonce or list: answers
+/// it like a challenge, but only twice.
 fn answered_refusal<A: Allocator + Copy>(
     asked: &Asked<A>,
     limits: Limits,

@@ -18,10 +18,11 @@ ghost use Rattle.stun_client_calls.specs.OptionLaws.{IsNotSentOtherwise, IsWritt
 ghost use Rattle.stun_client_calls.specs.declared.deciding.Limits.{Limits as TheLimits};
 ghost use Rattle.stun_client_calls.specs.declared.turning.Why.{Why as TheWhy};
 
-/// Another message of a request becomes the current one only within the first plan of the request,
-/// and only as often as the limit allows. The reason is a doubt at most three times, and a refusal
-/// with another challenge at most twice (`within`). So the number of these changes never exceeds
-/// the limit (`counted`).
+/// States how often the current message of a request can be replaced by another one. This happens
+/// only within the first plan of the request, and only as often as the client's limit allows.
+/// Responses that cast doubt on the current message cause at most three of these changes, and
+/// refusals with another challenge cause at most two (`within`). So the number of all changes never
+/// exceeds the limit (`counted`).
 pub fn requests_are_sent_by_a_bounded_number_of_messages()
     ensures within { (limits : TheLimits) (standing : StandingSeen) (now : ℕ) (a : AskedSeen)
         (v : Verdict) (why : TheWhy) (place : Option Place) (c : Option Answered)
@@ -32,8 +33,8 @@ pub fn requests_are_sent_by_a_bounded_number_of_messages()
         → (turned is_kept former t a).turns ≤ limits.turns }
 {}
 
-/// No downgrade: a message that becomes the current one is not signed for a challenge that is
-/// weaker than the challenge that a success has confirmed, whatever anybody sends.
+/// A message that becomes the current one of a request is never signed for a challenge that is
+/// weaker than the challenge that was confirmed last. So no datagram causes a downgrade.
 pub fn requests_never_turn_to_weaker_messages()
     ensures { (j : Judge) (is_current : Bool) (now : ℕ) (a : AskedSeen) (before : Option Answered)
         (bytes : List ℕ) (why : TheWhy) (place : Option Place) (c : Option Answered)
@@ -54,12 +55,15 @@ pub fn a_request_has_one_message_for_each_challenge()
         → IsSome a.signed_for × (has_unsigned a.earlier ≡ false) }
 {}
 
-/// A response that is not signed with the key of the message that it answers does not answer the
-/// request, unless the message is the current one and the client accepts unsigned responses to it
-/// (`answers`). If the client does not accept unsigned responses to the message, such a response
-/// does not end the request over UDP either, until the request has reached the limit on refusals or
-/// on messages (`one`). So no single datagram that an attacker sends over UDP ends a signed request
-/// within these limits.
+/// No single datagram that an attacker forges over UDP ends a signed request, as long as the
+/// request has not reached its limits. The law is about a response that is not signed with the key
+/// of the message that it answers.
+///
+/// - `answers`: such a response ends the request as answered only if the message is the current one
+///   and the client accepts unsigned responses to it.
+/// - `one`: if the client does not accept unsigned responses to the message, such a response does
+///   not end the request at all. Premises: the transport is UDP, and the request has reached
+///   neither its limit on refusals nor its limit on messages (`IsUnspent`).
 pub fn one_forged_datagram_ends_no_signed_request()
     ensures answers { (j : Judge) (is_current : Bool) (now : ℕ) (a : AskedSeen)
         (before : Option Answered) (bytes : List ℕ) (by : Option IntegrityAlgorithm)
@@ -73,7 +77,7 @@ pub fn one_forged_datagram_ends_no_signed_request()
 {}
 
 /// A response that repeats the challenge that a request is signed for counts as a refusal at most
-/// once for each time that the request was sent. Over UDP, such a response does not end the request
+/// once for each transmission of the request. Over UDP, such a response does not end the request
 /// when it arrives for the first time (`first`), nor when it arrives again before the request is
 /// sent again (`repeated`).
 pub fn the_first_refusal_ends_nothing()
@@ -85,24 +89,27 @@ pub fn the_first_refusal_ends_nothing()
         → decided limits standing now (refusing code a) (refused None) ≡ refuses }
 {}
 
-/// A response to an earlier message of a request answers the request or is dropped: no other
-/// message becomes the current one, and no refusal or doubt is counted.
+/// A response to an earlier message of a request either answers the request or is dropped. It does
+/// not make another message the current one, and is not counted as a refusal or a doubt.
 pub fn responses_to_earlier_messages_answer_or_are_dropped()
     ensures { (j : Judge) (now : ℕ) (a : AskedSeen) (before : Option Answered) (bytes : List ℕ)
         → IsAnswerOrDrop (decision_on j false now a before bytes) }
 {}
 
-/// Once two plans have passed since a request started, and `ClientEndpoint::poll` returns `Wait`,
-/// the request has ended, whatever calls come before and between (`ends`; RFC 8489, sections 6.2.1
-/// and 9.2.5).
+/// A request ends at the latest when the time of two plans has passed since its start, if `poll` is
+/// called then (RFC 8489, sections 6.2.1 and 9.2.5). This holds however late `poll` is called, and
+/// whatever other calls are made.
 ///
-/// When `poll` returns `Wait`, each outstanding request is less than two plans old, and the wait
-/// ends no later than its second plan (`waits`). This holds however late `poll` is called, because
-/// nothing is sent for a request after its first plan, from the creation of a client on (`begins`)
-/// and after each call (`stays`). The first plan of a request ends once a whole plan has passed
-/// since its start (`starts`), and no call changes that time (`keeps`). All this holds for a client
-/// that stores each request once, as a new client does (`first`), and each call preserves that
-/// (`stored`).
+/// - `ends`: if `ClientEndpoint::poll` returns `Wait` after this time has passed, the request has
+///   ended.
+/// - `waits`: if a request is still outstanding when `poll` returns `Wait`, the time of two plans
+///   has not yet passed since its start, and the wait ends at the latest when this time has passed.
+/// - `begins`, `stays`: nothing is sent for a request after its first plan. This holds for a new
+///   client, and each call preserves it.
+/// - `starts`, `keeps`: the first plan of a request ends when the time of one plan has passed since
+///   its start, and no call changes this end.
+/// - `first`, `stored`: a client stores each request once. This holds for a new client, and each
+///   call preserves it.
 pub fn a_request_ends_within_two_plans()
     ensures ends { EndsWithinTwoPlans }
     ensures first { BeginsStored }
@@ -114,14 +121,17 @@ pub fn a_request_ends_within_two_plans()
     ensures waits { WaitsInTime }
 {}
 
-/// A request that is not signed (see `RequestOptions::is_signed`) is written as a client without
-/// credentials writes it, without USERNAME, USERHASH, REALM, NONCE and a signature (`written`), and
-/// is signed for no challenge (`first`). A response answers the request or is dropped: the request
-/// has no other message, and the client answers no challenge for it (`alone`; RFC 8489, section 9).
-/// A response to a message that is signed for no challenge confirms none (`unconfirmed`).
+/// States what the client does with a request whose options say that it is not signed
+/// (`RequestOptions::is_signed`; RFC 8489, section 9).
 ///
-/// A response that does not come from the address that answers its request changes nothing
-/// (`elsewhere`).
+/// - `written`, `first`: the client writes the request like a client without credentials, without
+///   USERNAME, USERHASH, REALM, NONCE or a signature (`written`). So the request is signed for no
+///   challenge (`first`).
+/// - `alone`: a response either answers the request or is dropped. The client does not answer it as
+///   a challenge, and writes no other message of the request.
+/// - `unconfirmed`: a response to a message that is signed for no challenge confirms no challenge.
+/// - `elsewhere`: if a response to any request comes from an address other than the one from which
+///   the request accepts responses, `receive` returns `NotOurs`, and nothing changes.
 pub fn a_request_that_is_not_signed_is_answered_or_dropped()
     ensures written { IsWrittenUnsigned }
     ensures first { StartsUnsigned }

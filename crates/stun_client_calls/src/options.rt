@@ -1,5 +1,6 @@
-//! The options of a single request, which override the settings of its client. Also how often
-//! `poll` returned the bytes of a message, which decides whether its round-trip time is known.
+//! The options of a single request, which override the settings of its client. This module also
+//! counts how often `poll` returned the bytes of a message, because the message's round-trip time
+//! is known only if that happened once.
 ghost use Rattle.std.specs.Duration.{as_nanos};
 ghost use Rattle.std.specs.Option.{option_map};
 ghost use Rattle.std.specs.Prelude.{◌≡◌};
@@ -27,9 +28,9 @@ pub struct RequestOptions {
     /// The times after which the request is sent again, and after which it times out (RFC 8489,
     /// section 6.2.1).
     pub timeouts: RequestRto,
-    /// The address that the responses come from, which is the server's unless the request has
-    /// CHANGE-REQUEST (RFC 5780, section 7.2). A datagram from any other address is not accepted as
-    /// a response to this request.
+    /// The address that the responses come from. This is the server's address, unless the request
+    /// has CHANGE-REQUEST (RFC 5780, section 7.2). A datagram from any other address is not
+    /// accepted as a response to this request.
     pub from: SocketAddr,
 }
 

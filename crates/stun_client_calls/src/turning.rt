@@ -10,7 +10,7 @@ use stun_types::message::TransactionId;
 /// Why another message of a request becomes the current one.
 #[derive(Clone, Copy)]
 pub enum Why {
-    /// A challenge asked for another signature.
+    /// The server has sent a challenge, for which the other message is signed.
     Challenged,
     /// A 401 for the same realm and security bits refused the request.
     Refused,

@@ -20,8 +20,8 @@ use stun_types::message::{StunWriteError, TransactionId};
 /// # Errors
 ///
 /// - `TooLarge`, before anything is allocated: the text of SOFTWARE has more than 763 bytes.
-/// - Otherwise the first reason why one of the parts cannot be added, such as `TooLarge` if the
-///   message would be too long, or `OutOfMemory` if an allocation fails earlier.
+/// - Otherwise the error of the first part that cannot be added, such as `TooLarge` if the message
+///   would be too long, or `OutOfMemory` if an allocation failed.
 pub fn message<A: Memory>(
     alloc: A,
     form: &Form<A>,

@@ -1,6 +1,6 @@
--- The refusals of a request that count (RFC 8489, section 9.2.5). A refusal is the challenge that
--- the request was signed for already, or a 401 that asks for the same credentials under another
--- nonce.
+-- The refusals of a request that count (RFC 8489, section 9.2.5). A refusal is a response that
+-- repeats the challenge that the request was signed for, or a 401 with the same realm and security
+-- bits and another nonce or list.
 use Rattle.std.specs.Prelude.{ℕ, ◌+◌, min, Bool, true, false, ◌||◌, if◌then◌else◌}
 use Rattle.stun_client_endpoint.specs.declared.refusals.Refusals.{Refusals}
 

@@ -15,8 +15,8 @@ pub enum DropReason {
     /// The client requires a FINGERPRINT, and the response has none (RFC 8489, section 7.3).
     MissingFingerprint,
     /// The response is not signed with the key of the message that it answers or, with short-term
-    /// credentials, not with its algorithm. Or it is a 401 or a 438 to an earlier message of the
-    /// request.
+    /// credentials, not with the algorithm of that message. Or it is a 401 or a 438 that answers an
+    /// earlier message of the request.
     NotVerified,
     /// The response is an unsigned 401 or 438 that the client cannot answer, or a 401 or 438 whose
     /// list of algorithms is so long that the request would not fit in a message.
@@ -46,8 +46,8 @@ pub fn reason_of(why: Distrust) -> DropReason
     }
 }
 
-/// How many responses were dropped for one request, and why the last one was. Use it only for
-/// diagnostics, because anybody can send such responses.
+/// How many responses were dropped for one request, and why the last one was dropped. Use it only
+/// for diagnostics, because anybody can send such responses.
 #[derive(Clone, Copy, Debug, PartialEq, Eq)]
 pub struct Drops {
     /// How many responses were dropped, at most `u32::MAX`.
@@ -70,8 +70,8 @@ impl Drops {
         }
     }
 
-    /// Returns this record with one more dropped response counted: its error code, if it had one,
-    /// is `code`, and it was dropped for the reason `why`. The count stops at `u32::MAX`.
+    /// Returns this record after one more response was dropped, for the reason `why`. `code` is the
+    /// error code of the response, if it had one. The count stops at `u32::MAX`.
     pub fn noted(self, why: DropReason, code: Option<u16>) -> Drops
         ensures { result ≡ after_drop why code self }
     {

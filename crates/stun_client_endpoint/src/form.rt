@@ -72,9 +72,8 @@ impl<A: Memory> Form<A> {
     /// # Errors
     ///
     /// - `TooLarge`, before anything is allocated: the text of SOFTWARE has more than 763 bytes.
-    /// - Otherwise the first reason why one of the parts cannot be added, in the order above, such
-    ///   as `TooLarge` if the message would be too long, or `OutOfMemory` if an allocation fails
-    ///   earlier.
+    /// - Otherwise the error of the first part that cannot be added, in the order above, such as
+    ///   `TooLarge` if the message would be too long, or `OutOfMemory` if an allocation failed.
     #[tactic(auto, unfolding(crate::specs::Written::request_bytes))]
     pub fn written(
         &self,

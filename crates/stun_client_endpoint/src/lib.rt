@@ -1,5 +1,5 @@
-//! The parts of a client of one STUN server: its settings, and for a request the body, the bytes,
-//! the refusals, and the outcome (RFC 8489, sections 5, 6.1 to 6.3, 9.1 and 9.2).
+//! The parts of a client of one STUN server: its settings, and the body, the bytes, the refusals
+//! and the outcome of each request (RFC 8489, sections 5, 6.1 to 6.3, 9.1 and 9.2).
 //!
 //! The crate `stun_client_calls` contains the client itself.
 #![tactic(auto)]

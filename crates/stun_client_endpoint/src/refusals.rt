@@ -1,17 +1,17 @@
-//! The refusals of a request, from which it follows when the request ends as unauthorized.
+//! The refusals of a request, which determine when the request ends as unauthorized.
 ghost use Rattle.std.specs.Prelude.{◌≡◌, nat_le};
 ghost use Rattle.stun_client_endpoint.specs.Refusals.{OTHERS, after_refusal, after_sending};
 ghost use Rattle.stun_client_endpoint.specs.Refusals.{no_refusals};
 
 /// The refusals of a request. A refusal is a response that repeats the challenge that the request
-/// is signed for, or a 401 for the same realm and security bits with another nonce or list.
+/// is signed for, or a 401 for the same realm and security bits with a different nonce or list.
 #[derive(Clone, Copy)]
 pub struct Refusals {
     /// Whether a response has repeated the challenge since the request was sent last.
     is_recent: bool,
     /// Whether a response repeated the challenge before the request was sent last.
     is_earlier: bool,
-    /// How often the request was sent again for a 401 with another nonce or list.
+    /// How often the request was sent again for a 401 with a different nonce or list.
     others: u32,
 }
 
@@ -64,8 +64,8 @@ impl Refusals {
         self.is_earlier
     }
 
-    /// Returns whether the request has been sent again twice for a 401 with another nonce or list,
-    /// which is the limit. The next such 401 ends the request.
+    /// Returns whether the request has been sent again twice for a 401 with a different nonce or
+    /// list, which is the limit. The next such 401 ends the request.
     pub fn is_last(self) -> bool
         ensures { result ≡ nat_le OTHERS self.others }
     {

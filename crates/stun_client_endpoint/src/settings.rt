@@ -5,7 +5,6 @@ ghost use Rattle.stun_client_endpoint.specs.Settings.{settings_refusal};
 use crate::form::Form;
 use std::alloc::{Allocator, Global};
 use stun_agent::agent::RequestRto;
-use stun_client::preferences::Preferences;
 use stun_types::attribute::AttributeType;
 use stun_types::limits::{TEXT_LIMIT, USERNAME_LIMIT};
 
@@ -18,8 +17,9 @@ pub struct Settings<A: Allocator = Global> {
     pub requires_fingerprint: bool,
     /// The types of attributes that the client understands in responses.
     pub understood: Vec<AttributeType, A>,
-    /// How often another message of a request may become the current one, for a challenge or a
-    /// doubt. After that, the next challenge ends the request.
+    /// How often another message of a request may become the current one, because of a challenge,
+    /// or because an error has cast doubt on the current message. After that, the next challenge
+    /// ends the request.
     pub challenges: u32,
     /// The times after which a request is sent again, and after which it times out.
     pub timeouts: RequestRto,
@@ -32,22 +32,15 @@ pub enum SettingsError {
     NameTooLong,
     /// The text of SOFTWARE has more than 763 bytes.
     SoftwareTooLong,
-    /// The preferences support no algorithm.
-    NoAlgorithm,
 }
 
-/// Returns the first reason to refuse the user name, the text of SOFTWARE or the preferences of a
-/// client, or `None` if they are valid. Pass an empty text if the client has no user, or sends no
-/// SOFTWARE.
+/// Returns the first reason to refuse the user name or the text of SOFTWARE of a client, or `None`
+/// if both are valid. Pass an empty text if the client has no user, or sends no SOFTWARE.
 ///
-/// Check the settings before you create a client: if a text is too long, every request fails, and
-/// without an algorithm the client answers no challenge.
-pub fn settings_refusal(
-    name: &str,
-    software: &str,
-    preferences: &Preferences,
-) -> Option<SettingsError>
-    ensures { result ≡ settings_refusal name.now software.now preferences.now }
+/// Check the settings before you create a client, because every request fails if a text is too
+/// long.
+pub fn settings_refusal(name: &str, software: &str) -> Option<SettingsError>
+    ensures { result ≡ settings_refusal name.now software.now }
 {
     if name.len() > USERNAME_LIMIT {
         return Some(SettingsError::NameTooLong);
@@ -55,8 +48,5 @@ pub fn settings_refusal(
     if software.len() > TEXT_LIMIT {
         return Some(SettingsError::SoftwareTooLong);
     }
-    if preferences.hmac_sha1 || preferences.hmac_sha256 {
-        return None;
-    }
-    Some(SettingsError::NoAlgorithm)
+    None
 }

@@ -30,8 +30,9 @@ pub enum Received<'a> {
     /// FINGERPRINT, and has not looked for unknown attributes.
     Indication(Message<'a>),
     /// The datagram is not for this client, so offer it to the next client on the socket. It is not
-    /// a STUN message, comes from another address, is a request, or is a response to no outstanding
-    /// request.
+    /// a STUN message, is a request, is a response to no outstanding request, or comes from the
+    /// wrong address. A response must come from the address that answers the request, and an
+    /// indication from the server.
     NotOurs,
     /// A response to a request of this client. The response was dropped, and the request continues.
     Dropped(DropReason),

@@ -1,43 +1,57 @@
-//! Laws about the exchanges of a client with a server of this library.
+//! Laws about the exchanges of a client with a server of this library. An *epoch* is the time for
+//! which the server sends an address the same nonce.
 ghost use Rattle.stun_client_meetings.specs.Beginning.{NewClientsMeetServers, ThereAreMeetings};
 ghost use Rattle.stun_client_meetings.specs.Meeting.{ClientsMeetServers};
 
-/// A client and a server agree in two exchanges, on the strongest algorithm that both support. The
-/// following holds for every signed request as long as it is outstanding, whatever its plan is, and
-/// whatever calls of its client are made:
+/// A client and a server agree in two exchanges on the strongest algorithm that both support. The
+/// law is about a request that a client with long-term credentials sends to a server. As long as
+/// the request is outstanding, the client and the server do the following:
 ///
-/// - The server answers the bytes of the request's current message with a challenge if the message
-///   is not signed (`challenged`), and when this challenge arrives, the client sends the request
-///   again, signed for the challenge (`renewed`). If an earlier message of the request is signed
-///   for the challenge, that message is sent again. After that, all of this holds again, whatever
-///   calls are made.
-/// - Once the current message is signed for a challenge of the server, the server accepts its bytes
-///   as those of the client's user, in the epoch of the challenge and in the next epoch, with the
-///   strongest algorithm that both support (`accepted`). A signed answer to these bytes ends the
-///   request with its result and the round-trip time (`ended`). Once the nonce has expired, the
-///   server answers with a 438 (`stale`), and the client sends the request again, signed for the
-///   nonce that is then current (`refreshed`).
+/// - While the request's current message has no signature, as before the first challenge, the
+///   server answers the message with a challenge (`challenged`). When the challenge arrives, the
+///   client sends the request again, signed for the challenge (`renewed`). If an earlier message of
+///   the request is already signed for this challenge, the client sends that message.
+/// - While the current message is signed for a challenge of the server, the server accepts the
+///   message in the epoch of the challenge and in the next epoch, as a request of the client's
+///   user. The algorithm is the strongest that both sides support (`accepted`). A signed answer to
+///   the message ends the request with the result in the answer and with the round-trip time, if it
+///   is known (`ended`).
+/// - If the current message is signed for a challenge whose nonce has expired, the server answers
+///   it with a 438, which has the current nonce (`stale`). When the 438 arrives, the client sends
+///   the request again, signed for this nonce (`refreshed`).
 ///
-/// This holds for every method and body, whatever other requests, with any options, are started,
-/// answered or canceled between, and whether or not there is memory to store the former message.
-/// Datagrams from other sources do not matter to the server, because the outcome of a datagram is a
-/// function of settings, users, source, time and datagram.
+/// The request may have any method, body and plan. Any other calls of the client may be made before
+/// and after each of these steps: for example, they may start, answer or cancel other requests. It
+/// does not matter whether the client has memory to store an earlier message when another one
+/// replaces it. Datagrams from other sources do not change what the server does, because the
+/// outcome of a datagram is a function of the settings, the users, the source, the time and the
+/// bytes.
 ///
-/// Premises: the server was built and the user is registered with it, the name is a text of at most
-/// 513 bytes, client and server agree on an algorithm, and the client sends FINGERPRINT if one of
-/// them requires it (`CanMeet`); the options of the request, if it has any, say that it is signed
-/// and that its responses come from the server (`IsMeetable`); and the body is one that `Body`
-/// builds.
+/// Premises:
 ///
-/// Further premises of `renewed` and `refreshed`: the challenge is not weaker than a challenge that
-/// a success has confirmed, because the client ignores such a challenge; the first plan of the
-/// request is not over; another message has become the current one less often than the limit
-/// allows; and a transaction ID is left (`CanGoOn`). If an earlier message is signed for the
-/// challenge, no current message has the ID of that earlier message. Such an ID occurs only if the
-/// seed gives two messages the same ID, and there was no memory to record the earlier message. Law
-/// `requests_can_be_written` of `stun_requests` proves that the request fits into a message with
-/// all attributes that the client adds. The law does not state that a datagram arrives, nor that
-/// the allocations succeed without which a response is dropped.
+/// - The client and the server can meet (`CanMeet`): the server was built, the user is registered
+///   with it, the user name is UTF-8 and has at most 513 bytes, both sides agree on an algorithm,
+///   and the client sends FINGERPRINT if one of them requires it.
+/// - The client has the address of this server and the credentials of this user (`IsClientOf`).
+/// - The options of the request, if it has any, say that it is signed, and that its responses come
+///   from the address of the server (`IsMeetable`).
+/// - The method has 12 bits, as each `Method` does, and the body is one that `Body` builds.
+///
+/// Further premises of `renewed` and `refreshed`:
+///
+/// - The challenge is not weaker than the challenge that a success has confirmed last, because the
+///   client ignores weaker challenges.
+/// - The request can be sent again (`CanGoOn`): its first plan has not ended, its current message
+///   was replaced by another one less often than the client's limit allows, and a transaction ID is
+///   left.
+/// - If an earlier message of the request is signed for the challenge, no current message has the
+///   transaction ID of that earlier message. A current message has this ID only if the seed gives
+///   two messages the same ID, and there was no memory to record the ID of the earlier message.
+///
+/// It is not a premise that the request fits into a message with all the attributes that the client
+/// adds: law `requests_can_be_written` of `stun_requests` proves this. The law does not state that
+/// a datagram arrives. It does not state either that allocations succeed: if one fails, the client
+/// may drop a response.
 pub fn clients_meet_servers()
     ensures { ClientsMeetServers }
 {
@@ -55,20 +69,26 @@ pub fn clients_meet_servers()
     stun_requests::laws::requests_can_be_written();
 }
 
-/// A new client and a server agree. Take a client that has the name and password of a registered
-/// user. Its first request is started, whatever its method and body are, the server challenges the
-/// request, the client sends it again for the challenge, and the server accepts it while its nonce
-/// lasts (`met`). From there `clients_meet_servers` continues.
+/// A new client and a server agree on an algorithm with the client's first request. When the client
+/// starts the request, with any method and body, the server challenges it. The client sends the
+/// request again, signed for the challenge, and the server accepts it while the nonce lasts
+/// (`met`). Law `clients_meet_servers` states what happens after that.
 ///
-/// The premises can hold together (`exist`): there are a server and its user, and a client of that
-/// user, that agree in this way on HMAC-SHA256, for a Binding request and for an Allocate request.
-/// This holds with a user name that is sent as a hash, and with a user name that is sent in clear.
+/// All premises of `met` can be true at once (`exist`): there are a server, a user of it and a
+/// client of that user that agree in this way on HMAC-SHA256, for a Binding request and for an
+/// Allocate request. This is proved for a user name that is sent as a hash and for one in clear.
 ///
-/// Premises of `met` (`CanBegin`): client and server satisfy `CanMeet`; another message of a
-/// request may become the current one at least once; SOFTWARE has at most 763 bytes; the first two
-/// transaction IDs of the seed differ; the options of the request, if it has any, say that it is
-/// signed and that its responses come from the server (`IsMeetable`); and the challenge arrives
-/// within the plan of the request.
+/// Premises of `met`:
+///
+/// - The client and the server can meet (`CanMeet`), so the client has the name and the password of
+///   a registered user.
+/// - The client can send the request again (`CanBegin`): it answers at least one challenge for each
+///   request, SOFTWARE has at most 763 bytes, and the first two transaction IDs that are derived
+///   from the seed differ.
+/// - The options of the request, if it has any, say that it is signed, and that its responses come
+///   from the address of the server (`IsMeetable`).
+/// - The method has 12 bits, as each `Method` does, and the body is one that `Body` builds.
+/// - The challenge arrives within the plan of the request.
 pub fn new_clients_meet_servers()
     ensures met { NewClientsMeetServers }
     ensures exist { ThereAreMeetings }

@@ -21,8 +21,8 @@ pub record IsRequests {D E : Type 0} (r : RequestsSeen D E) : Type 0 where
   pub one : IsOneTable r.table.attached r.numbers r.next
   pub ascending : IsStrictlySortedBy nat_cmp (keys_of r.numbers.known)
 
--- what a call returns about requests: `start` has started the one with this number, `poll` names
--- it, `poll` or `remove` returns its end, or the call returns none
+-- what a call says about a request: `start` has started the request with this number, `poll` says
+-- to send it, `poll` or `remove` returns its end, or the call names no request
 pub data Event : Type 0 where
   starts : ℕ → Event
   sends : ℕ → Event
@@ -35,7 +35,7 @@ event_of (Ended number end) = ends number
 event_of (TimedOut number datum) = ends number
 event_of (Wait until) = silent
 
--- one call, from the requests to the next ones, and what it returns
+-- one call: the requests before it, what it says about a request, and the requests after it
 pub data Call {D E : Type 0} : RequestsSeen D E → Event → RequestsSeen D E → Type 0 where
   starts_one : (r after : RequestsSeen D E) (id : ℕ) (bytes : List ℕ) (plan : Settings) (datum : D)
       (now : ℕ) → start_refusal r id ≡ None → after ≡ after_start id bytes plan datum now r
@@ -81,15 +81,15 @@ pub record IsOver {D E : Type 0} (number : ℕ) (r : RequestsSeen D E) : Type 0 
   pub started : number < r.next
   pub gone : known_at number r.numbers.known ≡ None
 
--- `start` returns the number of a request that is then stored, and was not before
+-- a request that is started is stored under the next number, under which nothing was stored before
 abbrev pub StartsOne : Type 0 → Type 0 → Type 0
 StartsOne D E = (r : RequestsSeen D E) (id : ℕ) (bytes : List ℕ) (plan : Settings)
     (datum : D) (now : ℕ) → IsRequests r
     → IsStored r.next (after_start id bytes plan datum now r)
     × (known_at r.next r.numbers.known ≡ None)
 
--- over any calls, a started request is stored and its end was not returned, or it is over and its
--- end was returned once
+-- after any calls, a started request is still stored and its end was not returned, or it is over
+-- and its end was returned once
 abbrev pub EndsOnce : Type 0 → Type 0 → Type 0
 EndsOnce D E = (number : ℕ) (r after : RequestsSeen D E) (events : List Event)
     → IsStored number r → Calls r events after

@@ -17,8 +17,8 @@ use Rattle.stun_client_requests.specs.declared.requests.Polled.TheVariants.{Ende
 use Rattle.stun_client_requests.specs.declared.requests.Polled.TheVariants.{Transmit, Wait}
 use Rattle.stun_client_requests.specs.declared.requests.Request.{Request}
 
--- a request has a timer, which follows this plan, and its message was sent for the last time no
--- later than at this time
+-- a request has a timer that follows this plan, and its message was sent for the last time at or
+-- before this time
 pub record HasTimer (plan : Settings) (bound id : ℕ) (all : Transactions) : Type 0 where
   pub timer : Transaction
   pub there : transaction_at id all ≡ Some timer
@@ -26,8 +26,8 @@ pub record HasTimer (plan : Settings) (bound id : ℕ) (all : Transactions) : Ty
   pub goes_on : timer.sending ≡ Repeats
   pub early : timer.last ≤ bound
 
--- each outstanding request has such a timer, by its plan, and each timer is that of an outstanding
--- request
+-- each outstanding request has such a timer, which follows the request's plan, and each timer
+-- belongs to an outstanding request
 pub record AreTimely {D : Type 0} (plan : Request D → Settings) (bound : Request D → ℕ)
     (timers : Transactions) (all : Attached (Request D)) : Type 0 where
   pub ordered : IsAscending timers
@@ -47,25 +47,25 @@ is_named (Ended number end) other = false
 is_named (TimedOut number datum) other = false
 is_named (Wait until) other = false
 
--- the times no later than which the requests were sent for the last time, once a poll has returned
--- this
+-- after a poll has returned this, the times at or before which the requests were sent for the last
+-- time
 abbrev pub bound_after : {D E : Type 0} → ℕ → Polled D E → (Request D → ℕ) → Request D → ℕ
 bound_after now told bound q = if is_named told q.number then max now (bound q) else bound q
 
--- the time of a request is not over, and the wait ends no later than it
+-- the end of a request has not come yet, and the wait ends no later than that
 pub record IsInTime (now end : ℕ) (until : Option ℕ) : Type 0 where
   pub early : now < end
   pub awaited : IfSome until (λ moment. moment ≤ end)
 
--- a poll sends a request, or no request is sent
+-- each poll preserves `IsTimely`, whether it says to send a request or not
 abbrev pub PollsKeepTime : Type 0 → Type 0 → Type 0
 PollsKeepTime D E = (plan : Request D → Settings) (bound : Request D → ℕ) (now : ℕ)
     (r : RequestsSeen D E)
     → IsRequests r → IsTimely plan bound r
     → IsTimely plan (bound_after now (polled now r).0 bound) (polled now r).1
 
--- if a poll says to wait, a whole plan has not passed since any outstanding request was sent for
--- the last time, and the wait ends no later than that
+-- if a poll says to wait, then for each outstanding request a whole plan has not passed since it
+-- was sent for the last time, and the wait ends no later than the end of that plan
 abbrev pub WaitsInTime : Type 0 → Type 0 → Type 0
 WaitsInTime D E = (plan : Request D → Settings) (bound : Request D → ℕ) (now : ℕ) (until : Option ℕ)
     (r after : RequestsSeen D E) (id : ℕ) (q : Request D)

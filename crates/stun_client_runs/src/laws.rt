@@ -1,37 +1,43 @@
-//! Laws about a client that hold whatever calls are made. The calls may be made in any order, and a
-//! call may be passed an earlier time than the call before it.
+//! Laws about a client that hold whatever calls are made. The calls may be made in any order, and
+//! the time that is passed to a call may be earlier than the time that was passed to the call
+//! before it.
 ghost use Rattle.stun_client_runs.specs.Kept.{BeginsAsClient, StaysAClient};
 ghost use Rattle.stun_client_runs.specs.Laws.{EndsOnce, StartsOne, StaysOver, TransmitsWhatIsThere};
 ghost use Rattle.stun_client_runs.specs.Noted.{BeginsNoted, StaysNoted};
 ghost use Rattle.stun_client_runs.specs.RoundTrips.{RoundTripsAreOfOnePoll};
 ghost use Rattle.stun_client_runs.specs.Sent.{KeepsItsBytes, SendsItsBytes};
 
-/// From the creation of a client on (`begins`), whatever calls are made (`stays`), each outstanding
-/// request is stored once, under the transaction ID of its current message, which is derived from
-/// the seed. This message has this ID, the method and the body of the request, and is sent to the
-/// server. Its bytes are written with the identity of the client for this request (nobody, if its
-/// options say that it is not signed), and signed for the challenge that is stored with the
-/// message. The transaction IDs of the request's earlier messages are derived from the seed, too.
+/// What a client stores of its outstanding requests is consistent. The following holds for each new
+/// client (`begins`), and every call preserves it (`stays`):
+///
+/// - The client stores each outstanding request once, under the transaction ID of the request's
+///   current message.
+/// - The current message has this transaction ID, and the method and the body of the request. It is
+///   sent to the address of the server.
+/// - The current message is written with the client's credentials and signed for the challenge that
+///   is stored with the message. If the options of the request say that it is not signed, the
+///   message is written as by a client without credentials.
+/// - The transaction IDs of all messages of the request are derived from the seed.
 pub fn clients_stay_in_order()
     ensures begins { BeginsAsClient }
     ensures stays { StaysAClient }
 {}
 
-/// A client stores transaction IDs of earlier messages, each with the number of its request. From
-/// the creation of a client on (`begins`), whatever calls are made (`stays`), each number that is
-/// stored with a transaction ID is the number of an outstanding request that has an earlier message
-/// with this ID. So no ID of a request that has ended stays stored.
+/// A client stores transaction IDs of earlier messages, each with the number of the request that
+/// the message belongs to. This request is outstanding, and has an earlier message with this ID, so
+/// the client stores no transaction ID of a request that has ended. This holds for each new client
+/// (`begins`), and every call preserves it (`stays`).
 ///
-/// Premise: the limit on how often another message becomes the current one has 32 bits, as each
-/// `u32` has.
+/// Premise of `begins`: the limit on how often the current message of a request is replaced has 32
+/// bits, as each `u32` does.
 pub fn what_is_noted_is_an_earlier_message()
     ensures begins { BeginsNoted }
     ensures stays { StaysNoted }
 {}
 
-/// A request that `request` has started is stored (`starts`). Whatever calls are made, it stays
-/// stored until `poll` returns its outcome, which happens once (`once`). After that, no call
-/// returns its number again (`over`).
+/// A request that `request` has started is stored (`starts`). It stays stored until `poll` returns
+/// its outcome, whatever calls are made, and `poll` never returns the outcome twice (`once`). After
+/// `poll` has returned the outcome, no call returns the number of the request again (`over`).
 pub fn a_request_ends_once()
     ensures starts { StartsOne }
     ensures once { EndsOnce }
@@ -43,14 +49,17 @@ pub fn what_is_to_be_sent_is_there()
     ensures { TransmitsWhatIsThere }
 {}
 
-/// Whatever calls are made, a request is sent with the method and the body that it was started
-/// with, whatever its options are. As long as a request is outstanding, its method, its body and
-/// its options are stored as they were passed, and `bytes_of` returns the bytes of a request with
-/// this method and this body. These bytes are written with the identity of the client for a request
-/// with these options, and signed for the challenge that the client has stored for it, with a
-/// transaction ID that is derived from the seed. They are the bytes that the table stores under
-/// this ID, has sent to the server, and sends again (`kept`). A request for which `poll` returns
-/// `Transmit` is outstanding, so it is sent with these bytes (`sent`).
+/// A request is sent with the method and the body with which it was started, whatever its options
+/// are, and whatever calls are made.
+///
+/// - `kept`: as long as a request is outstanding, its method, body and options are stored as they
+///   were passed, and `bytes_of` returns a message with this method and this body. The transaction
+///   ID of the message is derived from the seed. The message is signed for the challenge that is
+///   stored with it, with the client's credentials, or without credentials if the options say that
+///   the request is not signed. The client's table of requests stores the same bytes under this
+///   transaction ID, to send them to the server.
+/// - `sent`: a request for which `poll` returns `Transmit` is outstanding, so the bytes to send are
+///   the ones that `kept` is about.
 ///
 /// Premise: the method has 12 bits, as each `Method` does.
 pub fn requests_are_sent_as_they_were_started()
@@ -58,12 +67,12 @@ pub fn requests_are_sent_as_they_were_started()
     ensures sent { SendsItsBytes }
 {}
 
-/// A round-trip time is stored only with a response to a message that exactly one `poll` has
-/// returned, and is the time since that `poll` (RFC 6298, section 3). So it is known which
-/// transmission the response answers. This holds for a client from its creation on, whatever calls
-/// are made, whichever messages of a request become the current one, and however often.
+/// The client stores a round-trip time with a response only if exactly one `poll` has returned the
+/// message that the response answers, so that it is known which transmission was answered (RFC
+/// 6298, section 3). The round-trip time is the time since that `poll`. This holds after any calls
+/// of a new client.
 ///
-/// Premise: no two of the transaction IDs that the client has used are the same.
+/// Premise: the transaction IDs that the client has used are all different.
 pub fn round_trips_are_of_messages_sent_once()
     ensures { RoundTripsAreOfOnePoll }
 {}

@@ -9,18 +9,24 @@ ghost use Rattle.stun_client_strength.specs.Unsigned.{UnsignedRequestsAnswerNoth
 ghost use Rattle.stun_client_strength.specs.Unsigned.{UnsignedRequestsDoubtNothing};
 ghost use Rattle.stun_client_strength.specs.Unsigned.{UnsignedRequestsStayUnsigned};
 
-/// A wrong password ends a signed request soon, whatever its plan is, and whatever address answers
-/// it. If a response repeats the challenge that the current message is signed for, it is dropped as
-/// `Refused` the first time, and the request continues by its timer. Once the request was sent
-/// again after that, the next such response ends it as `Unauthorized`. Over a reliable transport,
-/// the first such response already ends it (`second`). Whatever is called between, the first
-/// refusal is not forgotten (`remembered`). So if the password is wrong, a server that answers each
-/// datagram in time gets the signed message twice over UDP, and once over a reliable transport.
+/// A wrong password ends a signed request soon. The request may have any plan, and its options may
+/// name any address as the source of its responses.
 ///
-/// A 401 with the same realm and security bits, but another nonce or list, ends the request if it
-/// arrives within the first plan of the request, and the request has been sent again for two such
-/// responses before (`third`). Law `refusals_ask_for_the_same_credentials` of `stun_exchanges`
-/// states which challenges count. A request that is not signed is not refused
+/// - If a response repeats the challenge that the current message is signed for, the client drops
+///   the response as `Refused` the first time, and retransmits the request by its timer. If such a
+///   response arrives again after the request was sent once more, it ends the request as
+///   `Unauthorized`. Over a reliable transport, the first such response already ends the request
+///   (`second`).
+/// - The client remembers the first refusal, whatever calls are made in between (`remembered`). So
+///   a client with a wrong password sends the signed message twice over UDP, and once over a
+///   reliable transport, if the server answers each datagram in time.
+/// - A 401 with the same realm and security bits, but another nonce or list of algorithms, ends the
+///   request if two conditions hold: two such 401s have already caused the client to send the
+///   request again as another message, and the third arrives within the first plan of the request
+///   (`third`).
+///
+/// Law `refusals_ask_for_the_same_credentials` of `stun_exchanges` states which challenges count as
+/// refusals. A response to a request that is not signed never counts as a refusal
 /// (`unsigned_requests_change_no_challenge`).
 pub fn refusals_end_requests()
     ensures second { SecondRefusalsEnd }
@@ -30,15 +36,20 @@ pub fn refusals_end_requests()
     stun_client_runs::laws::clients_stay_in_order();
 }
 
-/// A request with a wrong password costs at most three datagrams, whatever its options are: the
-/// unsigned message once, and the signed message twice. It costs at most two if the client already
-/// has a challenge to sign the request for, and at most one if its options say that it is not
-/// signed, because the client answers no challenge for such a request.
+/// If the password of a client is wrong, the client sends a request at most three times, whatever
+/// the options of the request are: the unsigned message once, and the signed message twice. If the
+/// client already has a challenge to sign the request for, it sends the request at most twice. If
+/// the options of the request say that it is not signed, the client sends it at most once, because
+/// it answers no challenge for such a request.
 ///
-/// Premises (`IsRefusedRun`): each datagram is answered before the next one is sent, an unsigned
-/// datagram with a challenge, and a signed datagram with the challenge that it is signed for. Any
-/// other calls may be made between, also for other requests with any options, if they do not change
-/// the message of the request and its refusals.
+/// Premises (`IsRefusedRun`):
+///
+/// - Each datagram is answered before the next one is sent.
+/// - The answer to an unsigned datagram is a challenge that the client answers, and the answer to a
+///   signed datagram is the challenge that this datagram is signed for.
+/// - The other calls in between, which may also be for other requests, change neither the challenge
+///   that the current message of the request is signed for, nor the refusals that the client has
+///   counted for the request.
 pub fn a_wrong_password_costs_three_datagrams()
     ensures { CostsThreeDatagrams }
 {
@@ -46,34 +57,40 @@ pub fn a_wrong_password_costs_three_datagrams()
     stun_client_runs::laws::what_is_to_be_sent_is_there();
 }
 
-/// No server accepts a request of a client with a weaker algorithm than necessary. Whatever
-/// datagrams a client with long-term credentials has received, and whatever else was called, a
-/// reader of the bytes for which `poll` returns `Transmit` finds a request that is not signed, or
-/// that is signed for a challenge that follows the client's own rule. If the options of the request
-/// say that it is not signed, it never is. No server whose settings do not change accepts these
-/// bytes with a weaker algorithm than the strongest that client and server support (`any`).
+/// An attacker cannot make a server accept a client's request with an algorithm that is weaker than
+/// the strongest that both support. The law is about a client with long-term credentials, whatever
+/// datagrams it has received, and whatever calls were made.
 ///
-/// A success confirms the challenge of the message that it answers, if new requests are signed for
-/// that challenge, or if it is stronger than the challenge that was confirmed last (`confirms`).
-/// From then on, new requests that must be signed are signed for a challenge that is not weaker
-/// than the confirmed one (`starts`): they are not signed with HMAC-SHA1 in place of HMAC-SHA256,
-/// and do not have the user name in clear in place of a hash. The same is true of each message that
-/// `poll` returns for a request that must be signed, with two exceptions (`since`). First, the
-/// message may have been the current one of its request when that success arrived. `poll` may
-/// return such a message after the success, even if it did not return it before, and even if the
-/// message is unsigned or signed for a weaker challenge. Second, the message may be unsigned,
-/// because a response cast doubt on a message of the request. An unsigned message reveals neither
-/// password nor signature, and a server with long-term credentials answers it with a challenge. All
-/// of this holds until `poll` returns the timeout of a request that has a message for the confirmed
-/// challenge. After that, the client answers any challenge, because the server may have been set up
-/// again.
+/// - `any`: when `poll` returns `Transmit` for a request, a reader of the request's bytes finds
+///   that they are not signed, or that they are signed for a challenge that follows the client's
+///   own rule. A server whose settings do not change accepts the bytes only with the strongest
+///   algorithm that client and server support.
+/// - `confirms`: a success confirms the challenge of the message that it answers, if new requests
+///   are signed for this challenge, or if it is stronger than the challenge that was confirmed
+///   last.
+/// - `starts`: after the success, the client signs new requests for a challenge that is not weaker
+///   than the confirmed one. So it does not sign them with HMAC-SHA1 in place of HMAC-SHA256, and
+///   does not send the user name in clear in place of a hash.
+/// - `since`: after the success, each message that `poll` returns is signed for a challenge that is
+///   not weaker than the confirmed one either, with these exceptions:
+///   - The message was already the current message of its request when the success arrived. `poll`
+///     may return such a message after the success for the first time, even if the message is
+///     unsigned or signed for a weaker challenge.
+///   - The message is unsigned because a 400, a 437 or a 441 has cast doubt on a message of the
+///     request. An unsigned message reveals neither the password nor a signature, and a server with
+///     long-term credentials answers it with a challenge.
+///   - The message is unsigned because the options of its request say so.
 ///
-/// Requests whose options say that they are not signed may be outstanding at any time, and change
-/// none of this (`unsigned_requests_change_no_challenge`). They are sent without a signature, as
-/// their caller has asked.
+/// `starts` and `since` hold until `poll` returns the timeout of a request that has a message for
+/// the confirmed challenge. After that, the client answers any challenge, because the settings of
+/// the server may have changed.
 ///
-/// Premises of `any`: the name of the user is UTF-8, the body is one that `Body` builds, the method
-/// has 12 bits, and the time is that of an `Instant`.
+/// A request whose options say that it is not signed is always sent without a signature. Such
+/// requests may be outstanding at any time, and do not affect the other requests
+/// (`unsigned_requests_change_no_challenge`).
+///
+/// Premises of `any`: the user name is UTF-8, the body is one that `Body` builds, the method has 12
+/// bits, and the request starts at a time that an `Instant` can have.
 pub fn nothing_sent_is_bid_down()
     ensures any { NothingIsBidDown }
     ensures confirms { SuccessesConfirm }
@@ -92,14 +109,16 @@ pub fn nothing_sent_is_bid_down()
     stun_requests::laws::requests_can_be_written();
 }
 
-/// A request whose options say that it is not signed has no effect on the challenges that its
-/// client answers, whatever credentials the client has, and whatever was called before. The request
-/// has one message, which is not signed (`unsigned`). A response to it ends the request or is
-/// dropped: the client does not answer it as a challenge, it does not count as a refusal or as a
-/// doubt, and it does not confirm a challenge. The challenge that new requests are signed for does
-/// not change, and neither does any other request, with its messages and their challenges
-/// (`responses`). The challenge does not change either when `poll` returns the outcome of the
-/// request, even if it has timed out (`ends`).
+/// A request whose options say that it is not signed does not change the challenges that its client
+/// stores. This holds whatever credentials the client has, and whatever calls were made before.
+///
+/// - `unsigned`: the request has one message, which is not signed.
+/// - `responses`: a response to the request either ends it or is dropped. The client does not
+///   answer the response as a challenge or count it as a refusal, and the response casts no doubt
+///   on a message and confirms no challenge. It changes neither the challenge that new requests are
+///   signed for nor what is stored of the client's other requests.
+/// - `ends`: when `poll` returns the outcome of the request, even a timeout, the client keeps the
+///   challenge that new requests are signed for and the challenge that was confirmed last.
 pub fn unsigned_requests_change_no_challenge()
     ensures unsigned { UnsignedRequestsStayUnsigned }
     ensures responses { UnsignedRequestsAnswerNothing }

@@ -1,6 +1,6 @@
--- The calls that events stand for at a server that keeps records. For each request that is not
--- dropped and each nonce that its source may have: the request is validated, a response is signed,
--- the request is validated again, and its address is forgotten.
+-- The calls that are made on a server that keeps records for each event. For each request that is
+-- not dropped, and each nonce that its source may have, the request is validated, a response is
+-- signed, the request is validated again, and its address is forgotten.
 use Rattle.std.specs.Prelude.{◌≡◌, ◌≤◌, ℕ, zero, suc, List, [], ◌∷◌, ◌++◌, Bool, true, false}
 use Rattle.std.specs.Prelude.{if◌then◌else◌, Option, Some, None, Ok, length, take, drop, unwrap_or}
 use Rattle.std.specs.List.{find, flat_map}

@@ -1,5 +1,5 @@
--- The events at a server, in order: its users change, and datagrams arrive; and the outcome of each
--- datagram (RFC 8489, sections 6.3 and 9.2.4).
+-- The events at a server, which are changes of its users and arrivals of datagrams, and the outcome
+-- of each datagram (RFC 8489, sections 6.3 and 9.2.4).
 use Rattle.std.specs.Prelude.{ℕ, List, [], ◌∷◌, Bool, true, if◌then◌else◌, Option, Some, None}
 use Rattle.std.specs.Prelude.{string_bytes}
 use Rattle.std.specs.FinMap as fin
@@ -18,8 +18,8 @@ use Rattle.stun_endpoint.specs.Received.{Outcome, received_by}
 use Rattle.stun_endpoint.specs.Runs.{Arrival, verdict_on}
 use Rattle.stun_endpoint.specs.Settings.{Settings}
 
--- a user is added with a password, or gets another one; the user of a name is removed; a datagram
--- arrives: its source, when, and its bytes
+-- an event: a user is added with a password or gets a new password, the user with a name is
+-- removed, or a datagram arrives, with its source, its time and its bytes
 pub data ServerEvent : Type 0 where
   UserAdded : String Global → String Global → ServerEvent
   UserRemoved : String Global → ServerEvent

@@ -1,7 +1,7 @@
 -- The first sentence, about datagrams (RFC 8489, section 9.2.4). Whatever was received before, a
 -- request is accepted from a user with an algorithm if and only if it has a REALM, a nonce that is
 -- current at its source, algorithms that agree, and the digest under the key of the user whom it
--- names. What other sources send changes nothing about that.
+-- names. Datagrams from other sources do not affect this.
 use Rattle.std.specs.Prelude.{◌≡◌, ◌↔◌, ℕ, List, ◌++◌, ◌∷◌, map, take, length, slice_get}
 use Rattle.std.specs.Prelude.{Bool, true, not, ◌&&◌, Option, Some}
 use Rattle.std.specs.Global.{Vec}
@@ -68,8 +68,8 @@ ValidatesAcceptedDatagrams s start events given =
     ↔ ((name : List ℕ) × IsAcceptedFrom s (users_after start (take i events)) from now message.items
     (record { name = name; algorithm = a }))
 
--- whatever other sources send, the outcomes of the datagrams of a source are those that they have
--- alone, with the same changes of the users
+-- whatever other sources send, the datagrams of a source have the outcomes that they have without
+-- the datagrams of other sources, with the same changes of the users
 abbrev pub AreIsolated : Settings → Secrets → List ServerEvent → List (Option Outcome) → Type 0
 AreIsolated s start events given =
     (from : SocketAddr) → own_outcomes from events given ≡ outcomes s start (own_events from events)

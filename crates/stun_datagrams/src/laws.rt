@@ -1,6 +1,7 @@
 //! Laws about lists of datagrams that arrive at a server. They state which requests a server
-//! accepts, whatever arrived before. The functions without arguments do nothing when they run. Each
-//! of the others makes the call that it is about.
+//! accepts, whatever arrived before. An *epoch* is the time for which a server sends an address the
+//! same nonce. The functions without arguments do nothing when they run. Each of the other
+//! functions makes the call that its law is about.
 ghost use Rattle.std.specs.FinMap as fin;
 ghost use Rattle.std.specs.Global.{Vec as TheVec};
 ghost use Rattle.std.specs.Prelude.{◌≡◌, ◌∷◌, ◌++◌, ℕ, List, IfOk, Some, length, slice_get};
@@ -14,10 +15,8 @@ ghost use Rattle.stun_datagrams.specs.Others.{OpenDatagram, ShortTermDatagram, o
 ghost use Rattle.stun_datagrams.specs.Others.{short_term_outcomes};
 ghost use Rattle.stun_datagrams.specs.Sentence.{AreIsolated, AreJudgedAlone, HandsOutAccepted};
 ghost use Rattle.stun_datagrams.specs.Sentence.{TellsEachVerdict, ValidatesAcceptedDatagrams};
-ghost use Rattle.stun_endpoint.specs.OpenOutcomes.{open_outcome_of};
 ghost use Rattle.stun_endpoint.specs.Outcomes.{outcome_of};
 ghost use Rattle.stun_endpoint.specs.Settings.{Settings};
-ghost use Rattle.stun_endpoint.specs.ShortTermOutcomes.{short_term_outcome_of};
 ghost use Rattle.stun_proto.specs.Headline.{ValidatesEachCall};
 ghost use Rattle.stun_proto.specs.Negotiation.{success};
 ghost use Rattle.stun_proto.specs.Replies.{message_read};
@@ -37,23 +36,30 @@ use stun_endpoint::users::Users;
 use stun_proto::replay::{ServerCall, ServerReply, Stopped, serve};
 
 /// States which datagrams a server accepts (RFC 8489, section 9.2.4). The clauses hold for every
-/// list of datagrams, and of changes of the users between them:
+/// list of events. An event is the arrival of a datagram, or a user who is added or removed.
 ///
 /// - `handed`: the server returns a datagram to its caller as an accepted request of a client if
-///   and only if the datagram is a request that is not dropped, the request is accepted from that
-///   client with the users at that time, and the server leaves the response to its caller.
-/// - `validated`: the verdict on a datagram is `Validated` with an algorithm if and only if it is a
-///   request that is not dropped and is accepted from some client with that algorithm.
-/// - `isolated`: the datagrams of a source have the same outcomes as without the datagrams of all
-///   other sources.
+///   and only if three conditions hold:
+///   - The datagram is a request that is not dropped.
+///   - The request is accepted from this client, with the users who are registered when it arrives.
+///   - The server leaves the response to its caller. It does so if it understands all
+///     comprehension-required attributes, and does not itself answer the request as a Binding
+///     request.
+/// - `validated`: the verdict on a datagram is `Validated` with an algorithm if and only if the
+///   datagram is a request that is not dropped and is accepted from some client with this
+///   algorithm.
+/// - `isolated`: the outcomes of the datagrams from one source stay the same if the datagrams from
+///   all other sources are removed from the list.
 /// - `alone`: the outcome of a datagram depends only on the datagram, its source, its time and the
-///   users at that time, whatever arrived before.
+///   users who are registered at that time. What arrived before does not matter.
 ///
-/// A request is accepted from a client (`IsAcceptedAt`) if it has a REALM, a nonce that is current
-/// for its source, algorithms that agree with those that were offered, and a valid signature under
-/// the key of the registered user whom it names. A nonce is current if the server makes it for this
-/// source in the current epoch, or made it in the epoch before, with the current secret or with the
-/// previous one.
+/// A request is accepted from a client (`IsAcceptedAt`) if all of these conditions hold:
+///
+/// - The request has a REALM.
+/// - Its nonce is valid: the server makes this nonce for the request's source in the current epoch,
+///   or made it in the epoch before, from its current secret or from its previous secret.
+/// - Its algorithms agree with the ones that the server offers.
+/// - Its signature is valid under the key of the registered user whom the request names.
 pub fn accepted_datagrams_are_handed_out()
     ensures handed { (s : Settings) (start : Secrets) (events : List ServerEvent)
         → HandsOutAccepted s start events (outcomes s start events) }
@@ -64,25 +70,34 @@ pub fn accepted_datagrams_are_handed_out()
     ensures alone { (s : Settings) → AreJudgedAlone s }
 {}
 
-/// Relates the verdicts of the endpoint on a list of datagrams to the replies of a run of `serve`,
-/// which makes the calls of a `LongTermServerAuth`. For each request that is not dropped, and for
-/// each nonce that the endpoint accepts from its source, the run makes four calls: it validates the
-/// request with the random numbers from which that nonce is made, signs a response, validates the
-/// request again, and forgets the source address. Each change of the users is a call of the run
-/// too.
+/// Compares the verdicts of the endpoint `Server` on a list of events with the replies of `serve`,
+/// which makes calls of a `LongTermServerAuth`. The events become calls as follows (`calls_of`):
+///
+/// - A user who is added or removed becomes one call, which adds or removes the user.
+/// - A request that is not dropped becomes four calls for each nonce that the endpoint accepts from
+///   the request's source. They validate the request with the random numbers from which the nonce
+///   is made, sign a response, validate the request again, and forget the source address.
+///
+/// If `serve` succeeds, the clauses state:
 ///
 /// - `headline`: a request is `Validated` in these calls if and only if it is accepted.
 /// - `told`: the reply to each second validation is the verdict on the request under the nonce that
-///   is made from its random numbers. If the server uses a security feature, these nonces are those
-///   of the endpoint, so the replies together give the endpoint's verdict on each datagram, and
-///   determine exactly which datagrams it accepts. Without a security feature this does not follow:
-///   the endpoint's nonces begin with the nonce cookie, those of `LongTermServerAuth` do not, and
-///   so the endpoint and `LongTermServerAuth` accept different requests.
-///   (`accepted_datagrams_are_handed_out` states which requests the endpoint accepts, whatever its
-///   settings are.) The clause also states that no record of an address is left after the run.
+///   is made from the random numbers of the call. If the server uses a security feature, the
+///   endpoint makes the same nonces, so the replies together give the endpoint's verdict on each
+///   datagram, and determine exactly which datagrams it accepts. No record of an address is left
+///   after the run.
 ///
-/// The server may start with any users, but it starts without a record of an address. `told` holds
-/// for every clock and every response for which the premise `CanBeCalled` holds.
+/// If the server uses no security feature, the replies do not give the endpoint's verdicts. The
+/// endpoint's nonces then begin with the nonce cookie and the nonces of `LongTermServerAuth` do
+/// not, so the two accept different requests. Law `accepted_datagrams_are_handed_out` states which
+/// requests the endpoint accepts, whatever its settings are.
+///
+/// Premises of `told`:
+///
+/// - The `LongTermServerAuth` begins with the settings of the endpoint and without a record of an
+///   address (`server_with`). It may begin with any users.
+/// - The realm has at most 763 bytes, the clock gives only times that an `Instant` can have, and
+///   the response is a complete message that `serve` writes again unchanged (`CanBeCalled`).
 pub fn datagrams_are_served<A: Allocator + Copy>(
     alloc: A,
     server: &mut LongTermServerAuth<A>,
@@ -102,7 +117,7 @@ pub fn datagrams_are_served<A: Allocator + Copy>(
 
 /// States that the premises of `datagrams_are_served` can hold. The calls `settings_calls` turn a
 /// new server for the realm into a server with the given settings and without users (`settings`). A
-/// success response without attributes can be signed, as `CanBeCalled` requires (`response`).
+/// success response without attributes is one that `CanBeCalled` allows (`response`).
 pub fn served_datagrams_begin()
     ensures settings { (s : Settings)
         → after_calls (new_server s.realm) (settings_calls s) ≡ server_with s fin.empty }
@@ -111,11 +126,13 @@ pub fn served_datagrams_begin()
     auth_laws::built_messages_can_be_signed();
 }
 
-/// States that a server accepts some datagrams. If a registered user signs a Binding request under
-/// the nonce that is current for its source, the server accepts the request from that user, with
-/// the strongest algorithm that it supports. This holds for every source, every time, and all
-/// settings that do not require FINGERPRINT, if the realm and the name of the user fit into their
-/// attributes.
+/// States that for each server and each of its users there is a request that the server accepts. It
+/// is a Binding request that the user has signed for the nonce that is current for its source. The
+/// server accepts the request from that user, with the strongest algorithm that the server
+/// supports. This holds for every source and every time.
+///
+/// Premises: the settings do not require FINGERPRINT, the user is registered with a password, and
+/// the realm and the user name are UTF-8 and fit into their attributes.
 pub fn signed_requests_are_accepted()
     ensures { SignedRequestsAreAccepted }
 {
@@ -126,10 +143,10 @@ pub fn signed_requests_are_accepted()
     endpoint_laws::nonces_have_the_bits_of_their_server();
 }
 
-/// Returns what `Server::receive` returns: the outcome that the datagram has in any list of
-/// datagrams and changes of the users, if the users at that position of the list are `users`. So no
-/// earlier datagram changes the result, and the law `accepted_datagrams_are_handed_out`, which is
-/// about lists, also holds for this call.
+/// Calls `Server::receive`, and states that the result is the outcome that the datagram has in
+/// every list of events in which the users at the datagram's position are `users`. So no earlier
+/// datagram changes the result, and the law `accepted_datagrams_are_handed_out`, which is about
+/// lists, also holds for this call.
 pub fn a_datagram_is_one_of_a_list<'a, A: Allocator + Copy>(
     server: &Server<A>,
     bytes: &'a [u8],
@@ -147,9 +164,8 @@ pub fn a_datagram_is_one_of_a_list<'a, A: Allocator + Copy>(
     server.receive(bytes, from, now, users)
 }
 
-/// Like `a_datagram_is_one_of_a_list`, but for a server without credentials: returns what
-/// `OpenServer::receive` returns, which is the outcome that the datagram has in any list of
-/// datagrams.
+/// Calls `OpenServer::receive`, and states that the result is the outcome that the datagram has in
+/// every list of datagrams. So no earlier datagram changes the result.
 pub fn an_open_datagram_is_one_of_a_list<'a, A: Allocator + Copy>(
     server: &OpenServer<A>,
     bytes: &'a [u8],
@@ -158,14 +174,14 @@ pub fn an_open_datagram_is_one_of_a_list<'a, A: Allocator + Copy>(
     ensures { IfOk result (λ received. (before after : List OpenDatagram)
         → slice_get (open_outcomes server.now
         (before ++ record { from = from; bytes = bytes.now } ∷ after)) (length before)
-        ≡ Some (open_outcome_of received)) }
+        ≡ Some (outcome_of received)) }
 {
     server.receive(bytes, from)
 }
 
-/// Like `a_datagram_is_one_of_a_list`, but for a server with short-term credentials: returns what
-/// `ShortTermServer::receive` returns, which is the outcome that the datagram has in any list of
-/// datagrams with their users, if its users in the list are `users`.
+/// Calls `ShortTermServer::receive`, and states that the result is the outcome that the datagram
+/// has in every list of datagrams in which it is listed with the users `users`. Each datagram of
+/// such a list has users of its own. So no earlier datagram changes the result.
 pub fn a_short_term_datagram_is_one_of_a_list<'a, A: Allocator + Copy>(
     server: &ShortTermServer<A>,
     bytes: &'a [u8],
@@ -176,7 +192,7 @@ pub fn a_short_term_datagram_is_one_of_a_list<'a, A: Allocator + Copy>(
         → slice_get (short_term_outcomes server.now
         (before ++ record { from = from; bytes = bytes.now; users = users.now } ∷ after))
         (length before)
-        ≡ Some (short_term_outcome_of received)) }
+        ≡ Some (outcome_of received)) }
 {
     server.receive(bytes, from, users)
 }

@@ -26,7 +26,7 @@ part_stays answers more start end order within =
     ap (take (end - start)) (drop-append-le start answers more (omega arith))
     ∙ take-append-le (end - start) (drop start answers) more (omega arith)
 
-room_order : {A : Type 0} (received : ReceivedInto A) (start end : ℕ)
+room_order : {R I : Type 0} (received : ReceivedInto R I) (start end : ℕ)
     → TakesRoom received start end → start ≤ end
 room_order (code.Answer answer) start end room = room
 room_order (code.Request request) start end room = omega arith

@@ -1,19 +1,27 @@
 -- The four letters that the code has for the security bits are their base64.
-use Rattle.std.proofs.Common.{◌≡◌, ◌++◌, Bool, true, false, refl}
+use Rattle.std.proofs.Common.{◌≡◌, ◌++◌, refl}
 use Rattle.base64.proofs.OnLiterals.{base64_on_literals}
+use Rattle.stun_base.specs.declared.keys.algorithm.IntegrityAlgorithm.TheVariants.{Sha256}
+use Rattle.stun_auth.specs.Algorithms.{contains}
+use Rattle.stun_auth.specs.Feature.{is_possible}
 use Rattle.stun_auth.specs.Nonces.{cookie, spelled_bits}
+use Rattle.stun_auth.specs.declared.algorithm_set.AlgorithmSet.{AlgorithmSet}
+use Rattle.stun_auth.specs.declared.algorithm_set.AlgorithmSet.TheVariants.{OnlySha1}
+use Rattle.stun_auth.specs.declared.algorithm_set.AlgorithmSet.TheVariants.{OnlySha256, Both}
+use Rattle.stun_auth.specs.declared.feature.Feature.{Feature}
+use Rattle.stun_auth.specs.declared.feature.Feature.TheVariants.{Auto, Required, Disabled}
 use Rattle.stun_endpoint.specs.Nonces.{front_of}
-use Rattle.stun_endpoint.specs.Realm.{algorithms_for, feature_for}
 use Rattle.stun_endpoint.specs.code.Bits.{bits_text}
 
-pub spelled_front : (sha1 sha256 hashes : Bool)
-    → cookie ++ bits_text sha256 hashes ≡ front_of (algorithms_for sha1 sha256) (feature_for hashes)
+pub spelled_front : (set : AlgorithmSet) (feature : Feature)
+    → cookie ++ bits_text (contains Sha256 set) (is_possible feature) ≡ front_of set feature
 unfolding spelled_bits base64_on_literals
-spelled_front true true true = refl
-spelled_front true true false = refl
-spelled_front true false true = refl
-spelled_front true false false = refl
-spelled_front false true true = refl
-spelled_front false true false = refl
-spelled_front false false true = refl
-spelled_front false false false = refl
+spelled_front OnlySha1 Auto = refl
+spelled_front OnlySha1 Required = refl
+spelled_front OnlySha1 Disabled = refl
+spelled_front OnlySha256 Auto = refl
+spelled_front OnlySha256 Required = refl
+spelled_front OnlySha256 Disabled = refl
+spelled_front Both Auto = refl
+spelled_front Both Required = refl
+spelled_front Both Disabled = refl

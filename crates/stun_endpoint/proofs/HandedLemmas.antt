@@ -55,7 +55,7 @@ not_indicated true bytes why q A h = cc
 not_indicated false bytes why q A h = cc
 
 pub not_indicated_answer : (b : Bool) (bytes : List ℕ) (why : DropReason) (a : Answer) (A : Type 0)
-    → cond b (indicated bytes) (dropped why) ≡ answered a → A
+    → cond {A = Outcome} b (indicated bytes) (dropped why) ≡ answered a → A
 not_indicated_answer true bytes why a A h = cc
 not_indicated_answer false bytes why a A h = cc
 

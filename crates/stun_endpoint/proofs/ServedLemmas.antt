@@ -201,9 +201,9 @@ module _ (s : Settings) (realm : Realm) (from : SocketAddr) (now : ℕ) (bytes :
       → received_by s realm from now bytes ≡ dropped UnknownAttribute)
   indications kept is = (
     λ fine. indication_received kept is
-        ∙ ap (λ b. cond b (indicated bytes) (dropped UnknownAttribute)) fine,
+        ∙ ap (λ b. cond {A = Outcome} b (indicated bytes) (dropped UnknownAttribute)) fine,
     λ odd. indication_received kept is
-        ∙ ap (λ b. cond b (indicated bytes) (dropped UnknownAttribute)) odd,
+        ∙ ap (λ b. cond {A = Outcome} b (indicated bytes) (dropped UnknownAttribute)) odd,
   )
 
 -- ---- a server with short-term credentials
@@ -230,7 +230,7 @@ module _ (s : Responding) (users : Keys) (from : SocketAddr) (bytes : List ℕ) 
       sym (ap (λ (x : Answer). x.to) same) ∙ refusal_to s why from bytes
 
   not_shown : (b : Bool) (i : short.SignedIndication) (a : Answer) (A : Type 0)
-      → cond b (short.indicated i) (short.dropped UnknownAttribute) ≡ short.answered a → A
+      → cond {A = short.ShortTermOutcome} b (short.indicated i) (short.dropped UnknownAttribute) ≡ short.answered a → A
   not_shown true i a A h = cc
   not_shown false i a A h = cc
 
@@ -310,9 +310,9 @@ module _ (s : Responding) (users : Keys) (from : SocketAddr) (bytes : List ℕ) 
       → received_signed s users from bytes ≡ short.dropped UnknownAttribute)
   signed_indications signer kept indication is =
       let whole = signed_indication signer kept indication is in (
-        λ fine. whole ∙ ap (λ b. cond b (short.indicated (shown signer))
+        λ fine. whole ∙ ap (λ b. cond {A = short.ShortTermOutcome} b (short.indicated (shown signer))
             (short.dropped UnknownAttribute)) fine,
-        λ odd. whole ∙ ap (λ b. cond b (short.indicated (shown signer))
+        λ odd. whole ∙ ap (λ b. cond {A = short.ShortTermOutcome} b (short.indicated (shown signer))
             (short.dropped UnknownAttribute)) odd,
       )
 
@@ -329,7 +329,7 @@ module _ (s : Responding) (from : SocketAddr) (bytes : List ℕ) where
   requested_to None a to h = cc
 
   not_openly : (b : Bool) (a : Answer) (A : Type 0)
-      → cond b (openly.indicated bytes) (openly.dropped UnknownAttribute) ≡ openly.answered a → A
+      → cond {A = openly.OpenOutcome} b (openly.indicated bytes) (openly.dropped UnknownAttribute) ≡ openly.answered a → A
   not_openly true a A h = cc
   not_openly false a A h = cc
 
@@ -386,7 +386,7 @@ module _ (s : Responding) (from : SocketAddr) (bytes : List ℕ) where
       → received_openly s from bytes ≡ openly.dropped UnknownAttribute)
   open_indications kept is = (
     λ fine. open_received Indication kept is
-        ∙ ap (λ b. cond b (openly.indicated bytes) (openly.dropped UnknownAttribute)) fine,
+        ∙ ap (λ b. cond {A = openly.OpenOutcome} b (openly.indicated bytes) (openly.dropped UnknownAttribute)) fine,
     λ odd. open_received Indication kept is
-        ∙ ap (λ b. cond b (openly.indicated bytes) (openly.dropped UnknownAttribute)) odd,
+        ∙ ap (λ b. cond {A = openly.OpenOutcome} b (openly.indicated bytes) (openly.dropped UnknownAttribute)) odd,
   )

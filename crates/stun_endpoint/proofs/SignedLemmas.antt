@@ -159,7 +159,7 @@ module _ (s : Responding) (users : Keys) (from : SocketAddr) (bytes : List ℕ) 
 
   -- ---- indications
   passed : (b : Bool) (one : SignedIndication) (why : DropReason) (i : SignedIndication)
-      → cond b (indicated one) (dropped why) ≡ indicated i → one ≡ i
+      → cond {A = ShortTermOutcome} b (indicated one) (dropped why) ≡ indicated i → one ≡ i
   passed true one why i h = cc
   passed false one why i h = cc
 
@@ -214,7 +214,7 @@ module _ (s : Responding) (users : Keys) (from : SocketAddr) (bytes : List ℕ) 
       not_given why plain (subst IsGivenToAccepted is given) _
 
   not_shown : (b : Bool) (i : SignedIndication) (why : DropReason) (a : Answer) (A : Type 0)
-      → cond b (indicated i) (dropped why) ≡ answered a → A
+      → cond {A = ShortTermOutcome} b (indicated i) (dropped why) ≡ answered a → A
   not_shown true i why a A h = cc
   not_shown false i why a A h = cc
 

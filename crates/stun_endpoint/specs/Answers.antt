@@ -78,7 +78,7 @@ unfoldable pub error_page : List ℕ → ℕ → List ℕ → List ℕ
 error_page request code reason =
     with_attribute (empty_answer Error request) (error_code_attribute code reason)
 
--- a message with attributes, one after another
+-- a message to which these attributes are added, one after another
 abbrev pub with_attributes : List ℕ → List TypedValue → List ℕ
 with_attributes page [] = page
 with_attributes page (attribute ∷ others) = with_attributes (with_attribute page attribute) others

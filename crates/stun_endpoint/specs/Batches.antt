@@ -34,7 +34,7 @@ abbrev pub outcomes_at : {A : Type 0} → List ℕ → List (ReceivedAt A) → L
 outcomes_at answers results = map (outcome_at answers) results
 
 -- an outcome that is not a response takes no room in the buffer
-abbrev pub TakesRoom : {A : Type 0} → ReceivedInto A → ℕ → ℕ → Type 0
+abbrev pub TakesRoom : {R I : Type 0} → ReceivedInto R I → ℕ → ℕ → Type 0
 TakesRoom (code.Answer answer) start end = start ≤ end
 TakesRoom (code.Request request) start end = start ≡ end
 TakesRoom (code.Indication message) start end = start ≡ end

@@ -46,7 +46,7 @@ code_of_cause UnknownAttribute = 420
 abbrev pub is_agreed : Realm → Reading → Bool
 is_agreed realm r = is_some (agreement r (their_nonce r) (Some realm.offered))
 
--- whether the nonce has other security bits than this one, if both have such bits
+-- whether both nonces have security bits, and the bits differ
 abbrev pub has_other_bits : List ℕ → Reading → Bool
 has_other_bits ours r = bits_differ (security_bits ours) (security_bits (their_nonce r))
 
@@ -60,9 +60,9 @@ is_signed_by_user realm r =
 abbrev pub is_current : Settings → SocketAddr → ℕ → Reading → Bool
 is_current s from now r = bytes_eq (their_nonce r) (current_nonce s from now)
 
--- whether the nonce is still valid. The current one is. The others that the server accepts are
--- valid in a request that a user has signed: a client with a wrong signature under one of them
--- learns the current nonce
+-- whether the nonce is still valid. The current nonce is. The other nonces that the server accepts
+-- are valid only in a request that a user has signed: if the signature is wrong, the client learns
+-- the current nonce from a 438
 abbrev pub is_valid_still : Settings → Realm → SocketAddr → ℕ → Reading → Bool
 is_valid_still s realm from now r =
     is_current s from now r
@@ -70,8 +70,8 @@ is_valid_still s realm from now r =
 
 -- ---- the first check that fails
 
--- why credentials are refused. A list of algorithms that was sent with another nonce than the
--- current one is as stale as that nonce
+-- the reason why credentials are refused. A list of algorithms that was sent with a nonce that is
+-- no longer the current one is as stale as that nonce
 abbrev pub credential_cause : Settings → Realm → SocketAddr → ℕ → Reading → Option Cause
 credential_cause s realm from now r =
     if is_none r.integrity then Some NoSignature

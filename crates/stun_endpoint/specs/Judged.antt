@@ -1,5 +1,5 @@
--- Which client is accepted: under the nonce of the epoch, or if that is stale under the nonce of
--- the epoch before, or under one of the previous secret (RFC 8489, section 9.2.4).
+-- Which client is accepted: under the nonce of the epoch or, if the request's nonce is stale, under
+-- the nonce of the epoch before, or under a nonce of the previous secret (RFC 8489, section 9.2.4).
 use Rattle.std.specs.Prelude.{ℕ, zero, suc, List, [], Option, Some, None, ◌⊎◌, unwrap_or}
 use Rattle.std.specs.declared.net.socket_addr.SocketAddr.{SocketAddr}
 use Rattle.std.specs.declared.result.Result.{Result}
@@ -15,7 +15,7 @@ use Rattle.stun_auth.specs.Validation.{ServerSeen}
 use Rattle.stun_endpoint.specs.Nonces.{epoch_of, nonce_in}
 use Rattle.stun_endpoint.specs.Settings.{Settings, registered_of}
 
--- what a request is judged by: the users at the realm, whether they may be named by a hash, and the
+-- the realm at which a request is judged: its users, whether they may be named by a hash, and the
 -- algorithms that were offered
 pub record Realm : Type 0 where
   pub users : Registered
@@ -50,7 +50,8 @@ judged_under s realm secret from (suc e) r =
     or_before (verdict_under realm (nonce_in s secret from (suc e)) r)
     (verdict_under realm (nonce_in s secret from e) r)
 
--- a verdict, or if the nonce is stale the acceptance by the nonces of the previous secret
+-- a verdict or, if the verdict is that the nonce is stale, an acceptance by the nonces of the
+-- previous secret
 abbrev pub or_previous : Settings → Realm → Option (List ℕ) → SocketAddr → ℕ → Reading
     → Result ClientSeen VerdictRefusal
     → Result ClientSeen VerdictRefusal

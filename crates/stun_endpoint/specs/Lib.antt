@@ -20,7 +20,7 @@ pub mod Refusals
 pub mod Responding
 -- the outcome of a datagram (sections 6.3 and 9.2.4)
 pub mod Received
--- the outcome that the result of `receive` describes
+-- the outcome that the result of `receive` describes, at each kind of server
 pub mod Outcomes
 -- requests whose user is looked up elsewhere (section 9.2.4)
 pub mod Lookups
@@ -30,12 +30,8 @@ pub mod Identified
 pub mod Causes
 -- the outcome of a datagram at a server without credentials (section 6.3)
 pub mod Open
--- the outcome that the result of `OpenServer::receive` describes
-pub mod OpenOutcomes
 -- the outcome of a datagram at a server with short-term credentials (section 9.1.3)
 pub mod ShortTerm
--- the outcome that the result of `ShortTermServer::receive` describes
-pub mod ShortTermOutcomes
 -- the outcomes that the results of `receive_into` describe, with the bytes in the buffer
 pub mod Buffered
 -- the outcomes of the datagrams of a batch

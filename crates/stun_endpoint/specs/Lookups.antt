@@ -53,7 +53,8 @@ is_ready s r =
     is_some r.integrity && is_complete r
     && is_some (agreement r (their_nonce r) (Some s.algorithms))
 
--- whom a request waits for in an epoch: it has a nonce that is accepted, and names a user
+-- the user whom a request waits for in an epoch, if it has a nonce that is accepted, and names a
+-- user
 abbrev pub waits_for : Settings → SocketAddr → ℕ → Reading → Option Named
 waits_for s from epoch r =
     if is_ready s r && has_one_of r (accepted_nonces s from epoch)
@@ -66,7 +67,7 @@ waiting_by_class s from now bytes Indication = None
 waiting_by_class s from now bytes Success = None
 waiting_by_class s from now bytes Error = None
 
--- whom a datagram waits for
+-- the user whom a datagram waits for
 abbrev pub awaited : Settings → SocketAddr → ℕ → List ℕ → Option Named
 awaited s from now bytes =
     if is_some (drop_reason s.requires_fingerprint bytes) then None
@@ -81,7 +82,7 @@ pub record LookupSeen : Type 0 where
   pub arrived : ℕ
   pub user : Named
 
--- the outcome of a datagram, or that it waits
+-- the outcome of a datagram, or a request that waits for its user
 pub data Identification : Type 0 where
   done : Outcome → Identification
   looked_up : LookupSeen → Identification

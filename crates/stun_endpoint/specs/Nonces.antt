@@ -23,10 +23,11 @@ algorithms_number OnlySha1 = 1
 algorithms_number OnlySha256 = 2
 algorithms_number Both = 3
 
--- what is hashed: the address, whose octets are the same in both spellings of IPv4, the port in 2
--- bytes, the epoch in 8, and the algorithms. So a client whose list is from other settings also has
--- another nonce, and is answered with a 438. Without the algorithms it would not, because the
--- security bits do not distinguish HMAC-SHA256 alone from both
+-- the bytes that are hashed: the address, whose octets are the same in both spellings of IPv4, the
+-- port in 2 bytes, the epoch in 8, and the algorithms. The algorithms are part of them so that a
+-- client whose list is from other settings also has a nonce from other settings, and gets a 438.
+-- The security bits alone do not suffice, because they do not distinguish HMAC-SHA256 alone from
+-- both algorithms
 abbrev pub nonce_text : AlgorithmSet → SocketAddr → ℕ → List ℕ
 nonce_text algorithms from epoch =
     address_octets (socket_ip from) ++ big_bytes 2 (socket_port from) ++ big_bytes 8 epoch

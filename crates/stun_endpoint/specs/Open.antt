@@ -9,9 +9,10 @@ use Rattle.stun_base.specs.declared.wire.message_type.MessageClass.TheVariants.{
 use Rattle.stun_base.specs.declared.wire.message_type.MessageClass.TheVariants.{Indication}
 use Rattle.stun_base.specs.declared.wire.message_type.MessageClass.TheVariants.{Success, Error}
 use Rattle.stun_extra.specs.Unknown.{unknown_types}
-use Rattle.stun_endpoint.specs.Responding.{Answer, Reply, Responding, drop_reason, is_empty}
-use Rattle.stun_endpoint.specs.Responding.{own_answer, reply_by}
-use Rattle.stun_endpoint.specs.declared.received.DropReason.{DropReason}
+use Rattle.stun_endpoint.specs.Responding.{Answer, OutcomeOf, Reply, Responding, drop_reason}
+use Rattle.stun_endpoint.specs.Responding.{is_empty, own_answer, reply_by}
+pub use Rattle.stun_endpoint.specs.Responding.{answered, dropped, indicated, requested, responded}
+pub use Rattle.stun_endpoint.specs.Responding.{unless_dropped}
 use Rattle.stun_endpoint.specs.declared.received.DropReason.TheVariants.{UnknownAttribute}
 
 -- a request that is returned to the caller: the message, and the means to respond
@@ -20,12 +21,8 @@ pub record OpenRequest : Type 0 where
   pub reply : Reply
 
 -- the outcome of a datagram
-pub data OpenOutcome : Type 0 where
-  answered : Answer → OpenOutcome
-  requested : OpenRequest → OpenOutcome
-  indicated : List ℕ → OpenOutcome
-  responded : List ℕ → OpenOutcome
-  dropped : DropReason → OpenOutcome
+abbrev pub OpenOutcome : Type 0
+OpenOutcome = OutcomeOf OpenRequest (List ℕ)
 
 -- a request gets the server's own response, or else is returned to the caller
 abbrev pub or_requested : Responding → SocketAddr → List ℕ → Option Answer → OpenOutcome
@@ -42,11 +39,6 @@ by_class_openly s from bytes Indication =
     if is_empty (unknown_types s.known bytes) then indicated bytes else dropped UnknownAttribute
 by_class_openly s from bytes Success = responded bytes
 by_class_openly s from bytes Error = responded bytes
-
--- the outcome of a datagram that may be dropped first
-abbrev pub unless_dropped : OpenOutcome → Option DropReason → OpenOutcome
-unless_dropped outcome None = outcome
-unless_dropped outcome (Some reason) = dropped reason
 
 abbrev pub received_openly : Responding → SocketAddr → List ℕ → OpenOutcome
 received_openly s from bytes =

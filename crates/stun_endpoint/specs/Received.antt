@@ -21,12 +21,12 @@ use Rattle.stun_endpoint.specs.Answers.{Signature, challenge_page, with_end}
 use Rattle.stun_endpoint.specs.Judged.{Realm, judged, key_of_client}
 use Rattle.stun_endpoint.specs.Nonces.{current_nonce}
 use Rattle.stun_endpoint.specs.Refusals.{code_of, phrase_of}
-use Rattle.stun_endpoint.specs.Responding.{Responding, drop_reason, ending_by, own_answer}
+use Rattle.stun_endpoint.specs.Responding.{OutcomeOf, Responding, drop_reason, ending_by, own_answer}
 use Rattle.stun_endpoint.specs.Responding.{refusal_by, reply_by}
 pub use Rattle.stun_endpoint.specs.Responding.{Answer, Reply, is_binding, is_empty}
-pub use Rattle.stun_endpoint.specs.Responding.{no_message}
+pub use Rattle.stun_endpoint.specs.Responding.{answered, dropped, indicated, requested, responded}
+pub use Rattle.stun_endpoint.specs.Responding.{no_message, unless_dropped}
 use Rattle.stun_endpoint.specs.Settings.{Settings}
-use Rattle.stun_endpoint.specs.declared.received.DropReason.{DropReason}
 use Rattle.stun_endpoint.specs.declared.received.DropReason.TheVariants.{UnknownAttribute}
 use Rattle.stun_endpoint.specs.declared.received.Refusal.{Refusal}
 use Rattle.stun_endpoint.specs.declared.received.Refusal.TheVariants as refused
@@ -38,12 +38,8 @@ pub record AcceptedRequest : Type 0 where
   pub reply : Reply
 
 -- the outcome of a datagram
-pub data Outcome : Type 0 where
-  answered : Answer → Outcome
-  requested : AcceptedRequest → Outcome
-  indicated : List ℕ → Outcome
-  responded : List ℕ → Outcome
-  dropped : DropReason → Outcome
+abbrev pub Outcome : Type 0
+Outcome = OutcomeOf AcceptedRequest (List ℕ)
 
 -- ---- an accepted request
 
@@ -97,8 +93,8 @@ answer_to_refused s nonce from bytes verdict.StaleNonce =
 answer_to_refused s nonce from bytes verdict.BadRequest =
     refusal_by (responding_of s) refused.BadRequest from bytes
 
--- a refused request is answered. A 400 goes only to a request that is malformed, or that has the
--- current nonce and algorithms that were not offered with it
+-- a refused request gets a response. This is a 400 only if the request is malformed, or has the
+-- current nonce and algorithms that were not offered with this nonce
 abbrev pub refused_with : Settings → List ℕ → SocketAddr → List ℕ → VerdictRefusal → Outcome
 refused_with s nonce from bytes refusal =
     answered (answer_to_refused s nonce from bytes (told_refusal nonce (reading_of bytes) refusal))
@@ -113,9 +109,10 @@ by_verdict s realm from now bytes (Ok client) =
 by_verdict s realm from now bytes (Err refusal) =
     refused_with s (current_nonce s from now) from bytes refusal
 
--- a request is judged, and then its attributes are checked (section 6.3.1). Long-term credentials
--- do not protect indications (section 9.2): one whose attributes are not understood is dropped
--- (section 6.3.2). A response is for a client on the same socket
+-- the outcome of a datagram by its class. A request is judged, and then its attributes are checked
+-- (section 6.3.1). Long-term credentials do not protect indications (section 9.2). An indication
+-- whose attributes are not understood is dropped (section 6.3.2). A response is for a client on the
+-- same socket
 abbrev pub by_class : Settings → Realm → SocketAddr → ℕ → List ℕ → MessageClass → Outcome
 by_class s realm from now bytes Request =
     by_verdict s realm from now bytes (judged s realm from now (reading_of bytes))
@@ -123,11 +120,6 @@ by_class s realm from now bytes Indication =
     if is_empty (unknown_types s.known bytes) then indicated bytes else dropped UnknownAttribute
 by_class s realm from now bytes Success = responded bytes
 by_class s realm from now bytes Error = responded bytes
-
--- the outcome of a datagram that may be dropped first
-abbrev pub unless_dropped : Outcome → Option DropReason → Outcome
-unless_dropped outcome None = outcome
-unless_dropped outcome (Some why) = dropped why
 
 -- the outcome of a datagram
 abbrev pub received_by : Settings → Realm → SocketAddr → ℕ → List ℕ → Outcome

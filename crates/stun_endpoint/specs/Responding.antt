@@ -39,6 +39,15 @@ pub record Reply : Type 0 where
   pub to : SocketAddr
   pub ending : Ending
 
+-- the outcome of a datagram at a server, whatever its credentials are: `R` describes a request that
+-- is returned to the caller, and `I` an indication
+pub data OutcomeOf (R I : Type 0) : Type 0 where
+  answered : Answer → OutcomeOf R I
+  requested : R → OutcomeOf R I
+  indicated : I → OutcomeOf R I
+  responded : List ℕ → OutcomeOf R I
+  dropped : DropReason → OutcomeOf R I
+
 -- ---- why a datagram is dropped, whatever its class is
 
 -- why a message is dropped because of its FINGERPRINT (sections 7.3 and 14.7). One that is not the
@@ -61,6 +70,11 @@ abbrev pub drop_reason : Bool → List ℕ → Option DropReason
 drop_reason required bytes =
     if is_some (refusal bytes) then Some (no_message bytes)
     else fault_of required (fingerprint_in bytes)
+
+-- the outcome of a datagram, unless there is a reason to drop it
+abbrev pub unless_dropped : {R I : Type 0} → OutcomeOf R I → Option DropReason → OutcomeOf R I
+unless_dropped outcome None = outcome
+unless_dropped outcome (Some why) = dropped why
 
 -- whether a datagram is a request that is not dropped: all others get no response
 abbrev pub is_undropped_request : Bool → List ℕ → Bool

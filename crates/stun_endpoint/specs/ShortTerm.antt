@@ -24,9 +24,11 @@ use Rattle.stun_auth.specs.Seen.{ClientSeen}
 use Rattle.stun_extra.specs.Unknown.{unknown_types}
 use Rattle.stun_endpoint.specs.Answers.{Signature}
 use Rattle.stun_endpoint.specs.Received.{AcceptedRequest}
-use Rattle.stun_endpoint.specs.Responding.{Answer, Responding, drop_reason, is_empty, own_answer}
-use Rattle.stun_endpoint.specs.Responding.{refusal_by, reply_by}
-use Rattle.stun_endpoint.specs.declared.received.DropReason.{DropReason}
+use Rattle.stun_endpoint.specs.Responding.{Answer, OutcomeOf, Responding, drop_reason, is_empty}
+use Rattle.stun_endpoint.specs.Responding.{own_answer, refusal_by, reply_by}
+pub use Rattle.stun_endpoint.specs.Responding.{answered, dropped, indicated, requested, responded}
+pub use Rattle.stun_endpoint.specs.Responding.{unless_dropped}
+use Rattle.stun_endpoint.specs.declared.received.DropReason.TheVariants.{NotSigned}
 use Rattle.stun_endpoint.specs.declared.received.DropReason.TheVariants.{UnknownAttribute}
 use Rattle.stun_endpoint.specs.declared.received.Refusal.{Refusal}
 use Rattle.stun_endpoint.specs.declared.received.Refusal.TheVariants.{BadRequest}
@@ -91,14 +93,8 @@ pub record SignedIndication : Type 0 where
   pub message : List ℕ
   pub client : ClientSeen
 
-pub data ShortTermOutcome : Type 0 where
-  answered : Answer → ShortTermOutcome
-  requested : AcceptedRequest → ShortTermOutcome
-  indicated : SignedIndication → ShortTermOutcome
-  responded : List ℕ → ShortTermOutcome
-  -- an indication that is not signed by a user: the refusal that a request would get
-  not_signed : Refusal → ShortTermOutcome
-  dropped : DropReason → ShortTermOutcome
+abbrev pub ShortTermOutcome : Type 0
+ShortTermOutcome = OutcomeOf AcceptedRequest SignedIndication
 
 -- the signature of the responses to a signed request: the same key and algorithm
 abbrev pub signature_of : Signer → Signature
@@ -121,9 +117,10 @@ by_signer s from bytes (Err refusal) = answered (refusal_by s refusal from bytes
 by_signer s from bytes (Ok signer) =
     or_handed s from bytes signer (own_answer s (Some (signature_of signer)) from bytes)
 
--- an indication must be signed too, and then its attributes must be understood (section 6.3.2)
+-- an indication must be signed too, and is dropped if a request with the same attributes would be
+-- refused. Then its attributes must be understood (section 6.3.2)
 abbrev pub indicated_by : Responding → List ℕ → Result Signer Refusal → ShortTermOutcome
-indicated_by s bytes (Err refusal) = not_signed refusal
+indicated_by s bytes (Err refusal) = dropped (NotSigned refusal)
 indicated_by s bytes (Ok signer) =
     if is_empty (unknown_types s.known bytes)
     then indicated (record { message = bytes; client = signer.client })
@@ -136,10 +133,6 @@ by_class_signed s users from bytes Request = by_signer s from bytes (signer_of u
 by_class_signed s users from bytes Indication = indicated_by s bytes (signer_of users bytes)
 by_class_signed s users from bytes Success = responded bytes
 by_class_signed s users from bytes Error = responded bytes
-
-abbrev pub unless_dropped : ShortTermOutcome → Option DropReason → ShortTermOutcome
-unless_dropped outcome None = outcome
-unless_dropped outcome (Some reason) = dropped reason
 
 -- the outcome of a datagram
 abbrev pub received_signed : Responding → Keys → SocketAddr → List ℕ → ShortTermOutcome

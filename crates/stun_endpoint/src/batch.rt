@@ -5,6 +5,7 @@
 ghost use Rattle.std.specs.Prelude.{◌≡◌, []};
 
 use crate::buffered::ReceivedInto;
+use crate::received::Request;
 use std::alloc::{Allocator, Global};
 use std::marker::Model;
 use std::net::SocketAddr;
@@ -33,7 +34,7 @@ impl<'a> Model for Datagram<'a> {
 #[derive(Debug, Drop)]
 pub struct ReceivedAt<'a, A: Allocator = Global> {
     /// The outcome of the datagram.
-    pub received: ReceivedInto<'a, A>,
+    pub received: ReceivedInto<'a, Request<'a, A>>,
     /// The offset in `Answers::bytes` at which its response begins.
     pub start: usize,
     /// The offset at which its response ends. If the datagram has no response, this is `start`.

@@ -3,17 +3,13 @@
 ghost use Rattle.std.specs.Prelude.{◌≡◌};
 ghost use Rattle.stun_endpoint.specs.Buffered.{LeavesNothing, outcome_in};
 ghost use Rattle.stun_endpoint.specs.Buffered.{LeavesNothingKnown, identification_in};
-ghost use Rattle.stun_endpoint.specs.Buffered.{LeavesNothingOpenly, open_outcome_in};
-ghost use Rattle.stun_endpoint.specs.Buffered.{LeavesNothingSigned, short_term_outcome_in};
 ghost use Rattle.stun_endpoint.specs.Identified.{identification_of};
-ghost use Rattle.stun_endpoint.specs.OpenOutcomes.{open_outcome_of};
 ghost use Rattle.stun_endpoint.specs.Outcomes.{outcome_of};
-ghost use Rattle.stun_endpoint.specs.ShortTermOutcomes.{short_term_outcome_of};
 
 use crate::lookup::{Identified, Lookup};
-use crate::open::{OpenReceived, OpenRequest};
+use crate::open::OpenRequest;
 use crate::received::{Answer, DropReason, Received, Refusal, Request};
-use crate::short_term::{ShortTermIndication, ShortTermReceived};
+use crate::short_term::ShortTermIndication;
 use std::alloc::{Allocator, Global};
 use std::net::SocketAddr;
 use stun_types::message::Message;
@@ -28,65 +24,42 @@ pub struct BufferedAnswer {
     pub refusal: Option<Refusal>,
 }
 
-/// The outcome of a datagram at a server with long-term credentials.
+/// The outcome of a datagram whose response is in your buffer. `R` is the type of an accepted request
+/// and `I` that of an accepted indication, as in `Received`.
 #[derive(Debug, Drop)]
 #[non_exhaustive]
-pub enum ReceivedInto<'a, A: Allocator = Global> {
+pub enum ReceivedInto<'a, R = Request<'a>, I = Message<'a>> {
     /// Send the response in the buffer.
     Answer(BufferedAnswer),
     /// The request is accepted. Respond to it, now or later.
-    Request(Request<'a, A>),
-    /// An indication whose attributes are understood. Long-term credentials do not protect it.
-    Indication(Message<'a>),
+    Request(R),
+    /// An indication whose attributes are understood. Only a server with short-term credentials
+    /// checks who signed it.
+    Indication(I),
     /// A response, for a client on the same socket.
     Response(Message<'a>),
     /// The datagram is dropped, for this reason.
     Dropped(DropReason),
 }
+
+/// The outcome of a datagram at a server without credentials.
+pub type OpenReceivedInto<'a, A = Global> = ReceivedInto<'a, OpenRequest<'a, A>>;
+
+/// The outcome of a datagram at a server with short-term credentials.
+pub type ShortTermReceivedInto<'a, A = Global> = ReceivedInto<
+    'a,
+    Request<'a, A>,
+    ShortTermIndication<'a>,
+>;
 
 /// The result of `Server::identify_into` for a datagram.
 #[derive(Debug, Drop)]
 #[non_exhaustive]
 pub enum IdentifiedInto<'a, A: Allocator = Global> {
     /// The outcome of the datagram, which does not depend on the user.
-    Done(ReceivedInto<'a, A>),
+    Done(ReceivedInto<'a, Request<'a, A>>),
     /// The request waits for its user. Look that user up, and pass both to `Server::resume_into`.
     Lookup(Lookup<'a>),
-}
-
-/// The outcome of a datagram at a server without credentials.
-#[derive(Debug, Drop)]
-#[non_exhaustive]
-pub enum OpenReceivedInto<'a, A: Allocator = Global> {
-    /// Send the response in the buffer.
-    Answer(BufferedAnswer),
-    /// A request whose attributes are understood. Respond to it, now or later.
-    Request(OpenRequest<'a, A>),
-    /// An indication whose attributes are understood. Anybody may have sent it.
-    Indication(Message<'a>),
-    /// A response, for a client on the same socket.
-    Response(Message<'a>),
-    /// The datagram is dropped, for this reason.
-    Dropped(DropReason),
-}
-
-/// The outcome of a datagram at a server with short-term credentials.
-#[derive(Debug, Drop)]
-#[non_exhaustive]
-pub enum ShortTermReceivedInto<'a, A: Allocator = Global> {
-    /// Send the response in the buffer.
-    Answer(BufferedAnswer),
-    /// The request is accepted. Respond to it, now or later.
-    Request(Request<'a, A>),
-    /// An indication that a user has signed, and whose attributes are understood.
-    Indication(ShortTermIndication<'a>),
-    /// A response, for a client on the same socket.
-    Response(Message<'a>),
-    /// The datagram is dropped, because it is an indication that no user has signed. A request with
-    /// the same attributes would get this refusal.
-    NotSigned(Refusal),
-    /// The datagram is dropped, for this reason.
-    Dropped(DropReason),
 }
 
 impl<A: Allocator> Answer<A> {
@@ -103,10 +76,10 @@ impl<A: Allocator> Answer<A> {
     }
 }
 
-impl<'a, A: Allocator> Received<'a, A> {
+impl<'a, A: Allocator, R, I> Received<'a, A, R, I> {
     /// Moves the bytes of a response into a buffer. If there is no response, the buffer is empty
     /// afterwards.
-    pub(crate) fn into_buffer(self, buffer: &mut Vec<u8, A>) -> ReceivedInto<'a, A>
+    pub(crate) fn into_buffer(self, buffer: &mut Vec<u8, A>) -> ReceivedInto<'a, R, I>
         ensures outcome { outcome_in result buffer.new.items ≡ outcome_of self.entry }
         ensures rest { LeavesNothing result buffer.new.items }
     {
@@ -116,9 +89,9 @@ impl<'a, A: Allocator> Received<'a, A> {
                 buffer.clear();
                 ReceivedInto::Request(request)
             }
-            Received::Indication(message) => {
+            Received::Indication(indication) => {
                 buffer.clear();
-                ReceivedInto::Indication(message)
+                ReceivedInto::Indication(indication)
             }
             Received::Response(message) => {
                 buffer.clear();
@@ -145,71 +118,6 @@ impl<'a, A: Allocator> Identified<'a, A> {
             Identified::Lookup(lookup) => {
                 buffer.clear();
                 IdentifiedInto::Lookup(lookup)
-            }
-        }
-    }
-}
-
-impl<'a, A: Allocator> OpenReceived<'a, A> {
-    /// Moves the bytes of a response into a buffer. If there is no response, the buffer is empty
-    /// afterwards.
-    pub(crate) fn into_buffer(self, buffer: &mut Vec<u8, A>) -> OpenReceivedInto<'a, A>
-        ensures outcome { open_outcome_in result buffer.new.items ≡ open_outcome_of self.entry }
-        ensures rest { LeavesNothingOpenly result buffer.new.items }
-    {
-        match self {
-            OpenReceived::Answer(answer) => OpenReceivedInto::Answer(answer.into_buffer(buffer)),
-            OpenReceived::Request(request) => {
-                buffer.clear();
-                OpenReceivedInto::Request(request)
-            }
-            OpenReceived::Indication(message) => {
-                buffer.clear();
-                OpenReceivedInto::Indication(message)
-            }
-            OpenReceived::Response(message) => {
-                buffer.clear();
-                OpenReceivedInto::Response(message)
-            }
-            OpenReceived::Dropped(reason) => {
-                buffer.clear();
-                OpenReceivedInto::Dropped(reason)
-            }
-        }
-    }
-}
-
-impl<'a, A: Allocator> ShortTermReceived<'a, A> {
-    /// Moves the bytes of a response into a buffer. If there is no response, the buffer is empty
-    /// afterwards.
-    pub(crate) fn into_buffer(self, buffer: &mut Vec<u8, A>) -> ShortTermReceivedInto<'a, A>
-        ensures outcome { short_term_outcome_in result buffer.new.items
-            ≡ short_term_outcome_of self.entry }
-        ensures rest { LeavesNothingSigned result buffer.new.items }
-    {
-        match self {
-            ShortTermReceived::Answer(answer) => {
-                ShortTermReceivedInto::Answer(answer.into_buffer(buffer))
-            }
-            ShortTermReceived::Request(request) => {
-                buffer.clear();
-                ShortTermReceivedInto::Request(request)
-            }
-            ShortTermReceived::Indication(indication) => {
-                buffer.clear();
-                ShortTermReceivedInto::Indication(indication)
-            }
-            ShortTermReceived::Response(message) => {
-                buffer.clear();
-                ShortTermReceivedInto::Response(message)
-            }
-            ShortTermReceived::NotSigned(refusal) => {
-                buffer.clear();
-                ShortTermReceivedInto::NotSigned(refusal)
-            }
-            ShortTermReceived::Dropped(reason) => {
-                buffer.clear();
-                ShortTermReceivedInto::Dropped(reason)
             }
         }
     }

@@ -1,4 +1,5 @@
 //! Laws about the definitions that the contracts of this crate cite. They do nothing when they run.
+//! An *epoch* is the time for which a server sends an address the same nonce.
 ghost use Rattle.std.specs.FinMap as fin;
 ghost use Rattle.std.specs.Prelude.{◌≡◌, ◌↔◌, ◌⊎◌, ◌≤◌, ◌+◌, ◌++◌, ℕ, Bool, List, None, Ok, Option};
 ghost use Rattle.std.specs.Prelude.{◌&&◌, IsUtf8, Some, false, length, map, slice_get, true};
@@ -48,13 +49,13 @@ ghost use Rattle.stun_endpoint.specs.declared.received.Refusal.{Refusal};
 ghost use Rattle.stun_endpoint.specs.declared.received.Refusal.TheVariants as refused;
 ghost use Rattle.stun_endpoint.specs.declared.server.causes.Cause.TheVariants.{OtherFeatures};
 
-/// A client is accepted at a time if and only if it is accepted under one of the nonces that the
-/// server then accepts from its address (`verdict`): the nonces of the current epoch and of the
-/// epoch before, each made with the current secret or with the previous secret. Earlier datagrams
-/// have no influence.
+/// A server accepts a client if and only if the client is accepted under one of the nonces that the
+/// server accepts from the client's address at that time (`verdict`). These are the nonces of the
+/// current epoch and of the epoch before, each made with the current secret or with the previous
+/// secret. Earlier datagrams have no influence.
 ///
-/// So a request that is not dropped has the outcome of an accepted request if a client is accepted
-/// (`accepted`), and is refused otherwise (`refused`).
+/// So a request that is not dropped has the outcome of an accepted request if its client is
+/// accepted (`accepted`), and is refused if no client is accepted (`refused`).
 pub fn requests_are_accepted_under_their_nonces()
     ensures verdict { (s : Settings) (realm : Realm) (from : SocketAddr) (now : ℕ) (r : Reading)
         (client : ClientSeen)
@@ -71,16 +72,19 @@ pub fn requests_are_accepted_under_their_nonces()
         ≡ refused_with s (current_nonce s from now) from bytes why) }
 {}
 
-/// Each nonce of a server begins with the nonce cookie (`cookie`) and has exactly the security bits
-/// of the server's settings (`bits`). The first bit is set if the server supports HMAC-SHA256, the
-/// second if users may be named by a hash, and the others never. If it uses neither feature, all 24
-/// bits are zero (RFC 8489, sections 9.2 and 18.1). A nonce is UTF-8 (`text`), and has at most 13
-/// bytes in addition to its letters (`short`).
+/// States what the nonces of a server contain, and that the server distinguishes a nonce with other
+/// security bits from a stale nonce (RFC 8489, sections 9.2 and 18.1).
 ///
-/// So the server distinguishes a request whose nonce has other security bits from a request whose
-/// nonce is stale. If a request with other bits is signed and complete, and its algorithms agree
-/// with its nonce, the cause is `OtherFeatures` (`other_bits`). A request whose nonce has no such
-/// bits is never refused for that cause (`no_bits`).
+/// - `cookie`, `bits`: each nonce begins with the nonce cookie (`cookie`), and has exactly the 24
+///   security bits that follow from the server's settings (`bits`). The first bit is set if the
+///   server supports HMAC-SHA256, and the second if users may be named by a hash. All other bits
+///   are zero.
+/// - `text`, `short`: each nonce is UTF-8 (`text`). The nonce cookie and the security bits have at
+///   most 13 bytes, and the letters that are made from the HMAC follow them (`short`).
+/// - `other_bits`: if the nonce of a request has security bits other than the server's, the request
+///   is refused with the cause `OtherFeatures`. Premises: the request is signed, it has REALM,
+///   NONCE and a user name, and its algorithms agree with its nonce and with the server's offer.
+/// - `no_bits`: a request whose nonce has no security bits is never refused with this cause.
 pub fn nonces_have_the_bits_of_their_server()
     ensures cookie { (s : Settings) (secret : List ℕ) (from : SocketAddr) (epoch : ℕ)
         → begins_with_cookie (nonce_in s secret from epoch) ≡ true }
@@ -101,7 +105,7 @@ pub fn nonces_have_the_bits_of_their_server()
         → has_other_bits (current_nonce s from now) r ≡ false }
 {}
 
-/// Three facts about the outcome of a datagram:
+/// States for which requests a datagram can have certain outcomes:
 ///
 /// - A request that is returned to the caller comes from a client that is accepted under one of the
 ///   nonces of its address (`accepted`).
@@ -124,10 +128,9 @@ pub fn outcomes_are_of_accepted_clients()
         ⊎ (bytes_eq (their_nonce (reading_of bytes)) (current_nonce s from now) ≡ true) }
 {}
 
-/// A datagram that is not dropped is a message with a valid FINGERPRINT, or a message without one
-/// at a server that does not require it (RFC 8489, sections 7.3 and 14.7). A message whose
-/// FINGERPRINT is not the last attribute, or has a value that is not 4 bytes long, is dropped like
-/// a message with a wrong FINGERPRINT.
+/// A datagram that is not dropped has a valid FINGERPRINT, or it has none and the server does not
+/// require one (RFC 8489, sections 7.3 and 14.7). A FINGERPRINT is invalid if its value is wrong or
+/// is not 4 bytes long, or if it is not the last attribute.
 pub fn undropped_messages_are_whole()
     ensures { (required : Bool) (bytes : List ℕ) → drop_reason required bytes ≡ None
         → (fingerprint_in bytes ≡ Fingerprint.Right)
@@ -135,24 +138,25 @@ pub fn undropped_messages_are_whole()
 {}
 
 /// The cause of a refusal agrees with the outcome: there is a cause if and only if the outcome is a
-/// response that refuses the datagram, and the code of the cause is that of the response.
+/// response that refuses the datagram, and the cause has the same code as the response.
 pub fn causes_have_their_codes()
     ensures { (s : Settings) (realm : Realm) (from : SocketAddr) (now : ℕ) (bytes : List ℕ)
         → option_map code_of_cause (cause_of s realm from now bytes)
         ≡ refused_code (received_by s realm from now bytes) }
 {}
 
-/// If `identify` returns the outcome of a datagram, the outcome is the same whichever user the
-/// datagram is judged with.
+/// If `identify` returns the outcome of a datagram, without a look-up of the user, the outcome is
+/// the same for every user with whom the datagram could be judged.
 pub fn identify_needs_no_user()
     ensures { (s : Settings) (from : SocketAddr) (now : ℕ) (bytes : List ℕ) (outcome : Outcome)
         → identified_by s from now bytes ≡ done outcome → (user : Option Registered)
         → received_by s (realm_of_user s user) from now bytes ≡ outcome }
 {}
 
-/// A look-up and `resume` have the same outcome as `receive` with a table of all users, at the time
-/// at which the request arrived. For this, find the user whom the look-up names in that table, by
-/// name or by hash, and pass the user to `resume`, or no user if there is none.
+/// After a look-up, `resume` returns the outcome that `receive` returns for the request with a
+/// table of all users, at the time at which the request arrived. Premise: you pass to `resume` the
+/// user of this table whom the look-up names, by name or by hash, or no user if the table has no
+/// such user.
 pub fn resume_is_receive_with_all_users()
     ensures { (s : Settings) (secrets : fin.FinMap name_cmp UserSecret) (from : SocketAddr) (now : ℕ)
         (bytes : List ℕ) (lookup : LookupSeen)
@@ -165,9 +169,9 @@ pub fn resume_is_receive_with_all_users()
     stun_auth::laws::the_named_user_is_enough_to_judge();
 }
 
-/// A look-up of `identify` comes from a signed request with a nonce that the server accepts for its
-/// source at the time at which the request arrived: a nonce of the epoch of that time or of the
-/// epoch before, made with the current secret or with the previous secret.
+/// If `identify` returns a look-up, the datagram is a signed request with a nonce that the server
+/// accepts from its source at the time at which the request arrived. This is a nonce of the epoch
+/// of that time or of the epoch before, made with the current secret or with the previous secret.
 pub fn lookups_have_accepted_nonces()
     ensures { (s : Settings) (from : SocketAddr) (now : ℕ) (bytes : List ℕ) (lookup : LookupSeen)
         → identified_by s from now bytes ≡ looked_up lookup
@@ -175,16 +179,16 @@ pub fn lookups_have_accepted_nonces()
         × WaitsUnderItsNonce s lookup }
 {}
 
-/// The outcomes of the datagrams of a batch are those that `receive` returns for each, with the
-/// same users at the same time.
+/// In a batch, each datagram has the outcome that `receive` returns for it alone, with the same
+/// users at the same time.
 ///
-/// - `each`: the outcome at an index is the outcome of the datagram at this index, as if it had
-///   come alone.
-/// - `parts`: the outcomes of a batch are those of its parts, one after another. So the outcome of
-///   a datagram is the same at a server that has received the datagrams before it, and at a server
-///   that has not.
-/// - `order`: the server stores nothing about its clients, so the order does not matter. If the
-///   datagrams arrive in another order, or only some of them arrive, their outcomes stay the same.
+/// - `each`: the outcome at an index of the batch is the outcome that `receive` returns for the
+///   datagram at this index.
+/// - `parts`: if a batch is divided into parts, its outcomes are the outcomes of the parts, one
+///   after another. So the outcome of a datagram is the same at a server that has received the
+///   datagrams before it, and at a server that has not.
+/// - `order`: if the datagrams arrive in another order, or if only some of them arrive, their
+///   outcomes stay the same, because the server stores nothing about its clients.
 pub fn a_batch_is_its_single_calls()
     ensures each { (s : Settings) (realm : Realm) (now : ℕ) (datagrams : List Datagram) (place : ℕ)
         (d : Datagram) → slice_get datagrams place ≡ Some d
@@ -198,20 +202,23 @@ pub fn a_batch_is_its_single_calls()
         ≡ picked places (received_all s realm now datagrams) }
 {}
 
-/// Compares the verdicts of this server on a list of datagrams with the results of another server,
-/// which keeps records of addresses and is called step by step (`run`), with the users at the time
-/// of each datagram. For each request that is not dropped, and for each nonce that this server
-/// accepts from its source, the other server validates the request with the random numbers from
-/// which that nonce is made, signs a response, validates the request again, and forgets the source
-/// address. The clock of the other server may show any times.
+/// Compares the verdicts of this server on a list of datagrams with the results of a
+/// `LongTermServerAuth`, which stores a record of each address. At the time of each datagram, both
+/// have the same users. Each request that is not dropped becomes four calls of the
+/// `LongTermServerAuth` for each nonce that this server accepts from its source (`run`). They
+/// validate the request with the random numbers from which the nonce is made, sign a response,
+/// validate the request again, and forget the source address.
 ///
-/// - `verdicts`: if the settings use a security feature (HMAC-SHA256 or hashed names), this run of
-///   calls returns this server's verdict on each datagram, because both servers then make the same
-///   nonces. Without a feature, the nonces of this server begin with the nonce cookie, as RFC 8489,
-///   section 9.2, says, and the nonces of the other server do not.
-/// - `left`: the other server has no record of an address after the run.
-/// - `handed`: for a request that this server returns to its caller, the verdict is `Validated`
-///   with the algorithm of the request.
+/// - `verdicts`: if the settings use a security feature (HMAC-SHA256 or hashed names), these calls
+///   return this server's verdict on each datagram, because both make the same nonces. Without a
+///   security feature, the clause says nothing: the nonces of this server then begin with the nonce
+///   cookie, as RFC 8489, section 9.2, says, and the nonces of the `LongTermServerAuth` do not.
+/// - `left`: after the calls, the `LongTermServerAuth` has no record of an address.
+/// - `handed`: if this server returns a request to its caller, the verdict on the request is
+///   `Validated` with the algorithm of the request.
+///
+/// Premise of `verdicts` and `left`: the clock of the `LongTermServerAuth` gives only times that an
+/// `Instant` can have.
 pub fn datagrams_are_a_run_of_calls()
     ensures verdicts { (s : Settings) (clock : ℕ → ℕ) (datagrams : List Arrival)
         → uses_features s ≡ true → ((now : ℕ) → clock now ≤ last_moment)
@@ -227,12 +234,12 @@ pub fn datagrams_are_a_run_of_calls()
 
 /// A server with short-term credentials accepts a message as signed by a user if and only if
 /// `IsSignedBy` holds (`signer`), whatever datagrams arrived before. `IsSignedBy` says that the
-/// first USERNAME before the signature is the name of the user, and that the signature is the
-/// digest under the user's key.
+/// first USERNAME before the signature is the name of the user, and that the signature is valid
+/// under the user's key.
 ///
 /// So if a user has signed a request that is not dropped, the server accepts the request: it
-/// answers the request itself or returns it to its caller (`accepted`). If no user has signed it,
-/// the server refuses it (`refused`).
+/// answers the request itself or returns it to its caller (`accepted`). If no user has signed the
+/// request, the server refuses it (`refused`).
 pub fn signers_are_known_exactly()
     ensures signer { (users : Keys) (bytes : List ℕ) (signer : Signer)
         → (signer_of users bytes ≡ Ok signer) ↔ IsSignedBy users bytes signer }
@@ -285,10 +292,10 @@ pub fn only_requests_are_answered()
         → (is_undropped_request s.requires_fingerprint bytes ≡ true) × (answer.to ≡ from) }
 {}
 
-/// A request from a client that the server accepts gets a 420 if it has an attribute that is not
-/// understood, whatever its method is (RFC 8489, section 6.3.1). This holds at a server with
-/// long-term credentials (`long_term`), with short-term credentials (`short_term`), and without
-/// credentials, which accepts everybody (`no_credentials`).
+/// If a request from an accepted client has a comprehension-required attribute that the server does
+/// not understand, the server answers it with a 420, whatever its method is (RFC 8489, section
+/// 6.3.1). This holds for servers with long-term credentials (`long_term`), with short-term
+/// credentials (`short_term`), and without credentials, which accept everybody (`no_credentials`).
 pub fn unknown_attributes_are_refused()
     ensures long_term { (s : Settings) (realm : Realm) (from : SocketAddr) (now : ℕ)
         (bytes : List ℕ) (client : ClientSeen)
@@ -310,12 +317,12 @@ pub fn unknown_attributes_are_refused()
         × (answer.refusal ≡ Some refused.UnknownAttribute) }
 {}
 
-/// A request from a client that the server accepts is returned to the caller if its attributes are
-/// understood, unless it is a Binding request that the server answers itself (RFC 8489, section
-/// 6.3.1). The request is returned unchanged, as a request of that client, and its reply goes to
-/// the address that the request came from. This holds at a server with long-term credentials
-/// (`long_term`), with short-term credentials (`short_term`), and without credentials, which
-/// accepts everybody (`no_credentials`).
+/// If the server understands all comprehension-required attributes of a request from an accepted
+/// client, it returns the request to its caller, unless it is a Binding request that the server
+/// answers itself (RFC 8489, section 6.3.1). The request is returned unchanged, as a request of
+/// that client, and its reply goes to the address that the request came from. This holds for
+/// servers with long-term credentials (`long_term`), with short-term credentials (`short_term`),
+/// and without credentials, which accept everybody (`no_credentials`).
 pub fn understood_requests_are_handed_out()
     ensures long_term { (s : Settings) (realm : Realm) (from : SocketAddr) (now : ℕ)
         (bytes : List ℕ) (client : ClientSeen)
@@ -342,11 +349,12 @@ pub fn understood_requests_are_handed_out()
         × (request.message ≡ bytes) × (request.reply.to ≡ from) }
 {}
 
-/// An indication is returned to the caller if its attributes are understood, and is dropped
-/// otherwise (RFC 8489, section 6.3.2). This holds for every indication at a server with long-term
-/// credentials, which protect no indication (section 9.2; `long_term`), and at a server without
-/// credentials (`no_credentials`). At a server with short-term credentials, it holds for every
-/// indication that a user has signed (`short_term`).
+/// A server returns an indication to its caller if it understands all comprehension-required
+/// attributes of the indication. Otherwise it drops the indication (RFC 8489, section 6.3.2). This
+/// holds for every indication at a server with long-term credentials, because they do not protect
+/// indications (section 9.2; `long_term`), and at a server without credentials (`no_credentials`).
+/// At a server with short-term credentials, it holds for every indication that a user has signed
+/// (`short_term`).
 pub fn understood_indications_are_handed_out()
     ensures long_term { (s : Settings) (realm : Realm) (from : SocketAddr) (now : ℕ)
         (bytes : List ℕ)

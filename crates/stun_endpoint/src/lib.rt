@@ -5,6 +5,7 @@
 mod arrived;
 pub mod batch;
 pub mod buffered;
+mod ending;
 pub mod laws;
 pub mod lookup;
 mod nonces;

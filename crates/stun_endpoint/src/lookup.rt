@@ -33,7 +33,7 @@ pub enum Identified<'a, A: Allocator = Global> {
 /// attacker who forges a source address must be on the path to cause look-ups, because he needs to
 /// see a nonce that is still accepted for that address. The request is judged at the time at which
 /// it arrived, so a slow database does not make its nonce stale. A client that sends its request
-/// again causes another look-up; merge them by `transaction_id`.
+/// again causes another look-up, so merge look-ups that have the same `transaction_id`.
 ///
 /// Contracts: a look-up is a record of the message, its source address, the time at which it
 /// arrived, and the user whom it names.

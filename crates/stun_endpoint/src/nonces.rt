@@ -3,15 +3,18 @@
 
 ghost use Rattle.std.specs.Prelude.{◌≡◌, ◌++◌, IfOk, IsOk, length, map, take};
 ghost use Rattle.std.specs.String.{string_bytes};
+ghost use Rattle.stun_auth.specs.Algorithms.{contains};
+ghost use Rattle.stun_auth.specs.Feature.{is_possible};
 ghost use Rattle.stun_auth.specs.Nonces.{letter};
+ghost use Rattle.stun_base.specs.declared.keys.algorithm.IntegrityAlgorithm.TheVariants.{Sha256};
 ghost use Rattle.stun_endpoint.specs.Nonces.{algorithms_number, front_of, words_of};
-ghost use Rattle.stun_endpoint.specs.Realm.{algorithms_for, feature_for};
 ghost use Rattle.stun_endpoint.specs.code.Bits.{bits_text};
 
 use std::alloc::{AllocError, Allocator};
 use std::net::SocketAddr;
-use stun_auth::auth::LONG_TERM_RFC8489_NONCE_COOKIE;
+use stun_auth::auth::{AlgorithmSet, Feature, LONG_TERM_RFC8489_NONCE_COOKIE};
 use stun_auth::letters::{push_letters, text_with_room};
+use stun_base::algorithm::IntegrityAlgorithm;
 use stun_base::memory::Memory;
 use stun_base::prepared_key::PreparedKey;
 use stun_extra::canonical_address::address_octets;
@@ -23,11 +26,12 @@ const NONCE_LENGTH: usize = 29;
 /// Returns the security bits of a server's nonces, as four characters of base64. The first bit
 /// (*Password algorithms*) is set if HMAC-SHA256 is supported, and the second (*Username
 /// anonymity*) if names may be hashed. All others are zero.
-fn spelled_bits(hmac_sha256: bool, user_hashes: bool) -> &'static str
-    ensures bits { result.now ≡ bits_text hmac_sha256 user_hashes }
+fn spelled_bits(algorithms: AlgorithmSet, feature: Feature) -> &'static str
+    ensures bits { result.now ≡ bits_text (contains Sha256 algorithms) (is_possible feature) }
     ensures length { length result.now ≡ 4 }
 {
-    match (hmac_sha256, user_hashes) {
+    let has_sha256 = algorithms.contains(IntegrityAlgorithm::Sha256);
+    match (has_sha256, feature.is_possible()) {
         (true, true) => "wAAA",
         (true, false) => "gAAA",
         (false, true) => "QAAA",
@@ -37,40 +41,37 @@ fn spelled_bits(hmac_sha256: bool, user_hashes: bool) -> &'static str
 
 /// Returns the nonce that a server with these settings makes with `secret` for the address `from`
 /// and the epoch `epoch`: the nonce cookie, the security bits and a letter for each of sixteen
-/// numbers. If the server uses no security feature, all bits are zero (RFC 8489, section 9.2).
-/// Fails if the one allocation fails.
+/// numbers. If the server uses no security feature, all bits are zero (RFC 8489, section 9.2). The
+/// call allocates once, and fails if the allocation fails.
 #[tactic(auto, using(crate::proofs::FrontLemmas::spelled_front))]
 pub(crate) fn nonce_of<A: Memory>(
     alloc: A,
     secret: &PreparedKey<A>,
     from: SocketAddr,
     epoch: u64,
-    hmac_sha1: bool,
-    hmac_sha256: bool,
-    user_hashes: bool,
+    algorithms: AlgorithmSet,
+    feature: Feature,
 ) -> Result<String<A>, AllocError>
     ensures nonce { IfOk result (λ nonce. string_bytes nonce
-        ≡ front_of (algorithms_for hmac_sha1 hmac_sha256) (feature_for user_hashes)
-        ++ map letter (words_of (algorithms_for hmac_sha1 hmac_sha256) secret.now from epoch)) }
+        ≡ front_of algorithms feature ++ map letter (words_of algorithms secret.now from epoch)) }
     ensures granted { A.grants → IsOk result }
 {
-    let words = words_of(secret, from, epoch, hmac_sha1, hmac_sha256);
+    let words = words_of(secret, from, epoch, algorithms);
     let mut nonce = text_with_room(alloc, NONCE_LENGTH)?;
     nonce.push_str(LONG_TERM_RFC8489_NONCE_COOKIE)?;
-    nonce.push_str(spelled_bits(hmac_sha256, user_hashes))?;
+    nonce.push_str(spelled_bits(algorithms, feature))?;
     push_letters(&mut nonce, &words)?;
     Ok(nonce)
 }
 
 /// Returns the number that represents the supported algorithms in the HMAC of a nonce.
-fn algorithms_number(hmac_sha1: bool, hmac_sha256: bool) -> u8
-    ensures { result ≡ algorithms_number (algorithms_for hmac_sha1 hmac_sha256) }
+fn algorithms_number(algorithms: AlgorithmSet) -> u8
+    ensures { result ≡ algorithms_number algorithms }
 {
-    match (hmac_sha1, hmac_sha256) {
-        (true, true) => 3,
-        (false, true) => 2,
-        (true, false) => 1,
-        (false, false) => 1,
+    match algorithms {
+        AlgorithmSet::OnlySha1 => 1,
+        AlgorithmSet::OnlySha256 => 2,
+        AlgorithmSet::Both => 3,
     }
 }
 
@@ -80,16 +81,14 @@ fn words_of<A: Allocator>(
     secret: &PreparedKey<A>,
     from: SocketAddr,
     epoch: u64,
-    hmac_sha1: bool,
-    hmac_sha256: bool,
+    algorithms: AlgorithmSet,
 ) -> [u32; 16]
-    ensures { result
-        ≡ words_of (algorithms_for hmac_sha1 hmac_sha256) secret.now from epoch }
+    ensures { result ≡ words_of algorithms secret.now from epoch }
 {
     let octets = address_octets(from.ip());
     let port = from.port().to_be_bytes();
     let epoch = epoch.to_be_bytes();
-    let number = [algorithms_number(hmac_sha1, hmac_sha256)];
+    let number = [algorithms_number(algorithms)];
     first_sixteen(&secret.hmac_sha1(&[&octets, &port, &epoch, &number]))
 }
 

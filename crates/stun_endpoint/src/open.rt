@@ -12,17 +12,18 @@ ghost use Rattle.std.specs.String.{string_bytes};
 ghost use Rattle.stun_base.specs.Header.{type_field};
 ghost use Rattle.stun_base.specs.MessageType.{class_in, method_of};
 ghost use Rattle.stun_endpoint.specs.Answers.{is_fingerprinted};
-ghost use Rattle.stun_endpoint.specs.Buffered.{LeavesNothingOpenly, open_outcome_in};
+ghost use Rattle.stun_endpoint.specs.Buffered.{LeavesNothing, outcome_in};
 ghost use Rattle.stun_endpoint.specs.Built.{software_refusal};
-ghost use Rattle.stun_endpoint.specs.Open.{dropped, indicated, or_requested, received_openly};
-ghost use Rattle.stun_endpoint.specs.OpenOutcomes.{open_outcome_of};
-ghost use Rattle.stun_endpoint.specs.Responding.{is_empty, is_undropped_request, own_answer};
+ghost use Rattle.stun_endpoint.specs.Open.{or_requested, received_openly};
+ghost use Rattle.stun_endpoint.specs.Outcomes.{outcome_of};
+ghost use Rattle.stun_endpoint.specs.Responding.{dropped, indicated, is_empty};
+ghost use Rattle.stun_endpoint.specs.Responding.{is_undropped_request, own_answer};
 ghost use Rattle.stun_extra.specs.CanonicalAddress.{IsCanonical};
 ghost use Rattle.stun_extra.specs.Unknown.{unknown_types};
 
 use crate::arrived::Arrived;
 use crate::buffered::OpenReceivedInto;
-use crate::received::{Answer, DropReason};
+use crate::received::{DropReason, Received};
 use crate::reply::Reply;
 use crate::responder::{Responder, ResponseSettings};
 use crate::server::{BuildError, STUN_ATTRIBUTES};
@@ -66,21 +67,9 @@ impl<A: Allocator> fmt::Debug for OpenServer<A> {
     }
 }
 
-/// The outcome of a datagram at a server without credentials.
-#[derive(Debug, Drop)]
-#[non_exhaustive]
-pub enum OpenReceived<'a, A: Allocator = Global> {
-    /// Send this response.
-    Answer(Answer<A>),
-    /// A request whose attributes are understood. Respond to it, now or later.
-    Request(OpenRequest<'a, A>),
-    /// An indication whose attributes are understood. Anybody may have sent it.
-    Indication(Message<'a>),
-    /// A response, for a client on the same socket.
-    Response(Message<'a>),
-    /// The datagram is dropped, for this reason.
-    Dropped(DropReason),
-}
+/// The outcome of a datagram at a server without credentials, whose requests and indications anybody
+/// may have sent.
+pub type OpenReceived<'a, A = Global> = Received<'a, A, OpenRequest<'a, A>>;
 
 /// A request to a server without credentials. Anybody may have sent it.
 ///
@@ -189,7 +178,7 @@ impl<A: Memory> OpenServer<A> {
         bytes: &'a [u8],
         from: SocketAddr,
     ) -> Result<OpenReceived<'a, A>, AllocError>
-        ensures received { IfOk result (λ received. open_outcome_of received
+        ensures received { IfOk result (λ received. outcome_of received
             ≡ received_openly self.now from bytes.now) }
         ensures no_memory { is_undropped_request self.now.requires_fingerprint bytes.now
             ≡ false → IsOk result }
@@ -212,10 +201,10 @@ impl<A: Memory> OpenServer<A> {
         buffer: &mut Vec<u8, A>,
     ) -> Result<OpenReceivedInto<'a, A>, AllocError>
         // With the bytes in the buffer, the result is what `receive` returns.
-        ensures received { IfOk result (λ received. open_outcome_in received buffer.new.items
+        ensures received { IfOk result (λ received. outcome_in received buffer.new.items
             ≡ received_openly self.now from bytes.now) }
         ensures rest { IfOk result (λ received.
-            LeavesNothingOpenly received buffer.new.items) }
+            LeavesNothing received buffer.new.items) }
         ensures no_memory { is_undropped_request self.now.requires_fingerprint bytes.now
             ≡ false → IsOk result }
         ensures granted { A.grants → IsOk result }
@@ -237,7 +226,7 @@ impl<A: Memory> OpenServer<A> {
         from: SocketAddr,
         buffer: &mut Vec<u8, A>,
     ) -> Result<OpenReceived<'a, A>, AllocError>
-        ensures received { IfOk result (λ received. open_outcome_of received
+        ensures received { IfOk result (λ received. outcome_of received
             ≡ received_openly self.now from bytes.now) }
         ensures no_memory { is_undropped_request self.now.requires_fingerprint bytes.now
             ≡ false → IsOk result }
@@ -248,8 +237,8 @@ impl<A: Memory> OpenServer<A> {
                 self.request(message, from, has_fingerprint, buffer)
             }
             Arrived::Indication(message) => Ok(self.indication(message)),
-            Arrived::Response(message) => Ok(OpenReceived::Response(message)),
-            Arrived::Dropped(reason) => Ok(OpenReceived::Dropped(reason)),
+            Arrived::Response(message) => Ok(Received::Response(message)),
+            Arrived::Dropped(reason) => Ok(Received::Dropped(reason)),
         }
     }
 
@@ -263,7 +252,7 @@ impl<A: Memory> OpenServer<A> {
     ) -> Result<OpenReceived<'a, A>, AllocError>
         requires fingerprint { has_fingerprint ≡ is_fingerprinted message }
         requires request { class_in message ≡ MessageClass.Request }
-        ensures received { IfOk result (λ received. open_outcome_of received
+        ensures received { IfOk result (λ received. outcome_of received
             ≡ or_requested self.now from message.entry
             (own_answer self.now None from message.entry)) }
         ensures granted { A.grants → IsOk result }
@@ -272,24 +261,24 @@ impl<A: Memory> OpenServer<A> {
             .responder
             .own_answer(&message, from, &None, has_fingerprint, buffer)?
         {
-            Some(answer) => Ok(OpenReceived::Answer(answer)),
+            Some(answer) => Ok(Received::Answer(answer)),
             None => {
                 let reply = self.responder.reply(&message, from, None, has_fingerprint)?;
-                Ok(OpenReceived::Request(OpenRequest::new(message, reply)))
+                Ok(Received::Request(OpenRequest::new(message, reply)))
             }
         }
     }
 
     /// Returns the outcome of an indication.
     fn indication<'a>(&self, message: Message<'a>) -> OpenReceived<'a, A>
-        ensures { open_outcome_of result
+        ensures { outcome_of result
             ≡ (if is_empty (unknown_types self.now.known message.entry)
             then indicated message.entry else dropped DropReason.UnknownAttribute) }
     {
         if self.responder.understands(&message) {
-            OpenReceived::Indication(message)
+            Received::Indication(message)
         } else {
-            OpenReceived::Dropped(DropReason::UnknownAttribute)
+            Received::Dropped(DropReason::UnknownAttribute)
         }
     }
 }

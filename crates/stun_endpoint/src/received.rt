@@ -16,17 +16,20 @@ use stun_base::algorithm::IntegrityAlgorithm;
 use stun_extra::canonical_address::canonical;
 use stun_types::message::{Message, Method};
 
-/// The outcome of a datagram.
+/// The outcome of a datagram. `R` is the type of an accepted request and `I` that of an accepted
+/// indication. They depend on the kind of server: the defaults are those of `Server`, and
+/// `OpenReceived` and `ShortTermReceived` name the types of the two other kinds.
 #[derive(Debug, Drop)]
 #[non_exhaustive]
-pub enum Received<'a, A: Allocator = Global> {
+pub enum Received<'a, A: Allocator = Global, R = Request<'a, A>, I = Message<'a>> {
     /// Send this response.
     Answer(Answer<A>),
     /// The request is accepted. Respond to it, now or later.
-    Request(Request<'a, A>),
-    /// An indication whose attributes are understood. Long-term credentials do not protect it (RFC
-    /// 8489, section 9.2), so decide by the source address whether to act on it.
-    Indication(Message<'a>),
+    Request(R),
+    /// An indication whose attributes are understood. Only a server with short-term credentials
+    /// checks who signed it. At any other server, decide by the source address whether to act on
+    /// it, because long-term credentials do not protect it (RFC 8489, section 9.2).
+    Indication(I),
     /// A response, for a client on the same socket.
     Response(Message<'a>),
     /// The datagram is dropped, for this reason.
@@ -51,6 +54,9 @@ pub enum DropReason {
     /// The datagram is an indication with an attribute that the server must understand, but does
     /// not.
     UnknownAttribute,
+    /// The datagram is an indication that no user has signed, at a server with short-term
+    /// credentials. A request with the same attributes would get this refusal.
+    NotSigned(Refusal),
 }
 
 /// The error with which a response refuses a request.
@@ -62,16 +68,16 @@ pub enum Refusal {
     /// short-term credentials, the signature or the user name is missing.
     BadRequest,
     /// 401: the request is not signed by one of the users. With long-term credentials, a signed
-    /// request also gets a 401 if its nonce has other security bits (RFC 8489, section 9.2) than
-    /// the server's nonces, and its algorithms agree with that nonce.
+    /// request also gets a 401 if the security bits of its nonce differ from those of the server's
+    /// nonces (RFC 8489, section 9.2), and its algorithms agree with its nonce.
     Unauthenticated,
     /// 420: the user is accepted, but the request has an attribute that the server must understand,
     /// and does not.
     UnknownAttribute,
     /// 438: the nonce is not accepted, or it is an earlier one that is still accepted, but the
-    /// algorithms or the credentials are wrong. If the nonce has other security bits than the
-    /// server's nonces, and the algorithms agree with it, the code is 401 instead. Only a server
-    /// with long-term credentials sends this code.
+    /// algorithms or the credentials are wrong. If the security bits of the nonce differ from those
+    /// of the server's nonces, and the algorithms agree with the nonce, the code is 401 instead.
+    /// Only a server with long-term credentials sends this code.
     StaleNonce,
 }
 

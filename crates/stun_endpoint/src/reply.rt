@@ -5,69 +5,29 @@ ghost use Rattle.std.specs.Prelude.{IsOk, IsOkUnless, MatchOption, OnOk, length,
 ghost use Rattle.std.specs.Fmt.{WritesOnOk, WritesStyledOnOk};
 ghost use Rattle.std.specs.Option.{option_map, option_map_or};
 ghost use Rattle.std.specs.String.{string_bytes};
-ghost use Rattle.stun_base.specs.Algorithm.{digest_length};
 ghost use Rattle.stun_base.specs.Header.{transaction_id_field, type_field};
 ghost use Rattle.stun_base.specs.MessageType.{method_of};
-ghost use Rattle.stun_types.specs.Attribute.{attribute_length};
 ghost use Rattle.stun_types.specs.ErrorCode.{error_refusal};
 ghost use Rattle.stun_types.specs.Limits.{TEXT_LIMIT};
-ghost use Rattle.stun_types.specs.Message.{IsMessage};
 ghost use Rattle.stun_types.specs.Walk.{walk};
-ghost use Rattle.stun_types.specs.Writing.{IsOpen, RefusedBy, empty_message, with_attribute};
-ghost use Rattle.stun_endpoint.specs.Answers.{VerifiesBy, with_end};
-ghost use Rattle.stun_endpoint.specs.Answers.{Signature as SignatureSeen, with_signature};
-ghost use Rattle.stun_endpoint.specs.Answers.{with_software};
-ghost use Rattle.stun_endpoint.specs.Ended.{finish_refusal, refused_signature};
-ghost use Rattle.stun_endpoint.specs.Ended.{refused_software};
+ghost use Rattle.stun_types.specs.Writing.{IsOpen, empty_message, with_attribute};
+ghost use Rattle.stun_endpoint.specs.Answers.{Signature as SignatureSeen, VerifiesBy, with_end};
+ghost use Rattle.stun_endpoint.specs.Ended.{finish_refusal};
 ghost use Rattle.stun_extra.specs.Errors.{error_code_attribute};
 
+use crate::ending::{Ending, Signature};
 use std::alloc::{AllocError, Allocator, Global};
 use std::fmt;
 use std::marker::Model;
 use std::net::SocketAddr;
 use stun_base::memory::Memory;
-use stun_base::prepared_key::PreparedKey;
 use stun_buffer::writer::BufferWriter;
-use stun_extra::attribute::Software;
-use stun_extra::fingerprint::{FINGERPRINT_LENGTH, finish_with_fingerprint};
-use stun_types::attribute::{ErrorCode, attribute_length};
+use stun_types::attribute::ErrorCode;
 use stun_types::message::{
     IntegrityAlgorithm, Message, MessageClass, MessageType, MessageWriteVec, Method,
     StunWriteError, TransactionId,
 };
 use stun_types::prelude::*;
-
-/// The algorithm and the key that a response is signed with.
-///
-/// Contracts: the value is a record of both.
-#[derive(Drop)]
-pub(crate) struct Signature<A: Allocator> {
-    algorithm: IntegrityAlgorithm,
-    key: PreparedKey<A>,
-}
-
-impl<A: Allocator> Model for Signature<A> {
-    ghost use Rattle.stun_endpoint.specs.Answers.{Signature as SignatureSeen};
-
-    ghost Value = { SignatureSeen };
-
-    ghost view = { λ by. record { algorithm = by.algorithm; key = by.key } };
-}
-
-impl<A: Allocator> Signature<A> {
-    pub(crate) fn new(algorithm: IntegrityAlgorithm, key: PreparedKey<A>) -> Self
-        ensures { result ≡ record { algorithm = algorithm; key = key } }
-    {
-        Signature { algorithm, key }
-    }
-
-    /// Returns the number of bytes of the integrity attribute, with its header.
-    pub(crate) fn length(&self) -> usize
-        ensures { result ≡ attribute_length (digest_length self.now.algorithm) }
-    {
-        attribute_length(self.algorithm.digest_length())
-    }
-}
 
 /// A handle with which you respond to one accepted request, now or later, on any thread, without
 /// the server.
@@ -162,7 +122,7 @@ impl<A: Allocator> Reply<A> {
             ≡ option_map (λ (by : SignatureSeen). by.algorithm) self.now.ending.signature }
     {
         match &self.signature {
-            Some(by) => Some(by.algorithm),
+            Some(by) => Some(by.algorithm()),
             None => None,
         }
     }
@@ -174,7 +134,7 @@ impl<A: Allocator> Reply<A> {
             ≡ option_map_or (λ (by : SignatureSeen). by.key) self.now.ending.signature [] }
     {
         match &self.signature {
-            Some(by) => by.key.key().as_bytes(),
+            Some(by) => by.key().key().as_bytes(),
             None => &[],
         }
     }
@@ -254,6 +214,13 @@ impl<A: Memory> Reply<A> {
         Ok(page)
     }
 
+    /// Returns what each response ends with.
+    fn ending(&self) -> Ending<'_, A>
+        ensures { result ≡ self.now.ending }
+    {
+        Ending::new(&self.software, &self.signature, self.has_fingerprint)
+    }
+
     /// Begins a response of a class.
     fn begin(&self, class: MessageClass) -> Result<MessageWriteVec<A>, AllocError>
         ensures bytes { IfOk result (λ page. page.bytes
@@ -262,7 +229,7 @@ impl<A: Memory> Reply<A> {
         ensures empty { IfOk result (λ page. walk page.bytes ≡ []) }
         ensures granted { A.grants → IsOk result }
     {
-        let end = end_length(&self.software, &self.signature, self.has_fingerprint);
+        let end = self.ending().length();
         let mut page = MessageWriteVec::new(self.alloc);
         // This one block is enough for a response with one IPv4 address, such as a Binding
         // response.
@@ -375,7 +342,7 @@ impl<A: Memory> Reply<A> {
         ensures granted { A.grants → finish_refusal self.now.ending page.bytes ≡ None
             → IsOk result }
     {
-        finish_response(page, &self.software, &self.signature, self.has_fingerprint)
+        self.ending().finish(page)
     }
 }
 
@@ -383,120 +350,3 @@ impl<A: Memory> Reply<A> {
 /// header, and XOR-MAPPED-ADDRESS with an IPv4 address. Memory for them is reserved at the
 /// beginning.
 const MAPPED_LENGTH: usize = 32;
-
-/// Returns how many bytes `finish_response` adds to a response. The memory for them is reserved
-/// before the response is written, so that it takes one allocation. With less memory it would take
-/// two allocations, and have the same bytes.
-pub(crate) fn end_length<A: Allocator>(
-    software: &Option<String<A>>,
-    signature: &Option<Signature<A>>,
-    has_fingerprint: bool,
-) -> usize
-    requires { length (unwrap_or (option_map string_bytes software.now) []) ≤ TEXT_LIMIT }
-    ensures { result ≤ 812 }
-{
-    let software = match software {
-        Some(text) => attribute_length(text.len()),
-        None => 0,
-    };
-    let integrity = match signature {
-        Some(by) => by.length(),
-        None => 0,
-    };
-    let fingerprint = if has_fingerprint {
-        FINGERPRINT_LENGTH
-    } else {
-        0
-    };
-    software
-        .saturating_add(integrity)
-        .saturating_add(fingerprint)
-}
-
-/// Ends a response: adds SOFTWARE if `software` is not `None`, the integrity attribute if
-/// `signature` is not `None`, and FINGERPRINT if `has_fingerprint` is true.
-#[tactic(auto, using(crate::proofs::VerifyingLemmas::verifies_by_same))]
-pub(crate) fn finish_response<A: Memory>(
-    page: BufferWriter<A>,
-    software: &Option<String<A>>,
-    signature: &Option<Signature<A>>,
-    has_fingerprint: bool,
-) -> Result<Vec<u8, A>, StunWriteError>
-    requires { 20 ≤ length page.bytes }
-    ensures bytes { IfOk result (λ response. response.items
-        ≡ with_end (record {
-          software = option_map string_bytes software.now;
-          signature = signature.now;
-          has_fingerprint = has_fingerprint;
-        }) page.bytes) }
-    ensures verifies { IfOk result (λ response. IsOpen page.bytes
-        → VerifiesBy signature.now response.items) }
-    ensures ok { OnOk result (finish_refusal (record {
-      software = option_map string_bytes software.now;
-      signature = signature.now;
-      has_fingerprint = has_fingerprint;
-    }) page.bytes ≡ None) }
-    ensures refused { IfErr result (λ why. (why ≡ StunWriteError.OutOfMemory)
-        ⊎ (finish_refusal (record {
-          software = option_map string_bytes software.now;
-          signature = signature.now;
-          has_fingerprint = has_fingerprint;
-        }) page.bytes ≡ Some why)) }
-    ensures granted { A.grants → finish_refusal (record {
-      software = option_map string_bytes software.now;
-      signature = signature.now;
-      has_fingerprint = has_fingerprint;
-    }) page.bytes ≡ None → IsOk result }
-{
-    let mut page = page;
-    add_software(&mut page, software)?;
-    add_signature(&mut page, signature)?;
-    if has_fingerprint {
-        let response = finish_with_fingerprint(page)?;
-        Ok(response)
-    } else {
-        Ok(page.finish())
-    }
-}
-
-/// Adds SOFTWARE with the text `software`. Does nothing if there is no text.
-fn add_software<A: Memory>(
-    page: &mut BufferWriter<A>,
-    software: &Option<String<A>>,
-) -> Result<(), StunWriteError>
-    requires { 20 ≤ length page.old.bytes }
-    ensures bytes { OnOk result (page.new.bytes
-        ≡ with_software (option_map string_bytes software.now) page.old.bytes) }
-    ensures refused { RefusedBy (refused_software (option_map string_bytes software.now)
-        page.old.bytes) result }
-    ensures header { OnOk result (20 ≤ length page.new.bytes) }
-    ensures open { OnOk result (IsOpen page.old.bytes → IsOpen page.new.bytes) }
-    ensures granted { A.grants → refused_software (option_map string_bytes software.now)
-        page.old.bytes ≡ None → IsOk result }
-{
-    match software {
-        Some(text) => page.add_attribute(&Software::new(text.as_str())?),
-        None => Ok(()),
-    }
-}
-
-/// Adds the integrity attribute. Does nothing if the response is not signed.
-fn add_signature<A: Memory>(
-    page: &mut BufferWriter<A>,
-    signature: &Option<Signature<A>>,
-) -> Result<(), StunWriteError>
-    requires { 20 ≤ length page.old.bytes }
-    ensures bytes { OnOk result (page.new.bytes ≡ with_signature signature.now page.old.bytes) }
-    ensures refused { RefusedBy (refused_signature signature.now page.old.bytes) result }
-    ensures header { OnOk result (20 ≤ length page.new.bytes) }
-    ensures message { OnOk result (IsOpen page.old.bytes → IsMessage page.new.bytes) }
-    ensures verifies { OnOk result (IsOpen page.old.bytes
-        → VerifiesBy signature.now page.new.bytes) }
-    ensures granted { A.grants → refused_signature signature.now page.old.bytes ≡ None
-        → IsOk result }
-{
-    match signature {
-        Some(by) => page.add_message_integrity_with_prepared_key(&by.key, by.algorithm),
-        None => Ok(()),
-    }
-}

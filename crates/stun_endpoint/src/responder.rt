@@ -19,9 +19,10 @@ ghost use Rattle.stun_base.specs.MessageType.{class_in};
 ghost use Rattle.stun_base.specs.declared.wire.message_type.MessageClass.TheVariants.{Request};
 
 use crate::arrived::Arrived;
+use crate::ending::{Ending, Signature};
 use crate::pages::{error_page, mapped_page, writer_with_room};
 use crate::received::{Answer, Refusal};
-use crate::reply::{Reply, Signature, end_length, finish_response};
+use crate::reply::Reply;
 use crate::server::{BuildError, STUN_ATTRIBUTES};
 use crate::understood::are_understood;
 use std::alloc::{AllocError, Allocator, Global};
@@ -46,7 +47,8 @@ const UNKNOWN_LENGTH: usize = 36;
 pub struct ResponseSettings<A: Allocator = Global> {
     /// The types of attributes that you understand, in addition to `STUN_ATTRIBUTES`.
     pub understood: Vec<AttributeType, A>,
-    /// The text of SOFTWARE in each response, of at most 763 bytes (RFC 8489, section 14.14).
+    /// The text of SOFTWARE in each response, which has at most 763 bytes (RFC 8489, section
+    /// 14.14).
     pub software: Option<String<A>>,
     /// Whether the server itself responds to each accepted Binding request.
     pub answers_binding: bool,
@@ -290,7 +292,7 @@ impl<A: Memory> Responder<A> {
         }) page.bytes) }
         ensures granted { A.grants → IsEndable page.bytes → IsOk result }
     {
-        match finish_response(page, &self.software, signature, has_fingerprint) {
+        match Ending::new(&self.software, signature, has_fingerprint).finish(page) {
             Ok(response) => Ok(response),
             // The settings ensure that these attributes fit into a response, so an allocation has
             // failed.
@@ -306,7 +308,7 @@ impl<A: Memory> Responder<A> {
     ) -> usize
         ensures { result ≤ 812 }
     {
-        end_length(&self.software, signature, has_fingerprint)
+        Ending::new(&self.software, signature, has_fingerprint).length()
     }
 
     /// Returns a copy of the text of SOFTWARE, or `None` if there is none.

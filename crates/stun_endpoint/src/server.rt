@@ -51,10 +51,10 @@ pub use settings::{
 /// threads share a server without a lock, and machines with the same settings can answer each
 /// other's clients.
 ///
-/// To change settings, build another server with the same secret. If its realm, algorithms or
-/// `user_hashes` differ, also make a new table with its `users`, and add the users again, because a
-/// table is made for these three settings, and a prepared user for the realm and the algorithms. No
-/// call detects a table or a user that was made for other settings.
+/// To change settings, build another server with the same secret. A table of users is made for a
+/// realm, algorithms and `user_hashes`, and a prepared user for a realm and algorithms. If one of
+/// these settings differs, also make a new table with `users` of the new server, and add or prepare
+/// the users again. No call detects a table or a user that was made for other settings.
 ///
 /// If you remove HMAC-SHA256 from the algorithms, a client of this library that has succeeded with
 /// HMAC-SHA256 drops the new challenges, because they are weaker. Its next request times out, and
@@ -68,9 +68,6 @@ pub use settings::{
 pub struct Server<A: Allocator = Global> {
     alloc: A,
     auth: LongTermServerAuth<A>,
-    hmac_sha1: bool,
-    hmac_sha256: bool,
-    user_hashes: bool,
     secret: PreparedKey<A>,
     previous: Option<PreparedKey<A>>,
     lifetime: u64,
@@ -80,7 +77,7 @@ pub struct Server<A: Allocator = Global> {
 impl<A: Allocator> Model for Server<A> {
     ghost use Rattle.std.specs.Prelude.{◌≡◌, ◌<◌, ◌≤◌, length};
     ghost use Rattle.stun_types.specs.Limits.{TEXT_LIMIT};
-    ghost use Rattle.stun_endpoint.specs.Realm.{empty_realm, feature_for};
+    ghost use Rattle.stun_endpoint.specs.Realm.{empty_realm};
     ghost use Rattle.stun_endpoint.specs.Settings.{Settings};
 
     ghost Value = { Settings };
@@ -100,8 +97,7 @@ impl<A: Allocator> Model for Server<A> {
 
     ghost invariant = { λ server. (0 < server.lifetime)
         × (server.auth.registered
-        ≡ empty_realm server.auth.registered.realm server.hmac_sha1 server.hmac_sha256)
-        × (server.auth.feature ≡ feature_for server.user_hashes)
+        ≡ empty_realm server.auth.registered.realm server.auth.registered.algorithms)
         × (length server.auth.registered.realm ≤ TEXT_LIMIT) };
 }
 
@@ -128,13 +124,8 @@ impl<A: Memory> Server<A> {
         ensures granted { A.grants → IsOk result }
     {
         let realm = A::text(self.alloc, self.auth.realm())?;
-        let auth = empty_realm(
-            self.alloc,
-            realm,
-            self.hmac_sha1,
-            self.hmac_sha256,
-            self.user_hashes,
-        );
+        let (algorithms, feature) = (self.auth.algorithms(), self.auth.anonymous_username());
+        let auth = empty_realm(self.alloc, realm, algorithms, feature);
         Ok(Users { auth })
     }
 
@@ -196,14 +187,7 @@ impl<A: Memory> Server<A> {
         ensures short { IfOk result (λ nonce. length (string_bytes nonce) ≤ TEXT_LIMIT) }
         ensures granted { A.grants → IsOk result }
     {
-        nonce_of(
-            self.alloc,
-            secret,
-            from,
-            epoch,
-            self.hmac_sha1,
-            self.hmac_sha256,
-            self.user_hashes,
-        )
+        let (algorithms, feature) = (self.auth.algorithms(), self.auth.anonymous_username());
+        nonce_of(self.alloc, secret, from, epoch, algorithms, feature)
     }
 }

@@ -12,16 +12,16 @@ ghost use Rattle.std.specs.Prelude.{None, OnErr, Some, codes, false};
 ghost use Rattle.std.specs.String.{string_bytes};
 ghost use Rattle.stun_base.specs.MessageType.{class_in};
 ghost use Rattle.stun_endpoint.specs.Answers.{is_fingerprinted};
-ghost use Rattle.stun_endpoint.specs.Buffered.{LeavesNothingSigned, short_term_outcome_in};
+ghost use Rattle.stun_endpoint.specs.Buffered.{LeavesNothing, outcome_in};
 ghost use Rattle.stun_endpoint.specs.Built.{software_refusal};
+ghost use Rattle.stun_endpoint.specs.Outcomes.{outcome_of};
 ghost use Rattle.stun_endpoint.specs.Responding.{is_undropped_request, own_answer};
 ghost use Rattle.stun_endpoint.specs.ShortTerm.{by_signer, indicated_by, or_handed};
 ghost use Rattle.stun_endpoint.specs.ShortTerm.{received_signed, signature_of, signer_of};
-ghost use Rattle.stun_endpoint.specs.ShortTermOutcomes.{short_term_outcome_of};
 
 use crate::arrived::Arrived;
 use crate::buffered::ShortTermReceivedInto;
-use crate::received::{Answer, DropReason, Refusal, Request};
+use crate::received::{DropReason, Received, Request};
 use crate::responder::{Responder, ResponseSettings};
 use crate::server::{BuildError, STUN_ATTRIBUTES};
 use std::alloc::{AllocError, Allocator, Global};
@@ -70,24 +70,14 @@ impl<A: Allocator> fmt::Debug for ShortTermServer<A> {
     }
 }
 
-/// The outcome of a datagram at a server with short-term credentials.
-#[derive(Debug, Drop)]
-#[non_exhaustive]
-pub enum ShortTermReceived<'a, A: Allocator = Global> {
-    /// Send this response.
-    Answer(Answer<A>),
-    /// The request is accepted. Respond to it, now or later.
-    Request(Request<'a, A>),
-    /// An indication that a user has signed, and whose attributes are understood.
-    Indication(ShortTermIndication<'a>),
-    /// A response, for a client on the same socket.
-    Response(Message<'a>),
-    /// The datagram is dropped, because it is an indication that no user has signed. A request with
-    /// the same attributes would get this refusal.
-    NotSigned(Refusal),
-    /// The datagram is dropped, for this reason.
-    Dropped(DropReason),
-}
+/// The outcome of a datagram at a server with short-term credentials, whose requests and indications
+/// its users have signed.
+pub type ShortTermReceived<'a, A = Global> = Received<
+    'a,
+    A,
+    Request<'a, A>,
+    ShortTermIndication<'a>,
+>;
 
 /// An indication that a user has signed.
 ///
@@ -175,7 +165,7 @@ impl<A: Memory> ShortTermServer<A> {
     ///   - Success: it is a Binding request, and `answers_binding` is set.
     /// - A 400 and a 401 are not signed, because the server does not know the client's key then
     ///   (section 9.1.3). Other responses have the integrity attribute that the request has.
-    /// - An indication is dropped if a request with the same attributes would get a 400 or a 401
+    /// - An indication is dropped if a request with the same attributes gets a 400 or a 401
     ///   (`NotSigned`), or if it has an attribute that is not understood. Other indications, and
     ///   responses, are returned to you.
     ///
@@ -187,7 +177,7 @@ impl<A: Memory> ShortTermServer<A> {
         from: SocketAddr,
         users: &'a ShortTermUsers<A>,
     ) -> Result<ShortTermReceived<'a, A>, AllocError>
-        ensures received { IfOk result (λ received. short_term_outcome_of received
+        ensures received { IfOk result (λ received. outcome_of received
             ≡ received_signed self.now users.now from bytes.now) }
         ensures no_memory { is_undropped_request self.now.requires_fingerprint bytes.now
             ≡ false → IsOk result }
@@ -211,10 +201,10 @@ impl<A: Memory> ShortTermServer<A> {
         buffer: &mut Vec<u8, A>,
     ) -> Result<ShortTermReceivedInto<'a, A>, AllocError>
         // With the bytes in the buffer, the result is what `receive` returns.
-        ensures received { IfOk result (λ received. short_term_outcome_in received buffer.new.items
+        ensures received { IfOk result (λ received. outcome_in received buffer.new.items
             ≡ received_signed self.now users.now from bytes.now) }
         ensures rest { IfOk result (λ received.
-            LeavesNothingSigned received buffer.new.items) }
+            LeavesNothing received buffer.new.items) }
         ensures no_memory { is_undropped_request self.now.requires_fingerprint bytes.now
             ≡ false → IsOk result }
         ensures granted { A.grants → IsOk result }
@@ -237,7 +227,7 @@ impl<A: Memory> ShortTermServer<A> {
         users: &'a ShortTermUsers<A>,
         buffer: &mut Vec<u8, A>,
     ) -> Result<ShortTermReceived<'a, A>, AllocError>
-        ensures received { IfOk result (λ received. short_term_outcome_of received
+        ensures received { IfOk result (λ received. outcome_of received
             ≡ received_signed self.now users.now from bytes.now) }
         ensures no_memory { is_undropped_request self.now.requires_fingerprint bytes.now
             ≡ false → IsOk result }
@@ -248,8 +238,8 @@ impl<A: Memory> ShortTermServer<A> {
                 self.request(message, from, users, has_fingerprint, buffer)
             }
             Arrived::Indication(message) => Ok(self.indication(message, users)),
-            Arrived::Response(message) => Ok(ShortTermReceived::Response(message)),
-            Arrived::Dropped(reason) => Ok(ShortTermReceived::Dropped(reason)),
+            Arrived::Response(message) => Ok(Received::Response(message)),
+            Arrived::Dropped(reason) => Ok(Received::Dropped(reason)),
         }
     }
 
@@ -264,7 +254,7 @@ impl<A: Memory> ShortTermServer<A> {
     ) -> Result<ShortTermReceived<'a, A>, AllocError>
         requires fingerprint { has_fingerprint ≡ is_fingerprinted message }
         requires request { class_in message ≡ MessageClass.Request }
-        ensures received { IfOk result (λ received. short_term_outcome_of received
+        ensures received { IfOk result (λ received. outcome_of received
             ≡ by_signer self.now from message.entry (signer_of users.now message.entry)) }
         ensures granted { A.grants → IsOk result }
     {
@@ -274,7 +264,7 @@ impl<A: Memory> ShortTermServer<A> {
                 let answer = self
                     .responder
                     .refusal(&message, from, refusal, has_fingerprint, buffer)?;
-                Ok(ShortTermReceived::Answer(answer))
+                Ok(Received::Answer(answer))
             }
         }
     }
@@ -290,7 +280,7 @@ impl<A: Memory> ShortTermServer<A> {
     ) -> Result<ShortTermReceived<'a, A>, AllocError>
         requires fingerprint { has_fingerprint ≡ is_fingerprinted message }
         requires request { class_in message ≡ MessageClass.Request }
-        ensures received { IfOk result (λ received. short_term_outcome_of received
+        ensures received { IfOk result (λ received. outcome_of received
             ≡ or_handed self.now from message.entry signer.entry
             (own_answer self.now (Some (signature_of signer.entry)) from message.entry)) }
         ensures granted { A.grants → IsOk result }
@@ -300,13 +290,13 @@ impl<A: Memory> ShortTermServer<A> {
             .responder
             .own_answer(&message, from, &signature, has_fingerprint, buffer)?
         {
-            Some(answer) => Ok(ShortTermReceived::Answer(answer)),
+            Some(answer) => Ok(Received::Answer(answer)),
             None => {
                 let reply = self
                     .responder
                     .reply(&message, from, signature, has_fingerprint)?;
                 let request = Request::new(message, signer.name(), signer.algorithm(), reply);
-                Ok(ShortTermReceived::Request(request))
+                Ok(Received::Request(request))
             }
         }
     }
@@ -317,22 +307,22 @@ impl<A: Memory> ShortTermServer<A> {
         message: Message<'a>,
         users: &'a ShortTermUsers<A>,
     ) -> ShortTermReceived<'a, A>
-        ensures { short_term_outcome_of result
+        ensures { outcome_of result
             ≡ indicated_by self.now message.entry (signer_of users.now message.entry) }
     {
         match signer_of(users, &message) {
             Ok(signer) => {
                 if self.responder.understands(&message) {
-                    ShortTermReceived::Indication(ShortTermIndication {
+                    Received::Indication(ShortTermIndication {
                         message,
                         user: signer.name(),
                         algorithm: signer.algorithm(),
                     })
                 } else {
-                    ShortTermReceived::Dropped(DropReason::UnknownAttribute)
+                    Received::Dropped(DropReason::UnknownAttribute)
                 }
             }
-            Err(refusal) => ShortTermReceived::NotSigned(refusal),
+            Err(refusal) => Received::Dropped(DropReason::NotSigned(refusal)),
         }
     }
 }

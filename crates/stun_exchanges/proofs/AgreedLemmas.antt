@@ -42,8 +42,8 @@ agreed : (p : Preferences) (set : AlgorithmSet) (a : IntegrityAlgorithm)
     (algorithms_of set)) (Some Sha1)
     ≡ Some a
 agreed p OnlySha1 Sha1 found = refl
-agreed p OnlySha1 Sha256 found = absurd (not_other p.hmac_sha1 found)
-agreed p OnlySha256 Sha1 found = absurd (not_weaker p.hmac_sha256 found)
+agreed p OnlySha1 Sha256 found = absurd (not_other (supports p Sha1) found)
+agreed p OnlySha256 Sha1 found = absurd (not_weaker (supports p Sha256) found)
 agreed p OnlySha256 Sha256 found = refl
 agreed p Both Sha1 found = refl
 agreed p Both Sha256 found = refl

@@ -47,8 +47,8 @@ not_weaker false is = cc
 pub supported_is : (p : Preferences) (set : AlgorithmSet) (a : IntegrityAlgorithm)
     → find (supports p) (algorithms_of set) ≡ Some a → contains a set ≡ true
 supported_is p OnlySha1 Sha1 found = refl
-supported_is p OnlySha1 Sha256 found = absurd (not_other p.hmac_sha1 found)
-supported_is p OnlySha256 Sha1 found = absurd (not_weaker p.hmac_sha256 found)
+supported_is p OnlySha1 Sha256 found = absurd (not_other (supports p Sha1) found)
+supported_is p OnlySha256 Sha1 found = absurd (not_weaker (supports p Sha256) found)
 supported_is p OnlySha256 Sha256 found = refl
 supported_is p Both Sha1 found = refl
 supported_is p Both Sha256 found = refl
@@ -66,7 +66,7 @@ list_again Both there =
 chosen_is : (p : Preferences) (set : AlgorithmSet) (a : IntegrityAlgorithm)
     → find (supports p) (algorithms_of set) ≡ Some a
     → cond (contains Sha256 set) (find (supports p) (algorithms_in (offered_by set)))
-    (cond p.hmac_sha1 (Some Sha1) None)
+    (cond (supports p Sha1) (Some Sha1) None)
     ≡ Some a
 chosen_is p OnlySha1 a found = found
 chosen_is p OnlySha256 a found = ap (find (supports p)) (list_again OnlySha256 refl) ∙ found
@@ -86,15 +86,15 @@ first_of_both p OnlySha1 Sha256 ours theirs = cc
 first_of_both p OnlySha256 Sha1 ours theirs = cc
 first_of_both p OnlySha256 Sha256 ours theirs = (Sha256, ap (λ b. cond b (Some Sha256) None) ours)
 first_of_both p Both Sha256 ours theirs =
-    (Sha256, ap (λ b. cond b (Some Sha256) (cond p.hmac_sha1 (Some Sha1) None)) ours)
-first_of_both p Both Sha1 ours theirs = by p.hmac_sha256 refl
+    (Sha256, ap (λ b. cond b (Some Sha256) (cond (supports p Sha1) (Some Sha1) None)) ours)
+first_of_both p Both Sha1 ours theirs = by (supports p Sha256) refl
   where
-    by : (b : Bool) → p.hmac_sha256 ≡ b
+    by : (b : Bool) → supports p Sha256 ≡ b
         → (c : IntegrityAlgorithm) × (find (supports p) (algorithms_of Both) ≡ Some c)
-    by true is = (Sha256, ap (λ b. cond b (Some Sha256) (cond p.hmac_sha1 (Some Sha1) None)) is)
+    by true is = (Sha256, ap (λ b. cond b (Some Sha256) (cond (supports p Sha1) (Some Sha1) None)) is)
     by false is = (
       Sha1,
-      ap (λ b. cond b (Some Sha256) (cond p.hmac_sha1 (Some Sha1) None)) is
+      ap (λ b. cond b (Some Sha256) (cond (supports p Sha1) (Some Sha1) None)) is
           ∙ ap (λ b. cond b (Some Sha1) None) ours,
     )
 
@@ -137,11 +137,11 @@ answered_by_rule p who users feature nonce a current agree =
     (option_map (challenge (cond (asks_for_algorithms nonce) list [])) (chosen p nonce list)))
     (not_lacking (is_required p.anonymous_username) (is_possible feature) agree.hashes)
     ∙ ap (λ b. option_map (challenge (cond b list []))
-    (cond b (find (supports p) (algorithms_in list)) (cond p.hmac_sha1 (Some Sha1) None)))
+    (cond b (find (supports p) (algorithms_in list)) (cond (supports p Sha1) (Some Sha1) None)))
     current.algorithms
     ∙ ap (λ l. option_map (challenge l)
     (cond (contains Sha256 users.algorithms) (find (supports p) (algorithms_in list))
-    (cond p.hmac_sha1 (Some Sha1) None)))
+    (cond (supports p Sha1) (Some Sha1) None)))
     (twice (contains Sha256 users.algorithms)
     (added.password_algorithms (algorithms_of users.algorithms)).value)
     ∙ ap (option_map (challenge list))

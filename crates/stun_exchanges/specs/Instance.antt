@@ -33,7 +33,7 @@ abbrev pub example_users : UserSecrets
 example_users = fin.insert fin.empty example_user.username (of_password example_user.password)
 
 abbrev pub example_preferences : Preferences
-example_preferences = record { hmac_sha1 = true; hmac_sha256 = true; anonymous_username = Auto }
+example_preferences = record { algorithms = Both; anonymous_username = Auto }
 
 -- whatever the secret is, they can meet, with HMAC-SHA256
 abbrev pub SidesCanMeet : Type 0

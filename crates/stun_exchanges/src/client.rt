@@ -19,14 +19,15 @@ ghost use Rattle.stun_exchanges.specs.Agreement.{AgreeOn, IsSignedAnswer, meant_
 ghost use Rattle.stun_exchanges.specs.Refusals.{RefusalsAreOfTheSameCredentials};
 ghost use Rattle.stun_exchanges.specs.Refusals.{SameCredentialsAreRefused};
 
-/// A client answers a server with which it has an algorithm in common. If both support an
-/// algorithm, and the server accepts hashed user names or the client need not send them, there is
-/// an algorithm on which they agree (`agreed`). By the rule, the client reads the server's realm,
-/// nonce and list as exactly the challenge that the server intended, with this algorithm
-/// (`answered`). It is the strongest algorithm that both support (`strongest`).
+/// A client that has an algorithm in common with a server can answer the server's challenges.
 ///
-/// Premise of `answered`: the nonce is up to date, as each nonce of a server is
-/// (`stun_client::laws::nonces_of_a_server_are_up_to_date`).
+/// - `agreed`: if both support an algorithm, there is an algorithm on which they agree. Premise:
+///   the server accepts hashed user names, or the client need not send them.
+/// - `answered`: from the server's realm, nonce and list of algorithms, the client's rule
+///   (`by_rule`) makes exactly the challenge that the server intended, with the algorithm on which
+///   they agree. Premise: the nonce is up to date, as each nonce of a server is
+///   (`stun_client::laws::nonces_of_a_server_are_up_to_date`).
+/// - `strongest`: the algorithm on which they agree is the strongest that both support.
 pub fn common_algorithms_are_answered()
     ensures agreed { (p : Preferences) (server : AlgorithmSet) (feature : Feature)
         (a : IntegrityAlgorithm) → supports p a ≡ true → contains a server ≡ true
@@ -42,9 +43,12 @@ pub fn common_algorithms_are_answered()
         (a : IntegrityAlgorithm) → AgreeOn p server feature a → IsStrongestOfBoth p server a }
 {}
 
-/// A response ends a request that was signed for a challenge if it is signed with the key of that
-/// challenge, is neither a 401 nor a 438, and is not dropped because of its FINGERPRINT. The
-/// request then ends as answered, with the algorithm of that signature.
+/// If the current message of a request is signed for a challenge, and the response to this message
+/// is signed with the key of the same challenge, the client believes the response. The request then
+/// ends as answered, with the algorithm of the response's signature.
+///
+/// Premises: the response is neither a 401 nor a 438, and is not dropped because of its
+/// FINGERPRINT.
 pub fn signed_answers_are_believed()
     ensures { (required : Bool) (who : NameAndPassword) (p : Preferences)
         (accepts_unsigned : Bool) (standing : StandingSeen) (c : Answered) (bytes : List ℕ)
@@ -53,11 +57,11 @@ pub fn signed_answers_are_believed()
         ≡ believed (Some a) }
 {}
 
-/// A response that repeats the challenge that a request was signed for counts as a refusal of the
-/// request. A response with any other challenge counts only if it is a 401, and the request was
-/// signed for the same realm and for a nonce that asks for the same credentials (`only`). Each such
-/// 401 for which the request is sent again counts (`each`). A 438 does not count, because an
-/// expired nonce says nothing about the password.
+/// Says which challenges count as a refusal of a signed request. The challenge for which the
+/// request was signed always counts. Another challenge counts only if the response is a 401, and
+/// the challenge has the same realm and a nonce with the same security bits (`only`). Each such 401
+/// that causes the request to be sent again counts (`each`). A 438 with another challenge does not
+/// count, because an expired nonce says nothing about the password.
 pub fn refusals_ask_for_the_same_credentials()
     ensures only { RefusalsAreOfTheSameCredentials }
     ensures each { SameCredentialsAreRefused }

@@ -1,6 +1,6 @@
 //! Laws about the messages that a client and a server of this library exchange: the challenge, the
 //! signed request, and the signed answer (RFC 8489, sections 9.2.3 to 9.2.5). They do nothing when
-//! they run.
+//! they run. An *epoch* is the time for which the server sends an address the same nonce.
 ghost use Rattle.stun_exchanges.specs.Exchange.{AnswersAreSigned, BindingAnswersAreSigned};
 ghost use Rattle.stun_exchanges.specs.Exchange.{ChallengesAreAnswered, ChallengesAreRead};
 ghost use Rattle.stun_exchanges.specs.Exchange.{SignedAreAccepted, SuccessesArePages};
@@ -9,11 +9,14 @@ ghost use Rattle.stun_exchanges.specs.Instance.{SidesCanMeet};
 /// A client reads each 401 and each 438 that a server writes as the challenge that the server
 /// intended, whatever the request was and whatever challenge came before. The response answers the
 /// request, and is not dropped because of its FINGERPRINT. The challenge that the client reads in
-/// it is the one that the rule makes from the server's realm, the nonce and the server's
-/// algorithms.
+/// the response is the one that its rule (`by_rule`) makes from the server's realm, the nonce and
+/// the server's algorithms.
 ///
-/// Premises: the server was built (`IsServer`, which `Server::new` ensures), an ID has 96 bits, and
-/// a client that requires FINGERPRINT sends one.
+/// Premises:
+///
+/// - The server was built (`IsServer`, which `Server::new` ensures).
+/// - The transaction ID has 96 bits.
+/// - If the client requires FINGERPRINT in responses, the request has FINGERPRINT.
 pub fn challenges_are_read_as_meant()
     ensures { ChallengesAreRead }
 {
@@ -24,17 +27,19 @@ pub fn challenges_are_read_as_meant()
     stun_types::laws::writing_adds_one_attribute();
 }
 
-/// A client with long-term credentials answers each challenge of a server with which it has an
-/// algorithm in common: after a 401 or a 438 to the current message of a request, the client sends
-/// the request again, signed for the challenge that the server intended. A 401 to a message that
-/// was signed for the same realm and security bits also counts as a refusal, but a 438 does not
+/// A client with long-term credentials answers the challenges of a server with which it agrees on
+/// an algorithm. After a 401 or a 438 to the current message of a request, the client sends the
+/// request again, signed for the challenge that the server intended. A 401 to a message that was
+/// signed for the same realm and security bits also counts as a refusal, but a 438 does not
 /// (`answered_to`).
 ///
-/// Premises, in addition to those of `challenges_are_read_as_meant`: client and server agree on an
-/// algorithm (`AgreeOn`, which `common_algorithms_are_answered` provides for any algorithm that
-/// both support), the message was not signed for this challenge already, and the challenge is not
-/// weaker than a challenge that a success has confirmed. The last premise always holds at a client
-/// that has had no success.
+/// Premises, in addition to those of `challenges_are_read_as_meant`:
+///
+/// - Client and server agree on an algorithm (`AgreeOn`). Law `common_algorithms_are_answered` says
+///   when there is such an algorithm.
+/// - The message was not already signed for this challenge.
+/// - The challenge is not weaker than the challenge that was confirmed last. This always holds for
+///   a client that has received no success response.
 pub fn challenges_of_a_server_are_answered()
     ensures { ChallengesAreAnswered }
 {
@@ -44,15 +49,19 @@ pub fn challenges_of_a_server_are_answered()
     stun_client::laws::answerable_challenges_are_answered();
 }
 
-/// A server accepts each request that one of its users has signed for the server's challenge, in
-/// the epoch of the nonce and in the next epoch, whatever method and body the request has. It
-/// accepts the request as that user's, with the algorithm on which both sides agree, which is the
-/// strongest that both support. The user may be named by a hash.
+/// A server accepts each request that one of its users has signed for the server's challenge, if
+/// the request arrives in the epoch of the challenge's nonce or in the next epoch. The server
+/// accepts it as a request of that user, with the algorithm on which both sides agree, which is the
+/// strongest that both support. The request may have any method and body, and may name the user by
+/// a hash.
 ///
-/// Premises: both sides agree on an algorithm (`AgreeOn`); the user is registered with this
-/// password and found by the hash of the name, so no earlier user in the order of names has the
-/// same hash (`IsRegisteredUser`; no two texts with the same SHA-256 are known); and the request is
-/// not dropped.
+/// Premises:
+///
+/// - Both sides agree on an algorithm (`AgreeOn`).
+/// - The user is registered with this password (`IsRegisteredUser`), and no earlier user in the
+///   order of names has the same hash, so the server finds the user by the hash. No two texts with
+///   the same SHA-256 are known.
+/// - The request is not dropped.
 pub fn users_are_accepted_by_the_strongest()
     ensures { SignedAreAccepted }
 {
@@ -60,15 +69,26 @@ pub fn users_are_accepted_by_the_strongest()
     crate::server::clients_are_accepted_while_their_nonce_lasts();
 }
 
-/// A response that a server completes with its signature answers the request and is a signed
-/// answer: it ends with SOFTWARE if the server sends it, the signature under the key, and
-/// FINGERPRINT if the request has one (`written`). Each success is such a response (`successes`),
-/// and so is the server's own answer to a Binding request (`binding`). A client believes such a
-/// response if the request was signed with that key (`signed_answers_are_believed`).
+/// The responses that a server completes are signed answers (`IsSignedAnswer`). To complete a
+/// response, the server adds SOFTWARE if its settings have such a text, then a signature under a
+/// key, and then FINGERPRINT if the request has one.
 ///
-/// Premises: before these attributes are added, the response is a message with the request's method
-/// and ID, with a code other than 401 and 438, of at most 60,000 bytes (`IsPage`); the server was
-/// built; an ID has 96 bits; and a client that requires FINGERPRINT sends one.
+/// - `written`: a completed response answers the request and is a signed answer.
+/// - `successes`: each success response to the request can be completed in this way.
+/// - `binding`: the response that the server itself writes to a Binding request answers the request
+///   and is a signed answer.
+///
+/// A client believes a signed answer if the request was signed with the same key
+/// (`signed_answers_are_believed`).
+///
+/// Premises:
+///
+/// - Before it is completed, the response is a message of at most 60,000 bytes with the request's
+///   method and transaction ID, without a signature and without FINGERPRINT. It is neither a 401
+///   nor a 438 (`IsPage`).
+/// - The server was built.
+/// - The transaction ID has 96 bits.
+/// - If the client requires FINGERPRINT in responses, the request has FINGERPRINT.
 pub fn answers_of_a_server_are_signed()
     ensures written { AnswersAreSigned }
     ensures successes { SuccessesArePages }
@@ -78,7 +98,8 @@ pub fn answers_of_a_server_are_signed()
     stun_types::laws::writing_adds_one_attribute();
 }
 
-/// There are a server, a user and a client for which the premises of these laws hold.
+/// There are a server, a user and a client for which the premises of these laws hold. The server
+/// supports both algorithms and accepts hashed user names, and it may have any secret.
 pub fn sides_can_meet()
     ensures { SidesCanMeet }
 {}

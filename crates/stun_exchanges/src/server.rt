@@ -1,6 +1,7 @@
-//! Laws about a server alone: it challenges unsigned requests, its nonces last for two epochs, and
-//! a datagram has the same outcome for all passwords of a user under which its signature is invalid
-//! (RFC 8489, section 9.2.4).
+//! Laws about a server alone (RFC 8489, section 9.2.4). The server challenges unsigned requests,
+//! and accepts a nonce for two epochs. An *epoch* is the time for which it sends an address the
+//! same nonce. A datagram has the same outcome under all passwords of a user for which its
+//! signature is invalid.
 ghost use Rattle.std.specs.Prelude.{◌≡◌, ℕ, List, None, Some};
 ghost use Rattle.std.specs.declared.net.socket_addr.SocketAddr.{SocketAddr};
 ghost use Rattle.stun_base.specs.MessageType.{class_in};
@@ -20,9 +21,8 @@ ghost use Rattle.stun_endpoint.specs.declared.received.Refusal.TheVariants as re
 ghost use Rattle.stun_exchanges.specs.Exchange.{IsWithinPeriod};
 ghost use Rattle.stun_exchanges.specs.OtherSecrets.{with_secret_at};
 
-/// A server challenges each unsigned request, whatever its users are: unless the request is
-/// dropped, the server answers it with a 401 that has the current nonce of the request's source
-/// address.
+/// A server challenges each unsigned request, whatever users it has. Unless the request is dropped,
+/// the server answers it with a 401 that has the current nonce of the request's source address.
 pub fn unsigned_requests_are_challenged()
     ensures { (s : Settings) (realm : Realm) (from : SocketAddr) (now : ℕ) (bytes : List ℕ)
         → drop_reason s.requires_fingerprint bytes ≡ None → class_in bytes ≡ MessageClass.Request
@@ -32,11 +32,14 @@ pub fn unsigned_requests_are_challenged()
         bytes) }
 {}
 
-/// A client that is accepted under a nonce is accepted while the nonce lasts: in the epoch in which
-/// the server wrote the nonce, and in the next epoch. A request that is not dropped has the outcome
-/// of an accepted request if it has a REALM, the nonce that was current when the server wrote it,
-/// algorithms that agree with the server's, and a valid signature under the key of the registered
-/// user whom it names (`IsAccepted` of `stun_auth`).
+/// A client is accepted while its nonce lasts: in the epoch in which the server wrote the nonce,
+/// and in the next epoch. In these two epochs, a request that is not dropped has the outcome of an
+/// accepted request if it meets the following conditions (`IsAccepted` of `stun_auth`):
+///
+/// - It has a REALM.
+/// - Its nonce is the one that was current for its source when the server wrote the nonce.
+/// - Its algorithms agree with the server's.
+/// - Its signature is valid under the key of the registered user whom it names.
 pub fn clients_are_accepted_while_their_nonce_lasts()
     ensures { (s : Settings) (realm : Realm) (from : SocketAddr) (made now : ℕ) (bytes : List ℕ)
         (client : ClientSeen) → drop_reason s.requires_fingerprint bytes ≡ None
@@ -49,12 +52,13 @@ pub fn clients_are_accepted_while_their_nonce_lasts()
     stun_endpoint::laws::requests_are_accepted_under_their_nonces();
 }
 
-/// The outcome of a datagram reveals nothing about a password. If a user gets another password or
-/// other keys, a datagram whose signature is valid neither under the former keys nor under the new
-/// keys has the same outcome as before, byte for byte (`received`). If such a datagram has the
-/// user's name, its outcome is the same as if the user were not registered (`unregistered`).
+/// The outcome of a datagram reveals nothing about a password. Suppose that a user gets a new
+/// password or new keys. A datagram whose signature is valid neither under the old keys nor under
+/// the new keys then has the same outcome as before, byte for byte (`received`). If such a datagram
+/// names the user in USERNAME, and has no USERHASH, its outcome is the same as if the user were not
+/// registered (`unregistered`).
 ///
-/// The law does not limit the time that an answer takes.
+/// The law says nothing about the time that an answer takes.
 pub fn outcomes_tell_no_password()
     ensures received { (s : Settings) (realm : Realm) (name : List ℕ) (one other : UserSecret)
         (from : SocketAddr) (now : ℕ) (bytes : List ℕ)

@@ -1,7 +1,7 @@
 -- PASSWORD-ALGORITHMS with algorithms of every number and with their parameters (RFC 8489, section
--- 14.11). An entry is the number of an algorithm and the length of its parameters, of 2 bytes each,
--- and the parameters, padded to a multiple of 4 bytes in the same manner as an attribute. So it has
--- the form of an attribute: its kind is the number, and its value is the parameters.
+-- 14.11). An entry consists of the number of an algorithm and the length of its parameters, of 2
+-- bytes each, and the parameters, which are padded to a multiple of 4 bytes. So it has the form of
+-- an attribute whose kind is the number, and whose value is the parameters.
 use Rattle.std.specs.Prelude.{ℕ, Bool, List, length, Option, Some, None, ◌==◌, ◌&&◌}
 use Rattle.std.specs.Prelude.{if◌then◌else◌, Result, Ok, Err, nat_lt}
 use Rattle.stun_base.specs.Attributes.{PASSWORD_ALGORITHMS}

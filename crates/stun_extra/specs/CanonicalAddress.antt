@@ -1,4 +1,5 @@
--- Socket addresses, whose two spellings of IPv4 are one (RFC 4291, section 2.5.5.2).
+-- Socket addresses. The two spellings of an IPv4 address count as the same address (RFC 4291,
+-- section 2.5.5.2).
 use Rattle.std.specs.Prelude.{◌≡◌, ℕ, List, [], ◌∷◌, ◌++◌, Bool, ◌&&◌, ◌==◌, take}
 use Rattle.std.specs.Prelude.{if◌then◌else◌}
 use Rattle.std.specs.Net.Addr.{IsIpv4Mapped, MatchIp, ipv4_octets, ipv6_octets, ipv6_segments}
@@ -15,7 +16,8 @@ use Rattle.stun_types.specs.Attribute.{TypedValue}
 use Rattle.stun_types.specs.XorMappedAddress.{XoredAddress, xor_bytes, xor_key, xor_port}
 use Rattle.stun_types.specs.XorMappedAddress.{xored_value}
 
--- sixteen octets of an address. Those of IPv4 are those of the IPv6 address ::ffff:a.b.c.d
+-- the sixteen octets of an address. An IPv4 address has the octets of the IPv6 address
+-- ::ffff:a.b.c.d
 abbrev pub address_octets : IpAddr → List ℕ
 address_octets (V4 ip) =
     0 ∷ 0 ∷ 0 ∷ 0 ∷ 0 ∷ 0 ∷ 0 ∷ 0 ∷ 0 ∷ 0 ∷ 255 ∷ 255 ∷ [] ++ ipv4_octets ip

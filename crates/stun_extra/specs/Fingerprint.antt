@@ -1,5 +1,6 @@
 -- FINGERPRINT (RFC 8489, section 14.7): the last attribute of a message, whose value is the CRC-32
--- of the message up to it, XORed with a number. The length in the header counts it already.
+-- of the bytes before it, XORed with a number. The length in the header of these bytes includes
+-- FINGERPRINT already.
 use Rattle.std.specs.Prelude.{ℕ, ◌+◌, Bool, List, length, take, bit_xor}
 use Rattle.std.specs.Prelude.{◌==◌, ◌&&◌, Option, Some, None, if◌then◌else◌}
 use Rattle.byteorder.specs.Endian.{big_bytes, big_number}
@@ -21,11 +22,12 @@ use Rattle.stun_extra.specs.declared.fingerprint.Fingerprint.TheVariants.{Mispla
 abbrev pub FINGERPRINT_XOR : ℕ
 FINGERPRINT_XOR = 0x5354554E
 
--- the number in a FINGERPRINT after these bytes of a message
+-- the number in a FINGERPRINT that follows these bytes of a message
 abbrev pub fingerprint_word : List ℕ → ℕ
 fingerprint_word bytes = bit_xor (crc32 bytes) FINGERPRINT_XOR
 
--- the FINGERPRINT at the end of a message, whose length field counts its 4 bytes of value
+-- the FINGERPRINT to add at the end of a message. The length field that its CRC-32 covers includes
+-- the FINGERPRINT, whose value has 4 bytes
 abbrev pub fingerprint_attribute : List ℕ → TypedValue
 fingerprint_attribute message = record {
   kind = FINGERPRINT;
@@ -46,7 +48,7 @@ fingerprint_refusal message room =
 abbrev pub is_in_place : List ℕ → Member → Bool
 is_in_place message m = (length m.1.value == 4) && (m.0 + 8 == length message)
 
--- the state of an attribute as a FINGERPRINT of a message
+-- the state of an attribute that is read as the FINGERPRINT of a message
 abbrev pub fingerprint_at : List ℕ → Member → Fingerprint
 fingerprint_at message m =
     if is_in_place message m

@@ -10,7 +10,7 @@ use Rattle.stun_extra.specs.Turn.{IsAnyChannel}
 use Rattle.stun_extra.specs.declared.framing.Frame.{Frame}
 use Rattle.stun_extra.specs.declared.framing.Frame.TheVariants.{Need, Message, NotStun}
 
--- the frame at the front of bytes that begin with a message of this length, by how many of its
+-- the frame at the front of a stream that begins with a message of `whole` bytes, of which `there`
 -- bytes have arrived
 abbrev pub frame_to : ℕ → ℕ → Frame
 frame_to there whole = if nat_lt there whole then Need (whole - there) else Message whole
@@ -22,8 +22,8 @@ BLANK_HEADER =
     0 ∷ 0 ∷ 0 ∷ 0 ∷ 0x21 ∷ 0x12 ∷ 0xA4 ∷ 0x42
     ∷ 0 ∷ 0 ∷ 0 ∷ 0 ∷ 0 ∷ 0 ∷ 0 ∷ 0 ∷ 0 ∷ 0 ∷ 0 ∷ 0 ∷ []
 
--- whether a header may begin with these bytes: it does if a blank header has the rest of it (law
--- `stream_is_cut_into_its_messages`, clause `refused`)
+-- whether a header may begin with these bytes: they form a header together with the rest of a blank
+-- header (law `stream_is_cut_into_its_messages`, clause `refused`)
 abbrev pub may_begin : List ℕ → Bool
 may_begin bytes = is_stun (bytes ++ drop (length bytes) BLANK_HEADER)
 
@@ -43,15 +43,15 @@ pub record IsStunPacket (packet : List ℕ) : Type 0 where
 
 -- ---- a stream
 
--- the first `n` bytes of a whole, fewer than it has, are `Need`, with at most the number of bytes
--- that the whole lacks
+-- for the first `n` bytes of `whole`, `reader` returns `Need`, with at least 1 and at most the
+-- number of bytes that are missing
 pub record IsPartBy (reader : List ℕ → Frame) (whole : List ℕ) (n : ℕ) : Type 0 where
   pub needed : ℕ
   pub answer : reader (take n whole) ≡ Need needed
   pub some : 1 ≤ needed
   pub within : n + needed ≤ length whole
 
--- whatever bytes follow, the bytes together do not begin in this way
+-- whatever bytes follow these bytes, all of them together do not begin in this way
 abbrev pub NeverBegins : (List ℕ → Type 0) → List ℕ → Type 0
 NeverBegins Begins bytes =
     (more : List ℕ) → ((i : ℕ) → slice_index more i < 2 ^ 8) → Begins (bytes ++ more) → ⊥
@@ -65,7 +65,7 @@ pub record Cut : Type 0 where
 abbrev pub with_first : List ℕ → Cut → Cut
 with_first message others = record { messages = message ∷ others.messages; rest = others.rest }
 
--- if there is a message at the front, it is cut off, and then what follows it is cut
+-- if there is a message at the front, it is cut off, and the bytes after it are cut by `others`
 abbrev pub cut_by : Frame → (List ℕ → Cut) → List ℕ → Cut
 cut_by (Message n) others bytes = with_first (take n bytes) (others (drop n bytes))
 cut_by (Need n) others bytes = record { messages = []; rest = bytes }
@@ -76,11 +76,11 @@ unfoldable pub cut_up_to : (List ℕ → Frame) → ℕ → List ℕ → Cut
 cut_up_to reader zero bytes = record { messages = []; rest = bytes }
 cut_up_to reader (suc most) bytes = cut_by (reader bytes) (cut_up_to reader most) bytes
 
--- all messages: there are at most as many as bytes
+-- all messages. There are at most as many messages as bytes
 abbrev pub cut_of : (List ℕ → Frame) → List ℕ → Cut
 cut_of reader bytes = cut_up_to reader (length bytes) bytes
 
--- more bytes follow what was left, and are cut with it
+-- the result after more bytes have arrived, which are cut together with the bytes that were left
 abbrev pub cut_with_more : (List ℕ → Frame) → Cut → List ℕ → Cut
 cut_with_more reader before more =
     record {
@@ -98,13 +98,13 @@ IsLeftOver reader bytes = (n : ℕ) → reader bytes ≡ Message n → ⊥
 abbrev pub framed_packet : List ℕ → List ℕ
 framed_packet packet = big_bytes 2 (length packet) ++ packet
 
--- such a packet
+-- bytes that are such a packet with its length
 pub record IsFramedPacket (bytes : List ℕ) : Type 0 where
   pub packet : List ℕ
   pub fits : length packet < 2 ^ 16
   pub framed : bytes ≡ framed_packet packet
 
--- the frame at the front of bytes, if such packets are expected
+-- the frame at the front of bytes in a stream of such packets
 abbrev pub packet_frame_of : List ℕ → Frame
 packet_frame_of bytes =
     if nat_lt (length bytes) 2 then Need (2 - length bytes)
@@ -117,7 +117,8 @@ channel_data channel bytes =
     big_bytes 2 channel ++ big_bytes 2 (length bytes) ++ bytes
     ++ replicate (padded_length (length bytes) - length bytes) 0
 
--- such data, on a channel of RFC 5766 (section 11), whose range includes that of RFC 8656
+-- bytes that are such ChannelData, on a channel of RFC 5766 (section 11), whose range of channels
+-- includes the range of RFC 8656
 pub record IsChannelData (bytes : List ℕ) : Type 0 where
   pub channel : ℕ
   pub data_bytes : List ℕ
@@ -136,8 +137,8 @@ channel_frame_of bytes =
     if nat_lt (length bytes) 4 then Need (4 - length bytes)
     else frame_to (length bytes) (4 + padded_length (big_number 2 (drop 2 bytes)))
 
--- the frame at the front of bytes, if ChannelData and messages are expected: their first byte
--- distinguishes them, and each has at least 4 bytes
+-- the frame at the front of bytes in a stream of messages and ChannelData. The first byte
+-- distinguishes the two, and each has at least 4 bytes
 abbrev pub turn_frame_of : List ℕ → Frame
 turn_frame_of bytes =
     if length bytes == 0 then Need 4
@@ -147,7 +148,7 @@ turn_frame_of bytes =
 abbrev pub IsTurnItem : List ℕ → Type 0
 IsTurnItem bytes = IsMessage bytes ⊎ IsChannelData bytes
 
--- the bytes begin with a header of either
+-- the bytes begin with the header of a message or of ChannelData
 abbrev pub BeginsWithTurnHeader : List ℕ → Type 0
 BeginsWithTurnHeader bytes =
     BeginsWithHeader bytes ⊎ ((4 ≤ length bytes) × IsTrue (is_channel bytes))

@@ -23,7 +23,8 @@ pub mod Framing
 pub mod AttributeTypes
 -- how values of one form are read
 pub mod Values
--- socket addresses, whose two spellings of IPv4 are one (RFC 4291, section 2.5.5.2)
+-- socket addresses, where the two spellings of an IPv4 address count as the same (RFC 4291, section
+-- 2.5.5.2)
 pub mod CanonicalAddress
 -- the values of TURN's attributes (RFC 8656, section 18)
 pub mod Turn

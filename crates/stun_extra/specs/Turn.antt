@@ -1,6 +1,6 @@
--- The values of TURN's attributes (RFC 8656, section 18), byte by byte. What is reserved in them is
--- zero when written, and ignored when read. Those of one number, of nothing or of bytes alone are
--- read as `Values` says.
+-- The values of TURN's attributes (RFC 8656, section 18), byte by byte. Reserved bits are zero when
+-- written, and ignored when read. Values that consist only of a number or of bytes, and empty
+-- values, are read as `Values` says.
 use Rattle.std.specs.Prelude.{◌≡◌, ◌≤◌, ◌<◌, ◌^◌, ℕ, Bool, List, [], ◌∷◌, ◌++◌, length}
 use Rattle.std.specs.Prelude.{slice_index, Option, Some, None, nat_le, nat_lt, ◌==◌, ◌&&◌}
 use Rattle.std.specs.Prelude.{if◌then◌else◌}
@@ -13,16 +13,16 @@ use Rattle.stun_types.specs.XorMappedAddress.{IsXored, XoredAddress, xored_of, x
 use Rattle.stun_types.specs.XorMappedAddressLaws.{xored_of-written}
 use Rattle.stun_extra.specs.AttributeTypes.{CHANNEL_NUMBER, REQUESTED_TRANSPORT}
 
--- whether a channel has this number (section 12)
+-- whether RFC 8656 allows a channel with this number (section 12)
 abbrev pub is_channel_number : ℕ → Bool
 is_channel_number number = nat_le 0x4000 number && nat_lt number 0x5000
 
--- whether a channel in RFC 5766 (section 11) has this number. Their range includes that of RFC
--- 8656, whose clients still bind such channels
+-- whether RFC 5766 (section 11) allows a channel with this number. Its range includes the range of
+-- RFC 8656, and clients of RFC 5766 still bind such channels
 abbrev pub is_any_channel_number : ℕ → Bool
 is_any_channel_number number = nat_le 0x4000 number && nat_lt number 0x8000
 
--- a number of a channel in RFC 5766
+-- a channel number that RFC 5766 allows
 abbrev pub IsAnyChannel : ℕ → Type 0
 IsAnyChannel number = (0x4000 ≤ number) × (number < 0x8000)
 
@@ -30,7 +30,7 @@ IsAnyChannel number = (0x4000 ≤ number) × (number < 0x8000)
 abbrev pub channel_value : ℕ → List ℕ
 channel_value channel = big_bytes 2 channel ++ 0 ∷ 0 ∷ []
 
--- the channel in an attribute of this type, as RFC 5766 allows it
+-- the channel number in a CHANNEL-NUMBER, if RFC 5766 allows it
 abbrev pub channel_of : TypedValue → Option ℕ
 channel_of attribute =
     if attribute.kind == CHANNEL_NUMBER && (length attribute.value == 4)

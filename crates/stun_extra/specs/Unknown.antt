@@ -1,4 +1,4 @@
--- Types of attributes that must be understood and are not known (RFC 8489, sections 6.3.1 and
+-- The types of attributes that must be understood but are not known (RFC 8489, sections 6.3.1 and
 -- 14.13).
 use Rattle.std.specs.Prelude.{◌≡◌, ◌<◌, ◌+◌, ◌*◌, ◌/◌, ◌%◌, ◌^◌, ℕ, Bool, true, false, List, []}
 use Rattle.std.specs.Prelude.{◌∷◌, codes, filter, map, length, nat_lt, not, ◌==◌}
@@ -31,7 +31,7 @@ is_known known kind = list_any (λ k. k.0 == kind) known
 abbrev pub is_unknown : List AttributeType → ℕ → Bool
 is_unknown known kind = is_comprehension_required kind && not (is_known known kind)
 
--- each number of a list, where it occurs first
+-- the list without repeats: each number stays only where it occurs first
 abbrev pub without_repeats : List ℕ → List ℕ
 without_repeats [] = []
 without_repeats (x ∷ xs) = x ∷ filter (λ y. not (y == x)) (without_repeats xs)
@@ -44,8 +44,8 @@ kinds_of members = map (λ m. m.1.kind) members
 abbrev pub types_of : List ℕ → List AttributeType
 types_of kinds = map (λ kind. record { 0 = kind }) kinds
 
--- the types of visible attributes that must be understood and are not known, in their order, each
--- once
+-- the types of the visible attributes that must be understood but are not known, in their order and
+-- each only once
 abbrev pub unknown_types : List AttributeType → List ℕ → List AttributeType
 unknown_types known bytes =
     types_of (without_repeats (filter (is_unknown known) (kinds_of (visible bytes))))
@@ -55,12 +55,12 @@ abbrev pub is_empty : List AttributeType → Bool
 is_empty [] = true
 is_empty (kind ∷ kinds) = false
 
--- a message has a visible attribute that must be understood and is not known
+-- a message has a visible attribute that must be understood but is not known
 abbrev pub HasUnknown : List AttributeType → List ℕ → Type 0
 HasUnknown known bytes = unknown_types known bytes ≢ []
 
--- a response ends its transaction as failed, whatever else it says: it has such an attribute, or is
--- an error response without ERROR-CODE (sections 6.3.3 and 6.3.4)
+-- a response makes its request fail, whatever else it contains: it has such an attribute, or is an
+-- error response without ERROR-CODE (sections 6.3.3 and 6.3.4)
 abbrev pub EndsFailed : List AttributeType → List ℕ → Type 0
 EndsFailed known response =
     HasUnknown known response

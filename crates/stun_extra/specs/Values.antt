@@ -1,5 +1,5 @@
--- How values of one form are read: a number, nothing, or bytes. A value of another length than its
--- type has is malformed.
+-- How values that consist only of a number or of bytes, and empty values, are read. A value whose
+-- length differs from that of its type is malformed.
 use Rattle.std.specs.Prelude.{◌≡◌, ◌<◌, ◌^◌, ℕ, List, [], length, Option}
 use Rattle.std.specs.Prelude.{Some, None, ◌==◌, ◌&&◌, if◌then◌else◌}
 use Rattle.std.proofs.Common.{rules, sym, ap, ◌∙◌}

@@ -30,8 +30,8 @@ pub use text::Text;
 pub use tie_breaker::TieBreaker;
 pub use xored::XorAddress;
 
-/// SOFTWARE (RFC 8489, section 14.14): a description of the software that the sender uses, in UTF-8
-/// of at most 763 bytes.
+/// SOFTWARE (RFC 8489, section 14.14): a description of the software that the sender uses, which is
+/// UTF-8 text of at most 763 bytes.
 pub type Software<'a> = Text<'a, 0x8022, TEXT_LIMIT>;
 
 impl<'a> Software<'a> {
@@ -62,11 +62,11 @@ impl Priority {
 pub type UseCandidate = Flag<0x0025>;
 
 /// ICE-CONTROLLED (RFC 8445, section 16.1): the sender is in the controlled role. The tie-breaker,
-/// a random number of 64 bits, resolves a role conflict.
+/// a random 64-bit number, resolves a role conflict.
 pub type IceControlled = TieBreaker<0x8029>;
 
 /// ICE-CONTROLLING (RFC 8445, section 16.1): the sender is in the controlling role. The
-/// tie-breaker, a random number of 64 bits, resolves a role conflict.
+/// tie-breaker, a random 64-bit number, resolves a role conflict.
 pub type IceControlling = TieBreaker<0x802A>;
 
 /// XOR-PEER-ADDRESS (RFC 8656, section 18.3): the address of a peer, XORed as in

@@ -29,10 +29,10 @@ pub fn crc32(bytes: &[u8]) -> u32
 
 /// Returns the remainder after the bits of eight more bytes.
 ///
-/// The division is linear, so the result is the XOR of eight remainders, one for each byte: the
-/// remainder after this byte alone, followed by as many zero bytes as come after it among the
-/// eight. Before that, the four bytes of the remainder so far are XORed with the first four of the
-/// eight bytes.
+/// First, the four bytes of the remainder so far are XORed with the first four of the eight bytes.
+/// Because the division is linear, the result is then the XOR of eight remainders, one for each of
+/// the eight bytes: the remainder after this byte, followed by as many zero bytes as there are
+/// bytes after it.
 fn after_eight(remainder: u32, bytes: &[u8; 8]) -> u32
     ensures { result ≡ fold after_byte remainder bytes.now }
 {

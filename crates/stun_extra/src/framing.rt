@@ -122,10 +122,10 @@ pub fn next_packet_frame(bytes: &[u8]) -> Frame
 /// over TCP (RFC 8656, sections 12.4 and 12.5). The first byte must be the first byte of a message
 /// or of ChannelData.
 ///
-/// If the first byte is 0x40 to 0x7F, `Message` stands for ChannelData, and counts its header of 4
-/// bytes and its padding too. RFC 8656 uses only channels that begin with 0x40 to 0x4F, and
-/// RFC 5766 uses all of them. Like [`next_frame`], the call returns `NotStun` as soon as one byte
-/// rules out both.
+/// If the first byte is 0x40 to 0x7F, `Message` means ChannelData, and its number of bytes includes
+/// the header of 4 bytes and the padding. RFC 8656 uses only channels that begin with 0x40 to 0x4F,
+/// and RFC 5766 uses all of them. Like [`next_frame`], the call returns `NotStun` as soon as one
+/// byte rules out both.
 ///
 /// It does not allocate.
 ///

@@ -25,7 +25,7 @@ pub fn one_changed_byte_changes_the_crc()
 {}
 
 /// If two messages have the same FINGERPRINT at the same offset, and differ in one byte before it,
-/// the FINGERPRINT is right in at most one of them.
+/// the FINGERPRINT is valid in at most one of them.
 pub fn one_changed_byte_makes_fingerprint_wrong()
     ensures { (front behind : List ℕ) (byte other : ℕ) (m : Member)
         → byte < 256 → other < 256 → length front < m.0
@@ -43,9 +43,9 @@ pub fn each_number_is_there_once()
 {}
 
 /// A stream of messages is cut into exactly these messages (`cut`), whatever pieces it arrives in
-/// (`fed`). A whole message is found whatever follows it (`whole`). For a part of a message, the
-/// result is `Frame::Need` with at least 1 byte, and at most the number of bytes that are missing
-/// (`begun`). Any stream is refused as soon as no message can begin with the bytes that have
+/// (`fed`). A whole message is found whatever follows it (`whole`). For the beginning of a message,
+/// the result is `Frame::Need` with at least 1 byte, and at most the number of bytes that are
+/// missing (`begun`). A stream is refused as soon as no message can begin with the bytes that have
 /// arrived (`refused`).
 pub fn stream_is_cut_into_its_messages()
     ensures whole { (message rest : List ℕ) → IsMessage message
@@ -63,10 +63,11 @@ pub fn stream_is_cut_into_its_messages()
         ≡ cut_with_more frame_of (cut_of frame_of bytes) more }
 {}
 
-/// A stream in which each packet of less than 65,536 bytes follows its length is cut into exactly
-/// these packets (`cut`), whatever pieces it arrives in (`fed`). A whole packet is found whatever
-/// follows it (`whole`). For a part of a packet, the result is `Frame::Need` with at least 1 byte,
-/// and at most the number of bytes that are missing (`begun`).
+/// A stream of packets, each of which follows its length, is cut into exactly these packets
+/// (`cut`), whatever pieces it arrives in (`fed`). A whole packet is found whatever follows it
+/// (`whole`). For the beginning of a packet, the result is `Frame::Need` with at least 1 byte, and
+/// at most the number of bytes that are missing (`begun`). Premise: each packet has less than
+/// 65,536 bytes.
 pub fn packet_is_framed()
     ensures whole { (packet rest : List ℕ) → length packet < 2 ^ 16
         → packet_frame_of (framed_packet packet ++ rest)
@@ -81,12 +82,12 @@ pub fn packet_is_framed()
         ≡ cut_with_more packet_frame_of (cut_of packet_frame_of bytes) more }
 {}
 
-/// A stream of messages and ChannelData is cut into exactly these messages and ChannelData (`cut`),
-/// whatever pieces it arrives in (`fed`). A whole message (`message`) and whole ChannelData
-/// (`channel`) are found whatever follows them. For a part of a message (`message_begun`) or of
-/// ChannelData (`begun`), the result is `Frame::Need` with at least 1 byte, and at most the number
-/// of bytes that are missing. Any stream is refused as soon as neither a message nor ChannelData
-/// can begin with the bytes that have arrived (`refused`).
+/// A stream of STUN messages and ChannelData messages is cut into exactly these messages (`cut`),
+/// whatever pieces it arrives in (`fed`). A whole STUN message (`message`) or ChannelData message
+/// (`channel`) is found whatever follows it. For the beginning of a STUN message (`message_begun`)
+/// or of a ChannelData message (`begun`), the result is `Frame::Need` with at least 1 byte, and at
+/// most the number of bytes that are missing. A stream is refused as soon as neither kind of
+/// message can begin with the bytes that have arrived (`refused`).
 pub fn turn_is_framed()
     ensures message { (message rest : List ℕ) → IsMessage message
         → turn_frame_of (message ++ rest) ≡ Frame.Message (length message) }

@@ -22,8 +22,8 @@ fn key_of<const N: usize>(bytes: &[u8]) -> Result<Option<[u8; N]>, Refusal>
     Ok(Some(key))
 }
 
-/// Converts the stored keys that a caller passes: 16 bytes for HMAC-SHA1, and 32 for HMAC-SHA256. A
-/// key without bytes is missing. Fails with `BadArgument` if a key has any other length.
+/// Converts the stored keys that a caller passes: 16 bytes for HMAC-SHA1, and 32 for HMAC-SHA256.
+/// An empty key counts as missing. Fails with `BadArgument` if a key has any other length.
 pub fn keys_of(sha1: &[u8], sha256: &[u8]) -> Result<StoredKeys, Refusal>
     ensures { result ≡ keys_given (key_given 16 sha1.now) (key_given 32 sha256.now) }
 {

@@ -83,21 +83,21 @@ side_refusal name password =
 
 -- ---- the name of the peer
 
--- what follows a front of bytes, if they begin with it
+-- the bytes that follow `front`, if these bytes begin with `front`
 abbrev pub after_front : List ℕ → List ℕ → Option (List ℕ)
 after_front front bytes =
     if bytes_eq (take (length front) bytes) front then Some (drop (length front) bytes) else None
 
--- the name of the peer in a USERNAME that an agent with this name receives: what follows its own
--- name and a colon (section 7.3)
+-- the name of the peer in a USERNAME that an agent with this name receives: the part after the
+-- agent's own name and a colon (section 7.3)
 abbrev pub peer_name_in : List ℕ → List ℕ → Option (List ℕ)
 peer_name_in name username =
     option_and_then (λ rest. after_front (codes ":") rest) (after_front name username)
 
 -- ---- a check
 
--- what an agent stores of a check: the ID, its destination, the role of its sender, whether it
--- nominates, and its bytes
+-- the parts of a check that an agent stores: the ID, the destination, the role of the sender,
+-- whether the check nominates its pair, and the bytes
 pub record SentCheck : Type 0 where
   pub id : ℕ
   pub to : SocketAddr

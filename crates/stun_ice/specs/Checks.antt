@@ -33,10 +33,11 @@ abbrev pub is_nominated : Role → List ℕ → Bool
 is_nominated Controlling bytes = false
 is_nominated Controlled bytes = has_use_candidate bytes
 
--- an agent accepts a datagram as a check: it is a Binding request with a valid FINGERPRINT, the
--- name of this agent before a colon and any name after it, a digest under the password of this
--- agent, no attribute that must be understood and is not, and a priority. If it states that its
--- sender has the role of this agent, this agent is the one to switch
+-- an agent accepts a datagram as a check: it is a Binding request with a valid FINGERPRINT and a
+-- PRIORITY. Its USERNAME is the name of this agent, a colon and any name, its digest verifies under
+-- the password of this agent, and the agent understands all attributes that it must understand. If
+-- the check states that its sender has the same role as this agent, it is this agent that has to
+-- switch its role
 pub record Accepts (a : Agent) (bytes : List ℕ) (check : Acceptance) : Type 0 where
   pub message : refusal bytes ≡ None
   pub fingerprint : fingerprint_in bytes ≡ Right
@@ -55,7 +56,8 @@ sender_in a bytes = option_and_then (λ name. peer_name_in a.name name) (usernam
 
 -- ---- in which order a check is judged
 
--- a role conflict comes last: the sender has to switch, or the receiver does
+-- the roles are compared last: if they conflict, either the sender has to switch its role, or the
+-- receiver
 abbrev pub by_role : List ℕ → IntegrityAlgorithm → ℕ → Option Role → Verdict
 by_role bytes algorithm priority None = Conflict algorithm
 by_role bytes algorithm priority (Some role) = Accepted (record {
@@ -65,14 +67,14 @@ by_role bytes algorithm priority (Some role) = Accepted (record {
   nominated = is_nominated role bytes;
 })
 
--- before it, there must be a PRIORITY
+-- before the roles are compared, PRIORITY is read
 abbrev pub by_priority : Agent → List ℕ → IntegrityAlgorithm → Option ℕ → Verdict
 by_priority a bytes algorithm None = Refused BadRequest (Some algorithm)
 by_priority a bytes algorithm (Some priority) =
     by_role bytes algorithm priority
     (role_after_check a.role a.tie_breaker (rival a.role bytes))
 
--- before it, attributes must be understood, and before them the digest must be valid
+-- before PRIORITY is read, the digest and then the unknown attributes are checked
 abbrev pub by_signature : Agent → List ℕ → Option IntegrityAlgorithm → Verdict
 by_signature a bytes None = Refused Unauthenticated None
 by_signature a bytes (Some algorithm) =
@@ -80,7 +82,8 @@ by_signature a bytes (Some algorithm) =
     then by_priority a bytes algorithm (priority_in bytes)
     else Refused UnknownAttribute (Some algorithm)
 
--- before it, the name of the agent must be the first half of the name
+-- before the digest is checked, the first half of the name in USERNAME must be the name of the
+-- agent
 abbrev pub by_name : Agent → List ℕ → Option (List ℕ) → Verdict
 by_name a bytes None = Refused BadRequest None
 by_name a bytes (Some name) =
@@ -88,21 +91,21 @@ by_name a bytes (Some name) =
     then by_signature a bytes (verified_algorithm bytes a.password)
     else Refused Unauthenticated None
 
--- first of all there must be a digest and a name
+-- first of all, there must be an integrity attribute and a USERNAME
 abbrev pub verdict_of : Agent → List ℕ → Verdict
 verdict_of a bytes =
     if is_none (deciding bytes) then Refused BadRequest None else by_name a bytes (username_in bytes)
 
 -- ---- what the caller learns
 
--- the outcome that the caller learns, if the role before was this one
+-- the outcome that the caller learns, given the role before the check
 abbrev pub judged_of : Role → Verdict → Judged
 judged_of before (Accepted check) =
     told.Accepted check.priority check.nominated (not (is_same_role before check.role))
 judged_of before (Conflict algorithm) = told.RoleConflict
 judged_of before (Refused reason by) = told.Refused reason
 
--- the role of an agent after a check, if its role before was this one
+-- the role of an agent after a check, given its role before the check
 abbrev pub role_of : Role → Verdict → Role
 role_of before (Accepted check) = check.role
 role_of before (Conflict algorithm) = before

@@ -8,18 +8,18 @@ use Rattle.stun_ice.specs.declared.received.Outcome.TheVariants.{RoleConflict}
 use Rattle.stun_ice.specs.declared.role.Role.{Role}
 use Rattle.stun_ice.specs.declared.role.Role.TheVariants.{Controlling, Controlled}
 
--- what a check states of its sender: the role and the tie-breaker
+-- the role and the tie-breaker that a check states for its sender
 pub record Said : Type 0 where
   pub role : Role
   pub tie_breaker : ℕ
 
--- what an answer states: the role in which its check was sent, and whether it is a 487
+-- an answer: the role in which its check was sent, and whether the answer is a 487
 pub record Told : Type 0 where
   pub role : Role
   pub conflict : Bool
 
--- one of two agents, with all the checks that it has sent and all the answers to them, the newest
--- first, and whether an answer has arrived
+-- one of the two agents: its role and tie-breaker, all checks that it has sent and all answers to
+-- them, the newest first, and whether an answer has arrived
 pub record Side : Type 0 where
   pub role : Role
   pub tie_breaker : ℕ
@@ -63,8 +63,8 @@ at (suc n) (x ∷ xs) = at n xs
 abbrev pub rival_of : Role → Said → Option ℕ
 rival_of role said = if is_same_role role said.role then Some said.tie_breaker else None
 
--- a check of the left agent is answered according to the role that the right agent then has, if it
--- has one
+-- both agents after the right agent has answered a check of the left agent. `Some` has the role
+-- that the right agent then has, and after `None` the answer is a 487
 abbrev pub answered : Sides → Said → Option Role → Sides
 answered s said None = record s {
   left = record s.left {
@@ -117,8 +117,8 @@ after_all s (event ∷ events) = after_all (after_one s event) events
 
 -- ---- the roles in which they end
 
--- the role in which an agent with a tie-breaker ends, if both begin in the same role: the agent
--- with the larger one controls
+-- the role in which an agent ends if both agents begin in the same role: the agent with the larger
+-- tie-breaker is controlling
 abbrev pub settled_role : ℕ → ℕ → Role
 settled_role ours theirs = if nat_lt theirs ours then Controlling else Controlled
 

@@ -1,5 +1,5 @@
 -- The parts of a check (RFC 8445, section 7.1), and of its answer. Of several attributes of one
--- type the first visible one counts, and a malformed one counts as absent.
+-- type, the first visible one counts, and a malformed attribute counts as absent.
 use Rattle.std.specs.Prelude.{ℕ, List, [], ◌∷◌, Bool, Option}
 use Rattle.std.specs.Option.{is_some, option_and_then, option_map}
 use Rattle.stun_base.specs.Attributes.{ERROR_CODE, USERNAME, XOR_MAPPED_ADDRESS}

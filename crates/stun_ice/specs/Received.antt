@@ -44,8 +44,8 @@ use Rattle.stun_ice.specs.declared.role.Role.{Role}
 abbrev pub no_message : List ℕ → DropReason
 no_message bytes = if is_some (header_refusal bytes) then NotStun else Malformed
 
--- an indication keeps a path open (section 11). It is dropped if it has an attribute that must be
--- understood and is not (RFC 8489, section 6.3.2)
+-- an indication keeps a path open (section 11). It is dropped if it has an attribute that the agent
+-- must understand but does not (RFC 8489, section 6.3.2)
 abbrev pub of_indication : List ℕ → Judgement
 of_indication bytes =
     if is_empty (unknown_types UNDERSTOOD bytes) then Keepalive bytes else Dropped UnknownAttribute
@@ -120,7 +120,7 @@ role_after_outcome role (Valid mapped) = role
 role_after_outcome role (RoleConflict switched) = if switched then opposite role else role
 role_after_outcome role (Failed failure) = role
 
--- the role of an agent after a datagram, if its role before was this one
+-- the role of an agent after a datagram, given its role before it
 abbrev pub role_left : Role → Judgement → Role
 role_left role (Check bytes verdict) = role_of role verdict
 role_left role (Response outcome) = role_after_outcome role outcome

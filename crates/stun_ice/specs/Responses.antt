@@ -34,7 +34,7 @@ use Rattle.stun_ice.specs.declared.role.Role.{Role}
 abbrev pub is_answered : SentCheck → List ℕ → Bool
 is_answered check bytes = check.id == transaction_id_field bytes
 
--- whether a digest is by the algorithm of the checks that an agent sends
+-- whether a digest has the algorithm with which an agent signs its checks
 abbrev pub is_by_sha1 : Option IntegrityAlgorithm → Bool
 is_by_sha1 (Some Sha1) = true
 is_by_sha1 (Some Sha256) = false
@@ -52,9 +52,9 @@ is_signed a bytes = is_by_sha1 (peer_algorithm a.peer bytes)
 -- ---- when a pair is valid
 
 -- a datagram from an address makes the pair of a check valid: it is a success response to the
--- check, with a valid FINGERPRINT and a digest under the password of the peer, from the address
--- that the check was sent to, with no attribute that must be understood and is not, and with the
--- address that the check came from
+-- check, with a valid FINGERPRINT, and comes from the address that the check was sent to. Its
+-- digest verifies under the password of the peer, the agent understands all attributes that it must
+-- understand, and XOR-MAPPED-ADDRESS has the address from which the peer saw the check arrive
 pub record IsValid (a : Agent) (check : SentCheck) (from : SocketAddr) (bytes : List ℕ)
     (mapped : Mapped) : Type 0 where
   pub message : refusal bytes ≡ None
@@ -93,13 +93,14 @@ of_response role check bytes Error = of_error role check.role (error_in bytes)
 of_response role check bytes Request = of_error role check.role (error_in bytes)
 of_response role check bytes Indication = of_error role check.role (error_in bytes)
 
--- before that, attributes must be understood (RFC 8489, sections 6.3.3 and 6.3.4)
+-- before the class is considered, all attributes must be understood (RFC 8489, sections 6.3.3 and
+-- 6.3.4)
 abbrev pub of_unknown : Role → SentCheck → List ℕ → List AttributeType → Outcome
 of_unknown role check bytes [] = of_response role check bytes (class_in bytes)
 of_unknown role check bytes (kind ∷ kinds) = Failed (NotUnderstood kind)
 
--- and before that, the response must come from the address that the check was sent to (section
--- 7.2.5.2.1)
+-- before its attributes are read, the source of the response is compared with the address that the
+-- check was sent to (section 7.2.5.2.1)
 abbrev pub of_path : Role → SentCheck → SocketAddr → List ℕ → Outcome
 of_path role check from bytes =
     if is_same_address from check.to

@@ -111,8 +111,8 @@ impl<A: Allocator> Model for Remote<A> {
     ghost invariant = { λ remote. length (string_bytes remote.username) ≤ 513 };
 }
 
-/// One agent in a session with one peer: its own credentials, those of the peer once they are
-/// known, the tie-breaker, and the role that the agent has now. It writes checks, judges and
+/// One agent in a session with one peer: its own credentials, the credentials of the peer once they
+/// are known, the tie-breaker, and the role that the agent has now. It writes checks, judges and
 /// answers the checks of the peer, and judges the answers to its own checks.
 ///
 /// Candidates, pairs, their order and pacing, and retransmissions are up to you. A response is
@@ -252,7 +252,7 @@ impl<A: Memory> Remote<A> {
 
 impl<A: Memory> Checker<A> {
     /// Creates an agent from the credentials of both sides, its tie-breaker and the role that it
-    /// begins with. The tie-breaker is a random number of 64 bits (RFC 8445, section 7.1.3). If the
+    /// begins with. The tie-breaker is a random 64-bit number (RFC 8445, section 7.1.3). If the
     /// credentials of the peer are not known yet, call `offer`.
     ///
     /// # Errors
@@ -640,8 +640,8 @@ impl<A: Allocator + Copy> Checker<A> {
     }
 
     /// Returns the username fragment of the peer in a check: the part of USERNAME after the name of
-    /// this agent and a colon. Returns `None` if USERNAME is missing or begins with another name; a
-    /// check of this kind is not accepted.
+    /// this agent and a colon. Returns `None` if USERNAME is missing or does not begin in this way.
+    /// Such a check is not accepted.
     ///
     /// If an offer has several answers, a check may arrive before them, and this fragment shows
     /// which answer the check belongs to. Do not rely on the fragment in a check that `receive`
@@ -662,8 +662,8 @@ impl<A: Allocator + Copy> Checker<A> {
         self.tie_breaker
     }
 
-    /// Sets the role. Call it to undo a switch of roles, if you cannot send the answer that goes
-    /// with the switch.
+    /// Sets the role. Call it to undo a switch of roles if you cannot send the answer to the check
+    /// that caused the switch.
     pub fn set_role(&mut self, role: Role)
         ensures { self.new ≡ record self.old { role = role } }
     {

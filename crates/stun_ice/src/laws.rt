@@ -25,16 +25,15 @@ ghost use Rattle.stun_ice.specs.declared.received.ReceivedInto.{ReceivedInto};
 ghost use Rattle.stun_ice.specs.declared.role.Role.{Role};
 ghost use Rattle.stun_ice.specs.declared.role.Role.TheVariants.{Controlling, Controlled};
 
-/// Two agents that begin in the same role, with distinct tie-breakers, end in opposite roles: the
-/// agent that began with the larger tie-breaker has the controlling role. They have these roles as
-/// soon as one of them has received the answer to one check, and keep them. Before that, both have
-/// the role that they began in, or they already have the final roles (`settle`). Two agents that
-/// begin in opposite roles keep their roles (`stay`).
+/// Two agents that begin in the same role, with distinct tie-breakers, end in opposite roles. The
+/// agent that began with the larger tie-breaker then has the controlling role. The agents have
+/// these roles as soon as one of them has received the answer to one check, and keep them. Before
+/// that, they either both have the role that they began in, or already have the final roles
+/// (`settle`). Two agents that begin in opposite roles keep their roles (`stay`).
 ///
-/// This holds for every network that loses, repeats, delays and reorders datagrams: any check may
-/// arrive at any time after it was sent, any number of times, and so may any answer. It holds
-/// whatever tie-breaker an agent chooses after a 487. Clause `instance` is an example: one check
-/// and its answer.
+/// The network may lose, repeat, delay and reorder datagrams: any check and any answer may arrive
+/// at any time after it was sent, any number of times. After a 487, an agent may choose any
+/// tie-breaker. Clause `instance` is an example with one check and its answer.
 pub fn roles_end_opposite()
     ensures settle { (role : Role) (left right : ℕ) → (left ≡ right → ⊥) → (events : List Happening)
         → let both = after_all
@@ -65,11 +64,11 @@ pub fn checks_are_accepted_exactly()
         ↔ Accepts a bytes check }
 {}
 
-/// The judgement of a check does not depend on whether the agent knows the credentials of its peer:
-/// the verdict, each byte of the answer, and the role that the agent has afterwards are the same.
-/// So an agent answers checks that arrive before the credentials of the peer in the same way as
-/// later checks. The judgement also does not depend on the agent's own check that the caller
-/// passes.
+/// How an agent judges a check does not depend on whether the agent knows the credentials of its
+/// peer: the verdict, each byte of the answer, and the role that the agent has afterwards are the
+/// same. So an agent answers checks that arrive before the credentials of the peer in the same way
+/// as later checks. The judgement also does not depend on which check of the agent the caller
+/// passes with the datagram.
 pub fn answers_do_not_depend_on_the_peer()
     ensures { (a : Agent) (peer : Option Peer) (c d : Option SentCheck) (from : SocketAddr)
         (bytes message answer : List ℕ) (judged : Judged)
@@ -81,7 +80,7 @@ pub fn answers_do_not_depend_on_the_peer()
 {}
 
 /// `Checker::sender` returns the peer's half of USERNAME, which follows the agent's own name and a
-/// colon. It returns `Some` if and only if USERNAME has this form, which is so in each check for
+/// colon. It returns `Some` if and only if USERNAME has this form, as it does in each check for
 /// which `Accepts` holds.
 pub fn checks_name_their_sender()
     ensures { (a : Agent) (bytes peer : List ℕ)
@@ -98,9 +97,10 @@ pub fn pairs_are_valid_exactly()
         ↔ IsValid a check from bytes mapped }
 {}
 
-/// States that the caller learns what the definitions say. A check is reported as accepted if and
-/// only if the agent accepts it (`accepted`). A pair is reported as valid if and only if the
-/// datagram answers the check that was passed and makes the pair of that check valid (`valid`).
+/// States that the results that a caller gets match the definitions. A check is reported as
+/// accepted if and only if the agent accepts it (`accepted`). A pair is reported as valid if and
+/// only if the datagram answers the check that the caller passed, and makes the pair of that check
+/// valid (`valid`).
 pub fn callers_are_told_what_is_so()
     ensures accepted { (a : Agent) (c : Option SentCheck) (from : SocketAddr) (bytes : List ℕ)
         → TellsAccepted (given a from (judgement_of a c from bytes)) ↔ IsAcceptedCheck a bytes }

@@ -18,8 +18,8 @@ counted Invalid counts = record counts { invalid = one_more counts.invalid }
 counted Unsigned counts = record counts { unsigned = one_more counts.unsigned }
 counted NotAMessage counts = record counts { not_messages = one_more counts.not_messages }
 
--- the status is that of what is signed: good if a message is, each that is has a valid signature,
--- and there are no bytes that only look like a message
+-- the status: good if at least one signature is valid, no signature is invalid, and there are no
+-- bytes that only look like a message. Unsigned messages do not matter
 abbrev pub status_of_counts : Counts → Status
 status_of_counts counts =
     if nat_lt 0 counts.good && (counts.invalid == 0) && (counts.not_messages == 0) then Succeeded

@@ -9,8 +9,8 @@ use Rattle.stun_inspect.specs.declared.found.Found.{Found}
 use Rattle.stun_inspect.specs.declared.found.Found.TheVariants.{Good, Invalid, Unsigned}
 use Rattle.stun_inspect.specs.declared.found.Found.TheVariants.{NotAMessage}
 
--- what a verdict finds: a message without a visible integrity attribute is not signed, which is no
--- fault of its own (RFC 8489, section 9.2.3.1)
+-- the finding for a verdict. A message without a visible integrity attribute is unsigned, which by
+-- itself is not a fault (RFC 8489, section 9.2.3.1)
 abbrev pub found_of : Verdict → Found
 found_of (Valid algorithm) = Good
 found_of OtherDigest = Invalid
@@ -19,7 +19,8 @@ found_of MalformedIntegrity = Invalid
 found_of (Refused error) = NotAMessage
 found_of BadInput = NotAMessage
 
--- the status for the only message of an input: nothing is known of one that is not signed
+-- the status if an input has only one message. It is bad for an unsigned message too, because
+-- nothing is known about it
 abbrev pub status_of_found : Found → Status
 status_of_found Good = Succeeded
 status_of_found Invalid = Bad

@@ -1,4 +1,4 @@
--- The attributes that must be understood, by the RFC that has them: the name of each in IANA's
+-- The attributes that must be understood, grouped by RFC: the name of each attribute in IANA's
 -- registry, and the form in which its value is printed.
 use Rattle.std.specs.Prelude.{ℕ, List, codes, Option, Some, None, ◌==◌, if◌then◌else◌}
 use Rattle.std.specs.Option.{option_or}
@@ -35,8 +35,8 @@ stun_entry number =
     else if number == 0x0020 then Some (codes "XOR-MAPPED-ADDRESS", XorAddress)
     else None
 
--- those of TURN (RFC 8656, section 18), of its connections over TCP (RFC 6062, section 6.2.1), and
--- of its tokens (RFC 7635, section 6.2)
+-- the attributes of TURN (RFC 8656, section 18), of its connections over TCP (RFC 6062, section
+-- 6.2.1), and of its tokens (RFC 7635, section 6.2)
 abbrev pub turn_entry : ℕ → Option Entry
 turn_entry number =
     if number == 0x000C then Some (codes "CHANNEL-NUMBER", Channel)
@@ -53,14 +53,14 @@ turn_entry number =
     else if number == 0x002A then Some (codes "CONNECTION-ID", Number)
     else None
 
--- those of ICE (RFC 8445, section 16.1)
+-- the attributes of ICE (RFC 8445, section 16.1)
 abbrev pub ice_entry : ℕ → Option Entry
 ice_entry number =
     if number == 0x0024 then Some (codes "PRIORITY", Number)
     else if number == 0x0025 then Some (codes "USE-CANDIDATE", Flag)
     else None
 
--- those of NAT behavior discovery (RFC 5780, section 7)
+-- the attributes of NAT behavior discovery (RFC 5780, section 7)
 abbrev pub behavior_entry : ℕ → Option Entry
 behavior_entry number =
     if number == 0x0003 then Some (codes "CHANGE-REQUEST", ChangeRequest)

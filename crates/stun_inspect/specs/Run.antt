@@ -1,5 +1,5 @@
--- What each command prints when it has a result, with a reader and a writer whose bytes contracts
--- can see. They cannot see those of the real standard input and output.
+-- What each command prints when it has a result, for a reader and a writer whose bytes contracts
+-- can refer to. Contracts cannot refer to the bytes of the real standard input and output.
 use Rattle.std.specs.Prelude.{◌≡◌, ◌≢◌, ℕ, List, [], ◌∷◌, ◌++◌, codes, true}
 use Rattle.std.specs.Prelude.{Option, Some, None, Result, IfSome, IfOk}
 use Rattle.std.specs.Io.KnownBytes.{Appends}
@@ -33,7 +33,7 @@ keys_for None password = short_term_key password
 keys_for (Some user) password =
     λ algorithm. long_term_key algorithm user.name.now user.realm.now password
 
--- what is printed for a message by what a command does with each, and the status that goes with it
+-- what a command prints for a message, and the status for this message
 abbrev pub PrintsResult : {B : Type 0} → Teller B → List ℕ → Status → Option (List ℕ)
     → Option (List ℕ) → Type 0
 PrintsResult Decoding message status before after = PrintsDecoded message status before after

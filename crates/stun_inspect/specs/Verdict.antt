@@ -9,7 +9,7 @@ use Rattle.stun_cli.specs.Verdict.{refusal_line}
 
 -- the line for a verdict. The first request of a dialogue and its challenge have no integrity
 -- attribute (RFC 8489, section 9.2.3.1), so a message without one is unsigned, and not invalid.
--- `BadInput` is the verdict on an input that spells no bytes
+-- `BadInput` is the verdict on an input that does not encode bytes
 abbrev pub verify_line : Verdict → List ℕ
 verify_line (Valid Sha1) = codes "valid MESSAGE-INTEGRITY" ++ 10 ∷ []
 verify_line (Valid Sha256) = codes "valid MESSAGE-INTEGRITY-SHA256" ++ 10 ∷ []

@@ -259,8 +259,9 @@ pub fn list_at<W: Write, A: Allocator + Copy>(
     Ok(found)
 }
 
-/// Verifies the signature of the message, prints the verdict, and prints notes on differences
-/// between the message and the user. Returns the verdict.
+/// Verifies the signature of the message, and prints the verdict. If a user is given, also prints
+/// notes on whether the message names this user and the user's realm (see `notes_on`). Returns the
+/// verdict.
 pub fn verify<W: Write, A: Allocator + Copy, B: Allocator>(
     alloc: A,
     bytes: &[u8],

@@ -70,8 +70,8 @@ fn command_of<'a>(name: &str, words: &'a [String]) -> Option<Command<'a>> {
     }
 }
 
-/// Returns this command with the file to read, which is its only argument, or without a file if
-/// there is no argument. Returns `None` if there are more arguments.
+/// Returns this command with its only argument as the file to read, or without a file if there is
+/// no argument. Returns `None` if there are more arguments.
 fn reading<'a>(command: Command<'a>, words: &'a [String]) -> Option<Asked<'a>> {
     let file = match words {
         [] => None,

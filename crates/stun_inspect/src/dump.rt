@@ -23,7 +23,7 @@ pub fn first_blank(row: &[u8]) -> Option<usize>
 /// first word of the row, and `rest` is the text after the blank that ends this word. The row has
 /// an offset if its first word is one of these:
 ///
-/// - a word that ends with a colon; the colon, and a `0x` before the digits, are left out;
+/// - a word that ends with a colon (the colon, and a `0x` before the digits, are left out);
 /// - a word before two blanks;
 /// - a word of six characters before a word of two characters, as `od` writes them.
 ///
@@ -92,11 +92,12 @@ pub fn has_dump(text: &str) -> bool {
     false
 }
 
-/// Reads the bytes of each dump of a text. A dump begins with a row of offset 0. Blank lines and
-/// the lines before the first row of a dump are skipped, and so is a line that has only the number
-/// of bytes in the rows before it, as some programs print it at the end. Fails if the offset of a
-/// row is not the number of bytes in the rows before it, if any other line comes between the rows
-/// of a dump or after the last dump, or if the text has no dump.
+/// Reads the bytes of each dump of a text. A dump begins with a row of offset 0. These lines are
+/// skipped: blank lines, the lines before the first row of a dump, and a line that has only the
+/// number of bytes in the rows before it, which some programs print at the end of a dump.
+///
+/// Fails if the offset of a row is not the number of bytes in the rows before it, if the text has
+/// no dump, or if any other line comes between the rows of a dump or after the last dump.
 pub fn read_dumps<A: Allocator + Copy>(
     alloc: A,
     text: &str,

@@ -18,8 +18,8 @@ fn text_of(fingerprint: Fingerprint) -> &'static str
     }
 }
 
-/// Returns the end of the line for an attribute of the message. For a FINGERPRINT, the end states
-/// whether the attribute is correct.
+/// Returns the text at the end of the line for an attribute of the message. For a FINGERPRINT, this
+/// text states whether it is correct.
 pub fn ending_of(message: &[u8], told: &Told<'_>) -> &'static str
     ensures { result.now ≡ ending_of message.now told.now }
 {

@@ -87,7 +87,7 @@ pub fn push_types<A: Allocator + Copy>(
     Ok(true)
 }
 
-/// Appends a number of 32 bits, such as the number in PRIORITY.
+/// Appends a 32-bit number, such as the number in PRIORITY.
 pub fn push_number<A: Allocator + Copy>(
     line: &mut Line<A>,
     value: &[u8],
@@ -99,12 +99,12 @@ pub fn push_number<A: Allocator + Copy>(
     Ok(true)
 }
 
-/// Parses a number of 16 bits, such as the number in RESPONSE-PORT.
+/// Parses a 16-bit number, such as the number in RESPONSE-PORT.
 fn short_in(value: &[u8]) -> Option<u16> {
     Some(read::<ResponsePort>(value)?.number())
 }
 
-/// Appends a number of 16 bits.
+/// Appends a 16-bit number.
 pub fn push_short<A: Allocator + Copy>(
     line: &mut Line<A>,
     value: &[u8],

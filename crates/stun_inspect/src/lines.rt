@@ -27,8 +27,8 @@ fn spells_whole<A: Allocator + Copy>(alloc: A, text: &str) -> Result<bool, Failu
     }
 }
 
-/// Returns whether each line of a text must be read separately: a line encodes a whole message, and
-/// the whole text does not. Fails if an allocation fails.
+/// Returns whether each line of a text must be read separately: at least one line encodes a whole
+/// message, but the whole text does not. Fails if an allocation fails.
 pub fn has_lines<A: Allocator + Copy>(alloc: A, text: &str) -> Result<bool, Failure> {
     if spells_whole(alloc, text)? {
         return Ok(false);

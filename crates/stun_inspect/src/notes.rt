@@ -1,4 +1,5 @@
-//! Notes on the differences between a message and the user whose key it is verified with.
+//! Notes on whether a message names the user, and the realm of the user, whose key it is verified
+//! with.
 
 use crate::command::User;
 use crate::registry::attribute_name;

@@ -13,11 +13,11 @@ pub enum Form {
     Address,
     /// An address and a port, XORed with the magic cookie and the transaction ID (section 14.2).
     XorAddress,
-    /// A text in UTF-8.
+    /// UTF-8 text.
     Text,
-    /// A text in UTF-8 of at most 763 bytes (section 14.14).
+    /// UTF-8 text of at most 763 bytes (section 14.14).
     Software,
-    /// A text in UTF-8 of at most 255 bytes (section 14.16).
+    /// UTF-8 text of at most 255 bytes (section 14.16).
     Domain,
     /// A nonce, which is a text that may carry security bits (sections 9.2 and 14.10).
     Nonce,
@@ -29,9 +29,9 @@ pub enum Form {
     Algorithm,
     /// A list of password algorithms (section 14.11).
     Algorithms,
-    /// A number of 32 bits.
+    /// A 32-bit number.
     Number,
-    /// A number of 16 bits.
+    /// A 16-bit number.
     Short,
     /// A tie-breaker (RFC 8445, section 16.1).
     TieBreaker,

@@ -23,8 +23,8 @@ pub fn line(verdict: Verdict) -> &'static str
     }
 }
 
-/// Returns the verdict on bytes under credentials: a password, or a user at a realm. Each of them
-/// has a key for each algorithm (RFC 8489, sections 9.1.1 and 9.2.2).
+/// Returns the verdict on the message in `bytes` under these credentials, which have a key for each
+/// algorithm (RFC 8489, sections 9.1.1 and 9.2.2).
 pub fn verdict_on<A: Allocator>(
     bytes: &[u8],
     credentials: &MessageIntegrityCredentials<A>,

@@ -3,22 +3,24 @@
 ghost use Rattle.stun_peer_runs.specs.Datagrams.{RolesEnd, RolesStay};
 
 /// Two agents of one session that begin in the same role, with distinct tie-breakers, end in
-/// opposite roles: the agent that began with the larger tie-breaker has the controlling role. They
-/// have these roles as soon as one of them has received the answer to one check, and keep them.
-/// Before that, both have the role that they began in, or they already have the final roles
-/// (`settle`). Two agents that begin in opposite roles keep their roles (`stay`). The law
-/// `roles_end_opposite` of `stun_ice` states this for messages, and this law states it for
+/// opposite roles. The agent that began with the larger tie-breaker then has the controlling role.
+/// The agents have these roles as soon as one of them has received the answer to one check, and
+/// keep them. Before that, they either both have the role that they began in, or already have the
+/// final roles (`settle`). Two agents that begin in opposite roles keep their roles (`stay`).
+///
+/// The law `roles_end_opposite` of `stun_ice` states this for messages, and this law states it for
 /// datagrams: a check is the bytes that `Checker::check` writes, and an answer is the bytes that
-/// `Checker::receive` returns for a check.
+/// `Checker::receive` returns for a check. The network may lose, repeat, delay and reorder
+/// datagrams: any datagram may arrive at any time after it was sent, any number of times.
 ///
-/// This holds for every network that loses, repeats, delays and reorders datagrams: any datagram
-/// may arrive at any time after it was sent, any number of times.
+/// Premises:
 ///
-/// The law has three premises. Each agent knows the other's credentials (`Correspond`, `IsAgent`);
-/// the law `agents_of_one_session_know_each_other` of `stun_peers` shows which calls create such
-/// agents. An ID has 96 bits, a priority 32 and a tie-breaker 64 (`IsUsual`). And each answer
-/// arrives from the address to which its check was sent, because an answer from another address
-/// does not change a role.
+/// - Each agent knows the other's credentials (`Correspond`, `IsAgent`). Law
+///   `agents_of_one_session_know_each_other` of `stun_peers` shows which calls create such agents.
+/// - Transaction IDs have 96 bits, priorities have 32 bits, and tie-breakers have 64 bits
+///   (`IsUsual`).
+/// - Each answer arrives from the address to which its check was sent. An answer from another
+///   address does not change a role.
 pub fn roles_end_opposite_of_datagrams()
     ensures settle { RolesEnd }
     ensures stay { RolesStay }

@@ -23,11 +23,11 @@ use std::alloc::Allocator;
 use stun_ice::checker::{BuildError, Checker, Credentials};
 use stun_ice::role::Role;
 
-/// States that a reader of a check finds in it what its agent wrote: the check is a Binding request
-/// with the ID `id`, the names of the peer and of the agent in USERNAME, the priority `priority`,
-/// and the role and the tie-breaker of the agent. It has USE-CANDIDATE if and only if it nominates
-/// its pair. Its signature is valid under the password of the peer, its FINGERPRINT is valid, and
-/// an agent understands all its comprehension-required attributes.
+/// States that a reader of a check finds in it what the agent wrote. The check is a Binding request
+/// with the transaction ID `id`, the names of the peer and of the agent in USERNAME, the priority
+/// `priority`, and the role and the tie-breaker of the agent. It has USE-CANDIDATE if and only if
+/// it nominates its pair. Its signature is valid under the password of the peer, and its
+/// FINGERPRINT is valid. Agents understand all its comprehension-required attributes.
 pub fn checks_are_read_back()
     ensures { (a : Agent) (peer : Peer) (id priority : ℕ) (nominates : Bool) → IsAgent a peer
         → IsNumbered id priority
@@ -58,14 +58,14 @@ pub fn agents_of_one_session_know_each_other<A: Allocator + Copy>(
     Ok((left, right))
 }
 
-/// States that the peer of an agent judges the agent's check by the roles alone: the peer either
-/// accepts the check, with the priority in the check, or answers it with a 487 (`judged`).
-/// `role_after_check` determines which of the two it does, and which role it has afterwards
-/// (`role`), by the roles and the tie-breakers of both agents. In the law `roles_end_opposite`,
-/// this is the arrival of a check.
+/// States what happens when a check of an agent arrives at its peer. The peer either accepts the
+/// check, with the priority in the check, or answers it with a 487 (`judged`). Which of the two it
+/// does, and which role the peer has afterwards (`role`), depends only on the roles and the
+/// tie-breakers of both agents, as `role_after_check` defines. The law `roles_end_opposite` of
+/// `stun_ice` uses the same definition for the arrival of a check.
 ///
-/// The agent has the credentials of its peer (`Knows`), but the peer need not have the credentials
-/// of the agent: it may have made an offer whose answer has not arrived yet. Law
+/// The agent has the credentials of its peer (`Knows`). The peer need not have the credentials of
+/// the agent, because it may have made an offer whose answer has not arrived yet. Law
 /// `agents_of_one_session_know_each_other` shows which calls create such agents.
 pub fn a_check_is_accepted_by_its_peer()
     ensures judged { (a b : Agent) (peer : Peer) (c : Option SentCheck) (from : SocketAddr)

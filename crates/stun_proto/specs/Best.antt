@@ -14,8 +14,9 @@ use Rattle.stun_auth.specs.Feature.{is_possible}
 abbrev pub stronger : IntegrityAlgorithm → IntegrityAlgorithm → IntegrityAlgorithm
 stronger a b = if nat_lt (strength a) (strength b) then b else a
 
--- the strongest of the client's algorithms that the server has; none if they share none, or if the
--- client must send a hash of its name and the server accepts none
+-- the strongest of the client's algorithms that the server has too. There is none if they have no
+-- algorithm in common, or if the client must send a hash of its name and the server accepts no
+-- hashes
 abbrev pub best : List IntegrityAlgorithm → List IntegrityAlgorithm → Feature → Feature
     → Option IntegrityAlgorithm
 best client server wanted given =
@@ -24,7 +25,7 @@ best client server wanted given =
 
 -- ---- the law
 
--- the client must send a hash of its name, and the server accepts none
+-- the client must send a hash of its name, and the server accepts no hashes
 abbrev pub HashIsRefused : Feature → Feature → Type 0
 HashIsRefused wanted given = (wanted ≡ Required) × (given ≡ Disabled)
 
@@ -33,14 +34,15 @@ abbrev pub IsShared : List IntegrityAlgorithm → List IntegrityAlgorithm → In
     → Type 0
 IsShared client server a = Contains client a × Contains server a
 
--- both lists have the algorithm, and none that both have is stronger
+-- both lists have the algorithm, and no algorithm that both lists have is stronger
 pub record IsStrongestShared (client server : List IntegrityAlgorithm)
     (a : IntegrityAlgorithm) : Type 0 where
   pub shared : IsShared client server a
   pub strongest : (b : IntegrityAlgorithm) → IsShared client server b → strength b ≤ strength a
 
--- an algorithm is the answer exactly if one may be agreed on and it is the strongest that both
--- have; there is none exactly if none may be agreed on, or both share none
+-- the answer is an algorithm if and only if the sides may agree on one, and this is the strongest
+-- that both have. There is no answer if and only if the sides may not agree, or have no algorithm
+-- in common
 pub record IsBest (client server : List IntegrityAlgorithm) (wanted given : Feature)
     (answer : Option IntegrityAlgorithm) : Type 0 where
   pub some : (a : IntegrityAlgorithm)

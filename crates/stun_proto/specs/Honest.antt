@@ -24,27 +24,27 @@ use Rattle.stun_proto.specs.Negotiation.{Meeting, Met, whole_negotiation}
 use Rattle.stun_proto.specs.declared.replay.negotiation.Outcome.TheVariants.{Validated}
 use Rattle.stun_proto.specs.declared.replay.negotiation.Outcome.TheVariants.{ClientRefused}
 
--- no two present users share a hash
+-- no two registered users have the same hash
 abbrev pub HaveOwnHashes : Registered → Type 0
 HaveOwnHashes users = (a b : List ℕ) → is_some (map.get users.secrets a) ≡ true
     → is_some (map.get users.secrets b) ≡ true
     → userhash_of a users.realm ≡ userhash_of b users.realm → a ≡ b
 
--- a new client is ready: it has a registered user's credentials, comes from an address without a
--- record, and is in time
+-- a new client is ready: it has a registered user's credentials, comes from an address that has no
+-- record, and sends its second request in time
 pub record IsReady (m : Meeting) (who : NameAndPassword) (server : ServerSeen) : Type 0 where
   pub credentials : m.settings.credentials ≡ Some who
   pub registered : IsRegistered server.registered who
   pub hashes : HaveOwnHashes server.registered
   pub new_address : map.get server.places m.from ≡ None
-  -- the calls in between are those of other addresses: none is on users or settings, none forgets
-  -- expired nonces, and the record of the address stays
+  -- the calls in between are calls for other addresses. None of them changes users or settings, and
+  -- none forgets expired nonces, so the record of this address stays
   pub others_first : AreOfOthers m.from m.first.before
   pub others_second : AreOfOthers m.from m.second.before
   -- the second request is read while the nonce is current
   pub in_time : m.second.now ≤ moment_after m.first.now server.expiry
 
--- it is ready, and no signing of the meeting is refused
+-- the client is ready, and every message of the meeting can be signed
 pub record IsHonest (m : Meeting) (who : NameAndPassword) (server : ServerSeen) : Type 0 where
   pub ready : IsReady m who server
   pub signed : IsOk (whole_negotiation m initial server).ending
@@ -58,7 +58,8 @@ pub record AgreesOn (from : SocketAddr) (who : NameAndPassword) (a : IntegrityAl
   pub joined : (c : Challenge) × (p : PlaceSeen) × (met.client ≡ authenticated c)
       × AreJoined (sight met.server from) p c who
 
--- the client gives up and keeps nothing, and the server has a record of its address, with no client
+-- the client gives up and stores nothing, and the server has a record of the client's address,
+-- without a client
 pub record GivesUp (from : SocketAddr) (met : Met) : Type 0 where
   pub ending : met.ending ≡ Ok (ClientRefused UnsupportedFeature)
   pub client : met.client ≡ initial

@@ -1,4 +1,5 @@
--- What one address can tell of a run: its own calls, and the record that they leave of it.
+-- What a run looks like from one address: the calls for this address, and the record of the address
+-- after them.
 use Rattle.std.specs.Prelude.{◌≡◌, List, [], ◌∷◌, Bool, true, if◌then◌else◌, Option, Some, None}
 use Rattle.std.specs.Option.{option_map}
 use Rattle.std.specs.declared.net.socket_addr.SocketAddr.{SocketAddr}
@@ -17,8 +18,8 @@ use Rattle.stun_proto.specs.declared.replay.call.ServerCall.TheVariants as Call
 use Rattle.stun_proto.specs.Signing.{if_signed, place_offered, signing}
 use Rattle.stun_proto.specs.Serving.{Reply, registered_after, feature_after, expiry_after, replies}
 
--- whether a call is one of the address, or one that concerns every address: on users and settings,
--- and those that forget what has expired
+-- whether a call is for this address, or concerns every address because it changes users or
+-- settings, or forgets what has expired
 abbrev pub concerns : SocketAddr → ServerCall → Bool
 concerns a (Call.Validate from now message words) = same_address from a
 concerns a (Call.Sign to message) = same_address to a
@@ -32,12 +33,12 @@ concerns a (Call.SetExpiry expiry) = true
 concerns a (Call.ForgetExpired now) = true
 concerns a (Call.Forget address) = same_address address a
 
--- the calls of an address and all calls that concern every address, in their order
+-- the calls for an address, and the calls that concern every address, in their order
 abbrev pub own_calls : SocketAddr → List ServerCall → List ServerCall
 own_calls a [] = []
 own_calls a (call ∷ calls) = if concerns a call then call ∷ own_calls a calls else own_calls a calls
 
--- the replies to them
+-- the replies to these calls
 abbrev pub own_replies : SocketAddr → List ServerCall → List Reply → List Reply
 own_replies a [] given = []
 own_replies a (call ∷ calls) [] = []
@@ -78,13 +79,13 @@ sight_after s call = record {
   place = own_place_after s call;
 }
 
--- what an address can tell after its own calls: no call of another address has a part in it
+-- what an address can tell after its own calls. No call for another address affects it
 abbrev pub sight_over : Sight → List ServerCall → Sight
 sight_over s [] = s
 sight_over s (call ∷ calls) = sight_over (sight_after s call) calls
 
--- the replies to each address are those of the run over its own calls alone, from the same start,
--- whatever the run is
+-- the replies to each address are those that this run gives, from the same start, to the address's
+-- own calls alone
 abbrev pub IsolatedBy : (ServerSeen → List ServerCall → List Reply) → ServerSeen → List ServerCall
     → List Reply → Type 0
 IsolatedBy run start calls given =

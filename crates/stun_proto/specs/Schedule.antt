@@ -19,8 +19,8 @@ use Rattle.stun_proto.specs.declared.replay.event.AgentEvent.TheVariants.{Config
 use Rattle.stun_proto.specs.Steps.{Step, Transmitted, TimedOut, moment_of}
 
 -- ---- the agent that sends requests
--- an agent, as far as its requests depend on it: the transport, the one address that it may send to
--- if it has one, the settings of new requests, and the requests that are outstanding
+-- the parts of an agent that its requests depend on: the transport, the only address that it may
+-- send to, if it is restricted to one, the settings of new requests, and the outstanding requests
 pub record Requester : Type 0 where
   pub transport : TransportType
   pub remote_addr : Option SocketAddr
@@ -28,13 +28,13 @@ pub record Requester : Type 0 where
   pub outstanding : Transactions
 
 -- ---- the plan
--- the time of transmission k, counted from 0: the timeouts before it have passed since the first
--- transmission
+-- the time of transmission k, counted from 0: the first transmission was at `start`, and the first
+-- k timeouts have passed since
 abbrev pub transmission : ℕ → Settings → ℕ → ℕ
 transmission start settings k = moment_after start (sum_of_timeouts settings k)
 
--- a request that is first sent at `start`: a transmission at the start and at the end of each
--- timeout, then the end
+-- the steps of a request that is first sent at `start`: a transmission at the start and at the end
+-- of each timeout, and then the end of the request
 abbrev pub plan : TransportType → ℕ → Settings → ℕ → SocketAddr → List ℕ → List Step
 plan transport start settings id to bytes =
     map (λ k. Transmitted (transmission start settings k) id to bytes)
@@ -46,7 +46,7 @@ abbrev pub steps_until : ℕ → List Step → List Step
 steps_until until steps = filter (λ s. nat_le (moment_of s) until) steps
 
 -- ---- what disturbs it
--- the event asks the agent to send a request of this ID
+-- the event asks the agent to send a request with this ID
 abbrev pub Asks : ℕ → AgentEvent → Type 0
 Asks id (Send bytes to) = ⊥
 Asks id (SendRequest bytes to) = transaction_id_field bytes.items ≡ id
@@ -56,8 +56,8 @@ Asks id (CancelRetransmissions other) = ⊥
 Asks id (Configure other initial retransmits last max) = ⊥
 Asks id (ValidatePeer address) = ⊥
 
--- the event ends, cancels or changes the request of this ID, which went to this address: a response
--- of its ID that comes from there, or a call that names it
+-- the event ends, cancels or changes the request with this ID, which went to this address: it is a
+-- response with this ID from this address, or a call that names the request
 abbrev pub IsAimedAt : ℕ → SocketAddr → AgentEvent → Type 0
 IsAimedAt id peer (Send bytes to) = ⊥
 IsAimedAt id peer (SendRequest bytes to) = ⊥
@@ -69,13 +69,13 @@ IsAimedAt id peer (CancelRetransmissions other) = other ≡ id
 IsAimedAt id peer (Configure other initial retransmits last max) = other ≡ id
 IsAimedAt id peer (ValidatePeer address) = ⊥
 
--- nothing is aimed at the request of this ID to this address up to its end, whatever responses
--- other addresses send
+-- up to the time `last`, no event is aimed at the request with this ID to this address, whatever
+-- responses arrive from other addresses
 abbrev pub IsUndisturbed : ℕ → SocketAddr → ℕ → List (ℕ × AgentEvent) → Type 0
 IsUndisturbed id peer last events =
     AllByRecursion (λ e. e.0 ≤ last → IsAimedAt id peer e.1 → ⊥) events
 
--- the times never go back, from this one on, and none is past `until`
+-- from this time on, the times of the events never go back, and none is later than `until`
 abbrev pub AreInOrder : ℕ → ℕ → List (ℕ × AgentEvent) → Type 0
 AreInOrder until from [] = Unit {0}
 AreInOrder until from (e ∷ es) = (from ≤ e.0) × (e.0 ≤ until) × AreInOrder until e.0 es

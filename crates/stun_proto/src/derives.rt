@@ -1,5 +1,5 @@
-//! The derived impls of calls and replies, each behind a function whose contract states what it
-//! does: comparisons and copies.
+//! The derived impls of calls and replies (comparisons and copies), each behind a function whose
+//! contract states what it does.
 ghost use Rattle.std.specs.Prelude.{◌≡◌, ◌-◌, ◌↔◌, IsTrue, Ok};
 ghost use Rattle.stun_proto.specs.CallValues.{call_value};
 ghost use Rattle.stun_proto.specs.EventValues.{event_value};

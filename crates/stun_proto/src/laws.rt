@@ -1,5 +1,5 @@
-//! Laws of runs: those that follow from the definitions alone, and those that relate single calls
-//! on a server or an agent to a run.
+//! Laws about runs. Some of them follow from the definitions alone, and the others relate single
+//! calls on a server or an agent to a run.
 ghost use Rattle.std.specs.Prelude.{◌≡◌, ◌≤◌, List, [], Ok, IsErrOf, OnErr, length, ℕ};
 ghost use Rattle.std.specs.declared.net.socket_addr.SocketAddr.{SocketAddr as Address};
 ghost use Rattle.std.specs.Global.{Vec as TheVec};
@@ -73,11 +73,11 @@ pub fn events_have_runs()
     ensures { EventsHaveRuns }
 {}
 
-/// A run that stopped because an allocation failed can be continued: the agent, as it was left, is
-/// driven through the remaining events. The continued run makes exactly the later steps of the
-/// whole run and leaves the same agent, so nothing is sent twice (`left`, `parts`). It may stop
-/// again, any number of times (`again`). If no event is left, the agent is already the one that the
-/// whole run leaves (`complete`).
+/// A run that stopped because an allocation failed can be continued: drive the agent that it left
+/// through the remaining events. The second run makes exactly those steps of the whole run that the
+/// first run did not make, and leaves the agent in the same state, so nothing is sent twice
+/// (`left`, `parts`). It may stop again, any number of times (`again`). If no event is left, the
+/// agent is already in the state in which the whole run leaves it (`complete`).
 pub fn stopped_runs_go_on()
     ensures left { StoppedRunsGoOn }
     ensures parts { StoppedRunsHaveTheRest }
@@ -85,16 +85,17 @@ pub fn stopped_runs_go_on()
     ensures complete { StoppedRunsEnd }
 {}
 
-/// The steps of a run and the counters of its agent agree on the number of requests that timed out
-/// or were canceled, of indications and responses that were sent, and of bytes that were sent,
-/// retransmissions included (RFC 8489, section 6.2). So a program that stores the steps needs no
-/// counters.
+/// The steps of a run and the counters of its agent agree on five numbers: the requests that timed
+/// out, the requests that were canceled, the indications and the responses that were sent, and the
+/// bytes that were sent, including retransmissions (RFC 8489, section 6.2). So a program that
+/// stores the steps does not need these counters.
 pub fn runs_count_steps()
     ensures { RunsCountSteps }
 {}
 
 /// Suppose that an agent makes a run of `drive`. Then a request that is undisturbed (see `drive`)
-/// is sent at the times of its plan. It times out once if the run lasts until then.
+/// is sent at the times of its plan. If the run lasts until the end of the plan, the request times
+/// out, once.
 pub fn runs_send_by_plan()
     ensures { (until : ℕ) (a b : Agent) (events : List (ℕ × TheEvent)) (steps : List Step)
         → until ≤ last_moment → IsAscending a.transactions → AreInOrder until 0 events
@@ -111,33 +112,39 @@ pub fn runs_keep_plans()
         → IsDriven until a events steps b → KeepPlans until a events steps }
 {}
 
-/// If an agent starts without outstanding requests, and its user polls it on time in a loop of
-/// whole turns (`Loop`), then it makes the steps that `drive` makes with the same events
-/// (`driven`). So the third theorem of this library (the clause `headline` of `drive`) holds for
-/// this agent (`plans`; RFC 8489, section 6.2.1). For any events at times that do not decrease
-/// there is such a loop, on time or late (`exist`).
+/// If a program calls an agent in a loop of whole turns and on time, the agent makes the steps that
+/// `drive` makes with the same events (`driven`). In a whole turn, the program calls
+/// `poll_transmit` until it returns `None`, and then `poll` until it returns `WaitUntil` (`Loop`).
+/// So the third theorem of this library (the clause `headline` of `drive`) holds for this agent
+/// (`plans`; RFC 8489, section 6.2.1). For any events at times that do not decrease, there is such
+/// a loop, on time or late (`exist`).
 ///
-/// The law is about loops over a simulated clock: there is a whole turn at the time of each event,
-/// and no turn comes later than `poll` returned, to the nanosecond. For loops over a real clock see
-/// `any_loop_sends_in_time`.
+/// Premises of `driven` and `plans`: the agent starts without outstanding requests, the program
+/// makes a whole turn at the exact time of each event, and no turn is later than the time that
+/// `poll` returned. So the law is about loops over a simulated clock. For loops over a real clock,
+/// see `any_loop_sends_in_time`.
 pub fn loops_are_driven()
     ensures driven { LoopsAreDriven }
     ensures plans { LoopsSendByPlan }
     ensures exist { LoopsExist }
 {}
 
-/// An agent is called in any loop (`Calls`): any calls, in any order, each at a time that is not
-/// before the time of the previous call. The loop need not poll after each event, and need not
-/// repeat `poll_transmit` until it returns `None`. It may also make calls that change no request.
-/// Suppose that at each of these calls no deadline is more than `late` nanoseconds ago.
+/// If a program calls an agent at most `late` nanoseconds after each deadline, each undisturbed
+/// request is retransmitted and times out in time (`in_time`):
 ///
-/// Then a request that is undisturbed is retransmitted only once its timeout since the previous
-/// transmission has passed, and at most `late` after that. It is sent at most as often as its
-/// settings allow, and times out once the final wait has passed, at most `late` after that. So
-/// transmission k, counted from 0, is never before its time in the plan, and at most k times `late`
-/// after it. If one of these steps is missing at the end, the last call was at most `late` after
-/// the time of that step (`in_time`). Any calls at times that do not go back are such a loop, for
-/// some `late` (`exist`).
+/// - The request is retransmitted after its timeout since the previous transmission has passed, and
+///   at most `late` after that. It is sent at most as often as its settings allow.
+/// - The request times out after the final wait has passed, and at most `late` after that.
+/// - So transmission k, counted from 0, is never before its time in the plan, and at most k times
+///   `late` after it.
+/// - If one of these steps is missing at the end, the last call was at most `late` after the step
+///   was due.
+///
+/// The calls may be any calls in any order (`Calls`), but no call has a time before that of the
+/// previous call. The program need not poll after each event, and need not repeat `poll_transmit`
+/// until it returns `None`. It may also make calls that change no request. Premise: at each call,
+/// no deadline is more than `late` nanoseconds ago. Any calls at times that do not go back satisfy
+/// this for some `late` (`exist`).
 pub fn any_loop_sends_in_time()
     ensures in_time { CallsSendInTime }
     ensures exist { CallsExist }
@@ -164,15 +171,17 @@ pub fn one_call_validates()
 }
 
 /// If a program makes calls on one server, one by one, these calls are a run of `serve`: they
-/// return the replies of the run, and leave the server that the run leaves (`served`). So the first
-/// theorem of this library (the clause `headline` of `serve`) holds for them (`validated`; RFC
-/// 8489, section 9.2.4).
+/// return the replies of the run, and leave the server in the same state as the run (`served`). So
+/// the first theorem of this library (the clause `headline` of `serve`) holds for them
+/// (`validated`; RFC 8489, section 9.2.4).
 ///
-/// The calls must be among those that `ServerCall` has, so no user is passed with a message
+/// Premises: the calls are among those that `ServerCall` has, so no user is passed with a message
 /// (`validate_incoming_message_of`), and `forget_expired_within` is not called. Each call does what
 /// the clauses of the server's own call state (`IsMade`), on the server as the previous call left
-/// it. A run of `serve` writes a message that was built attribute by attribute again as it is
-/// (`plain`), so it signs the message that the program signed.
+/// it.
+///
+/// If a message was built attribute by attribute, a run of `serve` writes it again unchanged
+/// (`plain`), so the run signs the message that the program signed.
 pub fn calls_are_a_run()
     ensures served { CallsAreServed }
     ensures validated { CallsAreValidated }
@@ -181,17 +190,19 @@ pub fn calls_are_a_run()
     auth_laws::accepted_messages_are_validated();
 }
 
-/// A server whose users are in a database makes a run of `serve` too: the run of a server that has
-/// all users of the database. For each message, the caller looks up the user whom `named_user`
-/// returns or, to sign, the client of the address. It passes this user, with a password or with
-/// stored keys (`validate_incoming_message_of`, `sign_outgoing_message_of`). The database may
-/// change between any two calls. A step of `forget_expired_within` is a list of calls of `forget`,
-/// one for each address that it forgets. So the first theorem of this library (the clause
+/// The calls on a server whose users are in a database are a run of `serve`, too: the run of a
+/// server that has all users of the database. So the first theorem of this library (the clause
 /// `headline` of `serve`) holds for these calls (`served`; RFC 8489, section 9.2.4). There are such
 /// calls (`exist`).
 ///
-/// Each call does what the clauses of the server's own call state (`IsMadeOf`), on the server as
-/// the previous call left it.
+/// To validate a message, the caller looks up the user whom `named_user` returns. To sign a
+/// message, it looks up the client of the address. It passes this user to the call, with a password
+/// or with stored keys (`validate_incoming_message_of`, `sign_outgoing_message_of`). The database
+/// may change between any two calls. In the run, a step of `forget_expired_within` is a list of
+/// calls of `forget`, one for each address that the step forgets.
+///
+/// Premise: each call does what the clauses of the server's own call state (`IsMadeOf`), on the
+/// server as the previous call left it.
 pub fn stored_calls_are_a_run()
     ensures served { StoredCallsAreServed }
     ensures exist { OneIsStored }
@@ -201,7 +212,7 @@ pub fn stored_calls_are_a_run()
 }
 
 /// One call of `validate_incoming_message` is the call `Validate` of a run (`IsMade`), with the
-/// next sixteen numbers of `rng`. If an allocation failed, it is not a call of a run, and the
+/// next sixteen numbers of `rng`. If an allocation failed, the call is not part of a run, and the
 /// server is unchanged.
 pub fn a_validation_is_made<A: Allocator + Copy, R: Rng>(
     server: &mut LongTermServerAuth<A>,
@@ -221,10 +232,11 @@ pub fn a_validation_is_made<A: Allocator + Copy, R: Rng>(
     server.validate_incoming_message(message, from, now, rng)
 }
 
-/// One call of `sign_outgoing_message` is the call `Sign` of a run (`IsMade`), whatever writer the
-/// message is in. `serve` writes the message again as it is (clause `plain` of `calls_are_a_run`).
-/// If an allocation failed, or the writer had too little room, it is not a call of a run, and the
-/// server is unchanged.
+/// One call of `sign_outgoing_message` is the call `Sign` of a run (`IsMade`), with any writer
+/// (`made`). Premise: `serve` writes the message again unchanged, as the clause `plain` of
+/// `calls_are_a_run` states for built messages. If an allocation failed, or the writer had too
+/// little room, the call is not part of a run. After each error the server is unchanged
+/// (`refused`).
 pub fn a_signing_is_made<A: Allocator + Copy, W: MessageWrite>(
     server: &mut LongTermServerAuth<A>,
     writer: W,
@@ -251,12 +263,12 @@ pub fn best_is_strongest()
 {}
 
 /// Suppose that two messages have the same bytes, except for the length field, up to the end of the
-/// integrity attribute that decides in both. Then the server gives both the same reply, and is in
-/// the same state after either of them, with the same record of their address. The same holds for
-/// two runs that differ only in which of these two messages they contain (`agreeing`). So an
+/// integrity attribute with which both are verified. Then the server gives both the same reply, and
+/// is in the same state after either of them, with the same record of their address. The same holds
+/// for two runs that differ only in which of these two messages they contain (`agreeing`). So an
 /// attacker who appends to a signed request does not change how the server judges it (`appended`),
-/// with one exception: if he appends a MESSAGE-INTEGRITY-SHA256 to a MESSAGE-INTEGRITY, the new
-/// attribute decides (RFC 8489, sections 14.5 to 14.7).
+/// with one exception: if he appends a MESSAGE-INTEGRITY-SHA256 to a MESSAGE-INTEGRITY, the message
+/// is verified with the new attribute (RFC 8489, sections 14.5 to 14.7).
 pub fn appending_changes_no_reply()
     ensures agreeing { AgreeingAreAnsweredAlike }
     ensures appended { ContinuedAreAnsweredAlike }
@@ -268,19 +280,20 @@ pub fn appending_changes_no_reply()
 /// The addresses of clients can be divided among any number of servers that start with the same
 /// state. Each server gets the calls for its own addresses, and all calls that concern every
 /// address (users, settings, the removal of expired records). Then each address gets the replies
-/// that it would get from a single server with all the calls, and its server has the same record of
-/// it.
+/// that it would get from a single server with all the calls, and the server of the address has the
+/// same record of it as the single server.
 pub fn shards_serve_as_one()
     ensures { ShardsServeAsOne }
 {}
 
-/// If a client is ready, every message can be signed (`IsHonest`), and the client and the server
-/// can agree on an algorithm (`best_is_strongest`), then the server accepts the client's second
-/// request with that algorithm, and both sides are authenticated. If they cannot agree, the client
-/// gives up and stores nothing (RFC 8489, section 9.2). Realm and user name are UTF-8, as each
-/// `str` is.
+/// An honest client and its server agree on the strongest algorithm that both support: the server
+/// accepts the client's second request with this algorithm, and both sides are then authenticated.
+/// If they cannot agree on an algorithm (`best_is_strongest`), the client gives up and stores
+/// nothing (RFC 8489, section 9.2).
 ///
-/// The law is about the steps of a meeting, which are computed from the bytes of its messages.
+/// Premises: the client is ready and every message can be signed (`IsHonest`), and the realm and
+/// the user name are UTF-8, as each `str` is. The law is about the steps of a meeting, which are
+/// computed from the bytes of its messages.
 pub fn strongest_is_agreed()
     ensures { StrongestIsAgreed }
 {
@@ -290,11 +303,11 @@ pub fn strongest_is_agreed()
     auth_laws::sides_add_by_attribute();
 }
 
-/// Suppose that the programs of a client and a server make their calls one by one, in order, each
-/// on what the other has sent (`HaveMet`). Then client and server are in a meeting as in
-/// `negotiate`, of Binding messages without other attributes. They get the same outcome, and both
-/// sides are left as `negotiate` leaves them (`negotiated`). So an honest client and its server
-/// agree as `strongest_is_agreed` states (`strongest`; RFC 8489, section 9.2).
+/// If a client and a server exchange Binding messages without other attributes, they get the
+/// outcome that `negotiate` returns, and are afterwards in the states in which `negotiate` leaves
+/// them (`negotiated`). So an honest client and its server agree as `strongest_is_agreed` states
+/// (`strongest`; RFC 8489, section 9.2). Premise: the programs of both sides make their calls one
+/// by one and in order, each for the message that the other side has sent (`HaveMet`).
 pub fn calls_are_a_meeting()
     ensures negotiated { MeetingsAreNegotiated }
     ensures strongest { MeetingsAgree }

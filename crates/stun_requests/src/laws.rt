@@ -1,17 +1,25 @@
-//! Laws about the bytes of a request.
+//! Laws about the bytes of a request. An *epoch* is the time for which a server sends an address
+//! the same nonce.
 ghost use Rattle.stun_requests.specs.Fitting.{BuiltAreOrdinary, RequestsAreWritten};
 ghost use Rattle.stun_requests.specs.ReadBack.{BodiesAreReadBack, RequestsAreReadBack};
 ghost use Rattle.stun_requests.specs.ReadBack.{WrittenIsNotBidDown};
 ghost use Rattle.stun_requests.specs.Served.{RequestsAreAccepted, RequestsAreChallenged};
 
-/// A reader finds in a request the parts that it was made of: its method, the attributes that the
-/// challenge requires and no other attribute that signing adds, and a valid FINGERPRINT if the
-/// client sends one, or none otherwise. The signature is valid under the key of the challenge
-/// (`as_made`). The attributes of its body come first, unchanged, whatever the body is (`body`).
+/// A reader finds in the bytes of a request what the client wrote.
 ///
-/// Premises: the method has 12 bits, as each `Method` does; the body has attributes that `Body`
-/// accepts (`AreOrdinary`; `Body::add` refuses others); and the texts of the challenge are UTF-8
-/// (`IsText`), as those of each `Challenge` are.
+/// - `as_made`: the request has the method with which it was written. Of the attributes that
+///   signing can add, it has exactly those that the challenge requires, and its signature is valid
+///   under the key of the challenge. If the client sends FINGERPRINT, the request has a valid
+///   FINGERPRINT. Otherwise it has none.
+/// - `body`: the attributes of the request's body come first, in their order and unchanged.
+///
+/// Premises:
+///
+/// - The method has 12 bits, as each `Method` does.
+/// - The body has only attributes that `Body` accepts (`AreOrdinary`). `Body::add` refuses all
+///   other attributes.
+/// - For `as_made`: the texts of the challenge are UTF-8 (`IsText`), as the texts of each
+///   `Challenge` are.
 pub fn requests_are_read_back()
     ensures as_made { RequestsAreReadBack }
     ensures body { BodiesAreReadBack }
@@ -23,12 +31,12 @@ pub fn requests_are_read_back()
     stun_auth::laws::additions_are_read_back();
 }
 
-/// No server whose settings do not change accepts the bytes of a request with a weaker algorithm
-/// than the strongest that both sides support, whatever challenge the request answers by the
-/// client's own rule.
+/// A server whose settings do not change accepts the bytes of a request only with the strongest
+/// algorithm that both sides support. The request may be unsigned, or signed for any challenge that
+/// the client answers by its own rule.
 ///
-/// Premises: those of `requests_are_read_back`; and the challenge follows the rule for the client's
-/// preferences (`IsChosen`), as each challenge that `judge` returns does.
+/// Premises: those of `requests_are_read_back`. In addition, the challenge follows the rule for the
+/// client's preferences (`IsChosen`), as each challenge that `judge` returns does.
 pub fn written_requests_are_not_bid_down()
     ensures { WrittenIsNotBidDown }
 {
@@ -39,8 +47,8 @@ pub fn written_requests_are_not_bid_down()
 /// A server answers each unsigned request with a 401 that has the current nonce of the request's
 /// source address, whatever method and body the request has, and whatever users the server has.
 ///
-/// Premises: those of `requests_are_read_back`; and if the server requires FINGERPRINT, the client
-/// sends it.
+/// Premises: the method has 12 bits, the body has only attributes that `Body` accepts, and the
+/// client sends FINGERPRINT if the server requires it.
 pub fn requests_are_challenged()
     ensures { RequestsAreChallenged }
 {
@@ -49,13 +57,16 @@ pub fn requests_are_challenged()
 }
 
 /// A server accepts each request that a registered user's client signs for the server's challenge,
-/// in the epoch of the challenge and in the next epoch, whatever method and body the request has.
-/// It accepts the request as that user's, with the algorithm on which both sides agree, which is
-/// the strongest that both support.
+/// if the request arrives in the epoch of the challenge or in the next epoch. The server accepts it
+/// as a request of that user, with the algorithm on which both sides agree, which is the strongest
+/// that both support. The request may have any method and body.
 ///
-/// Premises: those of `requests_are_challenged`; the user is registered with this password and
-/// found by the hash of the name (`IsRegisteredUser`); the name is UTF-8, as each `str` is; the
-/// server was built (`IsServer`); and both agree on an algorithm (`AgreeOn`).
+/// Premises, in addition to those of `requests_are_challenged`:
+///
+/// - The user is registered with this password, and found by the hash of the name
+///   (`IsRegisteredUser`). The name is UTF-8, as each `str` is.
+/// - The server was built (`IsServer`).
+/// - Both sides agree on an algorithm (`AgreeOn`).
 pub fn requests_are_accepted()
     ensures { RequestsAreAccepted }
 {
@@ -64,15 +75,19 @@ pub fn requests_are_accepted()
     stun_exchanges::exchanges::users_are_accepted_by_the_strongest();
 }
 
-/// Each request that a client is asked to start can be written, both unsigned and signed for any
-/// challenge of a server of this library. A body that `Body` builds has attributes that the client
-/// does not write itself, of at most 60,000 bytes (`bodies`), and the attributes that the client
-/// adds always fit into the message (`written`), so a caller need not test whether they fit.
+/// A request with any body that `Body` builds can be written, both unsigned and signed for any
+/// challenge of a server of this library. Such a body has at most 60,000 bytes, and no attribute
+/// that the client writes itself (`bodies`). The attributes that the client adds always fit into
+/// the message (`written`), so a caller need not test whether they fit.
 ///
-/// Premises: SOFTWARE has at most 763 bytes, as `request` tests; realm and nonce have at most 763
-/// bytes, as those of each `Challenge` do; the name of the user has at most 513 bytes; and the list
-/// of algorithms has at most 2,600 bytes (`IsShort`). The list of a server of this library has at
-/// most 8 bytes. The method has 12 bits, as each `Method` does.
+/// Premises of `written`:
+///
+/// - The method has 12 bits, as each `Method` does.
+/// - SOFTWARE has at most 763 bytes, as `request` tests.
+/// - If the request is signed, the challenge is short (`IsShort`): the realm and the nonce have at
+///   most 763 bytes, as those of each `Challenge` do, the user name has at most 513 bytes, a hash
+///   of the name has 32 bytes, and the list of algorithms has at most 2,600 bytes. The list of a
+///   server of this library has at most 8 bytes.
 pub fn requests_can_be_written()
     ensures bodies { BuiltAreOrdinary }
     ensures written { RequestsAreWritten }

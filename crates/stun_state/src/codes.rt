@@ -40,8 +40,8 @@ pub fn convert_client_reason(reason: LongTermClientAuthErrorReason) -> Refusal
     }
 }
 
-/// Returns the algorithm with this number, or `None` if the number, 3, stands for both algorithms.
-/// Fails with `BadArgument` for any number that is not 1, 2 or 3.
+/// Returns the algorithm with this number, or `None` for 3, which stands for both algorithms. Fails
+/// with `BadArgument` for any number that is not 1, 2 or 3.
 pub fn read_algorithms(number: u32) -> Result<Option<IntegrityAlgorithm>, Refusal>
     ensures ok { IfOk result (λ one. algorithms_numbered number
         ≡ Some (option_map_or only one Both)) }

@@ -11,8 +11,8 @@ use stun_types::prelude::*;
 
 /// A writer over borrowed memory. It does not allocate.
 ///
-/// Its calls fail like the calls of a writer that can grow up to the length of the longest message,
-/// but with `OutOfMemory` if the memory is too short.
+/// Its calls fail like those of a writer that can grow to the length of the longest message, and in
+/// addition with `OutOfMemory` if the memory is too short.
 #[derive(Drop)]
 pub struct Desk<'a> {
     memory: &'a mut [u8],

@@ -43,7 +43,7 @@ pub(crate) enum Given<'a> {
     /// The password.
     Password(&'a [u8]),
     /// The stored keys for HMAC-SHA1, of 16 bytes, and for HMAC-SHA256, of 32. A key that is not
-    /// stored has no bytes.
+    /// stored is empty.
     Keys(&'a [u8], &'a [u8]),
 }
 

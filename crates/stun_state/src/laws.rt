@@ -106,8 +106,8 @@ use stun_base::algorithm::IntegrityAlgorithm;
 use stun_base::transport::TransportType;
 use stun_numbers::refusal::Refusal;
 
-/// States that different results of the library's calls have different numbers, so that a program
-/// learns from the number which result it is. For lengths this holds below 2^63 (`length`), and
+/// States that different results of the library's calls have different numbers, so a program can
+/// tell the results apart by their numbers. For lengths, this holds below 2^63 (`length`), and
 /// every buffer is shorter than that.
 pub fn numbers_tell_results_apart()
     ensures done { TellsApart done_answer }
@@ -132,8 +132,8 @@ pub fn other_handles_are_refused()
         → IsRefusedAs h user_kind result }
 {}
 
-/// States that a call does not change the kind with which a handle begins, whatever the call
-/// returns. Only the calls that create or free an object change the kind.
+/// States that only the calls that create or free an object change the kind with which a handle
+/// begins. All other calls leave the kind unchanged, whatever they return.
 pub fn handles_keep_their_kind()
     ensures agent { (old new : StateHandle) (result : ℤ) (number : Agent → ℤ)
         (after : Agent → Agent) → ChangesAgent old new result number after
@@ -178,8 +178,8 @@ pub fn objects_are_freed_by_their_kind()
 
 /// States that if a call that creates an agent or prepares a user returns 0, the handle was empty
 /// before, and now has the object that the library makes (`agent`, `user`). After an error the
-/// handle is unchanged (`agent_error`, `user_error`). A user who was prepared belongs to the server
-/// that was passed.
+/// handle is unchanged (`agent_error`, `user_error`). A prepared user has keys for the realm and
+/// the algorithms of the server that was passed.
 pub fn handles_are_filled_with_what_is_made()
     ensures agent { (old new : StateHandle) (made : Result Agent Refusal)
         → FillsWithAgent old new (pos 0) made → (old.kind ≡ empty_kind)
@@ -252,13 +252,16 @@ pub fn errors_leave_what_a_handle_holds()
         → (new.slot.kept ≡ old.slot.kept) × (after ≡ buffer) }
 {}
 
-/// States that the calls return the verdicts of the library. A call accepts a message only if the
-/// library does, and returns the number of the algorithm with which the library validates the
-/// message at this address (`accepted`). A call fails with an error of the authenticator only if
-/// the library does (`refused`). In both cases the handle then has the server as the library leaves
-/// it. A message that is accepted with a user whom the caller passes is accepted by the server that
-/// has only this user (`handed`), and the server's own users are unchanged (`own_users`,
-/// `own_users_after_signing`).
+/// States that the calls return the verdicts of the library, and leave the server in the handle in
+/// the same state as the library's calls.
+///
+/// - `accepted`: a call accepts a message only if the library accepts it from the same address. The
+///   call then returns the number of the library's algorithm.
+/// - `refused`: a call fails with an error of the authenticator only if the library fails with it.
+/// - `handed`: a call accepts a message with a user whom the caller passes only if a server that
+///   has only this user accepts the message.
+/// - `own_users`, `own_users_after_signing`: calls with a user whom the caller passes leave the
+///   server's own users unchanged.
 pub fn verdicts_are_those_of_the_authenticator()
     ensures accepted { (k : Server) (bytes : List ℕ) (from : Address) (now : ℕ) (words : List ℕ)
         (n : ℕ) → validation_number k bytes from now words ≡ pos n
@@ -295,10 +298,10 @@ pub fn verdicts_are_those_of_the_authenticator()
         → (kept_after_handed_signing s buffer count to user).registered ≡ s.registered }
 {}
 
-/// States that a server returns the same verdict (`verdict`), signs the same bytes (`bytes`) and
-/// stores the same data (`left`, `after_signing`) with a user who was prepared once as if the
-/// caller passed the name and the secret of this user with each message. Clause `answer` states
-/// this for the results that a program in C gets, if the user was prepared for the server.
+/// States that it makes no difference whether the caller prepares a user once, or passes the user's
+/// name and secret with each message. In both cases the server returns the same verdict
+/// (`verdict`), signs the same bytes (`bytes`) and stores the same data (`left`, `after_signing`).
+/// A program in C gets the same result, if the user was prepared for this server (`answer`).
 pub fn prepared_users_are_as_those_who_are_handed_in()
     ensures answer { (old new server : StateHandle) (user : Result RegisteredUser Refusal)
         (bytes : List ℕ) (from : Address) (now : ℕ) (words : List ℕ) (result : ℤ)
@@ -325,9 +328,9 @@ pub fn prepared_users_are_as_those_who_are_handed_in()
         ≡ kept_after_handed_signing s buffer count to (Ok u) }
 {}
 
-/// States that a call that signs a message writes to the buffer what the library returns for this
-/// message: the server signs it for this address (`server`), and the client signs it in its current
-/// state (`client`).
+/// States that a call that signs a message writes to the buffer the signed message that the library
+/// returns. The server signs it for the address that is passed (`server`), and the client signs it
+/// in its current state (`client`).
 pub fn messages_are_signed_as_by_the_authenticator()
     ensures server { (s : ServerSeen) (buffer : List ℕ) (count : ℕ) (to : Address)
         (bytes : List ℕ) → signed_for s buffer count to ≡ Ok bytes
@@ -345,8 +348,8 @@ pub fn messages_are_signed_as_by_the_authenticator()
 {}
 
 /// A user whom the caller passes has the name that was passed, and either the password (`password`)
-/// or the stored keys: 16 bytes for HMAC-SHA1 and 32 for HMAC-SHA256 (`keys`). A key without bytes
-/// is missing.
+/// or the stored keys: 16 bytes for HMAC-SHA1 and 32 for HMAC-SHA256 (`keys`). An empty key counts
+/// as missing.
 pub fn users_are_those_who_are_handed_in()
     ensures password { (name password : List ℕ) (u : RegisteredUser)
         → user_of_password name password ≡ Ok u
@@ -358,9 +361,9 @@ pub fn users_are_those_who_are_handed_in()
         × IsKeyPassed 16 sha1 keys.sha1 × IsKeyPassed 32 sha256 keys.sha256 }
 {}
 
-/// `stunp_server_named_user` names the user with whose key the library judges the message: this
-/// holds for the number that it returns, for the name or the hash at the front of the buffer, and
-/// for its length.
+/// `stunp_server_named_user` reports the user with whose key the library judges the message. The
+/// number that the call returns says whether it writes a name or a hash. It writes the name or the
+/// hash to the front of the buffer, and also writes its length.
 pub fn callers_are_told_who_is_named()
     ensures { (s : ServerSeen) (bytes buffer : List ℕ) (from : Address) (before n : ℕ)
         → number_answer
@@ -373,8 +376,8 @@ pub fn callers_are_told_who_is_named()
         (λ a. naming_length (named_in_bytes s bytes a) before)) }
 {}
 
-/// States that a call on a client returns the verdict of the library, and that the handle then has
-/// the client as the library leaves it.
+/// States that a call that judges a response returns the verdict of the library, and that the
+/// client in the handle is then in the same state as after the library's call.
 pub fn client_verdicts_are_those_of_the_authenticator()
     ensures { (c : ClientSide) (bytes : List ℕ) (n : ℕ)
         → reading_answer (client_validation c bytes) ≡ pos n
@@ -384,13 +387,13 @@ pub fn client_verdicts_are_those_of_the_authenticator()
         ≡ record c { state = (client_step c.settings c.state (reading_of bytes)).state }) }
 {}
 
-/// An agent in a handle is an agent of the library. A call that succeeds does what the library does
-/// with the same bytes, at the address that the caller passes: it accepts a request (`request`) or
-/// another message to send (`sent`) only if the library does, and for a message that arrived it
-/// returns what the library returns (`received`). Calls that validate or forget a peer (`named`),
-/// or change a request that they find by its ID (`outstanding`, `configured`), change the agent as
-/// the library does. A call that tests whether an address is a validated peer returns what the
-/// library returns (`asked`).
+/// States that a call on an agent, if it succeeds, does what the library does with the same bytes
+/// and the same address. It accepts a request (`request`) or another message to send (`sent`) only
+/// if the library does. For a message that arrived, it returns what the library returns
+/// (`received`). Calls that add or remove a validated peer (`named`), or that change the request
+/// with a given transaction ID (`outstanding`, `configured`), change the agent in the same way as
+/// the library. A call that tests whether an address is a validated peer returns what the library
+/// returns (`asked`).
 pub fn agents_are_those_of_the_library()
     ensures request { (a : Agent) (bytes : List ℕ) (to : Address) (now : ℕ)
         → done_answer (at_address (socket_address to) (request_answer a bytes)) ≡ pos 0
@@ -430,10 +433,11 @@ pub fn agents_are_those_of_the_library()
         (big_number 12 id) a.transactions)) }
 {}
 
-/// A new agent has the transport and the address that the caller passes. It has no requests and no
+/// A new agent has the transport and the address that the caller passed. It has no requests and no
 /// validated peers yet, may send to any address, and has the timeouts of RFC 8489 (`made`). If the
-/// caller passes timeouts, no two transmissions of a request are due at the same time. If the
-/// caller passes a remote address, the agent only sends to that address (`with_plan`).
+/// caller passed timeouts, the agent has these, and no two transmissions of a request are due at
+/// the same time. If the caller passed a remote address, the agent only sends to this address
+/// (`with_plan`).
 pub fn agents_are_made_as_asked_for()
     ensures made { (n : ℕ) (local : Address) (a : Agent)
         → agent_at (transport_numbered n) (socket_address local) ≡ Ok a
@@ -459,9 +463,9 @@ pub fn polls_tell_what_the_library_returns()
         → TellsOfSending e n (bytes_told e buffer) (sent_to e to) }
 {}
 
-/// States that the caller receives an address as it was passed: if the library returns an address
-/// that the caller has passed, the caller receives this address (`address`). A walk over addresses
-/// continues at the address that the caller has received (`start`, `step`).
+/// States that if the library returns an address that the caller has passed, the caller receives
+/// the same address (`address`). A walk over addresses continues at the address that the caller has
+/// received from the previous call (`start`, `step`).
 pub fn addresses_are_those_that_were_passed()
     ensures address { (a : Address) (address : SocketAddr) → length a.octets ≡ 16
         → socket_address a ≡ Some address
@@ -498,14 +502,17 @@ pub fn callers_are_told_what_a_server_has()
         (λ a. nonce_written buffer (nonce_at s a))) }
 {}
 
-/// States what the numbers mean that a caller passes and receives. A call that sets algorithms or a
-/// feature sets those with the number that is passed (`algorithms`, `feature`). The number of a set
-/// of algorithms is the sum of the numbers of the algorithms. A nonce is valid for at least 30
-/// seconds (`expiry`), and for the time that was passed if this time is not shorter
-/// (`longer_expiry`). A client has the name and the password that were passed, and its state is
-/// unchanged (`credentials`). If the number of the algorithm with which a client signs is 0, it
-/// signs with none (`signing`). A call that writes statistics does not change the size in the
-/// caller's struct (`statistics`).
+/// States what the values mean that a caller passes and receives.
+///
+/// - `algorithms`, `feature`: a call that sets the algorithms or the feature sets the ones that
+///   have the number passed. The number of a set of algorithms is the sum of their numbers.
+/// - `expiry`, `longer_expiry`: a nonce is valid for the time that was passed, but for at least 30
+///   seconds.
+/// - `credentials`: a client has the name and the password that were passed, and its state is
+///   unchanged.
+/// - `signing`: if the call that returns a client's signing algorithm returns 0, the client does
+///   not sign.
+/// - `statistics`: a call that writes statistics does not change the size in the caller's struct.
 pub fn settings_are_those_of_their_numbers()
     ensures algorithms { (n : ℕ) (set : AlgorithmSet) (s : ServerSeen) (c : ClientSide)
         → algorithms_numbered n ≡ Some set
@@ -536,9 +543,9 @@ pub fn settings_are_those_of_their_numbers()
 {}
 
 /// A call that fails with `STUNP_OUT_OF_MEMORY` changes nothing (`returned`, `signed`, `written`).
-/// If a contract rules out this error, the call has nothing to store: the message does not change
-/// the server (`server`), or adds no address to the validated peers of the agent (`naming`,
-/// `message`).
+/// If the contract of a call rules out this error, the call has nothing to store. This is because
+/// the message does not change the server (`server`), or because the call adds no address to the
+/// validated peers of the agent (`naming`, `message`).
 pub fn failed_allocations_change_nothing()
     ensures returned { (result verdict : Result IntegrityAlgorithm Refusal)
         (before now after : Server) → Returns verdict before now after ⊤ result

@@ -146,7 +146,7 @@ pub fn forget(server: &mut LongTermServerAuth<Global>, at: &Address) -> Result<(
 }
 
 /// Removes every record that has no client and whose nonce expired more than `age` before `now`.
-/// Both are in nanoseconds. If `now` is less than `age`, the call removes no record.
+/// `now` and `age` are in nanoseconds. If `now` is less than `age`, the call removes no record.
 pub fn forget_expired(server: &mut LongTermServerAuth<Global>, now: u64, age: u64)
     ensures { server.new ≡ after_forgetting server.old (now - age) }
 {

@@ -16,7 +16,7 @@ use stun_cli::status::Status;
 ///
 /// Returns `NotJudged` for any other number of arguments, and then neither reads nor prints.
 /// Returns `Failed` if a read, a write or an allocation fails, or if the input does not end within
-/// 1048576 reads. At most a beginning of the line is printed then.
+/// 1048576 reads. In these cases, at most the beginning of the line is printed.
 #[tactic(auto, using(crate::proofs::VerdictLines::nothing_printed))]
 pub fn check<R: CountedRead, W: Write, A: Allocator + Copy>(
     alloc: A,

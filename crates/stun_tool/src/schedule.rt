@@ -53,10 +53,10 @@ pub struct Response {
 /// - the number of transmissions, at most 1000;
 /// - the wait after the last transmission.
 ///
-/// They may be followed by `answer`, a time up to `Instant::MAX`, and an IPv4 address with a port.
-/// At that time a success response with transaction ID 1 arrives from that address. If it ends the
-/// request, there is a line `received MS` for it, and nothing after that. Otherwise the line is
-/// `ignored MS`.
+/// These arguments may be followed by `answer`, a time up to `Instant::MAX`, and an IPv4 address
+/// with a port. At that time a success response with transaction ID 1 arrives from that address. If
+/// it ends the request, there is a line `received MS` for it, and nothing after that. Otherwise the
+/// line is `ignored MS`.
 ///
 /// Returns `NotJudged` for other arguments, and prints nothing. Returns `Failed` if a write or an
 /// allocation fails, and prints nothing more. It reads nothing.

@@ -36,6 +36,6 @@ WritesReservedZeros error =
 abbrev pub WritesFirstZero : XoredAddress → Type 0
 WritesFirstZero address = take 1 (xored_value address) ≡ 0 ∷ []
 
--- bytes that are read as a list of algorithms are the bytes that the list is written as
+-- if bytes are read as a list of algorithms, then writing this list gives the same bytes
 abbrev pub ReadsSpelledEntries : List ℕ → List PasswordAlgorithmValue → Type 0
 ReadsSpelledEntries bytes list = entries bytes ≡ Some list → spelled_entries list ≡ bytes

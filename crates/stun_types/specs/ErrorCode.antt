@@ -1,6 +1,6 @@
--- ERROR-CODE (RFC 8489, section 14.8). It has 21 reserved bits, the hundreds digit of the code in 3
--- bits, its remainder by 100 in 8 bits, and a reason phrase. The reserved bits are zero when
--- written, and ignored when read.
+-- ERROR-CODE (RFC 8489, section 14.8). Its value consists of 21 reserved bits, the hundreds digit
+-- of the code in 3 bits, the remainder of the code modulo 100 in 8 bits, and a reason phrase. The
+-- reserved bits are zero when written, and ignored when read.
 use Rattle.std.specs.Prelude.{ℕ, ◌+◌, ◌*◌, ◌/◌, ◌%◌, ◌<◌, ◌≤◌, List, [], ◌∷◌, length}
 use Rattle.std.specs.Prelude.{drop, slice_index, codes, nat_le, nat_lt, ◌==◌, ◌&&◌}
 use Rattle.std.specs.Prelude.{◌||◌, if◌then◌else◌, Option, Some, None, IsUtf8}
@@ -23,8 +23,8 @@ default_reason code =
     else (if code == 401 then codes "Unauthorized"
     else (if code == 438 then codes "Stale Nonce" else []))
 
--- why an error cannot be written, if it cannot: first because of its code, then because of its
--- reason
+-- the reason why an error cannot be written, if there is one: the code is tested before the reason
+-- phrase
 abbrev pub error_refusal : CodeAndReason → Option StunWriteError
 error_refusal error =
     if nat_lt error.code 300 || nat_le 700 error.code then Some NotAllowed
@@ -49,18 +49,18 @@ error_value error = 0 ∷ 0 ∷ (error.code / 100) ∷ (error.code % 100) ∷ er
 abbrev pub class_field : List ℕ → ℕ
 class_field value = slice_index value 2 % 8
 
--- the remainder of the code by 100
+-- the remainder of the code modulo 100
 abbrev pub number_field : List ℕ → ℕ
 number_field value = slice_index value 3
 
--- the code in the value, if class and number are those of a code
+-- the code in a value, if its class is 3 to 6 and its number is less than 100
 abbrev pub code_in : List ℕ → Option ℕ
 code_in value =
     if nat_le 3 (class_field value) && nat_le (class_field value) 6
     && nat_le (number_field value) 99
     then Some (100 * class_field value + number_field value) else None
 
--- the error with a code and a reason, if there are both
+-- the error with a code and a reason, if both are present
 abbrev pub error_with : Option ℕ → Option (List ℕ) → Option CodeAndReason
 error_with (Some code) (Some reason) = Some (record { code = code; reason = reason })
 error_with (Some code) None = None

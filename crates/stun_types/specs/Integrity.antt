@@ -22,14 +22,16 @@ use Rattle.stun_types.specs.Visible.{visible}
 abbrev pub first_of : ℕ → List Member → Option Member
 first_of kind members = find (λ m. m.1.kind == kind) members
 
--- the member whose digest decides: the stronger one, if both are visible
+-- the deciding attribute, whose digest decides whether the message is signed:
+-- MESSAGE-INTEGRITY-SHA256 if it is visible, and otherwise MESSAGE-INTEGRITY
 abbrev pub deciding : List ℕ → Option Member
 deciding bytes =
     option_or (first_of MESSAGE_INTEGRITY_SHA256 (visible bytes))
     (first_of MESSAGE_INTEGRITY (visible bytes))
 
--- what an integrity attribute at an offset covers, if its value has this many bytes (sections 14.5
--- and 14.6): the bytes before the attribute, with the length field of a message that ends after it
+-- the bytes that are covered by an integrity attribute at an offset, whose value has this many
+-- bytes (sections 14.5 and 14.6): the bytes before the attribute, with the length field of a
+-- message that ends after the attribute
 abbrev pub covered_bytes : List ℕ → ℕ → ℕ → List ℕ
 covered_bytes bytes place count =
     with_length (take place bytes) (place + ATTRIBUTE_HEADER_LENGTH + count - HEADER_LENGTH)
@@ -38,37 +40,41 @@ covered_bytes bytes place count =
 abbrev pub integrity_algorithm : TypedValue → IntegrityAlgorithm
 integrity_algorithm attribute = if attribute.kind == MESSAGE_INTEGRITY_SHA256 then Sha256 else Sha1
 
--- the algorithm of the attribute whose digest decides
+-- the algorithm of the deciding attribute
 abbrev pub deciding_algorithm : List ℕ → Option IntegrityAlgorithm
 deciding_algorithm bytes = option_map (λ m. integrity_algorithm m.1) (deciding bytes)
 
--- whether the value of a member is the whole digest of what it covers, under a key
+-- whether the value of an integrity attribute is the whole digest, under a key, of the bytes that
+-- the attribute covers
 abbrev pub is_digest : List ℕ → List ℕ → Member → Bool
 is_digest bytes key m =
     (length m.1.value == digest_length (integrity_algorithm m.1))
     && pointwise nat_eq m.1.value
     (digest (integrity_algorithm m.1) key (covered_bytes bytes m.0 (length m.1.value)))
 
--- the algorithm of a member, if its value is the digest under the key for that algorithm
+-- the algorithm of an integrity attribute, if its value is the digest under the key for this
+-- algorithm
 abbrev pub verified_at : (IntegrityAlgorithm → List ℕ) → List ℕ → Member → Option IntegrityAlgorithm
 verified_at keys bytes m =
     if is_digest bytes (keys (integrity_algorithm m.1)) m then Some (integrity_algorithm m.1)
     else None
 
--- the algorithm whose digest verifies, if one does, with a key for each algorithm (section 9.2.2)
+-- the algorithm whose digest verifies, if there is one, with a key for each algorithm (section
+-- 9.2.2)
 abbrev pub verified_by : (IntegrityAlgorithm → List ℕ) → List ℕ → Option IntegrityAlgorithm
 verified_by keys bytes = option_and_then (verified_at keys bytes) (deciding bytes)
 
--- the algorithm whose digest verifies under one key for both, if one does (section 9.1)
+-- the algorithm whose digest verifies, if there is one, with the same key for both algorithms
+-- (section 9.1)
 abbrev pub verified_algorithm : List ℕ → List ℕ → Option IntegrityAlgorithm
 verified_algorithm bytes key = verified_by (λ _. key) bytes
 
--- the smallest number of bytes of a SHA-256 digest that is cut short (section 14.6)
+-- the smallest number of bytes of a truncated SHA-256 digest (section 14.6)
 abbrev pub LEAST_SHA256_LENGTH : ℕ
 LEAST_SHA256_LENGTH = 16
 
 -- whether the value of an integrity attribute is well formed: a whole digest, or a SHA-256 digest
--- cut short to 16 bytes or more
+-- that is truncated to 16, 20, 24 or 28 bytes
 abbrev pub is_well_formed : TypedValue → Bool
 is_well_formed attribute =
     if attribute.kind == MESSAGE_INTEGRITY_SHA256 then
@@ -83,17 +89,18 @@ is_integrity attribute =
     ((attribute.kind == MESSAGE_INTEGRITY) || (attribute.kind == MESSAGE_INTEGRITY_SHA256))
     && is_well_formed attribute
 
--- why no digest verifies, given the deciding member
+-- the reason why no digest verifies, given the deciding attribute
 abbrev pub deciding_refusal : Option Member → ValidateError
 deciding_refusal None = Parse (MissingAttribute (record { 0 = MESSAGE_INTEGRITY }))
 deciding_refusal (Some m) =
     if is_well_formed m.1 then IntegrityFailed else Parse InvalidAttributeData
 
--- why no digest of a message verifies
+-- the reason why no digest of a message verifies
 abbrev pub integrity_refusal : List ℕ → ValidateError
 integrity_refusal bytes = deciding_refusal (deciding bytes)
 
--- a call that verifies a message, if `verified` is the algorithm whose digest verifies, if one does
+-- the result of a call that verifies a message, where `verified` is the algorithm whose digest
+-- verifies, if there is one
 pub record Verifies (message : List ℕ) (verified : Option IntegrityAlgorithm)
     (result : Result IntegrityAlgorithm ValidateError) : Type 0 where
   pub ok : IfOk result (λ algorithm. verified ≡ Some algorithm)

@@ -24,7 +24,7 @@ pub digest_of-written : (hmac : List ℕ) → length hmac ≡ digest_length Sha1
     → digest_of MESSAGE_INTEGRITY (record { kind = MESSAGE_INTEGRITY; value = hmac }) ≡ Some hmac
 digest_of-written hmac whole = search rules
 
--- a SHA-256 digest that is written is read again, even one that is cut short
+-- a SHA-256 digest that is written is read again, even a truncated one
 pub digest_of-written_sha256 : (hmac : List ℕ) → IsSha256Digest hmac
     → digest_of MESSAGE_INTEGRITY_SHA256 (record { kind = MESSAGE_INTEGRITY_SHA256; value = hmac })
     ≡ Some hmac

@@ -6,12 +6,14 @@ use Rattle.std.specs.Prelude.{ℕ}
 abbrev pub TEXT_LIMIT : ℕ
 TEXT_LIMIT = 763
 
--- the largest number of bytes of a USERNAME here. By section 14.3 a written one has fewer than 509
--- bytes, and a read one up to 763. Here one of more than 513 bytes is malformed
+-- the largest number of bytes of a USERNAME in this library, which treats a longer one as
+-- malformed. By section 14.3, a sender must stay below 509 bytes, and a receiver must accept up to
+-- 763
 abbrev pub USERNAME_LIMIT : ℕ
 USERNAME_LIMIT = 513
 
--- the greatest message length that is a multiple of 4 and fits its field of 16 bits (section 5)
+-- the greatest message length: the greatest multiple of 4 that fits in the 16 bits of the length
+-- field (section 5)
 abbrev pub max_length : ℕ
 max_length = 65532
 

@@ -8,17 +8,18 @@ use Rattle.stun_base.specs.Header.{HEADER_LENGTH, BeginsWithHeader, header_refus
 use Rattle.stun_types.specs.Walk.{walk, attributes_length}
 pub use Rattle.stun_types.specs.Limits.{LENGTH_LIMIT}
 
--- the bytes with the length field of their header set
+-- the bytes with this length in the length field of their header
 abbrev pub with_length : List ℕ → ℕ → List ℕ
 with_length bytes n = take 2 bytes ++ big_bytes 2 n ++ drop 4 bytes
 
--- the bytes are a header and whole attributes that fill the length that it states
+-- the bytes are a header, followed by whole attributes whose total length is the one that the
+-- header states
 pub record IsMessage (bytes : List ℕ) : Type 0 where
   pub header : BeginsWithHeader bytes
   pub stated : HEADER_LENGTH + length_field bytes ≡ length bytes
   pub filled : HEADER_LENGTH + attributes_length (walk bytes) ≡ length bytes
 
--- why bytes after a valid header are not the rest of a message
+-- the reason why the bytes after a valid header are not the rest of a message
 abbrev pub data_refusal : List ℕ → Option StunParseError
 data_refusal bytes =
     if nat_lt (length bytes) (HEADER_LENGTH + length_field bytes) then Some Truncated
@@ -31,6 +32,6 @@ abbrev pub either_refusal : Option StunParseError → Option StunParseError → 
 either_refusal (Some error) second = Some error
 either_refusal None second = second
 
--- why bytes are not a message: what is wrong with the header comes first
+-- the reason why bytes are not a message: the header is tested first
 abbrev pub refusal : List ℕ → Option StunParseError
 refusal bytes = either_refusal (header_refusal bytes) (data_refusal bytes)

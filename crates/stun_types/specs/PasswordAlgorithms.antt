@@ -28,12 +28,13 @@ abbrev pub algorithm_of_number : ℕ → Option PasswordAlgorithmValue
 algorithm_of_number number =
     if number == 0x0001 then Some MD5 else (if number == 0x0002 then Some SHA256 else None)
 
--- the algorithm of the signatures under a key that this algorithm makes (section 18.5.1)
+-- the algorithm of the signatures that are made with keys that this algorithm derives (section
+-- 18.5.1)
 abbrev pub integrity_of : PasswordAlgorithmValue → IntegrityAlgorithm
 integrity_of MD5 = Sha1
 integrity_of SHA256 = Sha256
 
--- the algorithm that makes the key of a signature
+-- the algorithm that derives the key for signatures with this algorithm
 abbrev pub password_algorithm_of : IntegrityAlgorithm → PasswordAlgorithmValue
 password_algorithm_of Sha1 = MD5
 password_algorithm_of Sha256 = SHA256
@@ -55,15 +56,15 @@ abbrev pub entry_at_front : List ℕ → Option PasswordAlgorithmValue
 entry_at_front bytes =
     if big_number 2 (drop 2 bytes) == 0 then algorithm_of_number (big_number 2 bytes) else None
 
--- an algorithm before others, if all are known
+-- a list of algorithms with one more at its beginning, if all are known
 abbrev pub in_front_of : Option (List PasswordAlgorithmValue) → Option PasswordAlgorithmValue
     → Option (List PasswordAlgorithmValue)
 in_front_of (Some others) (Some algorithm) = Some (algorithm ∷ others)
 in_front_of (Some others) None = None
 in_front_of None first = None
 
--- the algorithms whose entries the bytes are, if all are known and without parameters: each entry
--- has four bytes
+-- the algorithms in bytes that consist of entries of four bytes each, if all algorithms are known
+-- and have no parameters
 abbrev pub entries : List ℕ → Option (List PasswordAlgorithmValue)
 entries [] = Some []
 entries (a ∷ []) = None

@@ -26,7 +26,7 @@ of_kind kind members = filter (λ m. m.1.kind == kind) members
 abbrev pub before : ℕ → List Member → List Member
 before place members = filter (λ m. nat_lt m.0 place) members
 
--- what is visible, depending on which of the three types came before
+-- the visibility after attributes, given which of the three types are among them
 abbrev pub visibility_of : Bool → Bool → Bool → Visibility
 visibility_of integrity integrity_sha256 fingerprint =
     if fingerprint then Nothing
@@ -40,7 +40,7 @@ shows AfterIntegrity kind = (kind == MESSAGE_INTEGRITY_SHA256) || (kind == FINGE
 shows AfterIntegritySha256 kind = kind == FINGERPRINT
 shows Nothing kind = false
 
--- what is visible at an offset, given the attributes before it
+-- the visibility at an offset, given the attributes before it
 abbrev pub visibility_at : ℕ → List Member → Visibility
 visibility_at place members =
     visibility_of (has_kind MESSAGE_INTEGRITY (before place members))
@@ -55,7 +55,7 @@ is_visible members m = shows (visibility_at m.0 members) m.1.kind
 unfoldable pub visible : List ℕ → List Member
 visible bytes = filter (is_visible (walk bytes)) (walk bytes)
 
--- what is visible after one more attribute, of this type
+-- the visibility after one more attribute, which has this type
 abbrev pub after : Visibility → ℕ → Visibility
 after Everything kind =
     visibility_of (kind == MESSAGE_INTEGRITY) (kind == MESSAGE_INTEGRITY_SHA256)
@@ -65,20 +65,20 @@ after AfterIntegrity kind =
 after AfterIntegritySha256 kind = visibility_of true true (kind == FINGERPRINT)
 after Nothing kind = Nothing
 
--- the attributes that are visible among these, if this is visible where they begin
+-- those of these attributes that are visible, given the visibility where they begin
 unfoldable pub visible_after : Visibility → List Member → List Member
 visible_after visibility [] = []
 visible_after visibility (m ∷ members) =
     if shows visibility m.1.kind then m ∷ visible_after (after visibility m.1.kind) members
     else visible_after (after visibility m.1.kind) members
 
--- the type that hides the most, of those that came before
+-- the type that hides the most attributes, among the types of earlier attributes
 abbrev pub hiding_type : Visibility → Option AttributeType
 hiding_type Everything = None
 hiding_type AfterIntegrity = Some (record { 0 = MESSAGE_INTEGRITY })
 hiding_type AfterIntegritySha256 = Some (record { 0 = MESSAGE_INTEGRITY_SHA256 })
 hiding_type Nothing = Some (record { 0 = FINGERPRINT })
 
--- the type that hides an attribute of a type, if it is hidden
+-- the type that hides an attribute of this type, if the attribute is hidden
 abbrev pub hider : Visibility → ℕ → Option AttributeType
 hider visibility kind = if shows visibility kind then None else hiding_type visibility

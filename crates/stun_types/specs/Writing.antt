@@ -22,7 +22,7 @@ use Rattle.stun_types.specs.Visible.{has_kind, visible}
 use Rattle.stun_types.specs.Walk.{walk}
 pub use Rattle.stun_types.specs.Limits.{max_length}
 
--- the message length with one more attribute, whose value has n bytes (RFC 8489, section 5)
+-- the length of the message with one more attribute, whose value has n bytes (RFC 8489, section 5)
 abbrev pub length_with : List ℕ → ℕ → ℕ
 length_with message n = length message - HEADER_LENGTH + attribute_length n
 
@@ -37,12 +37,12 @@ abbrev pub integrity_kind : IntegrityAlgorithm → ℕ
 integrity_kind Sha1 = MESSAGE_INTEGRITY
 integrity_kind Sha256 = MESSAGE_INTEGRITY_SHA256
 
--- what an integrity attribute at the end of a message covers
+-- the bytes that are covered by an integrity attribute at the end of a message
 abbrev pub covered_at_end : List ℕ → IntegrityAlgorithm → List ℕ
 covered_at_end message algorithm = covered_bytes message (length message) (digest_length algorithm)
 
--- the integrity attribute at the end of a message: its value is the digest of what it covers
--- (sections 14.5 and 14.6)
+-- the integrity attribute at the end of a message: its value is the digest of the bytes that it
+-- covers (sections 14.5 and 14.6)
 abbrev pub integrity_attribute : List ℕ → IntegrityAlgorithm → List ℕ → TypedValue
 integrity_attribute message algorithm key = record {
   kind = integrity_kind algorithm;
@@ -54,7 +54,8 @@ abbrev pub with_integrity : List ℕ → IntegrityAlgorithm → List ℕ → Lis
 with_integrity message algorithm key =
     with_attribute message (integrity_attribute message algorithm key)
 
--- the types that only the calls that sign write, and FINGERPRINT (sections 14.5 to 14.7)
+-- the types of the integrity attributes, which only the calls that sign a message write, and the
+-- type of FINGERPRINT (sections 14.5 to 14.7)
 abbrev pub is_set_apart : ℕ → Bool
 is_set_apart kind =
     (kind == MESSAGE_INTEGRITY) || (kind == MESSAGE_INTEGRITY_SHA256) || (kind == FINGERPRINT)
@@ -64,14 +65,14 @@ abbrev pub has_integrity : List ℕ → Bool
 has_integrity message =
     has_kind MESSAGE_INTEGRITY (walk message) || has_kind MESSAGE_INTEGRITY_SHA256 (walk message)
 
--- a message that an attribute or an integrity attribute can be added to: none of its attributes
--- hides those after it
+-- a message to which an attribute or an integrity attribute can be added: none of its attributes
+-- hides the attributes after it
 pub record IsOpen (message : List ℕ) : Type 0 where
   pub is_message : IsMessage message
   pub no_integrity : has_integrity message ≡ false
   pub no_fingerprint : has_kind FINGERPRINT (walk message) ≡ false
 
--- a message with one more attribute after all that it had, which is visible with them
+-- the second message is the first with one more attribute at its end, which is visible
 pub record HasOneMore (before after : List ℕ) (attribute : TypedValue) : Type 0 where
   pub is_message : IsMessage after
   pub type_is : type_field after ≡ type_field before
@@ -79,20 +80,20 @@ pub record HasOneMore (before after : List ℕ) (attribute : TypedValue) : Type 
   pub walk_is : walk after ≡ walk before ++ (length before, attribute) ∷ []
   pub visible_is : visible after ≡ visible before ++ (length before, attribute) ∷ []
 
--- an attribute whose type has 16 bits, and whose value fits into the message, so that its length is
--- at most the greatest one
+-- an attribute that can be added to a message: its type has 16 bits, and with this attribute the
+-- message has at most the greatest length
 pub record IsAddable (message : List ℕ) (attribute : TypedValue) : Type 0 where
   pub kind : attribute.kind < 2 ^ 16
   pub value : length_with message (length attribute.value) ≤ max_length
 
--- why a value of n bytes is refused with this much room, if it is: first because of the length
--- field, then because of the room
+-- the reason why a value of n bytes is refused by a writer with this much room, if there is one:
+-- the length field is tested before the room
 abbrev pub size_refusal : List ℕ → ℕ → ℕ → Option StunWriteError
 size_refusal message room n =
     if nat_lt max_length (length_with message n) then Some TooLarge
     else (if nat_lt room (attribute_length n) then Some TooSmall else None)
 
--- why an attribute is refused, the first reason that applies
+-- the reason why an attribute is refused: the first that applies
 abbrev pub attribute_refusal : List ℕ → ℕ → ℕ → ℕ → Option StunWriteError
 attribute_refusal message room kind n =
     if is_set_apart kind then Some NotAllowed
@@ -100,38 +101,38 @@ attribute_refusal message room kind n =
     else (if has_kind kind (walk message) then Some (AttributeExists (record { 0 = kind }))
     else size_refusal message room n))
 
--- why an attribute is refused whose type may be in the message already, the first reason that
--- applies
+-- the reason why an attribute is refused if the message may already have an attribute of its type:
+-- the first reason that applies
 abbrev pub another_refusal : List ℕ → ℕ → ℕ → ℕ → Option StunWriteError
 another_refusal message room kind n =
     if is_set_apart kind then Some NotAllowed
     else (if has_integrity message then Some MessageIntegrityExists
     else size_refusal message room n)
 
--- why an integrity attribute is refused, the first reason that applies
+-- the reason why an integrity attribute is refused: the first that applies
 abbrev pub signing_refusal : List ℕ → ℕ → IntegrityAlgorithm → Option StunWriteError
 signing_refusal message room algorithm =
     if has_integrity message then Some MessageIntegrityExists
     else size_refusal message room (digest_length algorithm)
 
--- the result of a call that may fail: it is the first reason that applies, and without one only an
--- allocation can fail
+-- the result of a call that may fail: the call fails for this reason or, if there is none, only if
+-- an allocation fails
 abbrev pub RefusedBy : Option StunWriteError → Result (Unit {0}) StunWriteError → Type 0
 RefusedBy refusal result =
     MatchOption refusal (IsOkUnless result OutOfMemory) (λ reason. result ≡ Err reason)
 
--- an open message has one more attribute after the call
+-- if the message was open, the call has added this attribute to it
 abbrev pub GainsOne : List ℕ → List ℕ → TypedValue → Type 0
 GainsOne before after attribute = IsOpen before → HasOneMore before after attribute
 
--- an open message has the integrity attribute of an algorithm under a key after the call, and no
--- other new attribute
+-- if the message was open, the call has added the integrity attribute for an algorithm, under a
+-- key, and no other attribute
 abbrev pub GainsIntegrity : List ℕ → List ℕ → IntegrityAlgorithm → List ℕ → Type 0
 GainsIntegrity before after algorithm key =
     GainsOne before after (integrity_attribute before algorithm key)
 
--- an open message verifies after the call with this algorithm, under all sets of keys whose key for
--- it is this one
+-- if the message was open, it verifies after the call with this algorithm, whatever the keys for
+-- other algorithms are, as long as this key is the one for this algorithm
 abbrev pub VerifiesAfter : List ℕ → List ℕ → IntegrityAlgorithm → List ℕ → Type 0
 VerifiesAfter before after algorithm key =
     IsOpen before → (keys : IntegrityAlgorithm → List ℕ) → keys algorithm ≡ key
@@ -147,7 +148,8 @@ SpellsOneMore before after attribute =
 abbrev pub empty_message : MessageClass → ℕ → ℕ → List ℕ
 empty_message class method id = spelled_message (type_number class method) id []
 
--- a message of a class that answers another, with its method and its ID and without attributes
+-- a message without attributes that has this class, and the method and the ID of the message that
+-- it answers
 abbrev pub empty_answer : MessageClass → List ℕ → List ℕ
 empty_answer class message =
     empty_message class (method_of (type_field message)) (transaction_id_field message)

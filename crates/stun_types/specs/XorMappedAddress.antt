@@ -1,6 +1,7 @@
--- XOR-MAPPED-ADDRESS (RFC 8489, section 14.2). It has a reserved byte, the family, and the port and
--- the octets of an address, XORed with the magic cookie and the transaction ID. The reserved byte
--- is zero when written, and ignored when read.
+-- XOR-MAPPED-ADDRESS (RFC 8489, section 14.2). Its value consists of a reserved byte, the family,
+-- and the port and the octets of an address. The port and the octets are XORed with the magic
+-- cookie, and octets of IPv6 also with the transaction ID. The reserved byte is zero when written,
+-- and ignored when read.
 use Rattle.std.specs.Prelude.{◌≡◌, ℕ, ◌<◌, ◌^◌, ◌⊎◌, Bool, List, [], ◌∷◌, ◌++◌}
 use Rattle.std.specs.Prelude.{length, drop, slice_index, bit_xor, nat_le, ◌==◌}
 use Rattle.std.specs.Prelude.{◌&&◌, ◌||◌, if◌then◌else◌, Option, Some, None}
@@ -39,14 +40,14 @@ xored_address (V4 ip) port id =
 xored_address (V6 ip) port id =
     record { family = 2; port = xor_port port; octets = xor_bytes (ipv6_octets ip) (xor_key id) }
 
--- the address that is XORed with the key of an ID
+-- an XORed address is this address, XORed with the key of an ID
 abbrev pub IsHidden : ℕ → XoredAddress → IpAddr → Type 0
 IsHidden id hidden (V4 ip) =
     (hidden.family ≡ 1) × (ipv4_octets ip ≡ xor_bytes hidden.octets (xor_key id))
 IsHidden id hidden (V6 ip) =
     (hidden.family ≡ 2) × (ipv6_segments ip ≡ segments_of (xor_bytes hidden.octets (xor_key id)))
 
--- the number of bytes before the octets: a zero, the family and the port
+-- the number of bytes before the octets: a zero byte, the family and the port
 abbrev pub FAMILY_AND_PORT_LENGTH : ℕ
 FAMILY_AND_PORT_LENGTH = 4
 
@@ -54,7 +55,7 @@ FAMILY_AND_PORT_LENGTH = 4
 abbrev pub xored_value : XoredAddress → List ℕ
 xored_value address = 0 ∷ address.family ∷ big_bytes 2 address.port ++ address.octets
 
--- a port of 16 bits, and as many octets as the family has
+-- the port has 16 bits, and there are as many octets as an address of the family has
 abbrev pub IsXored : XoredAddress → Type 0
 IsXored address =
     (address.port < 2 ^ 16)

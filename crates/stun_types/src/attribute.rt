@@ -187,7 +187,7 @@ pub trait AttributeFromRaw<'a>: Attribute + Sized {
     ///
     /// # Errors
     ///
-    /// `InvalidAttributeData`: the attribute has another type, or its value is malformed.
+    /// `InvalidAttributeData`: the attribute is of a different type, or its value is malformed.
     fn from_raw(raw: RawAttribute<'a>) -> Result<Self, StunParseError>
         ensures { result ≡ attribute_answer (reading raw.entry) };
 

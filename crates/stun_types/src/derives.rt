@@ -13,8 +13,8 @@ pub fn is_same_message(one: &Message<'_>, other: &Message<'_>) -> bool
     one == other
 }
 
-/// Returns the limits of this crate, in bytes: of a text, of a USERNAME, of the part of a message
-/// after its header, and of a whole message.
+/// Returns the limits of this crate, in bytes: for a text, for a USERNAME, for the part of a
+/// message after its header, and for a whole message.
 pub fn limits() -> [usize; 4]
     ensures { result ≡ 763 ∷ 513 ∷ 65532 ∷ 65552 ∷ [] }
 {

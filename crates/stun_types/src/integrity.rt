@@ -84,8 +84,9 @@ pub(crate) fn is_well_formed(attribute: &RawAttribute<'_>) -> bool
     }
 }
 
-/// Returns the deciding attribute, whose HMAC is compared next, with its offset. Fails if no key
-/// could make the signature valid: the attribute is missing, is malformed, or has a truncated HMAC.
+/// Returns the deciding attribute with its offset, so that its HMAC can be compared. Fails if no
+/// key can make the signature valid: the attribute is missing or malformed, or its HMAC is
+/// truncated.
 fn claimed_digest<'a>(message: &Message<'a>) -> Result<(usize, RawAttribute<'a>), ValidateError>
     ensures deciding { IfOk result (λ m. deciding message.now ≡ Some m) }
     ensures whole { IfOk result (λ m. length m.1.value ≡ digest_length (integrity_algorithm m.1)) }
@@ -104,8 +105,8 @@ fn claimed_digest<'a>(message: &Message<'a>) -> Result<(usize, RawAttribute<'a>)
     Ok((place, attribute))
 }
 
-/// Fails if the value of an integrity attribute does not have the length of a whole HMAC: with
-/// `IntegrityFailed` if it is a truncated HMAC-SHA256, and otherwise with `InvalidAttributeData`.
+/// Fails if the value of an integrity attribute does not have the length of a whole HMAC. The error
+/// is `IntegrityFailed` for a truncated HMAC-SHA256, and otherwise `InvalidAttributeData`.
 fn check_whole(attribute: &RawAttribute<'_>) -> Result<(), ValidateError>
     ensures whole { OnOk result (length attribute.now.value
         ≡ digest_length (integrity_algorithm attribute.now)) }
@@ -126,8 +127,8 @@ fn check_whole(attribute: &RawAttribute<'_>) -> Result<(), ValidateError>
     Ok(())
 }
 
-/// Returns the message length that the HMAC in an attribute at this offset covers: the length of a
-/// message that ends after this attribute.
+/// Returns the message length that is covered by the HMAC in an attribute at this offset: the
+/// length of a message that ends after this attribute.
 fn covered_length(place: usize, value_length: usize) -> u16
     requires behind_header { header_length ≤ place }
     requires fits { place + attribute_header_length + value_length < header_length + 2 ^ 16 }
@@ -136,8 +137,8 @@ fn covered_length(place: usize, value_length: usize) -> u16
     (place + ATTRIBUTE_HEADER_LENGTH + value_length - HEADER_LENGTH) as u16
 }
 
-/// Returns the first four bytes that the HMAC in an attribute at this offset covers: the type of
-/// the message, and the message length that `covered_length` returns.
+/// Returns the first four bytes that are covered by the HMAC in an attribute at this offset: the
+/// type of the message, and the message length that `covered_length` returns.
 fn covered_start(message: &[u8], place: usize, value_length: usize) -> [u8; 4]
     requires behind_header { header_length ≤ place }
     requires within { place + attribute_header_length + value_length ≤ length message.now }
@@ -228,8 +229,8 @@ impl<'a> Message<'a> {
     ///
     /// If MESSAGE-INTEGRITY-SHA256 is visible, only that attribute is checked, and otherwise
     /// MESSAGE-INTEGRITY. The key is the password, or the long-term key for the algorithm of the
-    /// checked attribute. A long-term key is derived only if the attribute has a whole HMAC to
-    /// compare. This does not allocate.
+    /// checked attribute. A long-term key is derived only if the attribute has an HMAC that is not
+    /// truncated. This does not allocate.
     ///
     /// # Errors
     ///
@@ -257,9 +258,10 @@ impl<'a> Message<'a> {
     /// Like `validate_integrity`, but with a key. HMACs are compared without an early exit
     /// (`stun_base::compare`).
     ///
-    /// The result is the algorithm of the signature, which need not be the algorithm that the key
-    /// was derived for. If the checked attribute is MESSAGE-INTEGRITY, and its HMAC-SHA1 is valid
-    /// under the key, the result is `Sha1`, even if the key was derived for HMAC-SHA256.
+    /// The result is the algorithm of the signature, which can differ from the algorithm that the
+    /// key was derived for. For example, if the checked attribute is MESSAGE-INTEGRITY and its
+    /// HMAC-SHA1 is valid under the key, the result is `Sha1`, even if the key was derived for
+    /// HMAC-SHA256.
     ///
     /// # Errors
     ///
@@ -311,8 +313,8 @@ impl<'a> Message<'a> {
         Ok(integrity_algorithm(&attribute))
     }
 
-    /// Like `validate_integrity_with_key`, but with the deciding attribute as an argument. The
-    /// message is not searched for it, so one search is enough for any number of keys.
+    /// Like `validate_integrity_with_key`, but takes the deciding attribute as an argument. The
+    /// message is not searched again, so you can try any number of keys after a single search.
     ///
     /// `place` and `attribute` must be the offset and the attribute that `deciding_attribute`
     /// returned for this message. This does not allocate.

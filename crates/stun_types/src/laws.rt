@@ -23,9 +23,9 @@ ghost use Rattle.stun_types.specs.Writing.{length_with, with_attribute, with_int
 use crate::message::Visibility;
 use stun_base::algorithm::IntegrityAlgorithm;
 
-/// Every message is a header followed by its attributes in their encoding (`found`). A reader finds
-/// exactly these attributes (`spelled`), and for every list of attributes there is a message that
-/// has them, if their encoding has less than 65,536 bytes and each type has 16 bits (`written`).
+/// Every message is a header followed by its encoded attributes (`found`). A reader finds exactly
+/// these attributes (`spelled`). For every list of attributes there is a message that has them, if
+/// their encoding has less than 65,536 bytes and each type has 16 bits (`written`).
 pub fn message_is_spelled_attributes()
     ensures found { (bytes : List ℕ)
         → ((i : ℕ) → slice_index bytes i < 2 ^ 8) → SpellsWhatIsFound bytes }
@@ -52,12 +52,17 @@ pub fn each_hiding_attribute_counts_once()
     ensures fingerprint { (bytes : List ℕ) → length (of_kind FINGERPRINT (visible bytes)) ≤ 1 }
 {}
 
-/// A message that a builder has started has no attributes. It is open, so attributes can be added
-/// to it (`begun`). All attributes of an open message are visible (`shown`). After an attribute has
-/// been added to an open message, a reader finds the attributes that the message had before,
-/// followed by the new one (`added`). The message is then still open, unless the new attribute is
-/// an integrity attribute or FINGERPRINT (`open`). Adding an attribute to a message writes the
-/// bytes of the message that has this attribute in addition (`spelled`).
+/// States what adding an attribute to a message does. A message is *open* if it has neither an
+/// integrity attribute nor FINGERPRINT, so attributes can be added to it.
+///
+/// - `begun`: a message that a builder has started is open, and has no attributes.
+/// - `shown`: all attributes of an open message are visible.
+/// - `added`: after an attribute was added to an open message, a reader finds the attributes that
+///   the message had before, followed by the new one.
+/// - `open`: the message is then still open, unless the new attribute is an integrity attribute or
+///   FINGERPRINT.
+/// - `spelled`: adding an attribute to a message gives the same bytes as writing a message that has
+///   the new attribute after the others.
 pub fn writing_adds_one_attribute()
     ensures begun { (message_type transaction_id : ℕ) → message_type < 2 ^ 14
         → IsOpen (spelled_message message_type transaction_id [])
@@ -75,10 +80,10 @@ pub fn writing_adds_one_attribute()
         ≡ spelled_message message_type transaction_id (attributes ++ attribute ∷ []) }
 {}
 
-/// If an open message is signed, and has at most 65532 bytes after its header with the integrity
-/// attribute, the signature is valid under the same key (`stands`), and the integrity attribute is
-/// the only new attribute (`added`). The signature is also valid if each algorithm has a key of its
-/// own, and the message is signed with the key of its algorithm (`stands_by`).
+/// If an open message is signed, its signature is valid under the same key (`stands`), and the
+/// integrity attribute is the only new attribute (`added`). The signature is also valid if each
+/// algorithm has a key of its own, and the message is signed with the key of its algorithm
+/// (`stands_by`). Premise: the attributes of the signed message have at most 65,532 bytes.
 pub fn signed_message_stands()
     ensures stands { (message : List ℕ) (algorithm : IntegrityAlgorithm) (key : List ℕ)
         → IsOpen message → length_with message (digest_length algorithm) ≤ max_length
@@ -94,9 +99,9 @@ pub fn signed_message_stands()
 {}
 
 /// Neither the length field nor the bytes after the deciding attribute affect whether a signature
-/// is valid. Under the same keys, two messages are validated with the same result if they have the
-/// same deciding attribute at the same offset, and the same bytes before it except for the length
-/// field.
+/// is valid. The *deciding attribute* is the integrity attribute with which a message is verified.
+/// Two messages are validated with the same result under the same keys if they have the same
+/// deciding attribute at the same offset, and the same bytes before it except for the length field.
 pub fn tail_does_not_count()
     ensures { (keys : IntegrityAlgorithm → List ℕ) (bytes others : List ℕ) (m : Member)
         → deciding bytes ≡ Some m → deciding others ≡ Some m
@@ -104,11 +109,12 @@ pub fn tail_does_not_count()
         → verified_by keys bytes ≡ verified_by keys others }
 {}
 
-/// Every attribute after the deciding attribute is hidden, except FINGERPRINT. Two messages that
-/// agree up to the end of the deciding attribute have the same type, the same transaction ID
-/// (`header`), the same result of validation (`verdict`), and the same visible attributes except
-/// FINGERPRINT (`visible`). This is so whatever follows the deciding attribute in each of them,
-/// unless a stronger integrity attribute follows (`appended`).
+/// No attribute after the deciding attribute is visible, except FINGERPRINT. The *deciding
+/// attribute* is the integrity attribute with which a message is verified. Two messages that are
+/// equal up to the end of the deciding attribute, except for the length field, have the same type
+/// and transaction ID (`header`), the same result of validation (`verdict`), and the same visible
+/// attributes except FINGERPRINT (`visible`). This holds whatever follows the deciding attribute in
+/// each of them, unless a stronger integrity attribute follows (`appended`).
 pub fn what_follows_integrity_is_hidden()
     ensures header { (bytes others : List ℕ) → AgreeUpToIntegrity bytes others
         → (type_field bytes ≡ type_field others)

@@ -5,9 +5,10 @@
 /// 509 bytes, but no call checks that.
 pub const TEXT_LIMIT: usize = 763;
 
-/// The greatest number of bytes of a USERNAME, as in the crate `stun-types`, which this library
-/// ports. RFC 8489, section 14.3, allows a sender fewer than 509 bytes, and requires a receiver to
-/// accept up to 763 bytes. This library treats a USERNAME of more than 513 bytes as malformed.
+/// The greatest number of bytes of a USERNAME. The crate `stun-types`, which this library ports,
+/// has the same limit. RFC 8489, section 14.3, allows a sender fewer than 509 bytes, and requires a
+/// receiver to accept up to 763 bytes. This library treats a USERNAME of more than 513 bytes as
+/// malformed.
 pub const USERNAME_LIMIT: usize = 513;
 
 /// The greatest value of the length field of a message: the greatest multiple of 4 that fits in 16

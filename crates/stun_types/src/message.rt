@@ -305,7 +305,7 @@ impl<'a> Message<'a> {
     /// Do not use this call to find out who signed a message. If a message has several attributes
     /// of one type, this call returns the first visible one, but the authenticators use the last
     /// visible one. So the USERNAME that this call returns may not name the user who was validated.
-    /// Ask the authenticator that validated the message for the user.
+    /// Use the user that the authenticator reports instead.
     ///
     /// # Errors
     ///

@@ -5,8 +5,8 @@ use alloc::vec::Vec;
 use core::net::SocketAddr;
 use core::ops::Range;
 
-/// The responses to a batch of datagrams, one after another in one buffer. Reuse it for the next
-/// batch, so that its memory is used again.
+/// The responses to a batch of datagrams, one after another in one buffer. Pass it with the next
+/// batch too, so that its memory is used again.
 ///
 /// [`Server::receive_many`] has an example.
 #[derive(Clone, Debug, Default)]

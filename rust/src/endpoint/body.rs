@@ -17,7 +17,7 @@ use core::net::SocketAddr;
 pub use crate::exported::stun_client_endpoint::body::{BODY_LIMIT, BodyError};
 
 /// The attributes of a request, in the order in which they were added. The client stores them,
-/// because it writes a request again, under another transaction ID, when the server challenges it.
+/// because it writes the request again, with another transaction ID, when the server challenges it.
 ///
 /// # Examples
 ///
@@ -78,9 +78,9 @@ impl Body {
     /// The error contains the unchanged body ([`AddError::into_body`]). Its reason is the first of
     /// these that applies:
     ///
-    /// - [`BodyError::NotAllowed`]: the client itself writes attributes of this type, or the value
-    ///   depends on the transaction ID (for XOR-PEER-ADDRESS call
-    ///   [`add_xor_peer_address`](Self::add_xor_peer_address)), or the attribute is ERROR-CODE,
+    /// - [`BodyError::NotAllowed`]: the client itself writes attributes of this type; or the value
+    ///   depends on the transaction ID (to add XOR-PEER-ADDRESS, call
+    ///   [`add_xor_peer_address`](Self::add_xor_peer_address)); or the attribute is ERROR-CODE,
     ///   which no request has.
     /// - [`BodyError::TooLarge`]: the attributes would have more than [`BODY_LIMIT`] bytes.
     /// - [`BodyError::OutOfMemory`]: an allocation failed.

@@ -34,8 +34,8 @@ use core::net::SocketAddr;
 /// `many` of this crate does, or put the client into a `Mutex`.
 ///
 /// Take every `now` from one clock that never goes back, such as [`Clock`](super::Clock). If you
-/// pass an earlier time than before, no call fails, but outstanding requests are retransmitted, and
-/// time out, only once the clock has caught up.
+/// pass an earlier time than before, no call fails, but outstanding requests are not retransmitted,
+/// and do not time out, until the clock has caught up.
 ///
 /// Each request ends at the latest at the first [`poll`](Self::poll) after its time is over. If no
 /// response arrives, this is at the end of its plan, after 39.5 seconds by default. If the server
@@ -65,11 +65,11 @@ use core::net::SocketAddr;
 ///   the first refusal is dropped, and a refusal that arrives after the message was sent again ends
 ///   the request. (Over a stream no message is sent again, so the first refusal ends the request.)
 /// - Servers do not sign the errors 400, 437 and 441 with which they refuse a message that is
-///   signed for a forged challenge. The client does not believe these errors. It makes another
-///   message of the request the current one instead, at most three times.
+///   signed for a forged challenge. So such an error without a signature does not end the request.
+///   Instead, the client makes another message of the request the current one, at most three times.
 /// - After the current message has been replaced six times
 ///   ([`challenges`](ClientBuilder::challenges)), the next challenge ends the request. The third
-///   401 for the same realm with another nonce also ends it.
+///   401 that has the same realm, but a new nonce, ends it too.
 ///
 /// So over UDP a single forged datagram ends no request, unless the server itself has brought the
 /// request to one of these limits, or you accept unsigned responses
@@ -81,8 +81,8 @@ use core::net::SocketAddr;
 /// The client chooses the algorithm from the list of the challenge that it answers. Only if the
 /// challenge is a 438 that is signed and has no list does it use the list of the challenge before.
 /// So forged challenges cannot make a server accept a request of this client with a weaker
-/// algorithm than the strongest that both support, provided that the server's nonces and lists
-/// match its current settings, as those of [`Server`](super::Server) do.
+/// algorithm than the strongest that both support, provided that the server's nonces and lists of
+/// algorithms match its current settings, as those of [`Server`](super::Server) do.
 ///
 /// # Servers that do not sign Binding responses
 ///
@@ -145,7 +145,7 @@ pub struct Client {
     timeouts: RequestRto,
 }
 
-/// Shows how many requests are outstanding, and no credentials.
+/// Shows how many requests are outstanding, but not the credentials.
 impl fmt::Debug for Client {
     fn fmt(&self, f: &mut fmt::Formatter<'_>) -> fmt::Result {
         let mut shown = f.debug_struct("Client");
@@ -292,10 +292,10 @@ impl Client {
     }
 
     /// Processes a datagram that came from the address `from`. A response is used only if it comes
-    /// from the address that answers the request, which is the server's unless the
-    /// [`RequestOptions`] name another address. If the result is [`Input::NotOurs`], offer the
-    /// datagram to the next client on the socket. If it is [`Input::Consumed`], call `poll`, which
-    /// returns what follows from it.
+    /// from the address that the [`RequestOptions`] of its request name or, if they name no
+    /// address, from the server's. If the result is [`Input::NotOurs`], offer the datagram to the
+    /// next client on the socket. If it is [`Input::Consumed`], call `poll`, which returns how the
+    /// request ended, or another message to send.
     pub fn receive<'a>(&mut self, bytes: &'a [u8], from: SocketAddr, now: Instant) -> Input<'a> {
         let input = match self.core.receive(bytes, from, now) {
             Received::Consumed => Input::Consumed,
@@ -311,9 +311,9 @@ impl Client {
     /// `request`, `receive` and `cancel`, and when the wait is over.
     ///
     /// It first returns new messages, then messages that are due to be sent again, then requests
-    /// that have ended, and last a request whose time is over. Among several new messages, and
-    /// among several requests that have ended, the one whose request was started first comes first.
-    /// If a message is due after the first plan of its request, the request ends instead.
+    /// that have ended, and last a request whose time is over. New messages are returned in the
+    /// order in which their requests were started, and so are requests that have ended. If a
+    /// message is due after the first plan of its request, the request ends instead.
     pub fn poll(&mut self, now: Instant) -> Output<'_> {
         #[cfg(feature = "tracing")]
         let sent_before = self.stats().bytes_sent();
@@ -321,7 +321,7 @@ impl Client {
             Polled::Transmit(number) => {
                 #[cfg(feature = "tracing")]
                 self.record_sent(number, sent_before);
-                // `poll` names only outstanding requests, and these have bytes.
+                // `poll` returns only numbers of outstanding requests, and these have bytes.
                 let bytes = self.core.bytes_of(number).unwrap_or_default();
                 let (request, id) = (RequestId(number), id_of(bytes));
                 Output::Transmit { bytes, request, id }

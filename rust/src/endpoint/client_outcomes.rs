@@ -17,9 +17,9 @@ use core::fmt;
 use core::net::SocketAddr;
 use core::time::Duration;
 
-/// Identifies a request of one client, even after it is sent again under another transaction ID.
-/// The IDs ascend in the order in which the requests were started, and are never used again. Two
-/// clients may use equal IDs.
+/// Identifies a request of one client, even after the client sends it again with another
+/// transaction ID. The IDs ascend in the order in which the requests were started, and are never
+/// used again. Two clients may use equal IDs.
 ///
 /// # Examples
 ///
@@ -347,7 +347,7 @@ impl fmt::Display for Drops {
 pub enum RequestError {
     /// The server answered with an error.
     Refused(ErrorResponse),
-    /// The server names another server (300). Make another client for it, if you trust it.
+    /// The server names another server (300). If you trust that server, make another client for it.
     Redirected(Redirect),
     /// No acceptable response arrived in time. If responses were dropped, the [`Drops`] say why,
     /// for example after a wrong short-term password (see
@@ -358,7 +358,7 @@ pub enum RequestError {
     Unauthorized,
     /// The response has an attribute of this type, which must be understood but is not.
     NotUnderstood(AttributeType),
-    /// The response is an error without a code.
+    /// The response is an error without a well-formed ERROR-CODE.
     MalformedResponse,
     /// You called [`Client::cancel`](super::Client::cancel).
     Cancelled,
@@ -556,7 +556,8 @@ pub enum Output<'c> {
 #[derive(Debug)]
 #[non_exhaustive]
 pub enum Input<'a> {
-    /// A response to a request of this client. `poll` returns what follows from it.
+    /// A response to a request of this client. Call `poll`: the response has ended the request, or
+    /// the client sends another message of the request.
     Consumed,
     /// An indication from the server. The client has checked neither its signature nor its
     /// FINGERPRINT, and has not looked for unknown attributes. So pass it to

@@ -2,11 +2,12 @@
 
 use super::client::Client;
 use super::indications::Indications;
+use super::set_of;
 use crate::attributes::TYPES;
 use crate::copies::{granted, text};
 use crate::credentials::{LongTermCredentials, ShortTermCredentials};
 use crate::exported::stun_agent::agent::RequestRto;
-use crate::exported::stun_auth::auth::Feature;
+use crate::exported::stun_auth::auth::{AlgorithmSet, Feature};
 use crate::exported::stun_client::credentials as core_credentials;
 use crate::exported::stun_client::preferences::Preferences;
 use crate::exported::stun_client_endpoint::form::Form;
@@ -137,10 +138,10 @@ impl Credentials {
 /// 8489, section 6.2.1). A plan takes 39.5 seconds by default.
 ///
 /// A message that answers a challenge has a plan of its own. But after the plan of the first
-/// message, the client answers no more challenges of the request
-/// ([`LateChallenge`](super::DropReason::LateChallenge)), and sends none of its messages again. So
-/// each request ends at the latest at the first [`poll`](super::Client::poll) after two plans, 79
-/// seconds by default.
+/// message, the client answers no more challenges to the request
+/// ([`LateChallenge`](super::DropReason::LateChallenge)), and sends no message of the request
+/// again. So each request ends at the latest at the first [`poll`](super::Client::poll) after two
+/// plans, 79 seconds by default.
 ///
 /// # Examples
 ///
@@ -209,7 +210,7 @@ impl Default for Retransmission {
     }
 }
 
-/// What carries the messages of a client.
+/// The kind of transport that carries the messages of a client.
 ///
 /// # Examples
 ///
@@ -231,8 +232,8 @@ pub enum Transport {
     /// times in total by default ([`ClientBuilder::retransmission`]).
     #[default]
     Datagram,
-    /// A stream: a request is sent once, and the client waits as long as it would for datagrams
-    /// (39.5 seconds by default; see [`Retransmission`]).
+    /// A stream: a request is sent once, and the client waits for its response as long as it would
+    /// wait with datagrams (39.5 seconds by default; see [`Retransmission`]).
     Stream,
 }
 
@@ -257,7 +258,9 @@ pub struct ClientBuilder {
     server: SocketAddr,
     transport: Transport,
     credentials: Credentials,
-    preferences: Preferences,
+    /// `None` stands for an empty list, with which no client is built.
+    algorithms: Option<AlgorithmSet>,
+    anonymous_username: Feature,
     plan: Retransmission,
     challenges: u32,
     accepts_unsigned: bool,
@@ -306,7 +309,6 @@ impl From<SettingsError> for ClientBuildError {
         match why {
             SettingsError::NameTooLong => ClientBuildError::NameTooLong,
             SettingsError::SoftwareTooLong => ClientBuildError::SoftwareTooLong,
-            SettingsError::NoAlgorithm => ClientBuildError::NoAlgorithm,
         }
     }
 }
@@ -317,11 +319,8 @@ impl ClientBuilder {
             server,
             transport: Transport::Datagram,
             credentials: Credentials::none(),
-            preferences: Preferences {
-                hmac_sha1: true,
-                hmac_sha256: true,
-                anonymous_username: Feature::Auto,
-            },
+            algorithms: Some(AlgorithmSet::Both),
+            anonymous_username: Feature::Auto,
             plan: Retransmission::default(),
             challenges: 6,
             accepts_unsigned: false,
@@ -338,7 +337,7 @@ impl ClientBuilder {
         self
     }
 
-    /// Sets what carries the messages: datagrams by default.
+    /// Sets the transport of the messages: datagrams by default.
     pub fn transport(mut self, transport: Transport) -> ClientBuilder {
         self.transport = transport;
         self
@@ -346,15 +345,14 @@ impl ClientBuilder {
 
     /// Sets the algorithms that long-term credentials may use. By default they may use both.
     pub fn algorithms(mut self, list: &[IntegrityAlgorithm]) -> ClientBuilder {
-        self.preferences.hmac_sha1 = list.contains(&IntegrityAlgorithm::Sha1);
-        self.preferences.hmac_sha256 = list.contains(&IntegrityAlgorithm::Sha256);
+        self.algorithms = set_of(list);
         self
     }
 
     /// Sets whether a hash is sent in place of the user name. By default the hash is sent if the
     /// server allows hashes.
     pub fn anonymous_username(mut self, feature: Feature) -> ClientBuilder {
-        self.preferences.anonymous_username = feature;
+        self.anonymous_username = feature;
         self
     }
 
@@ -367,12 +365,12 @@ impl ClientBuilder {
     /// Sets how often another message of a request may take the place of the current one: 6 times
     /// by default. After that, the next challenge ends the request with
     /// [`RequestError::Unauthorized`](super::RequestError::Unauthorized). A restart of the server,
-    /// a new address, an expired nonce, a forged challenge, and an unsigned error 400, 437 or 441
-    /// each count as one time.
+    /// a new address of the client, an expired nonce, a forged challenge, and an unsigned error
+    /// 400, 437 or 441 each count as one replacement.
     ///
     /// A wrong password ends a request earlier: when the server refuses the request for the second
-    /// time with the nonce that the request is signed for, or sends the third 401 for the same
-    /// realm with another nonce.
+    /// time with the nonce for which the request is signed, or when it sends the third 401 that has
+    /// the same realm, but a new nonce.
     pub fn challenges(mut self, most: u32) -> ClientBuilder {
         self.challenges = most;
         self
@@ -441,14 +439,16 @@ impl ClientBuilder {
             Kind::Long(user) => user.username(),
         };
         let software = self.software.as_deref().unwrap_or("");
-        if let Some(why) = settings_refusal(name, software, &self.preferences) {
+        if let Some(why) = settings_refusal(name, software) {
             return Err(why.into());
         }
+        let preferences = Preferences {
+            algorithms: self.algorithms.ok_or(ClientBuildError::NoAlgorithm)?,
+            anonymous_username: self.anonymous_username,
+        };
         let timeouts = self.plan.timeouts();
         let indications = self.indications(seed);
-        let credentials = self
-            .credentials
-            .core(self.preferences, self.accepts_unsigned);
+        let credentials = self.credentials.core(preferences, self.accepts_unsigned);
         let understood = granted(KitVec::from_slice(Global, &self.understood));
         let settings = Settings {
             form: Form::new(self.software.map(text), self.has_fingerprint),
@@ -493,7 +493,8 @@ impl Transport {
     }
 }
 
-/// Returns the types that must be understood (below 0x8000) and that this crate can read.
+/// Returns the types that this crate can read and that must be understood, which are those below
+/// 0x8000.
 fn understood() -> Vec<AttributeType> {
     let further = TYPES.iter().filter(|kind| kind.comprehension_required());
     let further = further.filter(|kind| !STUN.contains(kind));

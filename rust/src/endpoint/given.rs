@@ -1,5 +1,5 @@
-//! The secrets with which users were added to a table, by name, because the core returns neither
-//! names nor keys.
+//! The secrets with which users were added to a table, by name. They are stored here because the
+//! core returns neither names nor keys.
 
 use crate::copies::granted;
 use crate::kit::alloc::{AllocError, Global};

@@ -1,11 +1,12 @@
 //! Connectivity checks of ICE: one check and its answer, in both roles (RFC 8445, sections 7.2 and
 //! 7.3).
 //!
-//! A [`Checker`] has the credentials of one agent, those of its peer once they are known, the
-//! tie-breaker and the role. It writes checks, judges and answers the checks of the peer, and
+//! A [`Checker`] has the credentials of one agent, the credentials of its peer once they are known,
+//! the tie-breaker and the role. It writes checks, judges and answers the checks of the peer, and
 //! judges the answers to its own checks. [`Checks`] is a `Checker` with the timers of its checks.
-//! Candidates, pairs, their order and pacing are up to you; [`priority`], [`pair_priority`],
-//! [`Candidate`] with its line in SDP, and [`Consent`] help you with them.
+//! The candidates, the pairs, and the order and pacing of checks are up to you. [`priority`],
+//! [`pair_priority`], [`Candidate`] (which reads and writes lines of SDP) and [`Consent`] help you
+//! with these.
 //!
 //! `docs/ICE.md` of the repository is a guide to writing an agent, step by step, with restarts and
 //! consent. The example `ice_agent` of this crate (`examples/ice_agent`) is a whole agent for one
@@ -52,8 +53,8 @@
 //! # Checks that arrive before the answer
 //!
 //! The agent that makes an offer often receives checks before the answer to the offer, because the
-//! checks travel directly, and the answer does not. It has to answer them at once (RFC 8445,
-//! section 7.3), and it can do so, because an answer depends only on its own credentials.
+//! checks travel directly, and the answer does not. It has to answer these checks at once (RFC
+//! 8445, section 7.3), and it can do so, because an answer depends only on its own credentials.
 //! [`Checker::offer`] creates such an agent, and [`Checker::set_remote`] gives it the credentials
 //! of the peer when the answer has arrived:
 //!
@@ -91,14 +92,15 @@
 //! # Restarts
 //!
 //! A restart is a new session with new credentials (RFC 8445, section 9): create a new `Checker`,
-//! and use the old one until a pair of the new session is selected. Both receive on the same
-//! sockets. A check belongs to the `Checker` whose username fragment begins the USERNAME, and the
-//! other `Checker` would answer it with a 401. So pass a datagram to the new `Checker` first, and
-//! to the old one if the new one returns [`Judged::Refused`]`(`[`Refusal::Unauthenticated`]`)`;
-//! then send only the answer of the old one. A response belongs to the `Checker` that wrote the
-//! check. If you use [`Checks`], it belongs to the `Checks` that does not drop it as
-//! [`DropReason::NotAsked`]. The role and the tie-breaker stay the same: create the new `Checker`
-//! with [`Checker::role`] and [`Checker::tie_breaker`] of the old one.
+//! and use the old one until a pair of the new session is selected. Both `Checker`s receive on the
+//! same sockets. A check belongs to the `Checker` whose username fragment begins the USERNAME, and
+//! the other `Checker` would answer it with a 401. So pass a datagram to the new `Checker` first,
+//! and to the old `Checker` if the new one returns
+//! [`Judged::Refused`]`(`[`Refusal::Unauthenticated`]`)`; then send only the answer of the old
+//! `Checker`. A response belongs to the `Checker` that wrote the check. If you use [`Checks`], it
+//! belongs to the `Checks` that does not drop it as [`DropReason::NotAsked`]. The role and the
+//! tie-breaker stay the same: create the new `Checker` with [`Checker::role`] and
+//! [`Checker::tie_breaker`] of the old one.
 //!
 //! # In a program
 //!
@@ -153,10 +155,10 @@
 //! }
 //! ```
 //!
-//! A program with timers of its own uses a `Checker`. It stores each check with its pair, and sends
-//! it again until it ends. It passes each datagram to [`Checker::receive`], together with the
-//! stored check that has the transaction ID of the datagram, if that check was sent from the
-//! address that the datagram arrived at.
+//! A program with timers of its own uses a `Checker`. The program stores each check with its pair,
+//! and sends the check again until it ends. It passes each datagram to [`Checker::receive`],
+//! together with the stored check that has the transaction ID of the datagram, if that check was
+//! sent from the address that the datagram arrived at.
 
 use super::server::lent;
 use crate::copies::copy;
@@ -222,7 +224,7 @@ impl<'a> IceCredentials<'a> {
     }
 }
 
-/// Shows the fragment, and not the password.
+/// Shows the fragment, but not the password.
 impl fmt::Debug for IceCredentials<'_> {
     fn fmt(&self, f: &mut fmt::Formatter<'_>) -> fmt::Result {
         let mut shown = f.debug_struct("IceCredentials");
@@ -238,13 +240,13 @@ impl<'a> From<(&'a str, &'a str)> for IceCredentials<'a> {
     }
 }
 
-/// One agent in a session with one peer: its own credentials, those of the peer once they are
-/// known, the tie-breaker, and the role that the agent has now.
+/// One agent in a session with one peer: its own credentials, the credentials of the peer once they
+/// are known, the tie-breaker, and the role that the agent has now.
 ///
 /// The [module](self) has an example.
 pub struct Checker(checker::Checker<Global>);
 
-/// Shows the role, and no password.
+/// Shows the role, but not the passwords.
 impl fmt::Debug for Checker {
     fn fmt(&self, f: &mut fmt::Formatter<'_>) -> fmt::Result {
         let mut shown = f.debug_struct("Checker");
@@ -296,9 +298,9 @@ impl Checker {
         checker::Checker::offer(Global, local.into().core(), tie_breaker, role).map(Checker)
     }
 
-    /// Sets the credentials of the peer, in place of those that were set before. Answers to checks
-    /// that were written with the earlier credentials are then dropped: cancel these checks if they
-    /// are outstanding.
+    /// Sets the credentials of the peer, or replaces them. If they are replaced, answers to checks
+    /// that were written with the earlier credentials are dropped, so cancel those of these checks
+    /// that are outstanding.
     ///
     /// # Errors
     ///
@@ -329,10 +331,10 @@ impl Checker {
     }
 
     /// Sets the role. Call it if the answer to an offer says that the peer is lite, because this
-    /// agent then must have the controlling role (RFC 8445, section 6.1.1). Call it also to undo a
+    /// agent then must have the controlling role (RFC 8445, section 6.1.1). Also call it to undo a
     /// switch of roles, if you cannot send the answer to the check that made the agent switch. Do
-    /// not call it for a role conflict, because the agent switches by itself. An outstanding check
-    /// still states the role in which it was written.
+    /// not call it after a role conflict, because the agent switches by itself. An outstanding
+    /// check still states the role in which it was written.
     pub fn set_role(&mut self, role: Role) {
         self.0.set_role(role);
     }
@@ -374,16 +376,17 @@ impl Checker {
     }
 
     /// Writes a check like [`check`](Self::check), with further attributes before its signature.
-    /// The peer refuses the check with a 420 if it does not know a type below 0x8000.
+    /// The peer refuses the check with a 420 if it does not know the type of one of these
+    /// attributes, and this type is below 0x8000.
     ///
     /// # Errors
     ///
     /// Returns the first of these errors that applies:
     ///
     /// - [`NewCheckError::NoRemote`]: the credentials of the peer are not known yet.
-    /// - [`NewCheckError::Attribute`]: one of the attributes cannot be added, because the check has
-    ///   an attribute of this type already, or would not fit into a message. Integrity attributes
-    ///   and FINGERPRINT cannot be added either, nor can USE-CANDIDATE, ICE-CONTROLLED and
+    /// - [`NewCheckError::Attribute`]: one of the attributes cannot be added: the check has an
+    ///   attribute of this type already; the check would not fit into a message; the attribute is
+    ///   an integrity attribute or FINGERPRINT; or it is USE-CANDIDATE, ICE-CONTROLLED or
     ///   ICE-CONTROLLING, which the arguments and the role of the agent decide.
     /// - [`NewCheckError::OutOfMemory`]: an allocation failed.
     ///
@@ -431,7 +434,7 @@ impl Checker {
 
     /// Writes a Binding indication with FINGERPRINT, which keeps the path of a selected pair open
     /// (RFC 8445, section 11). It is not signed, and the peer does not answer it. An agent that
-    /// asks for [`Consent`] needs no keepalive, because its checks keep the path open.
+    /// asks for [`Consent`] needs no keepalives, because its checks keep the path open.
     ///
     /// # Examples
     ///
@@ -451,7 +454,7 @@ impl Checker {
         finish_with_fingerprint(page).unwrap_or_default()
     }
 
-    /// Judges a datagram, and writes the answer if it is a check.
+    /// Judges a datagram, and writes the answer if the datagram is a check.
     ///
     /// `from` is the address that the datagram came from. `check` is the stored check that has the
     /// transaction ID of the datagram, or `None` if you have no such check. The two forms of an
@@ -463,9 +466,10 @@ impl Checker {
     ///   is signed with the password of this agent. It must have PRIORITY, and no attribute that
     ///   must be understood but is not. If it states that the peer has the same role as this agent,
     ///   the agent with the larger tie-breaker gets the controlling role (RFC 8445, section
-    ///   7.3.1.1). If the tie-breakers are equal, this agent gets it. For this, either this agent
-    ///   switches its role, or its answer is a 487. The answer is the same whether or not the
-    ///   credentials of the peer are known.
+    ///   7.3.1.1). If the tie-breakers are equal, this agent gets it. If this agent does not have
+    ///   the role that follows from this, it switches its role. Otherwise its answer is a 487,
+    ///   which asks the peer to switch. The answer is the same whether or not the credentials of
+    ///   the peer are known.
     /// - A response is dropped if it does not answer `check`, or is not signed by the peer.
     ///   Otherwise it ends the check. After a 487 this agent has the opposite of the role in which
     ///   the check was sent (section 7.2.5.1).
@@ -649,7 +653,7 @@ impl Check {
 pub enum Received<'a, B = Vec<u8>> {
     /// A check of the peer. Send the answer to the address that the check came from.
     Check {
-        /// The check, for its other attributes.
+        /// The check itself, in case you need its other attributes.
         message: Message<'a>,
         /// The username fragment of the peer. In USERNAME it comes after the fragment of this agent
         /// and a colon. Each accepted check has one. If an offer has several answers, this fragment
@@ -670,7 +674,7 @@ pub enum Received<'a, B = Vec<u8>> {
     Dropped(DropReason),
 }
 
-/// How the answer of the peer ends a check.
+/// How the peer's answer ends a check.
 ///
 /// # Examples
 ///
@@ -696,7 +700,7 @@ pub enum Outcome {
         /// candidates, it is a new peer-reflexive candidate (RFC 8445, section 7.2.5.3.1).
         mapped: SocketAddr,
     },
-    /// The peer has the role in which this agent sent the check, and does not switch. This agent
+    /// The peer has the role that the check states for this agent, and does not switch. This agent
     /// now has the opposite role. Set a new tie-breaker, and send a new check (RFC 8445, section
     /// 7.2.5.1).
     RoleConflict {

@@ -1,8 +1,10 @@
 //! Servers without a realm: a server without credentials, and a server with short-term credentials.
 
 use super::given::{Given, text_of};
-use super::server::{Request, answer_of, is_of_other_method, lent, request_of, shared};
-use super::{Answer, BuildError, DropReason, Refusal, Reply, UserError};
+use super::server::{
+    Received, Request, is_of_other_method, lent, received_of, request_of, shared,
+};
+use super::{BuildError, DropReason, Reply, UserError};
 use crate::copies::{granted, text};
 use crate::credentials::ShortTermCredentials;
 use crate::exported::stun_base::attribute_type::AttributeType;
@@ -19,7 +21,7 @@ use alloc::vec::Vec;
 use core::fmt;
 use core::net::SocketAddr;
 
-/// The settings of a server without a realm. By default the server understands only the attributes
+/// The settings that all kinds of servers have. By default a server understands only the attributes
 /// of STUN, adds no SOFTWARE, accepts requests with any method, and returns Binding requests to
 /// you.
 ///
@@ -57,8 +59,8 @@ impl ResponseSettings {
     }
 
     /// Removes types from those that you understand, so that a request with an attribute of one of
-    /// these types gets a 420. Call it after [`understands`](Self::understands), to leave a type
-    /// out of a list of [`types`](super::types). The types of STUN itself are always understood.
+    /// these types gets a 420. Call it after [`understands`](Self::understands) to leave types out
+    /// of a list in [`types`](super::types). The types of STUN itself are always understood.
     pub fn does_not_understand(mut self, types: &[AttributeType]) -> ResponseSettings {
         self.understood.retain(|kind| !types.contains(kind));
         self
@@ -87,7 +89,7 @@ impl ResponseSettings {
 
     /// Sets the methods that you serve: requests and indications with any other method are dropped
     /// before they are judged any further (RFC 8489, section 6.3). By default a server accepts all
-    /// methods, and you have to refuse those that you do not serve. Include
+    /// methods, and you have to refuse the requests that you do not serve. Include
     /// [`BINDING`](crate::types::message::BINDING) in the list if you serve it.
     ///
     /// # Examples
@@ -257,29 +259,19 @@ fn open_of_core<B>(
     received: Result<buffered::OpenReceivedInto<'_, Global>, DropReason>,
     bytes: B,
 ) -> OpenReceived<'_, B> {
-    use buffered::OpenReceivedInto as Core;
-
-    match received {
-        Ok(Core::Answer(answer)) => OpenReceived::Answer(answer_of(answer, bytes)),
-        Ok(Core::Request(request)) => {
-            let message = Message(crate::copies::copy(request.message()));
-            match shared(request.into_reply()) {
-                Some(reply) => OpenReceived::Request(OpenRequest {
-                    message,
-                    reply: Reply(reply),
-                }),
-                None => OpenReceived::Dropped(DropReason::OutOfMemory),
-            }
-        }
-        Ok(Core::Indication(message)) => OpenReceived::Indication(Message(message)),
-        Ok(Core::Response(message)) => OpenReceived::Response(Message(message)),
-        Ok(Core::Dropped(why)) => OpenReceived::Dropped(why.into()),
-        Err(why) => OpenReceived::Dropped(why),
-    }
+    received_of(received, bytes, open_request_of, Message)
 }
 
-/// The outcome of a datagram at an [`OpenServer`]. The bytes of a response are a `Vec`, or a slice
-/// of the buffer that was passed to [`receive_into`](OpenServer::receive_into).
+/// Converts a request of the core to the type of this module, or returns `None` if there is no
+/// memory for its reply.
+fn open_request_of(request: open::OpenRequest<'_, Global>) -> Option<OpenRequest<'_>> {
+    let message = Message(crate::copies::copy(request.message()));
+    let reply = Reply(shared(request.into_reply())?);
+    Some(OpenRequest { message, reply })
+}
+
+/// The outcome of a datagram at an [`OpenServer`]. Anybody may have sent its requests and
+/// indications.
 ///
 /// # Examples
 ///
@@ -297,21 +289,7 @@ fn open_of_core<B>(
 ///     }
 /// }
 /// ```
-#[must_use = "it may be a response to send, or a request to respond to"]
-#[derive(Debug)]
-#[non_exhaustive]
-pub enum OpenReceived<'a, B = Vec<u8>> {
-    /// Send this response.
-    Answer(Answer<B>),
-    /// A request whose attributes are understood. Respond to it, now or later.
-    Request(OpenRequest<'a>),
-    /// An indication whose attributes are understood. Anybody may have sent it.
-    Indication(Message<'a>),
-    /// A response, for a client on the same socket.
-    Response(Message<'a>),
-    /// The datagram is dropped, for this reason.
-    Dropped(DropReason),
-}
+pub type OpenReceived<'a, B = Vec<u8>> = Received<'a, B, OpenRequest<'a>>;
 
 /// A request to an [`OpenServer`]. Anybody may have sent it.
 ///
@@ -434,16 +412,17 @@ impl ShortTermServer {
     /// - A request gets the response of the first of these lines that applies:
     ///   - 400: it has neither MESSAGE-INTEGRITY nor MESSAGE-INTEGRITY-SHA256, or no USERNAME
     ///     before the integrity attribute.
-    ///   - 401: USERNAME is not the name of one of `users`, or the signature is not made with the
+    ///   - 401: USERNAME is not the name of one of `users`, or the signature was not made with the
     ///     user's password.
     ///   - 420, which is signed: it has an attribute that is not understood.
     ///   - Success: it is a Binding request, and you called `answer_binding`.
     ///
     ///   All other requests are returned to you. A 400 and a 401 are not signed (RFC 8489, section
-    ///   9.1.3). Other responses have the integrity attribute that the request has.
-    /// - An indication is dropped if a request with the same attributes would get a 400 or a 401
-    ///   ([`NotSigned`](ShortTermReceived::NotSigned)), or if it has an attribute that is not
-    ///   understood. Other indications, and responses, are returned to you.
+    ///   9.1.3). All other responses are signed with the same algorithm as the request.
+    /// - An indication is dropped if a request with the same attributes would get a 400
+    ///   ([`UnsignedIndication`](DropReason::UnsignedIndication)) or a 401
+    ///   ([`UnauthenticatedIndication`](DropReason::UnauthenticatedIndication)), or if it has an
+    ///   attribute that is not understood. Other indications, and responses, are returned to you.
     pub fn receive<'a>(
         &self,
         bytes: &'a [u8],
@@ -494,28 +473,22 @@ fn signed_of_core<B>(
     received: Result<buffered::ShortTermReceivedInto<'_, Global>, DropReason>,
     bytes: B,
 ) -> ShortTermReceived<'_, B> {
-    use buffered::ShortTermReceivedInto as Core;
+    received_of(received, bytes, request_of, indication_of)
+}
 
-    match received {
-        Ok(Core::Answer(answer)) => ShortTermReceived::Answer(answer_of(answer, bytes)),
-        Ok(Core::Request(request)) => match request_of(request) {
-            Some(request) => ShortTermReceived::Request(request),
-            None => ShortTermReceived::Dropped(DropReason::OutOfMemory),
-        },
-        Ok(Core::Indication(indication)) => ShortTermReceived::Indication(ShortTermIndication {
-            message: Message(crate::copies::copy(indication.message())),
-            user: indication.user(),
-            algorithm: indication.algorithm(),
-        }),
-        Ok(Core::Response(message)) => ShortTermReceived::Response(Message(message)),
-        Ok(Core::NotSigned(refusal)) => ShortTermReceived::NotSigned(refusal),
-        Ok(Core::Dropped(why)) => ShortTermReceived::Dropped(why.into()),
-        Err(why) => ShortTermReceived::Dropped(why),
+/// Converts an indication of the core to the type of this module.
+fn indication_of(indication: short_term::ShortTermIndication<'_>) -> ShortTermIndication<'_> {
+    ShortTermIndication {
+        message: Message(crate::copies::copy(indication.message())),
+        user: indication.user(),
+        algorithm: indication.algorithm(),
     }
 }
 
-/// The outcome of a datagram at a [`ShortTermServer`]. The bytes of a response are a `Vec`, or a
-/// slice of the buffer that was passed to [`receive_into`](ShortTermServer::receive_into).
+/// The outcome of a datagram at a [`ShortTermServer`], whose requests and indications are signed by
+/// its users. An indication that no user has signed is dropped as
+/// [`UnsignedIndication`](DropReason::UnsignedIndication) or
+/// [`UnauthenticatedIndication`](DropReason::UnauthenticatedIndication).
 ///
 /// # Examples
 ///
@@ -524,32 +497,16 @@ fn signed_of_core<B>(
 ///
 /// fn log(received: &ShortTermReceived<'_>) {
 ///     match received {
-///         ShortTermReceived::NotSigned(refusal) => {
-///             println!("dropped an indication: {refusal}")
+///         ShortTermReceived::Indication(indication) => {
+///             println!("an indication by {}", indication.user())
 ///         }
 ///         ShortTermReceived::Dropped(why) => println!("dropped: {why}"),
 ///         _ => {}
 ///     }
 /// }
 /// ```
-#[must_use = "it may be a response to send, or a request to respond to"]
-#[derive(Debug)]
-#[non_exhaustive]
-pub enum ShortTermReceived<'a, B = Vec<u8>> {
-    /// Send this response.
-    Answer(Answer<B>),
-    /// The request is accepted. Respond to it, now or later.
-    Request(Request<'a>),
-    /// An indication that a user has signed, and whose attributes are understood.
-    Indication(ShortTermIndication<'a>),
-    /// A response, for a client on the same socket.
-    Response(Message<'a>),
-    /// The datagram is dropped, because it is an indication that no user has signed. A request with
-    /// the same attributes would get this refusal.
-    NotSigned(Refusal),
-    /// The datagram is dropped, for this reason.
-    Dropped(DropReason),
-}
+pub type ShortTermReceived<'a, B = Vec<u8>> =
+    Received<'a, B, Request<'a>, ShortTermIndication<'a>>;
 
 /// An indication that a user has signed.
 ///
@@ -591,10 +548,10 @@ impl<'a> ShortTermIndication<'a> {
     }
 }
 
-/// The users of a [`ShortTermServer`], by name. A table works with every such server.
+/// The users of a [`ShortTermServer`], by name. A table works with every [`ShortTermServer`].
 ///
-/// To change the users of a server that runs, change a clone of the table, and then use the clone
-/// in its place.
+/// To change the users of a running server, change a clone of the table, and then use the clone in
+/// place of the table.
 ///
 /// # Examples
 ///
@@ -612,7 +569,7 @@ pub struct ShortTermUsers {
     passwords: Given<ShortTermCredentials>,
 }
 
-/// Shows how many users there are, and no names.
+/// Shows how many users there are, but not their names.
 impl fmt::Debug for ShortTermUsers {
     fn fmt(&self, f: &mut fmt::Formatter<'_>) -> fmt::Result {
         let mut shown = f.debug_struct("ShortTermUsers");
@@ -648,7 +605,7 @@ impl ShortTermUsers {
         }
     }
 
-    /// Adds a user with a password. If the table already has a user of that name, this password
+    /// Adds a user with a password. If the table already has a user with this name, the password
     /// replaces the old one.
     ///
     /// # Errors
@@ -666,7 +623,7 @@ impl ShortTermUsers {
     }
 
     /// Removes a user, so that messages that name this user are refused from now on. Returns
-    /// `false` if there was no user of that name.
+    /// `false` if there was no user with this name.
     pub fn remove(&mut self, name: &str) -> bool {
         self.core.remove(name);
         self.passwords.remove(name)
@@ -682,7 +639,7 @@ impl ShortTermUsers {
         self.len() == 0
     }
 
-    /// Returns `true` if there is a user of this name, in logarithmic time.
+    /// Returns `true` if there is a user with this name, in logarithmic time.
     pub fn contains(&self, name: &str) -> bool {
         self.passwords.contains(name)
     }

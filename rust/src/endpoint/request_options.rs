@@ -67,8 +67,8 @@ impl RequestOptions {
     ///
     /// # Examples
     ///
-    /// A test of a NAT (RFC 5780, section 4.4), which shows whether it lets in a response that the
-    /// server sends from its other address. `other` is that address, from OTHER-ADDRESS of an
+    /// A test of a NAT (RFC 5780, section 4.4), which shows whether the NAT lets in a response that
+    /// the server sends from its other address. `other` is that address, from OTHER-ADDRESS of an
     /// earlier response:
     ///
     /// ```
@@ -94,7 +94,8 @@ impl RequestOptions {
         self
     }
 
-    /// Converts the options to those of the core, for a client of this server with these timeouts.
+    /// Converts the options to those of the core, for a client that has this server and these
+    /// timeouts.
     pub(super) fn core(&self, server: SocketAddr, timeouts: RequestRto) -> options::RequestOptions {
         options::RequestOptions {
             is_signed: !self.is_unsigned,

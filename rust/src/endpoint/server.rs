@@ -2,12 +2,12 @@
 
 use super::given::{Given, text_of};
 use super::open::ResponseSettings;
-use super::{BuildError, Cause, DEFAULT_NONCE_LIFETIME, DropReason, Refusal, UnixTime};
+use super::{BuildError, Cause, DEFAULT_NONCE_LIFETIME, DropReason, Refusal, UnixTime, set_of};
 use crate::copies::{copy, granted, text};
 use crate::credentials::{LongTermCredentials, long_term_key};
 use crate::exported::stun_attributes as further;
 use crate::exported::stun_auth::auth::{
-    LongTermServerAuth, LongTermServerUser, NamedUser, StoredKeys,
+    AlgorithmSet, LongTermServerAuth, LongTermServerUser, NamedUser, StoredKeys,
 };
 use crate::exported::stun_base::attribute_type::AttributeType;
 use crate::exported::stun_buffer::writer::BufferWriter;
@@ -33,15 +33,15 @@ use alloc::vec::Vec;
 use core::fmt;
 use core::net::SocketAddr;
 
-/// The settings of a server with long-term credentials (RFC 8489, section 9.2): both algorithms,
-/// hashed names, and nonces of one hour, unless you change them.
+/// The settings of a server with long-term credentials (RFC 8489, section 9.2). By default the
+/// server supports both algorithms, accepts hashed names, and has a nonce lifetime of one hour.
 ///
-/// `secret` is 32 random bytes, and anybody who has it can make nonces that are accepted. Servers
+/// `secret` is 32 random bytes. Anybody who has it can make nonces that the server accepts. Servers
 /// accept each other's nonces if they have the same secret, algorithms, `user_hashes` and nonce
-/// lifetime, except that a server refuses a nonce of a period that has not begun on its own clock.
-/// If the clocks differ by less than a nonce lifetime, the client then gets a 438, and continues
-/// with the nonce in it. A server that starts again with the same secret serves its old clients at
-/// once.
+/// lifetime, except that a server refuses a nonce from a period that has not begun on its own
+/// clock. If the clocks differ by less than a nonce lifetime, the client then gets a 438, and
+/// continues with the nonce in that 438. A server that starts again with the same secret serves its
+/// old clients at once.
 ///
 /// # Examples
 ///
@@ -63,13 +63,14 @@ pub struct LongTerm {
     realm: String,
     secret: [u8; 32],
     previous: Option<[u8; 32]>,
-    algorithms: (bool, bool),
+    /// `None` stands for an empty list, with which no server is built.
+    algorithms: Option<AlgorithmSet>,
     user_hashes: bool,
     nonce_lifetime: u64,
     open_binding: bool,
 }
 
-/// Shows the realm, and no secret.
+/// Shows the realm, but not the secrets.
 impl fmt::Debug for LongTerm {
     fn fmt(&self, f: &mut fmt::Formatter<'_>) -> fmt::Result {
         let mut shown = f.debug_struct("LongTerm");
@@ -87,15 +88,16 @@ impl LongTerm {
             realm: realm.into(),
             secret,
             previous: None,
-            algorithms: (true, true),
+            algorithms: Some(AlgorithmSet::Both),
             user_hashes: true,
             nonce_lifetime: DEFAULT_NONCE_LIFETIME,
             open_binding: false,
         }
     }
 
-    /// Sets a second secret, whose nonces are accepted too, but never sent. When you change the
-    /// secret, pass the old secret to this call, and remove the call two nonce lifetimes later.
+    /// Sets a second secret: nonces that were made from it are accepted too, but the server never
+    /// sends one. When you change the secret, pass the old secret to this call, and remove the call
+    /// two nonce lifetimes later.
     pub fn previous_secret(mut self, secret: [u8; 32]) -> LongTerm {
         self.previous = Some(secret);
         self
@@ -110,12 +112,10 @@ impl LongTerm {
     /// If you remove HMAC-SHA256, a client of this library that has succeeded with it drops these
     /// challenges ([`WeakerChallenge`](super::DropReason::WeakerChallenge)), because an attacker
     /// may have forged them. Its next request times out, after 39.5 seconds by default, and the
-    /// request after that succeeds. Requests that it starts meanwhile may time out too.
+    /// request after that succeeds. Requests that the client starts in the meantime may time out
+    /// too.
     pub fn algorithms(mut self, algorithms: &[IntegrityAlgorithm]) -> LongTerm {
-        self.algorithms = (
-            algorithms.contains(&IntegrityAlgorithm::Sha1),
-            algorithms.contains(&IntegrityAlgorithm::Sha256),
-        );
+        self.algorithms = set_of(algorithms);
         self
     }
 
@@ -140,10 +140,10 @@ impl LongTerm {
         self
     }
 
-    /// Sets whether the server answers Binding requests without a signature, as TURN servers do. By
-    /// default it challenges them. The response is not signed, and is the same as that of an
-    /// [`OpenServer`](super::OpenServer) that answers Binding requests. A Binding request with a
-    /// signature is judged like any other request.
+    /// Sets whether the server answers unsigned Binding requests, as TURN servers do. By default it
+    /// challenges them. The response is not signed, and is the same as that of an
+    /// [`OpenServer`](super::OpenServer) that answers Binding requests. A signed Binding request is
+    /// judged like any other request.
     ///
     /// # Examples
     ///
@@ -204,12 +204,12 @@ impl ServerBuilder {
     }
 
     /// Removes types from those that you understand, so that a request with an attribute of one of
-    /// these types gets a 420. Call it after [`understands`](Self::understands), to leave a type
-    /// out of a list of [`types`](super::types). The types of STUN itself are always understood.
+    /// these types gets a 420. Call it after [`understands`](Self::understands) to leave types out
+    /// of a list in [`types`](super::types). The types of STUN itself are always understood.
     ///
     /// # Examples
     ///
-    /// A TURN server that cannot set the DF bit of what it relays:
+    /// A TURN server that cannot set the DF bit in the datagrams that it relays:
     ///
     /// ```
     /// use seatcrane_stun::endpoint::{LongTerm, Server, types};
@@ -255,8 +255,7 @@ impl ServerBuilder {
         self
     }
 
-    /// Sets whether Binding requests without a signature are answered, like
-    /// [`LongTerm::open_binding`].
+    /// Sets whether unsigned Binding requests are answered, like [`LongTerm::open_binding`].
     pub fn open_binding(mut self, is_open: bool) -> ServerBuilder {
         self.long_term = self.long_term.open_binding(is_open);
         self
@@ -299,12 +298,12 @@ impl ServerBuilder {
 pub struct Server {
     core: server::Server<Global>,
     realm: String,
-    /// The server that answers Binding requests without a signature.
+    /// The server that answers unsigned Binding requests.
     open: Option<open::OpenServer<Global>>,
     methods: Option<Vec<Method>>,
 }
 
-/// Shows the realm, and no secret.
+/// Shows the realm, but not the secrets.
 impl fmt::Debug for Server {
     fn fmt(&self, f: &mut fmt::Formatter<'_>) -> fmt::Result {
         let mut shown = f.debug_struct("Server");
@@ -345,8 +344,7 @@ impl Server {
             realm: text(long_term.realm),
             secret: long_term.secret,
             previous_secret: long_term.previous,
-            hmac_sha1: long_term.algorithms.0,
-            hmac_sha256: long_term.algorithms.1,
+            algorithms: long_term.algorithms.unwrap_or(AlgorithmSet::Both),
             user_hashes: long_term.user_hashes,
             nonce_lifetime: long_term.nonce_lifetime,
             understood,
@@ -354,7 +352,14 @@ impl Server {
             answers_binding: settings.answers_binding,
             requires_fingerprint: settings.requires_fingerprint,
         };
-        let core = server::Server::new(Global, settings)?;
+        // The core has no empty set, so an empty list is refused here, in the stated order.
+        let core = match (server::Server::new(Global, settings), long_term.algorithms) {
+            (Ok(core), Some(_)) => core,
+            (Ok(_) | Err(server::BuildError::OutOfMemory), None) => {
+                return Err(BuildError::NoAlgorithm);
+            }
+            (Err(why), _) => return Err(why.into()),
+        };
         let open = match open {
             Some(settings) => Some(open::OpenServer::new(Global, settings.core()?)?),
             None => None,
@@ -370,7 +375,7 @@ impl Server {
     /// Returns an empty table of users for this server's realm,
     /// [`algorithms`](LongTerm::algorithms) and [`user_hashes`](LongTerm::user_hashes). Use it only
     /// with servers that have the same three settings, because no call detects a table that was
-    /// made for others ([`Server`] describes what happens).
+    /// made for other settings ([`Server`] describes what happens).
     pub fn users(&self) -> Users {
         Users {
             core: granted(self.core.users()),
@@ -398,14 +403,15 @@ impl Server {
     ///   dropped.
     /// - A request gets the response of the first of these lines that applies (RFC 8489, sections
     ///   6.3.1 and 9.2.4):
-    ///   - Success or 420, which are not signed: it is a Binding request without a signature, and
-    ///     you called [`open_binding`](ServerBuilder::open_binding).
+    ///   - Success or 420, neither of them signed: it is an unsigned Binding request, and you
+    ///     called [`open_binding`](ServerBuilder::open_binding).
     ///   - 401: it is not signed.
-    ///   - 400: it has no REALM, NONCE or user name, or it has the current nonce and other
-    ///     algorithms than were offered with it.
+    ///   - 400: it has no REALM, NONCE or user name, or it has the current nonce, but other
+    ///     algorithms than were offered with that nonce.
     ///   - 438: its nonce is not accepted, or it has an earlier nonce that is still accepted, but
     ///     wrong algorithms or credentials. The code is 401 instead if the nonce has other security
-    ///     bits than the server's nonces, and the algorithms of the request agree with these bits.
+    ///     bits than the server's nonces, and the algorithms of the request agree with these other
+    ///     bits.
     ///   - 401: it is not signed by one of `users`.
     ///   - 420, which is signed: it has an attribute that is not understood.
     ///   - Success: it is a Binding request, and you called `answer_binding`.
@@ -429,8 +435,8 @@ impl Server {
         received
     }
 
-    /// Judges a datagram with this call of the core, unless the datagram is dropped because of its
-    /// method, or answered without credentials.
+    /// Judges a datagram with `judge`, a call of the core, unless the datagram is dropped because
+    /// of its method, or answered without credentials.
     fn judged<'a>(
         &self,
         bytes: &'a [u8],
@@ -444,8 +450,8 @@ impl Server {
         }
         if let Some(open) = self.open_for(bytes) {
             return match open.receive_into(bytes, from, buffer) {
-                Ok(buffered::OpenReceivedInto::Answer(answer)) => Ok(CoreReceived::Answer(answer)),
-                Ok(buffered::OpenReceivedInto::Dropped(why)) => Err(why.into()),
+                Ok(buffered::ReceivedInto::Answer(answer)) => Ok(CoreReceived::Answer(answer)),
+                Ok(buffered::ReceivedInto::Dropped(why)) => Err(why.into()),
                 // Not reached: this is a Binding request, and the open server answers all of them.
                 Ok(_) => Err(DropReason::Malformed),
                 Err(error) => Err(error.into()),
@@ -459,8 +465,8 @@ impl Server {
         is_of_other_method(self.methods.as_deref(), bytes)
     }
 
-    /// Returns the server that answers a datagram without credentials, if the datagram is a Binding
-    /// request without a signature and the settings allow such requests.
+    /// Returns the server that answers a datagram without credentials, if the datagram is an
+    /// unsigned Binding request and the settings allow such requests.
     fn open_for(&self, bytes: &[u8]) -> Option<&open::OpenServer<Global>> {
         let open = self.open.as_ref()?;
         let message = Message::from_bytes(bytes).ok()?;
@@ -533,8 +539,8 @@ impl Server {
         User(Arc::new(granted(user)))
     }
 
-    /// Judges a datagram like [`receive`](Self::receive), with the one user that you looked up, or
-    /// with `None` if there is no such user.
+    /// Judges a datagram like [`receive`](Self::receive), but instead of a table takes the one user
+    /// that you looked up, or `None` if there is no such user.
     ///
     /// If the name of `user` differs from the name in the request, as after a look-up that ignores
     /// case, the client gets a 401.
@@ -638,7 +644,8 @@ impl Server {
     }
 
     /// Returns why [`receive`](Self::receive) refuses a datagram, so that you can count or log the
-    /// cause. Pass the arguments of `receive`, with the same time and the same users.
+    /// cause. Pass the arguments that you passed to `receive`, with the same time and the same
+    /// users.
     ///
     /// Returns `None` if `receive` does not refuse the datagram: it is dropped, is not a request,
     /// or is accepted. It also returns `None` if an allocation failed.
@@ -706,12 +713,13 @@ impl Server {
         self.core.cause_for(bytes, from, now, user).ok().flatten()
     }
 
-    /// Judges a datagram as far as that is possible without its user, for a server whose users are
-    /// in a database.
+    /// Judges a datagram as far as is possible without its user, for a server whose users are in a
+    /// database.
     ///
     /// A request waits for a look-up only if it is signed, names a user, and carries a nonce that
-    /// is accepted for its source at this time. So an attacker who invents a nonce, or forges a
-    /// source address without having seen a nonce that was sent to it, causes no look-up.
+    /// is accepted for its source at this time. So an attacker who invents a nonce causes no
+    /// look-up, nor does an attacker who forges a source address but has not seen a nonce that was
+    /// sent to it.
     ///
     /// # Examples
     ///
@@ -786,8 +794,8 @@ impl Server {
         self.of_identified(identified, bytes, from, now, buffer.as_slice())
     }
 
-    /// Judges a datagram as far as that is possible without its user, and writes a response into
-    /// the buffer.
+    /// Judges a datagram as far as is possible without its user, and writes a response into the
+    /// buffer.
     fn identified<'a>(
         &'a self,
         bytes: &'a [u8],
@@ -801,7 +809,7 @@ impl Server {
                 buffered::IdentifiedInto::Done(received) => Ok(received),
                 buffered::IdentifiedInto::Lookup(lookup) => {
                     waiting = Some(lookup);
-                    Err(AllocError) // which nobody sees
+                    Err(AllocError) // not returned, because `waiting` is set
                 }
             }
         });
@@ -811,7 +819,7 @@ impl Server {
         }
     }
 
-    /// Converts such an outcome to the types of this module.
+    /// Converts an outcome that `identified` returned to the types of this module.
     #[cfg_attr(not(feature = "tracing"), allow(unused_variables, clippy::unused_self))]
     fn of_identified<'a, B>(
         &'a self,
@@ -955,8 +963,8 @@ impl Server {
         received
     }
 
-    /// Judges the request of a look-up with this call of the core. Also returns what to record
-    /// about the request.
+    /// Judges the request of a look-up with `judge`, a call of the core. Also returns what to
+    /// record about the request.
     #[allow(clippy::unused_self, reason = "the call is of this server")]
     fn resumed<'a>(
         &'a self,
@@ -973,7 +981,7 @@ impl Server {
     }
 }
 
-/// The request of a look-up, to be recorded.
+/// What to record about the request of a look-up.
 #[cfg_attr(not(feature = "tracing"), allow(dead_code))]
 struct LookedUp<'a> {
     bytes: &'a [u8],
@@ -995,7 +1003,7 @@ impl LookedUp<'_> {
 }
 
 /// An outcome that the core returns, with the bytes of a response in a buffer.
-type CoreReceived<'a> = buffered::ReceivedInto<'a, Global>;
+type CoreReceived<'a> = buffered::ReceivedInto<'a, received::Request<'a, Global>>;
 
 /// An outcome that the core returns, or why a datagram is dropped: for a reason that is found
 /// before the core judges the datagram, or because memory ran out.
@@ -1014,8 +1022,8 @@ impl From<AllocError> for DropReason {
     }
 }
 
-/// Returns `true` if there is a list of methods, and a datagram is a request or an indication with
-/// a method that is not in it.
+/// Returns `true` if there is a list of methods, and a datagram is a request or an indication whose
+/// method is not in the list.
 pub(super) fn is_of_other_method(methods: Option<&[Method]>, bytes: &[u8]) -> bool {
     let (Some(methods), Ok(header)) = (methods, MessageHeader::from_bytes(bytes)) else {
         return false;
@@ -1081,7 +1089,7 @@ pub struct Lookup<'a> {
 
 impl<'a> Lookup<'a> {
     /// Returns the user whom the request names. The signature is not checked yet, so anybody who
-    /// has a nonce can name any user.
+    /// has an accepted nonce can name any user.
     #[must_use]
     pub fn user_id(&self) -> NamedUser<'a> {
         self.lookup.user_id()
@@ -1180,7 +1188,7 @@ impl fmt::Debug for OwnedLookup {
 
 impl OwnedLookup {
     /// Returns the user whom the request names. The signature is not checked yet, so anybody who
-    /// has a nonce can name any user.
+    /// has an accepted nonce can name any user.
     #[must_use]
     pub fn user_id(&self) -> NamedUser<'_> {
         match &self.user {
@@ -1244,21 +1252,34 @@ pub(crate) fn lent<R>(buffer: &mut Vec<u8>, call: impl FnOnce(&mut KitVec<u8>) -
 
 /// Converts an outcome of the core to the type of this module, with the bytes of the response.
 fn of_core<B>(received: Judged<'_>, bytes: B) -> Received<'_, B> {
+    received_of(received, bytes, request_of, Message)
+}
+
+/// Converts an outcome of the core, at a server of any kind, to the type of this module, with the
+/// bytes of the response. `request_of` returns `None` if there is no memory for the request.
+pub(super) fn received_of<'a, B, R, I, S, J>(
+    received: Result<buffered::ReceivedInto<'a, R, I>, DropReason>,
+    bytes: B,
+    request_of: impl FnOnce(R) -> Option<S>,
+    indication_of: impl FnOnce(I) -> J,
+) -> Received<'a, B, S, J> {
+    use buffered::ReceivedInto as Core;
+
     match received {
-        Ok(CoreReceived::Answer(answer)) => Received::Answer(answer_of(answer, bytes)),
-        Ok(CoreReceived::Request(request)) => match request_of(request) {
+        Ok(Core::Answer(answer)) => Received::Answer(answer_of(answer, bytes)),
+        Ok(Core::Request(request)) => match request_of(request) {
             Some(request) => Received::Request(request),
             None => Received::Dropped(DropReason::OutOfMemory),
         },
-        Ok(CoreReceived::Indication(message)) => Received::Indication(Message(message)),
-        Ok(CoreReceived::Response(message)) => Received::Response(Message(message)),
-        Ok(CoreReceived::Dropped(why)) => Received::Dropped(why.into()),
+        Ok(Core::Indication(indication)) => Received::Indication(indication_of(indication)),
+        Ok(Core::Response(message)) => Received::Response(Message(message)),
+        Ok(Core::Dropped(why)) => Received::Dropped(why.into()),
         Err(why) => Received::Dropped(why),
     }
 }
 
 /// Converts a response of the core to the type of this module.
-pub(super) fn answer_of<B>(answer: buffered::BufferedAnswer, bytes: B) -> Answer<B> {
+fn answer_of<B>(answer: buffered::BufferedAnswer, bytes: B) -> Answer<B> {
     Answer {
         to: answer.to,
         refusal: answer.refusal,
@@ -1292,8 +1313,8 @@ pub(super) fn shared<T>(value: T) -> Option<Arc<T>> {
     Some(Arc::new(value))
 }
 
-/// A user with derived keys. [`Server::user`] makes it, for servers with the same realm and
-/// [`algorithms`](LongTerm::algorithms). A clone shares the keys.
+/// A user with derived keys. [`Server::user`] makes it. You can use it with every server that has
+/// the same realm and [`algorithms`](LongTerm::algorithms). A clone shares the keys.
 ///
 /// # Examples
 ///
@@ -1354,14 +1375,14 @@ impl From<AllocError> for UserError {
     }
 }
 
-/// The users of a realm, by name. [`Server::users`] makes an empty table, for servers with the same
-/// realm, [`algorithms`](LongTerm::algorithms) and [`user_hashes`](LongTerm::user_hashes). If you
-/// change one of these settings, a clone of the table does not help: make a new table (see
-/// [`Server`]).
+/// The users of a realm, by name. [`Server::users`] makes an empty table. You can use it with every
+/// server that has the same realm, [`algorithms`](LongTerm::algorithms) and
+/// [`user_hashes`](LongTerm::user_hashes). If you change one of these settings, make a new table,
+/// and not a clone of the old one (see [`Server`]).
 ///
-/// To change the users of a server that runs, change a clone of the table, and then use the clone
-/// in its place. Cloning needs no passwords. It prepares the derived keys again, which takes half
-/// as long as adding the users did.
+/// To change the users of a running server, change a clone of the table, and then use the clone in
+/// place of the table. Cloning needs no passwords. It prepares the derived keys again, which takes
+/// half as long as adding the users did.
 ///
 /// # Examples
 ///
@@ -1396,7 +1417,7 @@ pub struct Users {
     keys: Given<StoredKeys>,
 }
 
-/// Shows how many users there are, and no names.
+/// Shows how many users there are, but not their names.
 impl fmt::Debug for Users {
     fn fmt(&self, f: &mut fmt::Formatter<'_>) -> fmt::Result {
         let mut shown = f.debug_struct("Users");
@@ -1430,7 +1451,7 @@ impl Clone for Users {
 
 impl Users {
     /// Adds a user with a password, and derives a key for each algorithm of the server. If the
-    /// table already has a user of that name, this password replaces the user's password or keys.
+    /// table already has a user with this name, the password replaces the user's password or keys.
     ///
     /// # Errors
     ///
@@ -1442,7 +1463,7 @@ impl Users {
         Ok(self.keys.add(name, keys, || core.add(credentials.0))?)
     }
 
-    /// Derives the keys of a user, as the core does.
+    /// Derives the keys of a user in the same way as the core.
     fn keys_of(&self, user: &LongTermCredentials) -> StoredKeys {
         let auth = &self.core.auth;
         let mut keys = StoredKeys::new();
@@ -1496,8 +1517,8 @@ impl Users {
         Ok(self.keys.add(&name, keys, add)?)
     }
 
-    /// Removes a user, so that requests of that name are refused from now on. Returns `false` if
-    /// there was no user of that name.
+    /// Removes a user, so that requests that name this user are refused from now on. Returns
+    /// `false` if there was no user with this name.
     pub fn remove(&mut self, name: &str) -> bool {
         self.core.remove(name);
         self.keys.remove(name)
@@ -1513,7 +1534,7 @@ impl Users {
         self.len() == 0
     }
 
-    /// Returns `true` if there is a user of this name, in logarithmic time.
+    /// Returns `true` if there is a user with this name, in logarithmic time.
     pub fn contains(&self, name: &str) -> bool {
         self.keys.contains(name)
     }
@@ -1569,9 +1590,16 @@ impl Users {
     }
 }
 
-/// The outcome of a datagram. The bytes of a response are a `Vec`, a slice of the buffer that was
-/// passed to [`receive_into`](Server::receive_into), or in a batch a range of its
-/// [`Answers`](super::Answers).
+/// The outcome of a datagram at a server.
+///
+/// `B` is the type of a response's bytes: a `Vec`, a slice of the buffer that was passed to
+/// [`receive_into`](Server::receive_into), or in a batch a range of its [`Answers`](super::Answers).
+/// `R` and `I` are the types of an accepted request and of an accepted indication. They depend on
+/// the kind of server: the defaults are those of [`Server`], and [`OpenReceived`] and
+/// [`ShortTermReceived`] name the types of the two other kinds.
+///
+/// [`OpenReceived`]: super::OpenReceived
+/// [`ShortTermReceived`]: super::ShortTermReceived
 ///
 /// # Examples
 ///
@@ -1594,24 +1622,27 @@ impl Users {
 #[must_use = "it may be a response to send, or a request to respond to"]
 #[derive(Debug)]
 #[non_exhaustive]
-pub enum Received<'a, B = Vec<u8>> {
+pub enum Received<'a, B = Vec<u8>, R = Request<'a>, I = Message<'a>> {
     /// Send this response.
     Answer(Answer<B>),
     /// The request is accepted. Respond to it, now or later.
-    Request(Request<'a>),
-    /// An indication whose attributes are understood. Long-term credentials do not protect it (RFC
-    /// 8489, section 9.2), so decide by the source address whether to act on it.
-    Indication(Message<'a>),
+    Request(R),
+    /// An indication whose attributes are understood. Only a [`ShortTermServer`] checks who signed
+    /// it. At any other server, decide by the source address whether to act on it, because
+    /// long-term credentials do not protect it (RFC 8489, section 9.2).
+    ///
+    /// [`ShortTermServer`]: super::ShortTermServer
+    Indication(I),
     /// A response, for a client on the same socket.
     Response(Message<'a>),
     /// The datagram is dropped, for this reason.
     Dropped(DropReason),
 }
 
-impl<'a, B> Received<'a, B> {
+impl<'a, B, R, I> Received<'a, B, R, I> {
     /// Puts the bytes of a response into another buffer. If there is no memory for them, the
     /// datagram is dropped.
-    pub(super) fn moved<C>(self, to: impl FnOnce(B) -> Option<C>) -> Received<'a, C> {
+    pub(super) fn moved<C>(self, to: impl FnOnce(B) -> Option<C>) -> Received<'a, C, R, I> {
         match self {
             Received::Answer(answer) => match to(answer.bytes) {
                 Some(bytes) => Received::Answer(Answer {
@@ -1661,7 +1692,7 @@ impl<B> Answer<B> {
         self.to
     }
 
-    /// Returns how the response refuses the request, and `None` if it is a success.
+    /// Returns how the response refuses the request, or `None` if it is a success.
     pub fn refusal(&self) -> Option<Refusal> {
         self.refusal
     }
@@ -1727,7 +1758,7 @@ impl<'a> Request<'a> {
     }
 
     /// Returns the name of the user who signed the request, even if the request has only a hash of
-    /// the name. Use this name, and not USERNAME of the message, which may name another user.
+    /// the name. Use this name, and not the USERNAME of the message, which may name another user.
     #[must_use]
     pub fn user(&self) -> &'a str {
         self.user
@@ -1876,7 +1907,8 @@ impl Reply {
     }
 
     /// Begins an error response with this code and the [reason phrase](reason_phrase) that is
-    /// registered for it, or an empty one if there is none. [`ErrorCode`] has names for the codes.
+    /// registered for it, or with an empty phrase if none is registered. [`ErrorCode`] has names
+    /// for the codes.
     ///
     /// [`finish`](ReplyWriter::finish) fails if the code is not from 300 to 699.
     ///
@@ -1898,9 +1930,9 @@ impl Reply {
         self.error(code, reason_phrase(code).unwrap_or_default())
     }
 
-    /// Begins a 420 with UNKNOWN-ATTRIBUTES, for types that you do not understand in requests of
-    /// some methods, or at some times. The server itself refuses requests with types that you never
-    /// understand, because you did not pass them to [`ServerBuilder::understands`].
+    /// Begins a 420 with UNKNOWN-ATTRIBUTES, for types that you do not understand in requests with
+    /// some methods, or at some times. If you understand a type in no request, do not pass it to
+    /// [`ServerBuilder::understands`]: the server itself then refuses requests with this type.
     ///
     /// # Examples
     ///
@@ -1992,7 +2024,7 @@ impl<B> ReplyWriter<B> {
         })
     }
 
-    /// Adds an attribute with this call, unless an earlier attribute could not be added.
+    /// Adds an attribute with `add`, unless an earlier attribute could not be added.
     fn added<A: Attribute>(mut self, attribute: &A, add: impl Fn(&mut Page) -> Added) -> Self {
         if let Ok(page) = &mut self.page {
             let before = page.data().len();
@@ -2034,13 +2066,13 @@ impl<B> ReplyWriter<B> {
 }
 
 impl ReplyWriter {
-    /// Ends the response, and returns the bytes to send to [`Reply::to`].
+    /// Ends the response, and returns its bytes. Send them to [`Reply::to`].
     ///
     /// # Errors
     ///
     /// If an attribute could not be added, the call fails with the error of the first such
     /// attribute. Otherwise it fails if it cannot add SOFTWARE, the signature or FINGERPRINT. The
-    /// error is always one of those of [`MessageWriteExt::add_attribute`].
+    /// error is always one of the errors of [`MessageWriteExt::add_attribute`].
     ///
     /// [`MessageWriteExt::add_attribute`]: crate::types::prelude::MessageWriteExt::add_attribute
     pub fn finish(self) -> Result<Vec<u8>, StunWriteError> {
@@ -2049,14 +2081,14 @@ impl ReplyWriter {
 }
 
 impl<'b> ReplyWriter<&'b mut Vec<u8>> {
-    /// Ends the response, and returns the bytes to send to [`Reply::to`], which are in the buffer.
+    /// Ends the response, and returns the bytes in the buffer. Send them to [`Reply::to`].
     ///
     /// # Errors
     ///
     /// If an attribute could not be added, the call fails with the error of the first such
     /// attribute. Otherwise it fails if it cannot add SOFTWARE, the signature or FINGERPRINT. The
-    /// error is always one of those of [`MessageWriteExt::add_attribute`], and the buffer is then
-    /// empty.
+    /// error is always one of the errors of [`MessageWriteExt::add_attribute`], and the buffer is
+    /// then empty.
     ///
     /// [`MessageWriteExt::add_attribute`]: crate::types::prelude::MessageWriteExt::add_attribute
     pub fn finish(self) -> Result<&'b [u8], StunWriteError> {

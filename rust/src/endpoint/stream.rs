@@ -1,4 +1,4 @@
-//! Messages of a stream.
+//! Splits a stream into messages.
 
 use crate::exported::stun_extra::framing::{Frame, next_frame, next_turn_frame};
 use alloc::vec::Vec;
@@ -40,7 +40,8 @@ impl Default for FrameBuffer {
     }
 }
 
-/// Shows the number of bytes in the buffer that were not returned yet, and none of the bytes.
+/// Shows the number of bytes in the buffer that have not been returned yet, but not the bytes
+/// themselves.
 impl fmt::Debug for FrameBuffer {
     fn fmt(&self, f: &mut fmt::Formatter<'_>) -> fmt::Result {
         f.debug_struct("FrameBuffer")
@@ -135,7 +136,8 @@ impl FrameBuffer {
     /// Appends bytes that were read. Call [`pop`](Self::pop) until it returns `None` before you
     /// call `push` again, because otherwise the buffer grows.
     pub fn push(&mut self, bytes: &[u8]) {
-        // The rest is moved only if it is the smaller half, so each byte is moved once on average.
+        // The bytes that were not returned are moved only if they are at most half of the buffer,
+        // so each byte is moved once on average.
         if self.popped >= self.bytes.len() - self.popped {
             self.bytes.drain(..self.popped);
             self.popped = 0;

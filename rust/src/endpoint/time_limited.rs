@@ -1,4 +1,4 @@
-//! Users whose names say until when they are valid.
+//! Users whose names contain the time at which they expire.
 
 use super::UnixTime;
 use crate::copies::granted;
@@ -14,7 +14,7 @@ use core::fmt;
 
 /// Users whose names are valid for a limited time, as on TURN servers for browsers. A name is
 /// `EXPIRY:USER`, where EXPIRY is in seconds since the beginning of 1970. The password is the
-/// base64 of HMAC-SHA1 of the name under a secret. The service that issues names and the servers
+/// HMAC-SHA1 of the name under a secret, in base64. The service that issues names and the servers
 /// that accept them share the secret, and neither stores a user. No RFC describes this form, but
 /// coturn and many services use it.
 ///

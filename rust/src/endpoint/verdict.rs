@@ -1,15 +1,12 @@
 //! Events that record the outcomes of datagrams, if the feature `tracing` is on.
 
-use super::{
-    Answer, Cause, Input, OpenReceived, Received, RequestError, RequestId, Response,
-    ShortTermReceived, ice,
-};
+use super::{Answer, Cause, Input, Received, RequestError, RequestId, Response, ice};
 use crate::message::Message;
 use crate::trace::{event, id_in};
 use core::net::SocketAddr;
 
 /// The outcome of a datagram. `code` is the code of the error response that was sent or received,
-/// and `reason` is the name of the reason why the datagram is refused or dropped.
+/// and `reason` names the reason why the datagram is refused or dropped.
 pub(crate) struct Verdict {
     kind: &'static str,
     code: Option<u16>,
@@ -58,7 +55,7 @@ pub(crate) trait Judged {
     fn verdict(&self, bytes: &[u8], cause: impl FnOnce() -> Option<Cause>) -> Verdict;
 }
 
-impl<B> Judged for Received<'_, B> {
+impl<B, R, I> Judged for Received<'_, B, R, I> {
     fn verdict(&self, _: &[u8], cause: impl FnOnce() -> Option<Cause>) -> Verdict {
         match self {
             Received::Answer(answer) => Verdict::answered(answer, cause),
@@ -70,32 +67,6 @@ impl<B> Judged for Received<'_, B> {
     }
 }
 
-impl<B> Judged for OpenReceived<'_, B> {
-    fn verdict(&self, _: &[u8], cause: impl FnOnce() -> Option<Cause>) -> Verdict {
-        match self {
-            OpenReceived::Answer(answer) => Verdict::answered(answer, cause),
-            OpenReceived::Request(_) => Verdict::new("accepted"),
-            OpenReceived::Indication(_) => Verdict::new("indication"),
-            OpenReceived::Response(_) => Verdict::new("response"),
-            OpenReceived::Dropped(why) => Verdict::dropped(why.name()),
-        }
-    }
-}
-
-impl<B> Judged for ShortTermReceived<'_, B> {
-    fn verdict(&self, _: &[u8], cause: impl FnOnce() -> Option<Cause>) -> Verdict {
-        match self {
-            ShortTermReceived::Answer(answer) => Verdict::answered(answer, cause),
-            ShortTermReceived::Request(_) => Verdict::new("accepted"),
-            ShortTermReceived::Indication(_) => Verdict::new("indication"),
-            ShortTermReceived::Response(_) => Verdict::new("response"),
-            ShortTermReceived::NotSigned(refusal) => Verdict::dropped(refusal.phrase()),
-            ShortTermReceived::Dropped(why) => Verdict::dropped(why.name()),
-        }
-    }
-}
-
-/// The code of the outcome is the code of the error response, such as a challenge.
 impl Judged for Input<'_> {
     fn verdict(&self, bytes: &[u8], _: impl FnOnce() -> Option<Cause>) -> Verdict {
         let code = || Message::from_bytes(bytes).ok()?.error_code().ok();

@@ -12,8 +12,8 @@ pub struct Standard;
 /// The alphabet of RFC 4648, section 4, with padding.
 pub const STANDARD: Standard = Standard;
 
-/// The error if a text is not base64 in groups of four characters, or if its bytes do not fit into
-/// the slice.
+/// The error if a text does not consist of groups of four base64 characters, or if its bytes do not
+/// fit into the slice.
 #[derive(Clone, Copy, Debug, PartialEq, Eq)]
 pub struct NotDecoded;
 
@@ -78,7 +78,7 @@ fn letters_of(group: &[u8]) -> [u8; 4] {
     letters
 }
 
-/// Why letters were not decoded into memory of an allocator.
+/// Why a text was not decoded into memory from an allocator.
 #[derive(Clone, Copy, Debug, PartialEq, Eq)]
 pub enum DecodeAllocError {
     NotDecoded,

@@ -1,7 +1,7 @@
-//! Numbers in both orders of bytes, under the names of the crate `byteorder`.
+//! Numbers in both byte orders, with the names of the crate `byteorder`.
 
-/// An order of the bytes of a number. A slice that is read from or written to must be as long as
-/// the number, and may be longer.
+/// A byte order. A slice from which a number is read, or to which it is written, must be at least
+/// as long as the number.
 pub trait ByteOrder {
     /// Reads a number of 16 bits from the front of a slice.
     fn read_u16(bytes: &[u8]) -> u16;

@@ -3,8 +3,8 @@
 //! The standard `BTreeMap` aborts the program if an allocation fails. So this module has a B-tree
 //! of its own, which allocates memory before any entry moves. The entries are in a list, and the
 //! row of an entry is its number in this list. A node of the tree has only the rows of entries and
-//! the first bits of their keys. So one tree is enough for maps of all types, and most comparisons
-//! do not look at the keys themselves.
+//! the first bits of their keys. So maps of all types share the code of the tree, and most
+//! comparisons do not look at the keys themselves.
 
 mod entries;
 mod key;
@@ -117,8 +117,8 @@ impl<K: Key, V, A: Allocator> BTreeMap<K, V, A> {
         }
     }
 
-    /// Returns the row of a key that the map has. For a new key, allocates memory for the next row
-    /// if necessary, inserts the key in the tree with this row, and returns `None`.
+    /// Returns the row of a key that is in the map. For a new key, allocates memory for the next
+    /// row if necessary, inserts the key in the tree with this row, and returns `None`.
     fn enter(&mut self, key: &K) -> Result<Option<usize>, AllocError> {
         let order = |row| self.rows.get(row).0.cmp(key);
         let sought = Sought::new(key, &order);
@@ -157,7 +157,7 @@ impl<K: Key, V, A: Allocator> BTreeMap<K, V, A> {
         Some(self.take(row))
     }
 
-    /// Removes the entry of a row that the tree does not have any more.
+    /// Removes the entry in a row that is no longer in the tree.
     fn take(&mut self, row: usize) -> (K, V) {
         let last = self.rows.len() - 1;
         if row != last {

@@ -1,5 +1,5 @@
-//! Each collection is compared with the standard one while memory is refused. The other modules are
-//! tested with known values.
+//! Compares each collection with the standard one while memory is refused, and tests the other
+//! modules with known values.
 
 extern crate std;
 
@@ -31,7 +31,7 @@ impl Sparse {
         }
     }
 
-    /// Counts an allocation although none is made, for a game that does not allocate.
+    /// Counts an allocation although nothing is allocated, for a game that does not allocate.
     pub(super) fn ask(&self) {
         self.asked.set(self.asked.get() + 1);
     }
@@ -143,7 +143,7 @@ fn a_map_is_as_the_standard_one() {
     }
 }
 
-/// Nodes that are nearly empty are merged, so that a map which shrinks frees memory.
+/// Nodes that are nearly empty are merged, so that a shrinking map frees memory.
 #[test]
 fn a_map_that_shrinks_gives_back_memory() {
     let heap = Sparse::new(0);
@@ -316,7 +316,7 @@ fn a_set_is_as_the_standard_one() {
     });
 }
 
-/// A number, and the row that comes after it, if there is one.
+/// A number, and the next row, if there is one.
 struct Row<'a>(u32, Option<Box<Row<'a>, &'a Sparse>>);
 
 #[test]
@@ -433,8 +433,8 @@ fn a_text_is_as_the_standard_one() {
     });
 }
 
-/// Bytes of any length become a text if they are UTF-8. If they are not UTF-8, wherever that is,
-/// they are returned.
+/// Bytes of any length become a text if they are UTF-8. If they are not UTF-8, they are returned,
+/// wherever the first wrong byte is.
 #[test]
 fn bytes_that_are_no_text_come_back() {
     for length in [0, 1, 2, 15, 16, 17, 31, 32, 33, 63, 64, 65, 100, 763] {

@@ -128,7 +128,12 @@ impl ShortTermStage {
                 format!("indication {user} {algorithm:?}{}", unless(is_so))
             }
             Received::Response(message) => format!("response{}", unless(is_of(&message, bytes))),
-            Received::NotSigned(refusal) => format!("dropped NotSigned {refusal:?}"),
+            Received::Dropped(DropReason::UnsignedIndication) => {
+                "dropped NotSigned BadRequest".to_string()
+            }
+            Received::Dropped(DropReason::UnauthenticatedIndication) => {
+                "dropped NotSigned Unauthenticated".to_string()
+            }
             Received::Dropped(why) => format!("dropped {why:?}"),
             _ => return None,
         })

@@ -71,8 +71,8 @@ impl<A: Allocator + Copy> StunAgentBuilder<A> {
     ///   RFC). 0 counts as 1.
     /// - `final_wait` is how long to wait for a response after the last transmission.
     ///
-    /// Over TCP a request is sent once, and the agent waits for the response as long as it would
-    /// over UDP in total.
+    /// Over TCP a request is sent once, and the agent waits for its response for the sum of all
+    /// these waits.
     ///
     /// If `initial` or `max` is zero, all transmissions are due at the same time.
     pub fn request_retransmits(

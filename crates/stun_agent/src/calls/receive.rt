@@ -25,7 +25,7 @@ impl<A: Memory> StunAgent<A> {
         self.peers.contains(&addr)
     }
 
-    /// Adds an address to the validated peers, as if a message from it had been accepted.
+    /// Adds an address to the validated peers, even if no message from it has been accepted.
     ///
     /// This does not affect which messages the agent accepts. If the address is one of the
     /// validated peers already, the call does not allocate. If an allocation fails, the agent is
@@ -98,10 +98,10 @@ impl<A: Memory> StunAgent<A> {
 
     /// Like `handle_stun_message`, but also measures the round-trip time.
     ///
-    /// A round trip is measured only if the response arrives before `poll_transmit` has returned
-    /// the first retransmission of its request, or would have returned it if you had not stopped
-    /// the retransmissions. After that it is unclear which transmission was answered. Over TCP
-    /// there are no retransmissions, so every round trip is measured.
+    /// A round trip is measured only until `poll_transmit` advances the request past its first
+    /// timeout, because after a retransmission it is unclear which transmission was answered. This
+    /// also holds for a request whose retransmissions were canceled. Over TCP there are no
+    /// retransmissions, so every round trip is measured.
     pub fn handle_stun_message_with_time(
         &mut self,
         msg: &Message<'_>,

@@ -169,9 +169,9 @@ impl<'a, A: Allocator + Copy> StunRequestMut<'a, A> {
 
     /// Stops retransmitting the request, but still waits for its response.
     ///
-    /// The request ends at the time at which it would otherwise have timed out, and `poll` then
-    /// reports it as canceled. An ICE agent uses this call when it no longer needs the result of a
-    /// check, but can still use it.
+    /// The request still ends at the time of its timeout, but `poll` then reports it as canceled.
+    /// An ICE agent uses this call when it no longer needs the result of a check, but can still use
+    /// it.
     ///
     /// Does nothing if the request is no longer outstanding. Does not allocate.
     pub fn cancel_retransmissions(&mut self)

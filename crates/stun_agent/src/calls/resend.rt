@@ -74,8 +74,8 @@ impl<A: Allocator + Copy> StunAgent<A> {
         Ok(self.transmit_of(id))
     }
 
-    /// Returns the retransmission that `poll_transmit` would return at this time, and leaves the
-    /// agent unchanged.
+    /// Returns the next retransmission that is due, like `poll_transmit`, but leaves the agent
+    /// unchanged.
     ///
     /// Use this call if you have to know the number of bytes before you call `poll_transmit`, for
     /// example to prepare a buffer. Does not allocate, and copies nothing.

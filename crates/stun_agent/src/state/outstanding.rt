@@ -201,7 +201,8 @@ impl<A: Allocator + Copy, D: Drop> Outstanding<A, D> {
         Ok(sent)
     }
 
-    /// Returns the request whose ID `pass_due_slots` would return next, if there is one.
+    /// Returns the next request to retransmit, if one is due. This is the request whose ID the next
+    /// call of `pass_due_slots` returns.
     pub(crate) fn next_sent(&self, now: Instant, leave: Uncounted) -> Option<&Transaction<A>>
         ensures { option_copied result ≡ option_map (λ e. e.1)
             (next_sent self.now.transport now self.now.requests) }

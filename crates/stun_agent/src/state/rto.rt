@@ -61,8 +61,8 @@ impl RequestRto {
         Duration::from_nanos_u128(self.timeout_nanos(i))
     }
 
-    /// Returns the wait from the last transmission to the end. Over TCP it is as long as all waits
-    /// over UDP together, but at most `Duration::MAX`.
+    /// Returns the wait from the last transmission until the request ends. Over TCP this is the sum
+    /// of all waits over UDP, but at most `Duration::MAX`.
     pub fn final_wait(&self, transport: TransportType) -> Duration
         ensures { as_nanos result ≡ final_wait transport (settings_of self.now) }
     {
@@ -75,10 +75,10 @@ impl RequestRto {
         }
     }
 
-    /// Returns the settings of a plan that ends after `time`. The plan has the first transmission,
-    /// and those retransmissions of the whole plan that come before its end, at the same times.
-    /// After the last transmission it waits for the rest of `time`. If the whole plan ends within
-    /// `time`, returns the settings unchanged.
+    /// Returns these settings, cut short so that the request ends once `time` has passed since it
+    /// was sent. Retransmissions that are due before then keep their times, and later ones are left
+    /// out. The last wait lasts until `time` has passed. If the request ends within `time` anyway,
+    /// returns the settings unchanged.
     pub fn within(&self, time: Duration) -> RequestRto
         ensures { settings_of result ≡ cut (as_nanos time) (settings_of self.now) }
     {

@@ -4,7 +4,7 @@
 //!
 //! The tree is also the index of deadlines that a poll searches. Such a search sees only a `&Link`.
 //! The fields of a `Leaf`, and the times in a link, are private to this module and to the modules
-//! below it, so the search can read them in only two ways: it looks at the times of a link
+//! below it. So the search can read them in only two ways: it looks at the times of a link
 //! (`Awaited::is_over` and `Link::first`), or it calls `read_entry`, which returns the entry of one
 //! request. Both are counted (`Reads`). All other calls of the modules below require a link that
 //! can be changed, or the permission `Uncounted`, which neither the search nor `poll` can create.
@@ -166,8 +166,8 @@ enum Quarter {
     Fourth,
 }
 
-/// Returns the quarter of a fork to which an ID belongs. `levels` is the number of levels of the
-/// fork, which include the fork itself.
+/// Returns the quarter of a fork to which an ID belongs. `levels` is the number of levels below and
+/// including this fork.
 fn quarter_of(id: TransactionId, levels: u32) -> Quarter
     requires { IsDeep levels }
     ensures { part_of (levels - 1) id ≡ 4 * part_of levels id + two_bits result }

@@ -55,8 +55,8 @@ pub(crate) fn count_indication_received(stats: &mut Option<StunAgentStats>, byte
     stats.count_indication_received(bytes as u64);
 }
 
-/// Counts a response to an outstanding request, its number of bytes and, unless it is `None`, its
-/// round-trip time.
+/// Counts a response to an outstanding request and its number of bytes, and its round-trip time if
+/// that is not `None`.
 pub(crate) fn count_response_received(
     stats: &mut Option<StunAgentStats>,
     bytes: usize,

@@ -13,7 +13,7 @@ pub enum LongTermClientValidation {
     /// The algorithm is present if the message itself has a signature that is valid under the key
     /// that the client had before.
     ResendRequest(Option<IntegrityAlgorithm>),
-    /// The message is accepted: it has a signature of this algorithm that is valid under the
+    /// The message is accepted: it has a signature with this algorithm that is valid under the
     /// client's key.
     Validated(IntegrityAlgorithm),
 }

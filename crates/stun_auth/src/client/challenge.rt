@@ -4,14 +4,13 @@ ghost use Rattle.std.specs.Option.{option_map};
 ghost use Rattle.stun_types.specs.Limits.{TEXT_LIMIT};
 ghost use Rattle.stun_types.specs.PasswordAlgorithms.{integrity_of};
 ghost use Rattle.stun_auth.specs.ClientStep.{choose, choose_by_list, choose_without_bits};
-ghost use Rattle.stun_auth.specs.ClientStep.{first_supported, is_required, list_or_none};
+ghost use Rattle.stun_auth.specs.ClientStep.{first_supported, list_or_none};
 ghost use Rattle.stun_auth.specs.ClientStep.{unless_missing};
-ghost use Rattle.stun_auth.specs.Nonces.{asks_for_userhash};
 ghost use Rattle.stun_auth.specs.code.Supported.{in_order};
 
 use crate::feature::Feature;
 use crate::limited_text::LimitedText;
-use crate::message::nonce::NonceSecurityBits;
+use crate::message::nonce::{NonceSecurityBits, asks_for_userhash};
 use crate::naming::UserNaming;
 use crate::supported::Supported;
 use std::alloc::{AllocError, Allocator};
@@ -120,12 +119,6 @@ fn listed<A: Memory>(
     Ok(copy)
 }
 
-fn is_required(feature: Feature) -> bool
-    ensures { result ≡ is_required feature }
-{
-    matches!(feature, Feature::Required)
-}
-
 /// Returns the first algorithm of a server's list that the client supports, or `None` if it
 /// supports none of them.
 fn first_supported(supported: Supported, list: &PasswordAlgorithms) -> Option<IntegrityAlgorithm>
@@ -142,10 +135,11 @@ fn first_supported(supported: Supported, list: &PasswordAlgorithms) -> Option<In
     None
 }
 
-/// Picks the first algorithm in a server's list that the client supports, or fails with
-/// `UnsupportedFeature` if it supports none of them. Without a list, picks HMAC-SHA1, or fails with
-/// `Unauthorized` if `asks` is true, which means that the nonce has the security bit *Password
-/// algorithms*.
+/// Picks the first algorithm in a server's list that the client supports. Fails with
+/// `UnsupportedFeature` if the client supports none of them.
+///
+/// If there is no list, picks HMAC-SHA1. But if `asks` is true, which means that the nonce has the
+/// security bit *Password algorithms*, fails with `Unauthorized`.
 fn choose_by_list(
     supported: Supported,
     asks: bool,
@@ -184,15 +178,16 @@ fn unless(
     Ok(algorithm)
 }
 
-/// Picks HMAC-SHA1, for a nonce without security bits. Fails with `UnsupportedFeature` if the
-/// client does not support it, or requires a hashed user name.
+/// Picks HMAC-SHA1, the algorithm for a nonce without security bits. Fails with
+/// `UnsupportedFeature` if the client does not support HMAC-SHA1, or must send a hash of its user
+/// name.
 fn choose_without_bits(
     supported: Supported,
     feature: Feature,
 ) -> Result<IntegrityAlgorithm, ChallengeRefusal>
     ensures { result ≡ choose_without_bits (in_order supported) feature }
 {
-    if is_required(feature) || !supported.contains(IntegrityAlgorithm::Sha1) {
+    if feature.is_required() || !supported.contains(IntegrityAlgorithm::Sha1) {
         Err(ChallengeRefusal::UnsupportedFeature)
     } else {
         Ok(IntegrityAlgorithm::Sha1)
@@ -211,22 +206,12 @@ pub(crate) fn choose(
 {
     match NonceSecurityBits::from_nonce(nonce) {
         Some(bits) => {
-            let missing = is_required(feature) && !bits.username_anonymity();
+            let missing = feature.is_required() && !bits.username_anonymity();
             unless(
                 missing,
                 choose_by_list(supported, bits.password_algorithms(), list),
             )
         }
         None => choose_without_bits(supported, feature),
-    }
-}
-
-/// Returns whether a nonce allows hashed user names.
-fn asks_for_userhash(nonce: &str) -> bool
-    ensures { result ≡ asks_for_userhash nonce.now }
-{
-    match NonceSecurityBits::from_nonce(nonce) {
-        Some(bits) => bits.username_anonymity(),
-        None => false,
     }
 }

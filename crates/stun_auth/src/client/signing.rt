@@ -147,8 +147,8 @@ fn is_request<W: MessageWrite>(writer: &W) -> bool
 }
 
 impl<A: Allocator> LongTermClientAuth<A> {
-    /// Returns the algorithm that the next message would be signed with, or `None` if the client
-    /// has not accepted a challenge yet and would not sign.
+    /// Returns the algorithm with which the client signs messages now, or `None` if it signs
+    /// nothing because it has not accepted a challenge yet.
     ///
     /// Call it after each `ResendRequest` to notice a downgrade to HMAC-SHA1 before you sign (see
     /// `LongTermClientAuth`).
@@ -252,7 +252,8 @@ impl<A: Allocator> LongTermClientAuth<A> {
         Ok(writer)
     }
 
-    /// Signs a message like `sign_outgoing_message`, if you know that it is signable.
+    /// Signs a message like `sign_outgoing_message`. The caller must ensure that the message is
+    /// signable.
     ///
     /// A signable message has no integrity attribute, no FINGERPRINT, and none of the attributes
     /// that signing adds. Its writer and its length field have room for the attributes to add. The

@@ -24,8 +24,8 @@ use stun_base::memory::Memory;
 /// The nonce cookie: every nonce that has security bits begins with it (RFC 8489, section 9.2).
 pub const LONG_TERM_RFC8489_NONCE_COOKIE: &str = "obMatJos2";
 
-/// The number of bytes with which a nonce with security bits begins: the cookie, and the bits as
-/// four characters of base64.
+/// The number of bytes that the cookie and the security bits, which are four characters of base64,
+/// take at the beginning of a nonce.
 const FRONT_LENGTH: usize = 13;
 
 /// The number of random letters of a nonce.
@@ -82,9 +82,9 @@ impl NonceSecurityBits {
         self.bytes
     }
 
-    /// Returns the security bits of a nonce. Returns `None` if the nonce has none, because it does
-    /// not begin with the cookie, or the four characters after the cookie are not base64 of three
-    /// bytes (RFC 8489, section 9.2).
+    /// Returns the security bits of a nonce. Returns `None` if the nonce has no security bits: it
+    /// does not begin with the cookie, or the four characters after the cookie are not three bytes
+    /// in base64 (RFC 8489, section 9.2).
     #[tactic(auto, unfolding(crate::specs::Nonces::security_bits))]
     pub fn from_nonce(nonce: &str) -> Option<NonceSecurityBits>
         ensures { result ≡ security_bits nonce.now }
@@ -100,8 +100,8 @@ impl NonceSecurityBits {
         }
     }
 
-    /// Returns the 13 bytes with which a nonce with these bits begins: the cookie, and the bits as
-    /// four characters of base64. Fails if an allocation fails.
+    /// Returns the 13 bytes that a nonce with these bits begins with: the cookie, followed by the
+    /// bits as four characters of base64. Fails if an allocation fails.
     pub fn as_string<A: Memory>(&self, alloc: A) -> Result<String<A>, AllocError>
         ensures text { IfOk result (λ text. string_bytes text ≡ spelled_bits self.now) }
         ensures granted { A.grants → IsOk result }
@@ -173,12 +173,24 @@ fn base64_of(bytes: &[u8; 3]) -> [u8; 4]
     characters
 }
 
-/// Returns whether a nonce has the security bit *Password algorithms*.
-pub(crate) fn asks_for_algorithms(nonce: &str) -> bool
+/// Returns whether a nonce has the security bit *Password algorithms*: whether a client has to
+/// choose an algorithm from the list that the server sends with the nonce.
+pub fn asks_for_algorithms(nonce: &str) -> bool
     ensures { result ≡ asks_for_algorithms nonce.now }
 {
     match NonceSecurityBits::from_nonce(nonce) {
         Some(bits) => bits.password_algorithms(),
+        None => false,
+    }
+}
+
+/// Returns whether a nonce has the security bit *Username anonymity*: whether a client may send a
+/// hash of its user name.
+pub fn asks_for_userhash(nonce: &str) -> bool
+    ensures { result ≡ asks_for_userhash nonce.now }
+{
+    match NonceSecurityBits::from_nonce(nonce) {
+        Some(bits) => bits.username_anonymity(),
         None => false,
     }
 }

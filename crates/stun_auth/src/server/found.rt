@@ -38,7 +38,7 @@ use stun_base::prepared_key::PreparedKey;
 
 /// The claim of a signed message: the user whom it names, its nonce, and the algorithm that both
 /// sides agree on. It has not been checked yet that the nonce is current, that the user exists, and
-/// that the signature is that user's.
+/// that the signature is valid under a key of that user.
 ///
 /// `LongTermServerAuth::claim_in` makes a claim.
 ///
@@ -229,9 +229,10 @@ fn is_claimed(user: NamedUser<'_>, name: &str, realm: &str) -> bool
 impl<A: Allocator + Copy> LongTermServerAuth<A> {
     /// Returns the claim of a message if only the nonce, the user and the signature remain to be
     /// checked. Such a message has a well-formed integrity attribute, a REALM, a NONCE, and a user
-    /// name or, if the server accepts hashes, the hash of a user name. If the nonce asks for
-    /// algorithms and the message has any, they agree with those that the server supports. In all
-    /// other cases the algorithm of the claim is HMAC-SHA1, even if the server does not support it.
+    /// name or, if the server accepts hashes, the hash of a user name. If the nonce has the
+    /// security bit *Password algorithms*, and the message has algorithms, these agree with the
+    /// algorithms that the server supports. Otherwise the algorithm of the claim is HMAC-SHA1, even
+    /// if the server does not support it.
     ///
     /// Returns `None` for every other message, and `judge` refuses such a message whatever users
     /// the server has. This call does not check the class of the message, so reject responses
@@ -260,12 +261,13 @@ impl<A: Allocator + Copy> LongTermServerAuth<A> {
 
     /// Verifies that a message was signed by a user whom you found: it names the user, the user has
     /// a key for the agreed algorithm, and the signature is valid under that key. If so, returns
-    /// the algorithm of the signature and the key, and you sign the response with both. Otherwise
+    /// the algorithm of the signature and the key, with which you sign the response. Otherwise
     /// returns `None`.
     ///
-    /// The message is then accepted from this user under its own nonce, as `judge_of` accepts it
-    /// with the user that `prepare_user` makes. Check with `UserClaim::has_nonce` that this nonce
-    /// is current. The call makes only this key, and does not allocate.
+    /// The message is then accepted from this user under the message's own nonce. `judge_of`,
+    /// called with this nonce and with the user that `prepare_user` makes, gives the same verdict.
+    /// Check with `UserClaim::has_nonce` that the nonce is current. The call derives only this one
+    /// key, and does not allocate.
     ///
     /// Contracts: law `found_users_are_judged_as_prepared_ones`.
     pub fn verify_found(

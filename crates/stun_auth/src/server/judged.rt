@@ -55,8 +55,8 @@ impl<A: Memory> LongTermServerAuth<A> {
     }
 
     /// Judges a request or an indication under a nonce, and returns the user who is accepted. The
-    /// verdict is the one that `validate_incoming_message` would return if this nonce were the
-    /// current one of the address, and all supported algorithms had been offered there.
+    /// message is judged by the rules of `validate_incoming_message`, with `nonce` as the current
+    /// nonce of the address, and with all supported algorithms as the offer.
     ///
     /// The call neither reads nor makes a record of an address, so it takes `&self`, and threads
     /// can share a server whose nonces are a function of the address and the time. It uses no
@@ -71,11 +71,11 @@ impl<A: Memory> LongTermServerAuth<A> {
     ///
     /// - `Unauthorized` (answer 401): there is no well-formed integrity attribute.
     /// - `BadRequest` (400): REALM, NONCE or the user name is missing.
-    /// - `BadRequest` (400, or 438 if the message has another nonce): the algorithms disagree with
-    ///   those that the server supports. A client that repeats an old offer could not continue
-    ///   after a 400, which is unsigned and looks forged to it.
-    /// - `Unauthorized` (401): the message has another nonce, whose security bits differ.
-    /// - `StaleNonce` (438): the message has another nonce.
+    /// - `BadRequest` (400, or 438 if the message does not have this nonce): the algorithms
+    ///   disagree with those that the server supports. A client that repeats an old offer could not
+    ///   continue after a 400, which is unsigned and looks forged to it.
+    /// - `Unauthorized` (401): the message has a different nonce, whose security bits differ too.
+    /// - `StaleNonce` (438): the message has a different nonce.
     /// - `Unauthorized` (401): the user is unknown or has no key for the algorithm, or the
     ///   signature is invalid.
     pub fn judge<'a>(
@@ -147,8 +147,7 @@ impl<A: Memory> LongTermServerAuth<A> {
         self.judge_by(read, nonce, &user.registry)
     }
 
-    /// Judges a message against `users`, as if all algorithms that the server supports had been
-    /// offered.
+    /// Judges a message against `users`, with all algorithms that the server supports as the offer.
     fn judge_by<'a>(
         &self,
         read: &ReadMessage<'a, '_>,
@@ -166,10 +165,10 @@ impl<A: Memory> LongTermServerAuth<A> {
         verdict(users, self.feature, &message, nonce, offered)
     }
 
-    /// Adds to a response the attributes that a client needs to sign its next request under a
-    /// nonce: NONCE, REALM and, if the nonce has the security bit *Password algorithms*,
-    /// PASSWORD-ALGORITHMS with the algorithms that the server supports, the strongest first (RFC
-    /// 8489, section 9.2.4).
+    /// Adds to a response the attributes that a client needs to sign its next request under a nonce
+    /// (RFC 8489, section 9.2.4). These are NONCE and REALM. If the nonce has the security bit
+    /// *Password algorithms*, they include PASSWORD-ALGORITHMS with the algorithms that the server
+    /// supports, the strongest first.
     ///
     /// Call it for a 401 or a 438 of a server that stores no nonces. Pass the nonce that
     /// `nonce_of_words` made, and under which you will judge the next request. The call signs

@@ -75,11 +75,11 @@ pub enum VerdictRefusal {
     /// Answer 401, for one of the causes of `LongTermServerAuthErrorReason::Unauthorized`.
     #[error("The message is not sufficiently authenticated")]
     Unauthorized,
-    /// Answer 400, or 438 if the message has another nonce. REALM, NONCE or the user name is
-    /// missing, or the algorithms disagree with those that the server supports.
+    /// Answer 400, or 438 if the message does not have the given nonce. REALM, NONCE or the user
+    /// name is missing, or the algorithms disagree with those that the server supports.
     #[error("The request message is not well-formed")]
     BadRequest,
-    /// Answer 438. The message has another nonce.
+    /// Answer 438. The message does not have the given nonce.
     #[error("The request presented with an out of date nonce.")]
     StaleNonce,
 }

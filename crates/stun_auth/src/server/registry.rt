@@ -291,8 +291,9 @@ impl<A: Memory> Registry<A> {
         }
     }
 
-    /// Sets the supported algorithms, and makes the keys of each user again: a key for each of
-    /// these algorithms, except those for which a user with stored keys has none.
+    /// Sets the supported algorithms, and makes the keys of each user again. Each user then has a
+    /// key for each of these algorithms, but a user with stored keys has only the keys that were
+    /// stored.
     pub(crate) fn set_supported(&mut self, supported: AlgorithmSet)
         ensures { self.new ≡ record self.old { algorithms = supported } }
     {

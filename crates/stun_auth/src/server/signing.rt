@@ -72,8 +72,7 @@ impl<A: Allocator + Copy> LongTermServerAuth<A> {
     /// Sign every response to a message that was `Validated`, whatever its error code: a client
     /// drops an unsigned response to a signed request, and waits until its request times out. Pass
     /// the 401 and the 438 of a refused request to this call too, because they need the nonce and
-    /// the realm. Only the 400 of a request that failed authentication, which was refused with
-    /// `BadRequest`, goes out as it is.
+    /// the realm. Only the 400 that answers a `BadRequest` refusal is sent without this call.
     ///
     /// Add FINGERPRINT after this call, because it has to be the last attribute, and the call does
     /// not check whether the message has one already. The attributes are added one after another,
@@ -131,7 +130,8 @@ impl<A: Allocator + Copy> LongTermServerAuth<A> {
         Ok(writer)
     }
 
-    /// Signs a message like `sign_outgoing_message`, if you know that it is signable.
+    /// Signs a message like `sign_outgoing_message`. The caller must ensure that the message is
+    /// signable.
     ///
     /// A signable message has no integrity attribute, no FINGERPRINT, and none of the attributes
     /// that signing adds. Its writer and its length field have room for the attributes to add. The

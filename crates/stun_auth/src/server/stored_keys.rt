@@ -14,7 +14,7 @@ use stun_base::key::IntegrityKey;
 /// `None`, the user has no key for that algorithm.
 ///
 /// Anybody who has a key can sign as that user, so keep it as secret as a password. `Debug` shows
-/// nothing of it.
+/// no key.
 #[derive(Clone, Copy)]
 pub struct StoredKeys {
     /// The key for HMAC-SHA1: the MD5 hash (RFC 8489, section 9.2.2).

@@ -37,10 +37,10 @@ impl<A: Allocator + Copy> LongTermServerUser<A> {
     /// Returns whether this user can be passed to a server: whether the user was prepared for that
     /// server's realm, and for the algorithms that the server supports now.
     ///
-    /// If so, the server would prepare the same user again from the same name and secret, so you
-    /// can keep the prepared user and pass it with every message. If not, prepare the user again:
-    /// otherwise the server would judge and sign for the realm and the algorithms that the user was
-    /// prepared for. The call does not allocate.
+    /// If so, preparing the user again from the same name and secret gives the same result, so you
+    /// can keep the prepared user and pass it with every message. If not, prepare the user again,
+    /// because otherwise the server judges and signs for the realm and the algorithms that the user
+    /// was prepared for. The call does not allocate.
     pub fn belongs_to(&self, server: &LongTermServerAuth<A>) -> bool
         ensures { IsTrue result ↔ ((self.now.realm ≡ server.now.registered.realm)
             × (self.now.algorithms ≡ server.now.registered.algorithms)) }

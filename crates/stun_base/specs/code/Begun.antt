@@ -8,7 +8,7 @@ use Rattle.stun_base.specs.code.Padded.{IsBegun}
 use Rattle.stun_base.specs.declared.keys.prepared_key.Begun.{Begun}
 use Rattle.stun_base.specs.declared.keys.prepared_key.Begun.TheVariants.{Sha1, Sha256}
 
--- the hashers are those of the key
+-- the hashers have been fed the two padded blocks of this key
 abbrev pub IsBegunUnder : List ℕ → Begun → Type 0
 IsBegunUnder key (Sha1 begun) = IsBegun HoldsSha1 sha1 key begun.inner begun.outer
 IsBegunUnder key (Sha256 begun) = IsBegun Holds256 sha256 key begun.inner begun.outer

@@ -7,9 +7,10 @@ use crate::keys::hmac::{SHA1_LENGTH, SHA256_LENGTH};
 /// The algorithm of a signature. HMAC-SHA1 is less than HMAC-SHA256, because it is weaker.
 #[derive(Debug, Clone, Copy, PartialEq, Eq, PartialOrd, Ord, Hash)]
 pub enum IntegrityAlgorithm {
-    /// HMAC-SHA1, 20 bytes, sent in MESSAGE-INTEGRITY (RFC 8489, section 14.5).
+    /// HMAC-SHA1, which has 20 bytes and is sent in MESSAGE-INTEGRITY (RFC 8489, section 14.5).
     Sha1,
-    /// HMAC-SHA256, 32 bytes, sent in MESSAGE-INTEGRITY-SHA256 (RFC 8489, section 14.6).
+    /// HMAC-SHA256, which has 32 bytes and is sent in MESSAGE-INTEGRITY-SHA256 (RFC 8489, section
+    /// 14.6).
     Sha256,
 }
 

@@ -9,9 +9,8 @@ use sha1::{Sha1, Sha1 as BegunSha1};
 use sha2::{Sha256, Sha256 as BegunSha256};
 
 /// The state of a hash function that has been fed one block. Any number of hashers can start from
-/// it, for messages that begin with this block. If the crate of the hash function has a separate
-/// type for such a state, that type is smaller than a hasher, because it has no buffer for an
-/// incomplete block.
+/// it, for messages that begin with this block. Some hash function crates have a separate type for
+/// such a state. It is smaller than a hasher, because it has no buffer for an incomplete block.
 pub(crate) trait BegunHash: Drop {
     type Hasher: HashFunction;
 

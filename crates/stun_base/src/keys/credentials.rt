@@ -293,8 +293,8 @@ impl<A: Allocator> LongTermKeyCredentials<A> {
     }
 
     /// Derives the key for this algorithm: the hash of `username:realm:password` (RFC 8489,
-    /// sections 9.2.2 and 18.5.1). The key is the MD5 hash, 16 bytes, for HMAC-SHA1, and the
-    /// SHA-256 hash, 32 bytes, for HMAC-SHA256. This does not allocate.
+    /// sections 9.2.2 and 18.5.1). For HMAC-SHA1 the key is the 16-byte MD5 hash, and for
+    /// HMAC-SHA256 the 32-byte SHA-256 hash. This does not allocate.
     pub fn make_key(&self, algorithm: IntegrityAlgorithm) -> IntegrityKey<A>
         ensures { result ≡ long_term_key_of self.now algorithm }
     {

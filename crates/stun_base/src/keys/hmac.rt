@@ -97,10 +97,10 @@ fn hmac<H: HashFunction>(key: &[u8], pieces: &[&[u8]]) -> H::Digest
     outer.finish()
 }
 
-/// The part of an HMAC that does not depend on the text (RFC 2104, section 4): one hash function
-/// that has been fed the key block XORed with the inner pad, and another that has been fed the key
-/// block XORed with the outer pad. They are as secret as the key, because anybody who has them can
-/// compute HMACs under the key.
+/// The part of an HMAC that does not depend on the text (RFC 2104, section 4): the states of two
+/// hash functions, one of which has been fed the key block XORed with the inner pad, and the other
+/// the key block XORed with the outer pad. They are as secret as the key, because anybody who has
+/// them can compute HMACs under the key.
 #[derive(Drop)]
 pub(crate) struct BegunHmac<B: BegunHash> {
     inner: B,

@@ -193,8 +193,8 @@ fn digest_of_utf8<H: HashFunction>(
 }
 
 /// Derives the long-term key of a user in a realm: the hash of `username:realm:password` (RFC 8489,
-/// sections 9.2.2 and 18.5.1). For HMAC-SHA1 the key is the MD5 hash, 16 bytes, and for HMAC-SHA256
-/// the SHA-256 hash, 32 bytes.
+/// sections 9.2.2 and 18.5.1). For HMAC-SHA1 the key is the 16-byte MD5 hash, and for HMAC-SHA256
+/// the 32-byte SHA-256 hash.
 ///
 /// The texts are used as they are: preparing them with OpaqueString (RFC 8265, section 4.2) is up
 /// to the caller. This does not allocate: `alloc` only determines the allocator type of the key,

@@ -18,13 +18,13 @@ use std::alloc::{AllocError, Allocator, Global};
 use std::fmt;
 use std::marker::Model;
 
-/// A key for which, for one algorithm, the part of an HMAC that does not depend on the text has
-/// been computed in advance (RFC 2104, section 4).
+/// A key that is prepared for one algorithm: the part of an HMAC that does not depend on the text
+/// has been computed in advance (RFC 2104, section 4).
 ///
-/// With that algorithm an HMAC hashes two blocks fewer than with an unprepared key. This follows
-/// from the way the code is written, and is not proved. The key also works with the other
-/// algorithm, without this saving. A prepared key is at most about 250 bytes larger than its key,
-/// and preparing does not allocate.
+/// With that algorithm, computing an HMAC hashes two blocks fewer than with an unprepared key. This
+/// follows from the way the code is written, and is not proved. The prepared key also works with
+/// the other algorithm, but then saves nothing. It is at most about 250 bytes larger than the
+/// unprepared key, and preparing it does not allocate.
 ///
 /// All of its contents are as secret as the key, and `Debug` shows none of them.
 ///

@@ -10,9 +10,9 @@ use std::simd::prelude::*;
 /// The largest number of bytes of a short text.
 const LONGEST: usize = 64;
 
-/// A text of up to 64 bytes in one block. Hashing the block at once, or testing it for UTF-8, is
-/// faster than doing so piece by piece. The rest of the block is zeros, so that the UTF-8 test can
-/// read all of it.
+/// A text of up to 64 bytes in one block. Hashing a whole block, or testing whether it is UTF-8, is
+/// faster than hashing or testing the text piece by piece. The rest of the block is zeros, so that
+/// the UTF-8 test can read all of it.
 ///
 /// Contracts: the value is the list of the text's bytes.
 #[derive(Drop)]

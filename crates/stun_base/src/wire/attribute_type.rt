@@ -6,7 +6,7 @@ ghost use Rattle.stun_base.specs.AttributeText.{type_text};
 
 use std::fmt;
 
-/// The type of an attribute (RFC 8489, section 14): a number of 16 bits.
+/// The type of an attribute (RFC 8489, section 14): a 16-bit number.
 ///
 /// A receiver must understand an attribute whose type is less than 0x8000, and may ignore any
 /// other. The field is public, so that other crates can define constants such as

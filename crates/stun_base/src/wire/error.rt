@@ -29,7 +29,7 @@ pub enum StunParseError {
 /// Why the signature of a message could not be validated.
 #[derive(Debug, Clone, Copy, PartialEq, Eq, Error)]
 pub enum ValidateError {
-    /// The integrity attribute is missing or malformed; the inner error says which.
+    /// The integrity attribute is missing or malformed, as the inner error says.
     #[error(transparent)]
     Parse(StunParseError),
     /// The signature is invalid: the HMAC in the message is not the HMAC of the message under the
@@ -42,8 +42,9 @@ pub enum ValidateError {
 /// room of the writer unchanged, or drops the writer if it was passed by value.
 #[derive(Debug, Clone, Copy, PartialEq, Eq, Error)]
 pub enum StunWriteError {
-    /// This call does not write attributes of this type, or not with this value, such as an
-    /// ERROR-CODE with the code 700. For some types there is another call.
+    /// This call does not write attributes of this type, or it does not write this value, such as
+    /// an ERROR-CODE with the code 700. Attributes of some of these types can be added with a
+    /// different call.
     #[error("the attribute is not written by this call")]
     NotAllowed,
     /// The message has an integrity attribute already, and this call adds nothing after it.

@@ -27,7 +27,7 @@ impl MessageClass {
     }
 }
 
-/// The method of a message: a number of 12 bits.
+/// The method of a message: a 12-bit number.
 ///
 /// Contracts: the value is the number.
 #[derive(Debug, Clone, Copy, PartialEq, Eq, Hash)]
@@ -70,7 +70,7 @@ impl Method {
     }
 }
 
-/// The type of a message: its class and its method, combined into a number of 14 bits (RFC 8489,
+/// The type of a message: its class and its method, combined into a 14-bit number (RFC 8489,
 /// section 5).
 ///
 /// From the highest bit to the lowest, the number consists of M11 to M7, C1, M6 to M4, C0 and M3 to

@@ -8,8 +8,7 @@ use byteorder::{BigEndian, ByteOrder};
 use rand_core::Rng;
 use std::marker::Model;
 
-/// A transaction ID (RFC 8489, section 5): a number of 96 bits that matches a response to its
-/// request.
+/// A transaction ID (RFC 8489, section 5): a 96-bit number that matches a response to its request.
 ///
 /// An attacker who can guess the ID of an outstanding request can forge a response to it. So IDs
 /// must be unpredictable, and every new request needs a new one.

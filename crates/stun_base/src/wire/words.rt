@@ -28,7 +28,7 @@ impl Model for WordSource {
     ghost invariant = { λ s. s.taken ≤ 16 };
 }
 
-/// Two sources are equal if the same numbers are left to read in both.
+/// Two sources are equal if the numbers that have not been read yet are the same in both.
 impl PartialEq for WordSource {
     ghost use Rattle.std.specs.Prelude.{nat_eq};
     ghost use Rattle.std.specs.Cmp.{partial_equiv_from_equiv};

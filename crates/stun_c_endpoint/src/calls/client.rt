@@ -21,9 +21,9 @@ use stun_handles::answers;
 use stun_numbers::refusal::Refusal;
 
 /// Creates a client of the server at the address `server`. `seed` is 32 random bytes. If the name
-/// has no bytes, the client has no user. If the SOFTWARE text has no bytes, requests have no
-/// SOFTWARE. `understood` lists the attribute types that the caller understands in responses, in
-/// addition to those in `include/stunp.h`. An option that is 0 has its default.
+/// is empty, the client has no user. If the SOFTWARE text is empty, requests have no SOFTWARE.
+/// `understood` lists the attribute types that the caller understands in responses, in addition to
+/// those in `include/stunp.h`. An option that is 0 has its default.
 ///
 /// # Errors
 ///
@@ -172,10 +172,10 @@ pub extern "C" fn stunp_endpoint_client_receive_with(
 /// `stunp_event_kind`. Writes a request to send, or the response that ended a request, to the front
 /// of `out`.
 ///
-/// Fails with `BadArgument` if `event.size` is wrong, or with `BufferTooSmall` if the request or
-/// the response does not fit into `out`. The request or the response is then lost, and
-/// `event.needed` is its length. After an error, `event` has the kind 7 and the length 0. After
-/// `BufferTooSmall`, the other fields are those for the request or the response that is lost.
+/// Fails with `BadArgument` if `event.size` is wrong. Fails with `BufferTooSmall` if the request or
+/// the response does not fit into `out`. The request or the response is then lost, `event.needed`
+/// is its length, and the other fields of `event` are set as if it had been written. After any
+/// error, `event` has the kind 7 and the length 0.
 #[unsafe(no_mangle)]
 pub extern "C" fn stunp_endpoint_client_poll_with(
     alloc: Global,

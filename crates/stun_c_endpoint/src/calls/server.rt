@@ -24,7 +24,7 @@ use stun_numbers::refusal::Refusal;
 /// made from `previous_secret`. The server sends the same nonce to a client for `nonce_seconds`, or
 /// for an hour if this is 0, and accepts a nonce for one to two times as long. If `algorithms` is
 /// 0, the server supports both algorithms. If `anonymous_username` is 2, clients may not send a
-/// hash in place of the user name. If the SOFTWARE text has no bytes, responses have no SOFTWARE.
+/// hash in place of the user name. If the SOFTWARE text is empty, responses have no SOFTWARE.
 ///
 /// `understood` lists the attribute types that the caller understands, in addition to those of
 /// STUN. If `answers_binding` is true, the server itself answers an accepted Binding request. If
@@ -98,8 +98,8 @@ fn previous(secret: &[u8; 32], is_there: bool) -> Option<[u8; 32]>
     None
 }
 
-/// Creates a server with short-term credentials (RFC 8489, section 9.1). If the SOFTWARE text has
-/// no bytes, responses have no SOFTWARE. `understood` lists the attribute types that the caller
+/// Creates a server with short-term credentials (RFC 8489, section 9.1). If the SOFTWARE text is
+/// empty, responses have no SOFTWARE. `understood` lists the attribute types that the caller
 /// understands, in addition to those of STUN. If `answers_binding` is true, the server itself
 /// answers an accepted Binding request. If `requires_fingerprint` is true, it drops messages
 /// without FINGERPRINT.
@@ -135,8 +135,8 @@ pub extern "C" fn stunp_endpoint_server_new_short_term(
     given.place_short_term(alloc, server)
 }
 
-/// Creates a server without credentials, which responds to every client. If the SOFTWARE text has
-/// no bytes, responses have no SOFTWARE. `understood` lists the attribute types that the caller
+/// Creates a server without credentials, which responds to every client. If the SOFTWARE text is
+/// empty, responses have no SOFTWARE. `understood` lists the attribute types that the caller
 /// understands, in addition to those of STUN. If `answers_binding` is true, the server itself
 /// answers a Binding request. If `requires_fingerprint` is true, it drops messages without
 /// FINGERPRINT.
@@ -185,8 +185,8 @@ pub extern "C" fn stunp_endpoint_server_clear(alloc: Global, server: &mut Endpoi
 /// front of `out`. A server without credentials ignores the users.
 ///
 /// `unix_seconds` is the time of the wall clock, in seconds since 1970. If the clock is set back,
-/// no call fails, but clients may get one more 438, and recorded requests stay valid for as much
-/// longer.
+/// no call fails, but clients may get one more 438, and requests that an attacker has recorded stay
+/// valid longer, by as much as the clock was set back.
 ///
 /// # Errors
 ///
@@ -237,7 +237,7 @@ pub extern "C" fn stunp_endpoint_server_receive_own(
 
 /// Judges a datagram like `stunp_endpoint_server_receive_own`, and also writes to `cause` the
 /// `stunp_cause` for which a server with long-term credentials refuses the datagram, or 0 if the
-/// server does not refuse it or has other credentials or none.
+/// server does not refuse it or does not have long-term credentials.
 ///
 /// Fails like `stunp_endpoint_server_receive_own`. After `BufferTooSmall`, `cause` is the cause of
 /// the response that does not fit. After `OutOfMemory` it may be 0, and after any other error it is
@@ -335,8 +335,8 @@ pub extern "C" fn stunp_endpoint_server_identify_own(
 /// with the user whom the caller has looked up: the name, and the password if `has_password` is
 /// true, or otherwise the stored keys. Writes the outcome to `received` and returns its
 /// `stunp_kind`. The outcome is the same as with a table that has only this user, but the call
-/// makes only the key that the request needs. `sha1` has 16 bytes, and `sha256` has 32. A key
-/// without bytes is missing. If the server responds by itself, this call writes the response to the
+/// makes only the key that the request needs. `sha1` has 16 bytes, and `sha256` has 32. An empty
+/// key counts as missing. If the server responds by itself, this call writes the response to the
 /// front of `out`. `from` and `unix_seconds` are the address and the time with which the request
 /// was identified.
 ///
@@ -348,7 +348,7 @@ pub extern "C" fn stunp_endpoint_server_identify_own(
 /// - `WrongHandle`: the handle has something other than a server with long-term credentials.
 /// - `NotText`: the name or the password is not UTF-8.
 /// - `TextTooLong`: the name has more than 513 bytes.
-/// - `BadArgument`: the password has no bytes, a key has a wrong length, `received.size` is wrong,
+/// - `BadArgument`: the password is empty, a key has a wrong length, `received.size` is wrong,
 ///   `unix_seconds` is too large, or `from` is not an IPv4 or IPv6 address.
 /// - `OutOfMemory`: an allocation failed.
 /// - `BufferTooSmall`: the response does not fit into `out`. Its length is then in

@@ -68,7 +68,7 @@ pub extern "C" fn stunp_endpoint_users_clear(alloc: Global, users: &mut Endpoint
 /// password are accepted.
 ///
 /// Fails with `NotText` if the name or the password is not UTF-8, then with `TextTooLong` if the
-/// name has more than 513 bytes, then with `BadArgument` if the password has no bytes, then with
+/// name has more than 513 bytes, then with `BadArgument` if the password is empty, then with
 /// `OutOfMemory`.
 #[unsafe(no_mangle)]
 pub extern "C" fn stunp_endpoint_users_add(
@@ -90,7 +90,7 @@ pub extern "C" fn stunp_endpoint_users_add(
 
 /// Adds a user with stored keys, which must have been made for the realm of the table. If the table
 /// already has a user with this name, the keys replace the user's password or keys. The key for
-/// HMAC-SHA1 has 16 bytes, and the key for HMAC-SHA256 has 32. A key without bytes is missing.
+/// HMAC-SHA1 has 16 bytes, and the key for HMAC-SHA256 has 32. An empty key counts as missing.
 /// Users with short-term credentials have no stored keys, so for a table of such users the call
 /// fails with `WrongHandle`.
 ///

@@ -12,8 +12,8 @@ use stun_client_endpoint::body::{Body, BodyError};
 use stun_numbers::refusal::Refusal;
 use stun_types::attribute::RawAttribute;
 
-/// The type of XOR-PEER-ADDRESS. In a message its address is XORed with the transaction ID, which a
-/// caller does not know, so a body stores the address without the XOR.
+/// The type of XOR-PEER-ADDRESS. In a message, the address in this attribute is XORed with the
+/// transaction ID. A caller does not know this ID, so a body stores the address without the XOR.
 const XOR_PEER_ADDRESS: u16 = 0x0012;
 
 /// Converts the library's error for an attribute that cannot be added to a body.
@@ -29,8 +29,8 @@ fn refusal_of_attribute(error: BodyError) -> Refusal
     }
 }
 
-/// Returns the address in a value of XOR-PEER-ADDRESS that is not XORed, or `None` if the value is
-/// malformed.
+/// Returns the address in the value of a XOR-PEER-ADDRESS, whose address is not XORed, or `None` if
+/// the value is malformed.
 fn peer_of(value: &[u8]) -> Option<SocketAddr>
     ensures { result ≡ peer_of value.now }
 {
@@ -71,7 +71,7 @@ fn add(body: &mut Body<Global>, attribute: &RawAttribute<'_>) -> Result<(), Refu
     }
 }
 
-/// Returns the bytes that follow the attribute at the front of `bytes` and its padding.
+/// Returns the bytes after the attribute at the front of `bytes`, and after its padding.
 pub fn after<'a>(bytes: &'a [u8], attribute: &RawAttribute<'_>) -> &'a [u8]
     ensures { result.now ≡ drop (attribute_length (length attribute.now.value)) bytes.now }
 {

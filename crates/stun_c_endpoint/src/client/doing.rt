@@ -30,7 +30,7 @@ use stun_numbers::buffer::put;
 use stun_numbers::refusal::Refusal;
 use stun_types::message::Method;
 
-/// The greatest time in nanoseconds, which an event has as the time to wait until if no request is
+/// The greatest time, in nanoseconds. It is the time to wait until in an event if no request is
 /// outstanding.
 const FOR_EVER: u64 = 18_446_744_073_709_551_615;
 

@@ -56,8 +56,8 @@ pub struct Event {
     pub signed_by: u16,
     /// The responses that were dropped for a request that has timed out.
     pub dropped: Dropped,
-    /// The time in nanoseconds from the transmission of the message that was answered to its
-    /// response, or `u64::MAX` if it is not known.
+    /// The time in nanoseconds between the transmission of the answered message and the arrival of
+    /// its response, or `u64::MAX` if this time is not known.
     pub round_trip: u64,
 }
 

@@ -33,23 +33,29 @@ ghost use Rattle.stun_numbers.specs.Refusals.{refusal_number};
 ghost use Rattle.stun_numbers.specs.declared.refusal.Refusal.{Refusal};
 ghost use Rattle.stun_numbers.specs.declared.refusal.Refusal.TheVariants.{BufferTooSmall};
 
-/// States that if the call that creates a client returns 0, the handle has a client of the server
+/// States that if the call that creates a client returns 0, the handle has a client for the server
 /// at the address that was passed. The client authenticates with the name, the password and the
 /// kind of credentials that were passed, or has no credentials if there is no name. Options that
-/// are 0 have their defaults. No client is created with a seed of one repeated byte, with a name
-/// without a password, or with a password without a name.
+/// are 0 have their defaults. The call creates no client if the seed is one repeated byte, or if
+/// only one of name and password is passed.
 pub fn clients_are_made_as_asked_for()
     ensures { (g : ClientGiven) (now : Option Kept) → MakesClient g (pos 0) now
         → (server : SocketAddr) × (c : ClientSeen) × (socket_address g.server ≡ Some server)
         × (now ≡ Some (kind.Client c)) × IsClientOf g server c }
 {}
 
-/// States that if a call starts a request, the library starts it, with the options that were
-/// passed, and with the attributes that the bytes of the body encode (`started`). No attribute has
-/// a type that the client writes itself (`body`). The caller receives the number that the library
-/// gives the request, and the handle has the client as the library leaves it. The calls that cancel
-/// a request (`cancelled`) and that report its dropped responses (`outstanding`, `ended`) return 1
-/// if the client still has the request, and otherwise 0.
+/// States what the calls on the requests of a client do.
+///
+/// - `started`: if the call that starts a request returns 0, the library accepts the request, with
+///   the options that were passed and with the attributes that the bytes of the body encode. The
+///   caller receives the number of the request, and the client in the handle is in the same state
+///   as after the library's call.
+/// - `body`: no attribute of the body has a type that the client writes itself.
+/// - `cancelled`: the call that cancels a request returns 1 if the request is outstanding, and
+///   returns 0 if it is not.
+/// - `outstanding`, `ended`: the call that reports the dropped responses of a request returns 1 if
+///   the request is outstanding (`outstanding`), and returns 0 and writes nothing if it is not
+///   (`ended`).
 pub fn requests_are_those_of_the_library()
     ensures started { (c : ClientSeen) (method : ℕ) (bytes : List ℕ)
         (given : Option RequestOptions) (now id named : ℕ) (before after : Option Kept)
@@ -72,12 +78,16 @@ pub fn requests_are_those_of_the_library()
         → (datum_of number c.requests ≡ None) × (now ≡ d) }
 {}
 
-/// States that a caller receives what the library returns for the same datagram from the same
-/// address (`datagram`), and for a poll at the same time (`poll`). If a request has ended, the
-/// caller receives how it ended, the response that ended it, the algorithm of the signature of that
-/// response, and the round-trip time. The handle then has the client as the library leaves it. The
-/// kind in the caller's struct is the number that the poll returns (`kind`), and different reasons
-/// to drop a datagram have different numbers (`why`).
+/// States that a caller receives what the library returns, and that the client in the handle is
+/// then in the same state as after the library's call.
+///
+/// - `datagram`: this holds for a datagram, if the library gets the same datagram from the same
+///   address.
+/// - `poll`: this holds for a poll, if the library is polled with the same time. If a request has
+///   ended, the caller receives the result, the response that ended the request, the algorithm of
+///   the response's signature, and the round-trip time.
+/// - `kind`: the kind in the caller's struct is the number that the poll returns.
+/// - `why`: different reasons to drop a datagram have different numbers.
 pub fn callers_read_what_the_library_returns()
     ensures datagram { (c : ClientSeen) (from : Address) (bytes : List ℕ) (now n why told : ℕ)
         (before after : Option Kept)
@@ -98,9 +108,10 @@ pub fn callers_read_what_the_library_returns()
 {}
 
 /// States that after an error the client is unchanged (`request`, `datagram`, `cancelled`, `poll`),
-/// and a failed poll writes only the event, with the kind 7 and the length 0 (`event`). The
-/// exception is a poll whose bytes do not fit into the buffer: the client changes, the bytes are
-/// lost, and the event has their number, which is greater than the length of the buffer (`lost`).
+/// with one exception. A poll whose bytes do not fit into the buffer changes the client. The bytes
+/// are then lost, and the event states their number, which is greater than the length of the buffer
+/// (`lost`). A failed poll writes only to the event, which then has the kind 7 and the length 0
+/// (`event`).
 pub fn errors_leave_the_client()
     ensures request { (c : Result ClientSeen Refusal) (method : ℕ) (bytes : List ℕ)
         (given : Option RequestOptions) (now : ℕ) (result : ℤ) (id named : ℕ)

@@ -52,8 +52,8 @@ fn time_or(nanos: u64, default: Duration) -> Duration
 }
 
 impl RequestOptions {
-    /// Returns the retransmission timeouts of the request. `plan` has the timeouts of the client,
-    /// which take the place of each number that is 0.
+    /// Returns the retransmission timeouts of the request. Each number that is 0 is replaced by the
+    /// client's number in `plan`.
     fn timeouts(&self, plan: RequestRto) -> RequestRto
         ensures { settings_of result ≡ plan_given self.now (settings_of plan) }
     {

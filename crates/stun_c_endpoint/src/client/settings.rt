@@ -15,7 +15,7 @@ ghost use Rattle.stun_c_endpoint.specs.ClientsGiven.{transport_given};
 ghost use Rattle.stun_c_endpoint.specs.code.Building.{Builds};
 
 use crate::handle::endpoint::{EndpointHandle, Kept};
-use crate::settings::{is_repeated, placed, text_if_any, types};
+use crate::settings::{ONLY_SHA256, algorithms, is_repeated, placed, text_if_any, types};
 use std::alloc::{AllocError, Global};
 use std::marker::Model;
 use std::net::SocketAddr;
@@ -90,12 +90,6 @@ const CHALLENGES: u32 = 6;
 /// The `stunp_credentials` for short-term credentials.
 const SHORT_TERM: u32 = 1;
 
-/// The number in `ClientOptions::algorithms` for HMAC-SHA1 alone.
-const ONLY_SHA1: u32 = 1;
-
-/// The number in `ClientOptions::algorithms` for HMAC-SHA256 alone.
-const ONLY_SHA256: u32 = 2;
-
 /// The number in `ClientOptions::algorithms` for both algorithms, which is the greatest valid
 /// number.
 const BOTH: u32 = 3;
@@ -115,7 +109,7 @@ pub struct ClientOptions {
     pub last: u64,
     /// The number of transmissions of a request.
     pub transmissions: u32,
-    /// The number of challenges for which a request is sent again.
+    /// The greatest number of challenges for which a request is sent again.
     pub challenges: u32,
     /// The kind of the credentials, a `stunp_credentials`.
     pub credentials: u32,
@@ -207,8 +201,7 @@ impl ClientOptions {
         ensures { result ≡ preferences_given self.now }
     {
         Preferences {
-            hmac_sha1: self.algorithms != ONLY_SHA256,
-            hmac_sha256: self.algorithms != ONLY_SHA1,
+            algorithms: algorithms(self.algorithms),
             anonymous_username: feature(self.anonymous_username),
         }
     }
@@ -247,7 +240,7 @@ impl ClientOptions {
         }
     }
 
-    /// Creates the credentials of the client's user, or `Unsigned` if the name has no bytes.
+    /// Creates the credentials of the client's user, or `Unsigned` if the name is empty.
     fn credentials(
         &self,
         alloc: Global,

@@ -27,9 +27,9 @@ ghost use Rattle.stun_numbers.specs.declared.refusal.Refusal.{Refusal};
 ghost use Rattle.stun_numbers.specs.declared.refusal.Refusal.TheVariants.{WrongHandle};
 
 /// A call fails with `STUNP_EMPTY_HANDLE` if the handle is empty, and with `STUNP_WRONG_HANDLE` if
-/// it has a value of another kind than the call needs. So stored keys cannot be added to a table of
-/// users with short-term credentials (`stored`), and no table can be created for a server without
-/// credentials (`table`).
+/// the handle has a value of a kind other than the one that the call needs. So stored keys cannot
+/// be added to a table of users with short-term credentials (`stored`), and no table can be created
+/// for a server without credentials (`table`).
 pub fn other_handles_are_refused()
     ensures agent { (handle : Option Kept) → Takes kind.Checker handle (agent_in handle) }
     ensures client { (handle : Option Kept) → Takes kind.Client handle (client_in handle) }
@@ -50,8 +50,8 @@ pub fn other_handles_are_refused()
         → judge_of_found name password has_password sha1 sha256 (Some k) ≡ Err WrongHandle }
 {}
 
-/// A call that creates a value puts it only into an empty handle (`filled`): a handle that has a
-/// value still has it, and after an error an empty handle is still empty.
+/// A call that creates a value returns 0 only if the handle was empty (`filled`). After an error,
+/// the handle is unchanged: it is still empty, or still has its value.
 pub fn handles_are_filled_once()
     ensures filled { (before now : Option Kept) → LeavesFull before now (pos 0) → before ≡ None }
     ensures agent { (g : AgentGiven) (result : ℤ) (before now : Option Kept)

@@ -138,7 +138,7 @@ fn tell(
     }
 }
 
-/// Writes the outcome of a check of this agent, which its answer has ended, to `received`.
+/// Writes to `received` the outcome of a check of this agent that its answer has ended.
 fn ended(outcome: &Outcome, received: &mut IceReceived)
     ensures told { received.new ≡ outcome_told outcome.now received.new.mapped
         (ice_blank 4 received.old) }

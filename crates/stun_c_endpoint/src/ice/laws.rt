@@ -34,12 +34,15 @@ ghost use Rattle.stun_numbers.specs.declared.refusal.Refusal.TheVariants.{Buffer
 ghost use Rattle.stun_numbers.specs.declared.refusal.Refusal.TheVariants.{OutOfMemory};
 
 /// A new agent has the credentials, the tie-breaker and the role that the caller passed, and the
-/// library has accepted them. It signs its checks with the password of the peer, if the caller
-/// passed the credentials of the peer (`made`), and otherwise knows no peer yet (`offering`). A
-/// call that sets the credentials of the peer (`peer`) or the tie-breaker (`tie_breaker`) leaves
-/// the other values of the agent unchanged. An agent that is created with its own credentials, and
-/// then receives those of its peer, is equal to the agent that is created with both at once
-/// (`two_steps`). Only a failed allocation is reported as `STUNP_OUT_OF_MEMORY` (`memory`).
+/// library has accepted them.
+///
+/// - `made`, `offering`: if the caller passed the credentials of the peer, the agent signs its
+///   checks with the peer's password (`made`). Otherwise the agent knows no peer yet (`offering`).
+/// - `peer`, `tie_breaker`: a call that sets the credentials of the peer or the tie-breaker leaves
+///   the other values of the agent unchanged.
+/// - `two_steps`: if an agent is created with its own credentials, and the credentials of its peer
+///   are set afterwards, it is equal to an agent that is created with both at once.
+/// - `memory`: the calls report `STUNP_OUT_OF_MEMORY` only for a failed allocation.
 pub fn agents_are_made_of_what_is_passed()
     ensures made { (g : AgentGiven) (now : Option Kept) → MakesAgent g (pos 0) now
         → (a : Agent) × (now ≡ Some (kind.Checker a))
@@ -69,12 +72,15 @@ pub fn agents_are_made_of_what_is_passed()
         → error ≡ at_building.OutOfMemory }
 {}
 
-/// States that a check that a call writes is the check that the library writes for the address and
-/// the priority that the caller passed (`written`), with the attributes of the body if there is one
-/// (`with_body`). The bytes of the check are at the front of the buffer, the call returns their
-/// number, and the caller's struct describes the check. If the agent does not know the credentials
-/// of its peer, the call fails with `STUNP_CANNOT_SIGN` (`unknown_peer`). A call that fails writes
-/// nothing (`unwritten`, `unwritten_with_body`).
+/// States which check a call writes for the address and the priority that the caller passed.
+///
+/// - `written`, `with_body`: the call writes the check that the library writes (`written`), with
+///   the attributes of the body if the caller passed one (`with_body`). The bytes of the check are
+///   at the front of the buffer, the call returns their number, and the caller's struct describes
+///   the check.
+/// - `unknown_peer`: if the agent does not know the credentials of its peer, the call fails with
+///   `STUNP_CANNOT_SIGN`.
+/// - `unwritten`, `unwritten_with_body`: a call that fails writes nothing.
 pub fn checks_are_those_of_the_library()
     ensures written { (a : Agent) (id : List ℕ) (to : Address) (priority : ℕ) (nominate : Bool)
         (n : ℕ) (out after : List ℕ) (k told : IceCheck) → length out < 2 ^ 63
@@ -105,9 +111,9 @@ pub fn checks_are_those_of_the_library()
         → IsErrorNumber result → (after ≡ out) × (told ≡ k) }
 {}
 
-/// States that the struct that describes a check has all that the agent needs to judge the answer,
-/// so it is enough that the caller passes this struct again. The struct describes the check except
-/// its bytes (`same`), and the judgement does not depend on these bytes (`judged`).
+/// States that the struct that describes a check contains everything that the agent needs to judge
+/// the answer, so the caller only has to pass this struct again. The struct has all data of the
+/// check except its bytes (`same`), and the judgement does not depend on these bytes (`judged`).
 pub fn checks_are_passed_again()
     ensures same { (check : SentCheck) (to : Address) → length to.octets ≡ 16
         → socket_address to ≡ Some check.to → check.id < 256 ^ 12
@@ -118,9 +124,9 @@ pub fn checks_are_passed_again()
 {}
 
 /// States that a caller receives the outcome that the library returns for the same datagram from
-/// the same address and with the same check, and that the handle then has the agent as the library
-/// leaves it (`told`). So the caller learns that a check is accepted (`accepted`), or that a pair
-/// is valid (`valid`), if and only if this is so in the library.
+/// the same address and with the same check, and that the agent in the handle is then in the same
+/// state as after the library's call (`told`). So the call reports that a check is accepted
+/// (`accepted`), or that a pair is valid (`valid`), if and only if the library does.
 pub fn datagrams_are_judged_as_by_the_library()
     ensures told { (a : Agent) (has_check : Bool) (k : IceCheck) (from : Address)
         (bytes : List ℕ) (n : ℕ) (out after : List ℕ) (r told : IceReceived)
@@ -149,12 +155,16 @@ pub fn datagrams_are_judged_as_by_the_library()
         ↔ ((n ≡ 4) × (told.outcome ≡ 4))) }
 {}
 
-/// States that only a check of the peer is answered, so the buffer is unchanged after any other
-/// outcome (`unanswered`). If the answer does not fit into the buffer, the caller's struct has the
-/// length of the answer, which is greater than the length of the buffer, and the agent and the
-/// buffer are unchanged (`needed`). The kind in the struct is the number that the call returns
-/// (`kind`), or 7 with the length 0 after an error (`failed`). Different reasons to drop a datagram
-/// have different numbers (`why`).
+/// States what the call that receives a datagram writes.
+///
+/// - `unanswered`: only a check of the peer is answered, so the buffer is unchanged after any other
+///   outcome.
+/// - `needed`: if the answer does not fit into the buffer, the caller's struct states the length of
+///   the answer, which is greater than the length of the buffer. The agent and the buffer are then
+///   unchanged.
+/// - `kind`: the kind in the struct is the number that the call returns.
+/// - `failed`: after an error, the struct has the kind 7 and the length 0.
+/// - `why`: different reasons to drop a datagram have different numbers.
 pub fn only_checks_have_answers()
     ensures unanswered { (seen : Result Seen Refusal) (result : ℤ) (out after : List ℕ)
         (r told : IceReceived) (before now : Option Kept)

@@ -207,7 +207,7 @@ impl IceReceived {
         self.switched = switched;
     }
 
-    /// Sets the outcome to an answer to a check of this agent that has failed, with the reason.
+    /// Sets the outcome to a check of this agent that has failed, with the reason.
     pub fn failed(&mut self, failure: Failure)
         ensures { self.new ≡ failure_told failure (ice_blank 4 self.old) }
     {

@@ -20,11 +20,14 @@ ghost use Rattle.stun_numbers.specs.Refusals.{refusal_number};
 ghost use Rattle.stun_numbers.specs.declared.refusal.Refusal.{Refusal};
 ghost use Rattle.stun_numbers.specs.declared.refusal.Refusal.TheVariants.{BufferTooSmall};
 
-/// States that a caller receives the outcome that the library returns for the same datagram from
-/// the same address, with the server and the users in the handles (`judged`), and its cause
-/// (`cause`). The kind in the caller's struct is the number that the call returns (`kind`). If a
-/// response does not fit into the buffer, the struct has the length of the response, which is
-/// greater than the length of the buffer (`needed`).
+/// States that a caller receives the outcomes of the library.
+///
+/// - `judged`: the outcome is the one that the library returns for the same datagram, from the same
+///   address and at the same time, with the server and the users in the handles.
+/// - `cause`: a call that returns the cause of a refusal returns the library's cause.
+/// - `kind`: the kind in the caller's struct is the number that the call returns.
+/// - `needed`: if a response does not fit into the buffer, the struct states the length of the
+///   response, which is greater than the length of the buffer.
 pub fn datagrams_are_judged_as_by_the_library()
     ensures judged { (judge : Judge) (from : Address) (seconds : ℕ) (bytes : List ℕ) (n : ℕ)
         (out after : List ℕ) (r told : Received)
@@ -47,9 +50,9 @@ pub fn datagrams_are_judged_as_by_the_library()
         (cause_of realm.settings (realm_of_table realm.users) address seconds bytes)) }
 {}
 
-/// States that if a call returns that the user of a request must be looked up, the library returns
-/// this too, and the caller receives the user whom the library names: the bytes of the name, or of
-/// its hash.
+/// States that a call asks its caller to look up the user of a request only if the library does.
+/// The caller then receives the name of this user, or the hash of the name, from the library's
+/// result.
 pub fn users_are_looked_up_as_by_the_library()
     ensures { (s : Settings) (from : Address) (seconds : ℕ) (bytes out after : List ℕ)
         (r told : Received)

@@ -9,12 +9,12 @@ ghost use Rattle.stun_c_endpoint.specs.declared.handle.endpoint.Kept.TheVariants
 ghost use Rattle.stun_endpoint.specs.Responding.{Responding};
 ghost use Rattle.stun_endpoint.specs.Settings.{Settings};
 
-/// States that if a call that creates a server returns 0, the handle has a server of the kind of
-/// the call, with the settings that were passed: a server with long-term credentials (`realm`),
-/// with short-term credentials (`short_term`) or without credentials (`open`). No server with
-/// long-term credentials is created with a secret of one repeated byte, with a previous secret that
-/// is one repeated byte or the secret itself, or with a nonce lifetime of less than 30 seconds or
-/// more than 30 days.
+/// States that if a call that creates a server returns 0, the handle has a server with the settings
+/// that were passed. There is one call for servers with long-term credentials (`realm`), one for
+/// servers with short-term credentials (`short_term`), and one for servers without credentials
+/// (`open`). The call for long-term credentials creates no server if a secret is one repeated byte,
+/// if the previous secret is equal to the secret, or if the nonce lifetime is less than 30 seconds
+/// or more than 30 days.
 pub fn servers_are_made_as_asked_for()
     ensures realm { (g : Given) (now : Option Kept) → MakesServer g (pos 0) now
         → (s : Settings) × (now ≡ Some (kind.Server s)) × IsServerOf g s }

@@ -23,10 +23,11 @@ ghost use Rattle.stun_numbers.specs.declared.refusal.Refusal.{Refusal};
 
 use stun_base::algorithm::IntegrityAlgorithm;
 
-/// States that after a call has added a user, the table has the keys with which the server verifies
-/// and signs the messages of this user: the keys that are made from the name, the realm and the
-/// password (`password`), the keys that were passed (`keys`), or, with short-term credentials, the
-/// password itself (`short_term`). All other users have the keys that they had before.
+/// States which keys a table has for a user whom a call has added. The server verifies the user's
+/// requests, and signs its responses to them, with one of these keys. The keys are made from the
+/// name, the realm and the password (`password`), or are the keys that were passed (`keys`). With
+/// short-term credentials, the key is the password itself (`short_term`). All other users have the
+/// keys that they had before.
 pub fn users_have_the_keys_that_were_passed()
     ensures password { (u : ServerSeen) (name password : List ℕ) (before now : Option Kept)
         → LeavesTableOr (adding name password (kind.Users u)) (pos 0) before now
@@ -45,7 +46,7 @@ pub fn users_have_the_keys_that_were_passed()
 {}
 
 /// States that after a call has removed a user, the table has no key of that user, and still has
-/// the keys of all other users. This holds for a table of a server with long-term credentials
+/// the keys of all other users. This holds for the tables of servers with long-term credentials
 /// (`realm`) and with short-term credentials (`short_term`).
 pub fn users_who_are_removed_have_no_key()
     ensures realm { (u : ServerSeen) (name : List ℕ) (before now : Option Kept)
@@ -70,11 +71,18 @@ pub fn new_tables_are_empty()
     ensures open { (s : Responding) (k : Kept) → table_for (kind.Open s) ≢ Ok k }
 {}
 
-/// States that a server judges a request whose user was looked up as if its table contained only
-/// this user, with a password (`password`) or with stored keys (`keys`). If the user was found with
-/// a password, the server has the keys that are made from this password for its algorithms (`key`),
-/// and no keys of other users (`nobody_else`). So it refuses a client that signs as another user,
-/// and signs the response with the key of the user who was found.
+/// States that after the caller has looked up the user of a request, the server judges the request
+/// with a table that contains only this user.
+///
+/// - `password`, `keys`: the table is the one that results if the user is added to a new table of
+///   the server, with the password (`password`) or with the stored keys (`keys`) that the caller
+///   found.
+/// - `key`, `nobody_else`: if the caller found a password, the table has the keys that are made
+///   from this password for the server's algorithms (`key`), and no keys of other users
+///   (`nobody_else`).
+///
+/// So the server refuses a client that signs as another user, and signs its response with the key
+/// of the user who was found.
 pub fn only_the_user_who_was_found_is_judged()
     ensures password { (s : Settings) (name password sha1 sha256 : List ℕ) (empty table : Kept)
         → table_for (kind.Server s) ≡ Ok empty → adding name password empty ≡ Ok table

@@ -1,35 +1,12 @@
 //! The rule by which a challenge is answered (RFC 8489, section 9.2.5).
 ghost use Rattle.std.specs.Prelude.{◌≡◌};
-ghost use Rattle.stun_auth.specs.ClientStep.{is_required};
-ghost use Rattle.stun_auth.specs.Feature.{is_possible};
-ghost use Rattle.stun_auth.specs.Nonces.{asks_for_algorithms, asks_for_userhash};
 ghost use Rattle.stun_client.specs.Challenges.{has_same_bits, is_same_bit};
 ghost use Rattle.stun_client.specs.Rule.{chosen, is_hashed, lacks_userhash};
 
 use crate::challenge::offer::first_supported;
 use crate::preferences::Preferences;
-use stun_auth::auth::{Feature, NonceSecurityBits};
+use stun_auth::auth::{asks_for_algorithms, asks_for_userhash};
 use stun_types::message::IntegrityAlgorithm;
-
-/// Returns whether a nonce has the security bit *Password algorithms*.
-pub(crate) fn asks_for_algorithms(nonce: &str) -> bool
-    ensures { result ≡ asks_for_algorithms nonce.now }
-{
-    match NonceSecurityBits::from_nonce(nonce) {
-        Some(bits) => bits.password_algorithms(),
-        None => false,
-    }
-}
-
-/// Returns whether a nonce allows hashed user names.
-fn asks_for_userhash(nonce: &str) -> bool
-    ensures { result ≡ asks_for_userhash nonce.now }
-{
-    match NonceSecurityBits::from_nonce(nonce) {
-        Some(bits) => bits.username_anonymity(),
-        None => false,
-    }
-}
 
 /// Returns whether two nonces have the same security bits.
 pub(crate) fn has_same_bits(nonce: &str, other: &str) -> bool
@@ -46,40 +23,18 @@ fn is_same_bit(one: bool, other: bool) -> bool
     if one { other } else { !other }
 }
 
-/// Returns whether the user name may be sent as a hash at all.
-fn is_possible(feature: Feature) -> bool
-    ensures { result ≡ is_possible feature }
-{
-    match feature {
-        Feature::Auto => true,
-        Feature::Required => true,
-        Feature::Disabled => false,
-    }
-}
-
-/// Returns whether the user name must be sent as a hash.
-fn is_required(feature: Feature) -> bool
-    ensures { result ≡ is_required feature }
-{
-    match feature {
-        Feature::Auto => false,
-        Feature::Required => true,
-        Feature::Disabled => false,
-    }
-}
-
 /// Returns whether a client with these preferences answers this nonce with a hash of the user name.
 pub(crate) fn is_hashed(preferences: Preferences, nonce: &str) -> bool
     ensures { result ≡ is_hashed preferences nonce.now }
 {
-    asks_for_userhash(nonce) && is_possible(preferences.anonymous_username)
+    asks_for_userhash(nonce) && preferences.anonymous_username.is_possible()
 }
 
 /// Returns whether the user name must be sent as a hash, but the nonce does not allow hashes.
 pub(crate) fn lacks_userhash(preferences: Preferences, nonce: &str) -> bool
     ensures { result ≡ lacks_userhash preferences nonce.now }
 {
-    is_required(preferences.anonymous_username) && !asks_for_userhash(nonce)
+    preferences.anonymous_username.is_required() && !asks_for_userhash(nonce)
 }
 
 /// Returns the algorithm for a nonce and a list, or `None` if the client ignores the challenge.
@@ -93,7 +48,7 @@ pub(crate) fn chosen(
     if asks_for_algorithms(nonce) {
         return first_supported(preferences, list);
     }
-    if preferences.hmac_sha1 {
+    if preferences.supports(IntegrityAlgorithm::Sha1) {
         Some(IntegrityAlgorithm::Sha1)
     } else {
         None

@@ -69,12 +69,12 @@ impl<A: Memory> ClientEndpoint<A> {
     /// server's address, unless the options of the request name another one (see
     /// `RequestOptions::from`). Otherwise `deciding::decide` decides: the request ends as
     /// `Unauthorized`, another message becomes the current one, or the response is dropped. A
-    /// response from another address is `NotOurs`, and so is an indication that does not come from
-    /// the server.
+    /// response from any other address is `NotOurs`, and so is an indication that does not come
+    /// from the server.
     ///
     /// If an allocation fails, or no transaction ID is left, the response is dropped as
-    /// `OutOfMemory`. The one exception is that another message becomes the current one, but there
-    /// is no memory to store the former message. The former message is then forgotten, and a
+    /// `OutOfMemory`. There is one exception: if another message becomes the current one, and there
+    /// is no memory to store the former message, only the former message is forgotten, and a
     /// response to it is `NotOurs`.
     pub fn receive<'a>(&mut self, bytes: &'a [u8], from: SocketAddr, now: Instant) -> Received<'a>
         ensures received { UnlessMemory (λ memory. received memory from bytes.now now self.old)

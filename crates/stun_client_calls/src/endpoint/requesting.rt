@@ -74,8 +74,8 @@ impl<A: Memory> ClientEndpoint<A> {
     /// although the client requires it. The client answers no challenge for it, and a success
     /// confirms no challenge.
     ///
-    /// The response comes from the server's address, unless the request asks for a response from
-    /// another address (RFC 5780, section 7.2).
+    /// The response comes from the server's address, unless the request asks for a response from a
+    /// different address (RFC 5780, section 7.2).
     ///
     /// # Errors
     ///

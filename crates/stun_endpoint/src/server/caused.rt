@@ -33,8 +33,8 @@ use stun_types::message::MessageClass;
 
 impl<A: Memory> Server<A> {
     /// Judges a datagram like `receive`, and also returns why it is refused, as `cause` does, or
-    /// `None` if it is not. The datagram is judged only once, so a server that counts or logs each
-    /// refusal needs no second call.
+    /// `None` if it is not refused. The datagram is judged only once, so a server that counts or
+    /// logs each refusal needs no second call.
     ///
     /// Fails if an allocation fails, which can happen only for a request. Over UDP nothing is lost
     /// then, because the client sends its request again.
@@ -59,7 +59,7 @@ impl<A: Memory> Server<A> {
     }
 
     /// Judges a datagram like `receive_for`, and also returns why it is refused, as `cause_for`
-    /// does, or `None` if it is not. The datagram is judged only once.
+    /// does, or `None` if it is not refused. The datagram is judged only once.
     ///
     /// Fails if an allocation fails, which can happen only for a request. Over UDP nothing is lost
     /// then, because the client sends its request again.

@@ -36,13 +36,15 @@ pub enum Cause {
     /// or USERHASH).
     Incomplete,
     /// 400: the request has the current nonce, but not the algorithms that were offered with it.
-    /// PASSWORD-ALGORITHMS is another list, PASSWORD-ALGORITHM is not in it, or the request has
-    /// only one of the two attributes. An attacker in between may have changed the list.
+    /// PASSWORD-ALGORITHMS is not the list that was offered, PASSWORD-ALGORITHM is not in the list,
+    /// or the request has only one of the two attributes. An attacker in between may have changed
+    /// the list.
     OtherAlgorithms,
-    /// 401: the nonce has other security bits than the server's nonces (RFC 8489, section 9.2), and
-    /// the algorithms of the request agree with it. An attacker may have changed the bits, or the
-    /// nonce was sent before a change of settings. A nonce without security bits counts as
-    /// `StaleNonce`, so this cause does not reveal every attempt to downgrade a client.
+    /// 401: the security bits of the nonce differ from those of the server's nonces (RFC 8489,
+    /// section 9.2), and the algorithms of the request agree with the nonce. An attacker may have
+    /// changed the bits, or the nonce was sent before a change of settings. A nonce without
+    /// security bits counts as `StaleNonce`, so this cause does not reveal every attempt to
+    /// downgrade a client.
     OtherFeatures,
     /// 438: the nonce is no longer valid, was sent to another address, was made with another secret
     /// or other settings, or was never made by this server. If the nonce is of the epoch before, or

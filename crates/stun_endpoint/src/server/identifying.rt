@@ -25,7 +25,7 @@ ghost use Rattle.stun_endpoint.specs.code.Waiting.{IsWaiting};
 use crate::arrived::Arrived;
 use crate::buffered::{IdentifiedInto, ReceivedInto};
 use crate::lookup::{Identified, Lookup};
-use crate::received::{DropReason, Received};
+use crate::received::{DropReason, Received, Request};
 use crate::server::Server;
 use crate::server::judges::Judges;
 use crate::unix_time::UnixTime;
@@ -43,7 +43,7 @@ impl<A: Memory> Server<A> {
     /// Judges a datagram as far as that is possible without its user, for a server whose users are
     /// in a database.
     ///
-    /// - `Done` has the outcome. `receive_for` would return the same, whichever user it is given.
+    /// - `Done` has the outcome, which is what `receive_for` returns for any user.
     /// - `Lookup` is a request that is signed, names a user, and carries a nonce that is accepted
     ///   for its source at this time. Look the user up, and pass the `Lookup` and the user to
     ///   `resume`.
@@ -155,9 +155,9 @@ impl<A: Memory> Server<A> {
         self.resumed(lookup, &self.judges(user), &mut buffer)
     }
 
-    /// Judges the request of a look-up like `resume`, with the user of this table whom it names, or
-    /// with no user if there is none. The result is what `receive` returns at the time at which the
-    /// request arrived.
+    /// Judges the request of a look-up like `resume`, with the user in this table whom the request
+    /// names, or with no user if there is none. The result is what `receive` returns at the time at
+    /// which the request arrived.
     ///
     /// Fails if an allocation fails. Over UDP nothing is lost then, because the client sends its
     /// request again.
@@ -187,7 +187,7 @@ impl<A: Memory> Server<A> {
         lookup: Lookup<'a>,
         user: Option<&'a LongTermServerUser<A>>,
         buffer: &mut Vec<u8, A>,
-    ) -> Result<ReceivedInto<'a, A>, AllocError>
+    ) -> Result<ReceivedInto<'a, Request<'a, A>>, AllocError>
         // With the bytes in the buffer, the result is what `resume` returns.
         ensures received { IfOk result (λ received. outcome_in received buffer.new.items
             ≡ received_by self.now (realm_of_user self.now (option_copied user.entry))
@@ -332,7 +332,7 @@ impl<A: Memory> Server<A> {
         lookup: Lookup<'a>,
         judges: &Judges<'a, A>,
         buffer: &mut Vec<u8, A>,
-    ) -> Result<ReceivedInto<'a, A>, AllocError>
+    ) -> Result<ReceivedInto<'a, Request<'a, A>>, AllocError>
         ensures received { IfOk result (λ received. outcome_in received buffer.new.items
             ≡ received_by self.now (realm_of judges.now) lookup.entry.from lookup.entry.arrived
             lookup.entry.message) }

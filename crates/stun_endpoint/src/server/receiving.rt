@@ -26,8 +26,9 @@ ghost use Rattle.stun_types.specs.Limits.{TEXT_LIMIT};
 
 use crate::arrived::Arrived;
 use crate::buffered::ReceivedInto;
+use crate::ending::Signature;
 use crate::received::{Answer, DropReason, Received, Request};
-use crate::reply::{Reply, Signature};
+use crate::reply::Reply;
 use crate::server::Server;
 use crate::server::judges::Judges;
 use crate::unix_time::UnixTime;
@@ -56,8 +57,8 @@ impl<A: Memory> Server<A> {
     ///   - 400: it has no REALM, NONCE or user name, or it has the current nonce, but not the
     ///     algorithms that were offered with it.
     ///   - 438: its nonce is not accepted, or it has an earlier nonce that is still accepted, but
-    ///     wrong algorithms or credentials. The code is 401 instead if the nonce has other security
-    ///     bits than the server's nonces, and the algorithms agree with it.
+    ///     wrong algorithms or credentials. The code is 401 instead if the security bits of the
+    ///     nonce differ from those of the server's nonces, and the algorithms agree with the nonce.
     ///   - 401: it is not signed by one of these users.
     ///   - 420, which is signed: it has an attribute that is not understood.
     ///   - Success: it is a Binding request, and `answers_binding` is set.
@@ -120,7 +121,7 @@ impl<A: Memory> Server<A> {
         now: UnixTime,
         users: &'a Users<A>,
         buffer: &mut Vec<u8, A>,
-    ) -> Result<ReceivedInto<'a, A>, AllocError>
+    ) -> Result<ReceivedInto<'a, Request<'a, A>>, AllocError>
         // With the bytes in the buffer, the result is what `receive` returns.
         ensures received { IfOk result (λ received. outcome_in received buffer.new.items
             ≡ received_by self.now (realm_of_table users.now) from now bytes.now) }
@@ -146,7 +147,7 @@ impl<A: Memory> Server<A> {
         now: UnixTime,
         user: Option<&'a LongTermServerUser<A>>,
         buffer: &mut Vec<u8, A>,
-    ) -> Result<ReceivedInto<'a, A>, AllocError>
+    ) -> Result<ReceivedInto<'a, Request<'a, A>>, AllocError>
         // With the bytes in the buffer, the result is what `receive_for` returns.
         ensures received { IfOk result (λ received. outcome_in received buffer.new.items
             ≡ received_by self.now (realm_of_user self.now (option_copied user.entry)) from now
@@ -168,7 +169,7 @@ impl<A: Memory> Server<A> {
         now: UnixTime,
         judges: &Judges<'a, A>,
         buffer: &mut Vec<u8, A>,
-    ) -> Result<ReceivedInto<'a, A>, AllocError>
+    ) -> Result<ReceivedInto<'a, Request<'a, A>>, AllocError>
         ensures received { IfOk result (λ received. outcome_in received buffer.new.items
             ≡ received_by self.now (realm_of judges.now) from now bytes.now) }
         ensures rest { IfOk result (λ received. LeavesNothing received buffer.new.items) }

@@ -20,7 +20,7 @@ use crate::received::{Answer, Received, Refusal};
 use crate::server::Server;
 use std::alloc::AllocError;
 use std::net::SocketAddr;
-use stun_auth::auth::{ReadMessage, VerdictRefusal, told_refusal};
+use stun_auth::auth::{AlgorithmSet, ReadMessage, VerdictRefusal, told_refusal};
 use stun_base::memory::Memory;
 use stun_buffer::writer::BufferWriter;
 use stun_types::attribute::attribute_length;
@@ -133,16 +133,16 @@ impl<A: Memory> Server<A> {
     }
 
     /// Returns how many bytes a 401 or a 438 has after its ERROR-CODE. The memory for them is
-    /// reserved before the response is written, so that it takes one allocation. With less memory
-    /// it would take two allocations, and have the same bytes.
+    /// reserved before the response is written, so that it takes one allocation. If less memory
+    /// were reserved, the response would have the same bytes, but take two allocations.
     fn challenge_length(&self, nonce: &str, has_fingerprint: bool) -> usize
         requires { length nonce.now ≤ TEXT_LIMIT }
         ensures { result ≤ 5000 }
     {
-        let algorithms = match (self.hmac_sha1, self.hmac_sha256) {
-            (true, true) => attribute_length(2 * ALGORITHM_LENGTH),
-            (false, true) => attribute_length(ALGORITHM_LENGTH),
-            (_, false) => 0,
+        let algorithms = match self.auth.algorithms() {
+            AlgorithmSet::Both => attribute_length(2 * ALGORITHM_LENGTH),
+            AlgorithmSet::OnlySha256 => attribute_length(ALGORITHM_LENGTH),
+            AlgorithmSet::OnlySha1 => 0,
         };
         attribute_length(nonce.len())
             .saturating_add(attribute_length(self.auth.realm().len()))

@@ -6,14 +6,14 @@ ghost use Rattle.std.specs.Prelude.{◌≡◌, ◌<◌, ◌≤◌, ◌++◌, [],
 ghost use Rattle.std.specs.Prelude.{true, false, length, unwrap_or};
 ghost use Rattle.std.specs.String.{string_bytes};
 ghost use Rattle.stun_endpoint.specs.Built.{build_refusal};
-ghost use Rattle.stun_endpoint.specs.Realm.{algorithms_for, empty_realm, feature_for};
+ghost use Rattle.stun_endpoint.specs.Realm.{empty_realm, feature_for};
 ghost use Rattle.stun_endpoint.specs.Settings.{registered_of};
 ghost use Rattle.stun_types.specs.Limits.{TEXT_LIMIT};
 
 use crate::responder::{Responder, text_length, with_stun_attributes};
 use crate::server::Server;
 use std::alloc::{AllocError, Allocator, Global};
-use stun_auth::auth::{Feature, LongTermServerAuth};
+use stun_auth::auth::{AlgorithmSet, Feature, LongTermServerAuth};
 use stun_base::attribute_type::AttributeType;
 use stun_base::key::IntegrityKey;
 use stun_base::memory::Memory;
@@ -47,7 +47,7 @@ pub const STUN_ATTRIBUTES: [AttributeType; 11] = [
 /// algorithms and hashed names, and sets a nonce lifetime of one hour.
 #[derive(Drop)]
 pub struct LongTerm<A: Allocator = Global> {
-    /// The realm, of at most 763 bytes (section 14.9).
+    /// The realm, which has at most 763 bytes (section 14.9).
     pub realm: String<A>,
     /// 32 random bytes. Anybody who has them can make nonces that are accepted. Servers with the
     /// same secret, algorithms, `user_hashes` and nonce lifetime accept each other's nonces, if
@@ -61,21 +61,18 @@ pub struct LongTerm<A: Allocator = Global> {
     /// A second secret, whose nonces are accepted too, but never sent. When you change the secret,
     /// set this to the old secret, and remove it two nonce lifetimes later.
     pub previous_secret: Option<[u8; 32]>,
-    /// Whether HMAC-SHA1 is supported. Its keys are made with MD5. Nonces and tables of users
-    /// depend on this setting (see `Server`).
-    pub hmac_sha1: bool,
-    /// Whether HMAC-SHA256 is supported. Its keys are made with SHA-256. Nonces and tables of users
-    /// depend on this setting (see `Server`).
-    pub hmac_sha256: bool,
+    /// The integrity algorithms that the server supports. Nonces and tables of users depend on this
+    /// setting (see `Server`).
+    pub algorithms: AlgorithmSet,
     /// Whether clients may send a hash in place of a name (section 14.4). Nonces and tables of
     /// users depend on this setting (see `Server`).
     pub user_hashes: bool,
-    /// The nonce lifetime, in seconds, of at least 30: how long the server sends the same nonce to
-    /// an address. After it is sent, a nonce is accepted for one to two lifetimes.
+    /// The nonce lifetime in seconds, at least 30: how long the server sends the same nonce to an
+    /// address. After it is sent, a nonce is accepted for one to two lifetimes.
     pub nonce_lifetime: u64,
     /// The types of attributes that you understand, in addition to `STUN_ATTRIBUTES`.
     pub understood: Vec<AttributeType, A>,
-    /// The text of SOFTWARE in each response, of at most 763 bytes (section 14.14).
+    /// The text of SOFTWARE in each response, which has at most 763 bytes (section 14.14).
     pub software: Option<String<A>>,
     /// Whether the server itself responds to each accepted Binding request.
     pub answers_binding: bool,
@@ -96,9 +93,6 @@ pub enum BuildError {
     /// The nonce lifetime is less than 30 seconds.
     #[error("a nonce lasts for less than 30 seconds")]
     NonceLifetime,
-    /// No algorithm is supported.
-    #[error("no algorithm is supported")]
-    NoAlgorithm,
     /// An allocation failed.
     #[error("out of memory")]
     OutOfMemory,
@@ -112,7 +106,7 @@ impl<A: Allocator + Copy> LongTerm<A> {
         ensures realm { result.realm ≡ realm }
         ensures secret { result.secret ≡ secret }
         ensures previous { result.previous_secret ≡ None }
-        ensures algorithms { (result.hmac_sha1 ≡ true) × (result.hmac_sha256 ≡ true) }
+        ensures algorithms { result.algorithms ≡ AlgorithmSet.Both }
         ensures hashes { result.user_hashes ≡ true }
         ensures lifetime { result.nonce_lifetime ≡ DEFAULT_NONCE_LIFETIME }
         ensures others { (result.understood.items ≡ []) × (result.software ≡ None) }
@@ -123,8 +117,7 @@ impl<A: Allocator + Copy> LongTerm<A> {
             realm,
             secret,
             previous_secret: None,
-            hmac_sha1: true,
-            hmac_sha256: true,
+            algorithms: AlgorithmSet::Both,
             user_hashes: true,
             nonce_lifetime: DEFAULT_NONCE_LIFETIME,
             understood: Vec::new(alloc),
@@ -137,8 +130,7 @@ impl<A: Allocator + Copy> LongTerm<A> {
     /// Returns why no server can be built from these settings, or `None` if one can be built.
     fn refusal(&self) -> Option<BuildError>
         ensures { result ≡ build_refusal (string_bytes self.now.realm)
-            (option_map string_bytes self.now.software) self.now.nonce_lifetime
-            self.now.hmac_sha1 self.now.hmac_sha256 }
+            (option_map string_bytes self.now.software) self.now.nonce_lifetime }
     {
         if self.realm.len() > TEXT_LIMIT {
             return Some(BuildError::RealmTooLong);
@@ -149,40 +141,38 @@ impl<A: Allocator + Copy> LongTerm<A> {
         if self.nonce_lifetime < SHORTEST_NONCE_LIFETIME {
             return Some(BuildError::NonceLifetime);
         }
-        if self.hmac_sha1 || self.hmac_sha256 {
-            return None;
-        }
-        Some(BuildError::NoAlgorithm)
+        None
     }
 }
 
-/// Returns an empty table of users for a realm. The flags say which algorithms are supported, and
-/// whether names may be hashed.
+/// Returns whether names may be hashed, as a feature: `Auto` if they may, and otherwise `Disabled`.
+fn feature_for(user_hashes: bool) -> Feature
+    ensures { result ≡ feature_for user_hashes }
+{
+    if user_hashes {
+        Feature::Auto
+    } else {
+        Feature::Disabled
+    }
+}
+
+/// Returns an empty table of users for a realm, these algorithms and this use of hashed names.
 pub(super) fn empty_realm<A: Allocator + Copy>(
     alloc: A,
     realm: String<A>,
-    hmac_sha1: bool,
-    hmac_sha256: bool,
-    user_hashes: bool,
+    algorithms: AlgorithmSet,
+    feature: Feature,
 ) -> LongTermServerAuth<A>
     ensures { result ≡ record {
-      registered = empty_realm (string_bytes realm) hmac_sha1 hmac_sha256;
-      feature = feature_for user_hashes;
+      registered = empty_realm (string_bytes realm) algorithms;
+      feature = feature;
       expiry = 3600000000000;
       places = map.empty;
     } }
 {
     let mut auth = LongTermServerAuth::new(alloc, realm);
-    if hmac_sha256 {
-        if hmac_sha1 {
-            auth.add_supported_integrity(IntegrityAlgorithm::Sha256);
-        } else {
-            auth.set_supported_integrity(IntegrityAlgorithm::Sha256);
-        }
-    }
-    if !user_hashes {
-        let _ = auth.set_anonymous_username(Feature::Disabled);
-    }
+    auth.set_algorithms(algorithms);
+    let _ = auth.set_anonymous_username(feature);
     auth
 }
 
@@ -214,19 +204,17 @@ impl<A: Memory> Server<A> {
     /// - `RealmTooLong`: the realm has more than 763 bytes.
     /// - `SoftwareTooLong`: the text of SOFTWARE has more than 763 bytes.
     /// - `NonceLifetime`: the nonce lifetime is less than 30 seconds.
-    /// - `NoAlgorithm`: the settings support no algorithm.
     /// - `OutOfMemory`: an allocation failed.
     pub fn new(alloc: A, settings: LongTerm<A>) -> Result<Server<A>, BuildError>
         ensures refused { MatchOption (build_refusal (string_bytes settings.realm)
-            (option_map string_bytes settings.software) settings.nonce_lifetime
-            settings.hmac_sha1 settings.hmac_sha256)
+            (option_map string_bytes settings.software) settings.nonce_lifetime)
             (IsOkUnless result BuildError.OutOfMemory)
             (λ refusal. result ≡ Err refusal) }
         ensures realm { IfOk result (λ server. registered_of server
-            ≡ empty_realm (string_bytes settings.realm) settings.hmac_sha1 settings.hmac_sha256) }
+            ≡ empty_realm (string_bytes settings.realm) settings.algorithms) }
         ensures built { IfOk result (λ server. server ≡ record {
           realm = string_bytes settings.realm;
-          algorithms = algorithms_for settings.hmac_sha1 settings.hmac_sha256;
+          algorithms = settings.algorithms;
           feature = feature_for settings.user_hashes;
           secret = settings.secret;
           previous = settings.previous_secret;
@@ -237,8 +225,8 @@ impl<A: Memory> Server<A> {
           requires_fingerprint = settings.requires_fingerprint;
         }) }
         ensures granted { A.grants → build_refusal (string_bytes settings.realm)
-            (option_map string_bytes settings.software) settings.nonce_lifetime
-            settings.hmac_sha1 settings.hmac_sha256 ≡ None → IsOk result }
+            (option_map string_bytes settings.software) settings.nonce_lifetime ≡ None
+            → IsOk result }
     {
         if let Some(refusal) = settings.refusal() {
             return Err(refusal);
@@ -257,7 +245,7 @@ impl<A: Memory> Server<A> {
             ≤ TEXT_LIMIT }
         ensures built { IfOk result (λ server. server ≡ record {
           realm = string_bytes settings.realm;
-          algorithms = algorithms_for settings.hmac_sha1 settings.hmac_sha256;
+          algorithms = settings.algorithms;
           feature = feature_for settings.user_hashes;
           secret = settings.secret;
           previous = settings.previous_secret;
@@ -280,16 +268,12 @@ impl<A: Memory> Server<A> {
         let auth = empty_realm(
             alloc,
             settings.realm,
-            settings.hmac_sha1,
-            settings.hmac_sha256,
-            settings.user_hashes,
+            settings.algorithms,
+            feature_for(settings.user_hashes),
         );
         Ok(Server {
             alloc,
             auth,
-            hmac_sha1: settings.hmac_sha1,
-            hmac_sha256: settings.hmac_sha256,
-            user_hashes: settings.user_hashes,
             secret: prepared(alloc, &settings.secret),
             previous: prepared_if(alloc, &settings.previous_secret),
             lifetime: settings.nonce_lifetime,

@@ -4,8 +4,8 @@ ghost use Rattle.std.specs.FinMap as map;
 ghost use Rattle.std.specs.Prelude.{◌≡◌, Err, IfErr, IfOk, IsOk, Ok, Some};
 ghost use Rattle.stun_endpoint.specs.ShortTerm.{by_key, named_by, signature_of, signer_of};
 
+use crate::ending::Signature;
 use crate::received::Refusal;
-use crate::reply::Signature;
 use crate::short_term::users::ShortTermUsers;
 use std::alloc::{AllocError, Allocator};
 use std::marker::Model;

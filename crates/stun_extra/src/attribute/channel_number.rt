@@ -68,7 +68,7 @@ impl ChannelNumber {
     ///
     /// # Errors
     ///
-    /// - [`StunWriteError::NotAllowed`]: the number is not one of 0x4000 to 0x4FFF.
+    /// - [`StunWriteError::NotAllowed`]: the number is not from 0x4000 to 0x4FFF.
     pub fn new(channel: u16) -> Result<Self, StunWriteError>
         ensures ok { IfOk result (λ number. number ≡ channel) }
         ensures only_not_allowed { IsOkUnless result StunWriteError.NotAllowed }

@@ -1,4 +1,4 @@
-//! Attributes whose value is a number of 32 bits.
+//! Attributes whose value is a 32-bit number.
 ghost use Rattle.std.specs.Prelude.{◌≡◌, ◌<◌, ◌^◌};
 ghost use Rattle.byteorder.specs.Endian.{big_bytes};
 ghost use Rattle.stun_extra.specs.Values.{number_of, number_of_4-written};
@@ -9,7 +9,7 @@ use stun_base::error::StunParseError;
 use stun_types::attribute::{AttributeType, RawAttribute};
 use stun_types::prelude::*;
 
-/// An attribute of type `KIND` whose value is a number of 32 bits, in network order.
+/// An attribute of type `KIND` whose value is a 32-bit number in network order.
 ///
 /// Contracts: the value is the number.
 #[derive(Clone, Copy, Debug, PartialEq, Eq)]

@@ -12,7 +12,7 @@ use stun_base::error::{StunParseError, StunWriteError};
 use stun_types::attribute::{AttributeType, RawAttribute};
 use stun_types::prelude::*;
 
-/// An attribute of type `KIND` whose value is a text, in UTF-8 of at most `LIMIT` bytes.
+/// An attribute of type `KIND` whose value is UTF-8 text of at most `LIMIT` bytes.
 ///
 /// Contracts: the value is the list of its bytes.
 #[derive(Debug, Drop)]

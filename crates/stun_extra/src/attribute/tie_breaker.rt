@@ -1,4 +1,4 @@
-//! Attributes whose value is a tie-breaker, a number of 64 bits (RFC 8445, section 16.1).
+//! Attributes whose value is a tie-breaker, which is a 64-bit number (RFC 8445, section 16.1).
 ghost use Rattle.std.specs.Prelude.{◌≡◌, ◌<◌, ◌^◌};
 ghost use Rattle.byteorder.specs.Endian.{big_bytes};
 ghost use Rattle.stun_extra.specs.Values.{number_of, number_of_8-written};
@@ -9,7 +9,7 @@ use stun_base::error::StunParseError;
 use stun_types::attribute::{AttributeType, RawAttribute};
 use stun_types::prelude::*;
 
-/// An attribute of type `KIND` whose value is a tie-breaker of 64 bits.
+/// An attribute of type `KIND` whose value is a 64-bit tie-breaker.
 ///
 /// Contracts: the value is the number.
 #[derive(Clone, Copy, Debug, PartialEq, Eq)]

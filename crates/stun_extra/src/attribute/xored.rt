@@ -52,8 +52,8 @@ impl<const KIND: u16> XorAddress<KIND> {
     }
 
     /// Returns the address. `id` must be the transaction ID of the message that contains the
-    /// attribute: with any other ID the result may be a different address. The flow information and
-    /// the scope of an IPv6 address are 0.
+    /// attribute, because with any other ID the result may be a different address. The flow
+    /// information and the scope of an IPv6 address are 0.
     pub fn addr(&self, id: TransactionId) -> SocketAddr
         ensures ip { IsHidden id self.now (socket_ip result) }
         ensures port { IsPlainSocket result (xor_port self.now.port) }
@@ -106,7 +106,7 @@ impl<'a, const KIND: u16> AttributeFromRaw<'a> for XorAddress<KIND> {
 }
 
 /// Parses the XORed address in a raw attribute of this type. Fails with `InvalidAttributeData` if
-/// the attribute has another type or its value is malformed.
+/// the attribute is of a different type, or its value is malformed.
 fn read_xored(
     raw: &RawAttribute<'_>,
     kind: AttributeType,

@@ -161,9 +161,9 @@ impl<A: Memory> Checker<A> {
     ///   signed with the password of this agent, it has a well-formed PRIORITY, and this agent
     ///   understands all its comprehension-required attributes. If it states that the peer has the
     ///   same role as this agent, the agent with the larger tie-breaker becomes controlling (RFC
-    ///   8445, section 7.3.1.1), or this agent if the tie-breakers are equal. To reach this, either
-    ///   this agent switches its role, or it answers the check with a 487 instead of accepting it.
-    ///   The answer is the same whether or not the credentials of the peer are known.
+    ///   8445, section 7.3.1.1), or this agent if the tie-breakers are equal. For this, this agent
+    ///   either switches its own role, or answers the check with a 487 instead of accepting it. The
+    ///   answer is the same whether or not the credentials of the peer are known.
     /// - A response is dropped if it does not answer `check`, or is not signed by the peer.
     ///   Otherwise it ends the check. After a 487 this agent has the opposite of the role in which
     ///   the check was sent (section 7.2.5.1).

@@ -107,6 +107,6 @@ pub enum ServerReply<A: Allocator = Global> {
     SignRefused(StunWriteError),
     /// The call was made, and has no other result.
     Done,
-    /// The call would have set a nonce lifetime of less than 30 seconds, and was not made.
+    /// The nonce lifetime in the call is less than 30 seconds, so the call was not made.
     TooShort,
 }

@@ -30,7 +30,7 @@ use stun_base::memory::Memory;
 ///
 /// Without events nothing happens. A turn calls `poll_transmit` until it returns `None`, and then
 /// `poll` until it returns `WaitUntil`. It repeats this as long as `WaitUntil` has the time of the
-/// turn, but not at `Instant::MAX`.
+/// turn, except at `Instant::MAX`.
 ///
 /// A request is undisturbed if all of these hold:
 ///
@@ -40,7 +40,7 @@ use stun_base::memory::Memory;
 ///   address that it was sent to.
 ///
 /// An undisturbed request is sent at the time of its event and after each of its timeouts, and only
-/// then, as far as the run reaches. It times out once, unless it would time out after `until` (RFC
+/// then, as far as the run reaches. It times out once, unless its plan ends after `until` (RFC
 /// 8489, section 6.2.1). This holds whatever arrives from other addresses.
 ///
 /// Contracts: the clause `headline` states this, and that the returned steps are exactly those that

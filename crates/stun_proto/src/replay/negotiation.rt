@@ -136,8 +136,8 @@ impl From<Stopped> for NegotiateError {
 /// # Errors
 ///
 /// - `Write`: a message could not be signed.
-/// - `Memory`: an allocation failed. Both sides are then as they were before the run, or as one of
-///   its steps other than the last has left them. Each call of a list is a step of its own.
+/// - `Memory`: an allocation failed. Both sides are then in the state before the run, or in the
+///   state after one of its steps, except the last. Each call of a list is a step of its own.
 ///
 /// # Examples
 ///

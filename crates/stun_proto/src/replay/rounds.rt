@@ -55,8 +55,8 @@ pub struct ClientRun<A: Allocator = Global> {
 ///
 /// Contracts: these calls are a loop in the sense of the law `any_loop_sends_in_time`, with the
 /// delay `late` that the call has measured. So if nothing disturbs the request, no retransmission
-/// of it and no timeout comes before it is due, or more than `late` nanoseconds after that
-/// (RFC 8489, section 6.2.1).
+/// or timeout of the request comes before it is due, or more than `late` nanoseconds after it is
+/// due (RFC 8489, section 6.2.1).
 ///
 /// Fails if an allocation fails.
 pub fn client_loop<A: Memory>(

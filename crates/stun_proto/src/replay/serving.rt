@@ -30,9 +30,9 @@ use stun_types::message::Message;
 
 /// Makes a list of calls to a server, in order, and returns the reply to each.
 ///
-/// The replies to an address depend only on the calls for this address and on those that concern
-/// every address: the calls on users and settings, and `ForgetExpired`. A request or an indication
-/// is validated if and only if it has all of these (RFC 8489, section 9.2.4):
+/// The replies to an address depend only on the calls for this address and on the calls that
+/// concern every address: those that change users or settings, and `ForgetExpired`. A request or an
+/// indication is validated if and only if it has all of these (RFC 8489, section 9.2.4):
 ///
 /// - a realm;
 /// - the current nonce of its address;
@@ -168,7 +168,7 @@ fn validate<A: Memory>(
     }
 }
 
-/// Sets how long new nonces are valid. If that would be too short, replies `TooShort`, and changes
+/// Sets how long new nonces are valid. If this time is too short, replies `TooShort`, and changes
 /// nothing.
 fn set_expiry<A: Allocator + Copy>(
     server: &mut LongTermServerAuth<A>,

@@ -1,8 +1,8 @@
 //! The calls on an agent, which sends requests and their retransmissions (RFC 8489, section 6.2).
 //!
 //! A call fails first with `EmptyHandle` if its handle is empty, or with `WrongHandle` if it has an
-//! object of another type; `stunp_agent_new` and `stunp_agent_new_with` fail with `FullHandle` if
-//! the handle is not empty. For bytes that are not a message, a call fails with `Truncated`,
+//! object other than an agent; `stunp_agent_new` and `stunp_agent_new_with` fail with `FullHandle`
+//! if the handle is not empty. For bytes that are not a message, a call fails with `Truncated`,
 //! `NotStun` or `TooLarge`. For an address whose length is neither 4 nor 16, and for an ID that
 //! does not have 12 bytes, it fails with `BadArgument`. Times are in nanoseconds.
 

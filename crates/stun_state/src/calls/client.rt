@@ -1,8 +1,8 @@
 //! The calls on the long-term authenticator of a client (RFC 8489, sections 9.2.3 and 9.2.5).
 //!
 //! A call fails first with `EmptyHandle` if its handle is empty, or with `WrongHandle` if it has an
-//! object of another type; `stunp_client_new` fails with `FullHandle` if the handle is not empty.
-//! For bytes that are not a message, a call fails with `Truncated`, `NotStun` or `TooLarge`.
+//! object other than a client; `stunp_client_new` fails with `FullHandle` if the handle is not
+//! empty. For bytes that are not a message, a call fails with `Truncated`, `NotStun` or `TooLarge`.
 
 ghost use Rattle.std.specs.Prelude.{◌≡◌, ◌⊎◌, length, pos, MatchOption, Some, None};
 ghost use Rattle.std.specs.Prelude.{IfSome};

@@ -3,10 +3,10 @@
 //! response with that user.
 //!
 //! A call fails first with `EmptyHandle` if its handle is empty, or with `WrongHandle` if it has an
-//! object of another type. For bytes that are not a message, a call fails with `Truncated`,
+//! object other than a server. For bytes that are not a message, a call fails with `Truncated`,
 //! `NotStun` or `TooLarge`. For an address whose length is neither 4 nor 16, it fails with
 //! `BadArgument`. A stored key for HMAC-SHA1 has 16 bytes, and a stored key for HMAC-SHA256 has 32.
-//! A key that is not stored has no bytes. For a key of any other length, the call fails with
+//! A key that is not stored is empty. For a key of any other length, the call fails with
 //! `BadArgument`.
 
 ghost use Rattle.std.specs.Prelude.{◌≡◌, length, IfSome};
@@ -34,8 +34,7 @@ use stun_handles::kind::{SERVER, missing};
 ///
 /// Fails with `BadArgument` if `from` is not an IPv4 or IPv6 address, then with `Truncated`,
 /// `NotStun` or `TooLarge` if `message` is not a message, then with `BufferTooSmall` if the name or
-/// the hash does not fit into `name`. After `BufferTooSmall`, its length is in `name_length` all
-/// the same.
+/// the hash does not fit into `name`. After `BufferTooSmall`, too, `name_length` has the length.
 #[unsafe(no_mangle)]
 pub extern "C" fn stunp_server_named_user(
     alloc: Global,

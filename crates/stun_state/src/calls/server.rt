@@ -1,9 +1,9 @@
 //! The calls on the long-term authenticator of a server (RFC 8489, section 9.2.4).
 //!
 //! A call fails first with `EmptyHandle` if its handle is empty, or with `WrongHandle` if it has an
-//! object of another type; `stunp_server_new` fails with `FullHandle` if the handle is not empty.
-//! For bytes that are not a message, a call fails with `Truncated`, `NotStun` or `TooLarge`. For an
-//! address whose length is neither 4 nor 16, it fails with `BadArgument`.
+//! object other than a server; `stunp_server_new` fails with `FullHandle` if the handle is not
+//! empty. For bytes that are not a message, a call fails with `Truncated`, `NotStun` or `TooLarge`.
+//! For an address whose length is neither 4 nor 16, it fails with `BadArgument`.
 
 ghost use Rattle.std.specs.FinMap as map;
 ghost use Rattle.std.specs.Prelude.{◌≡◌, ◌-◌, length, pos, MatchOption, Some, None, Ok};
@@ -230,8 +230,8 @@ pub extern "C" fn stunp_server_validate(
     now: u64,
     words: &[u32; 16],
 ) -> i64
-    // The result is the number for what the authenticator returns, and the handle has the server as
-    // the authenticator leaves it.
+    // The result is the number for what the authenticator returns, and the server in the handle is
+    // in the state in which the authenticator leaves it.
     ensures judged { Judges handle.old handle.new result
         (λ kept. validation_number kept message.now from.now now words.now)
         (λ kept. kept_after_validating kept message.now from.now now words.now) }
@@ -253,8 +253,8 @@ pub extern "C" fn stunp_server_validate(
 /// Writes the name of the user who was validated last at the address `at` to `name`, and the length
 /// of the name to `name_length`. Returns the algorithm of the user's key, or 0 if the address has
 /// no such user. Fails with `BadArgument` if `at` is not an IPv4 or IPv6 address, then with
-/// `BufferTooSmall` if the name does not fit into `name`. After `BufferTooSmall`, the length of the
-/// name is in `name_length` all the same.
+/// `BufferTooSmall` if the name does not fit into `name`. After `BufferTooSmall`, too,
+/// `name_length` has the length of the name.
 #[unsafe(no_mangle)]
 pub extern "C" fn stunp_server_client(
     alloc: Global,
@@ -405,9 +405,9 @@ pub extern "C" fn stunp_server_forget(alloc: Global, handle: &mut StateHandle, a
 }
 
 /// Removes every record that has no client and whose nonce expired more than `age` before `now`.
-/// Both are in nanoseconds. If `now` is less than `age`, the call removes no record. Pass the nonce
-/// lifetime as `age`, and make this call every few seconds, because the server removes no record by
-/// itself.
+/// `now` and `age` are in nanoseconds. If `now` is less than `age`, the call removes no record.
+/// Pass the nonce lifetime as `age`, and make this call every few seconds, because the server
+/// removes no record by itself.
 #[unsafe(no_mangle)]
 pub extern "C" fn stunp_server_forget_expired(
     alloc: Global,

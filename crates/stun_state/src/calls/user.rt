@@ -1,9 +1,11 @@
 //! The calls for a user who is prepared once, and whom the caller passes with each message. They
-//! are for a server whose users are looked up elsewhere: the keys of a prepared user are made only
-//! once, so the caller can store the prepared user for further messages.
+//! are for a server whose users are looked up elsewhere, such as in a database. The keys of a
+//! prepared user are made only once, and the caller can store the prepared user for further
+//! messages.
 //!
 //! A call on a server fails first with `EmptyHandle` if the server's handle is empty, or with
-//! `WrongHandle` if it has an object of another type, and then likewise for the user's handle.
+//! `WrongHandle` if it has an object other than a server. It then fails likewise if the user's
+//! handle is empty, or has an object other than a user.
 
 ghost use Rattle.std.specs.Prelude.{◌≡◌, Some, IfSome};
 ghost use Rattle.stun_auth.specs.Handed.{with_users};
@@ -108,8 +110,8 @@ pub extern "C" fn stunp_user_clear(alloc: Global, handle: &mut StateHandle)
 /// server. The server's own users and `user` are unchanged.
 ///
 /// Fails with `EmptyHandle` or `WrongHandle` if the server's handle has no server, then likewise if
-/// the user's handle has no user, then with `WrongHandle` if the user was prepared for another
-/// realm, or for other algorithms than the server supports now. Then it fails like
+/// the user's handle has no user, then with `WrongHandle` if the user was not prepared for the
+/// server's realm and for the algorithms that the server supports now. Then it fails like
 /// `stunp_server_validate`.
 #[unsafe(no_mangle)]
 pub extern "C" fn stunp_server_validate_user(
@@ -166,8 +168,8 @@ pub extern "C" fn stunp_server_validate_user(
 /// server's own users and `user` are unchanged.
 ///
 /// Fails with `EmptyHandle` or `WrongHandle` if the server's handle has no server, then likewise if
-/// the user's handle has no user, then with `WrongHandle` if the user was prepared for another
-/// realm, or for other algorithms than the server supports now. Then it fails like
+/// the user's handle has no user, then with `WrongHandle` if the user was not prepared for the
+/// server's realm and for the algorithms that the server supports now. Then it fails like
 /// `stunp_server_sign`, and with `CannotSign` also if this user is not the client of the address,
 /// or has no key for the client's algorithm.
 #[unsafe(no_mangle)]

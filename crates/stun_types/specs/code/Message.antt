@@ -4,7 +4,8 @@ use Rattle.stun_base.specs.Header.{HeaderFields, header_of}
 use Rattle.stun_types.specs.Limits.{LENGTH_LIMIT}
 use Rattle.stun_types.specs.Message.{IsMessage}
 
--- the bytes are a message with this header, so they are no longer than its length field can state
+-- the bytes are a message with this header, so their length is at most the greatest length of a
+-- message
 pub record IsRead (header : HeaderFields) (bytes : List ℕ) : Type 0 where
   pub is_message : IsMessage bytes
   pub header_is : header ≡ header_of bytes

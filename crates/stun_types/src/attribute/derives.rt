@@ -18,8 +18,8 @@ pub fn is_same_attribute(one: &RawAttribute<'_>, other: &RawAttribute<'_>) -> bo
     one == other
 }
 
-/// Returns whether two XOR-MAPPED-ADDRESS attributes are equal: the same family, and the same port
-/// and octets, as they are in the message (XORed).
+/// Returns whether two XOR-MAPPED-ADDRESS attributes are equal: they have the same family, the same
+/// XORed port and the same XORed octets.
 pub fn is_same_address(one: XorMappedAddress, other: XorMappedAddress) -> bool
     ensures { IsTrue result ↔ (one ≡ other) }
 {

@@ -23,7 +23,7 @@ use std::marker::Model;
 use stun_base::error::StunParseError;
 use stun_base::hmac::SHA1_LENGTH;
 
-/// MESSAGE-INTEGRITY (RFC 8489, section 14.5): the HMAC-SHA1 of a message, 20 bytes.
+/// MESSAGE-INTEGRITY (RFC 8489, section 14.5): the HMAC-SHA1 of a message, which has 20 bytes.
 ///
 /// Contracts: the value is the list of its bytes.
 #[derive(Clone, Copy, Debug, PartialEq, Eq)]

@@ -12,7 +12,8 @@ use std::fmt;
 /// The attribute type as a number, which is a parameter of `Text`.
 const KIND: u16 = AttributeType::NONCE.0;
 
-/// NONCE (RFC 8489, section 14.10): the nonce of a server, in UTF-8 of at most 763 bytes.
+/// NONCE (RFC 8489, section 14.10): the nonce of a server, which is UTF-8 text of at most 763
+/// bytes.
 ///
 /// Contracts: the value is the list of its bytes.
 pub type Nonce<'a> = Text<'a, KIND, TEXT_LIMIT>;

@@ -32,7 +32,8 @@ pub enum PasswordAlgorithmValue {
 }
 
 impl PasswordAlgorithmValue {
-    /// Returns the algorithm of signatures under a key that this hash function has derived.
+    /// Returns the algorithm of the signatures that are made with keys that this hash function
+    /// derives.
     pub fn as_integrity(self) -> IntegrityAlgorithm
         ensures { result ≡ integrity_of self }
     {
@@ -63,8 +64,8 @@ impl PasswordAlgorithmValue {
     }
 }
 
-/// Reads the algorithm of the first entry in `bytes`. Returns `None` if its number is unknown, or
-/// if it has parameters.
+/// Reads the algorithm of the first entry in `bytes`. Returns `None` if the number of the algorithm
+/// is unknown, or if the entry has parameters.
 pub(super) fn read_entry(bytes: &[u8]) -> Option<PasswordAlgorithmValue>
     requires { ENTRY_LENGTH ≤ length bytes.now }
     ensures { result ≡ entry_at_front bytes.now }

@@ -12,8 +12,8 @@ use std::fmt;
 /// The attribute type as a number, which is a parameter of `Text`.
 const KIND: u16 = AttributeType::REALM.0;
 
-/// REALM (RFC 8489, section 14.9): the realm in which users are registered, in UTF-8 of at most 763
-/// bytes.
+/// REALM (RFC 8489, section 14.9): the realm in which users are registered, which is UTF-8 text of
+/// at most 763 bytes.
 ///
 /// Contracts: the value is the list of its bytes.
 pub type Realm<'a> = Text<'a, KIND, TEXT_LIMIT>;

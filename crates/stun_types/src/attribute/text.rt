@@ -14,7 +14,7 @@ use std::marker::Model;
 use std::str;
 use stun_base::error::{StunParseError, StunWriteError};
 
-/// An attribute of type `KIND` whose value is a text, in UTF-8 of at most `LIMIT` bytes.
+/// An attribute of type `KIND` whose value is UTF-8 text of at most `LIMIT` bytes.
 ///
 /// Contracts: the value is the list of its bytes.
 #[derive(Drop)]

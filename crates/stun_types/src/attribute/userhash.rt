@@ -17,8 +17,8 @@ use stun_base::key::userhash;
 /// The number of bytes of a hash.
 const LENGTH: usize = 32;
 
-/// USERHASH (RFC 8489, section 14.4): the hash that a client sends instead of its user name, 32
-/// bytes.
+/// USERHASH (RFC 8489, section 14.4): the 32-byte hash that a client sends instead of its user
+/// name.
 ///
 /// Contracts: the value is the list of its bytes.
 #[derive(Clone, Copy, Debug, PartialEq, Eq)]

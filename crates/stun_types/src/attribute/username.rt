@@ -12,7 +12,7 @@ use std::fmt;
 /// The attribute type as a number, which is a parameter of `Text`.
 const KIND: u16 = AttributeType::USERNAME.0;
 
-/// USERNAME (RFC 8489, section 14.3): the name of a user, in UTF-8 of at most 513 bytes.
+/// USERNAME (RFC 8489, section 14.3): the name of a user, which is UTF-8 text of at most 513 bytes.
 ///
 /// Contracts: the value is the list of its bytes.
 pub type Username<'a> = Text<'a, KIND, USERNAME_LIMIT>;

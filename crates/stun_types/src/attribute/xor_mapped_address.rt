@@ -96,8 +96,8 @@ fn xor_key(id: TransactionId) -> [u8; 16]
     key
 }
 
-/// Reads the octets of an address of this family. Returns `None` if an address of this family has
-/// another number of octets, or if the family is unknown.
+/// Reads the octets of an address of this family. Returns `None` if the family is unknown, or if
+/// `octets` does not have the length of an address of this family.
 fn read_octets(family: u8, octets: &[u8]) -> Option<XoredOctets>
     ensures { MatchOption result (has_octets family (length octets.now) ≡ false)
         (λ read. (has_octets family (length octets.now) ≡ true)
@@ -143,8 +143,8 @@ impl XorMappedAddress {
     }
 
     /// Returns the address. `id` must be the transaction ID of the message that contains the
-    /// attribute: with any other ID the result may be a different address. The flow information and
-    /// the scope ID of an IPv6 address are 0.
+    /// attribute, because with any other ID the result may be a different address. The flow
+    /// information and the scope ID of an IPv6 address are 0.
     pub fn addr(&self, id: TransactionId) -> SocketAddr
         ensures ip { IsHidden id self.now (socket_ip result) }
         ensures port { IsPlainSocket result (xor_port self.now.port) }

@@ -49,8 +49,8 @@ fn is_set_apart(kind: AttributeType) -> bool
 /// The writer must contain a message without FINGERPRINT. The builders of `Message` start such a
 /// message, and these calls never add FINGERPRINT.
 ///
-/// Contracts: the calls require less than a message. The bytes in the writer must begin with a
-/// header, or for some calls only be as many as a header has.
+/// Contracts: the calls do not require a whole message. For most calls, the bytes in the writer
+/// must begin with a header. For some, there need only be as many bytes as a header has.
 pub trait MessageWriteExt: MessageWrite {
     /// Returns `true` if the message has an attribute of this type, whether it is visible or not.
     final fn has_attribute(&self, kind: AttributeType) -> bool
@@ -130,9 +130,9 @@ pub trait MessageWriteExt: MessageWrite {
     /// Adds an attribute at the end of the message, even if the message has an attribute of this
     /// type already.
     ///
-    /// This is for requests that have several attributes of one type, such as a CreatePermission
-    /// for several peers (RFC 8656, section 9.1). If a type may occur only once, use
-    /// `add_attribute`, which fails if the message has an attribute of that type already.
+    /// Use this call for requests that have several attributes of one type, such as a
+    /// CreatePermission request for several peers (RFC 8656, section 9.1). If a type may occur only
+    /// once, use `add_attribute`, which fails if the message has an attribute of that type already.
     ///
     /// # Errors
     ///

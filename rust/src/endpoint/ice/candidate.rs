@@ -64,8 +64,8 @@ impl CandidateKind {
 
 /// Returns the priority of a candidate (RFC 8445, section 5.1.2.1).
 ///
-/// `preference` ranks the addresses of this side: 65535 is for the best address, or for the only
-/// one. `component` is the number of the component, from 1 on. This function is tested, and not
+/// `preference` ranks the addresses of this side: use 65535 for the best address, or for the only
+/// address. `component` is the number of the component, from 1 on. This function is tested, and not
 /// proved.
 ///
 /// # Examples
@@ -74,7 +74,7 @@ impl CandidateKind {
 /// use seatcrane_stun::endpoint::ice::{CandidateKind, priority};
 ///
 /// assert_eq!(priority(CandidateKind::Host, 65535, 1), 2_130_706_431);
-/// // What PRIORITY of a check has, which is sent from the same address:
+/// // The value of PRIORITY in a check that is sent from the same address:
 /// assert_eq!(priority(CandidateKind::PeerReflexive, 65535, 1), 1_862_270_975);
 /// ```
 #[must_use]
@@ -85,9 +85,9 @@ pub fn priority(kind: CandidateKind, preference: u16, component: u8) -> u32 {
 }
 
 /// Returns the priority of a pair (RFC 8445, section 6.1.2.3), which is the same number at both
-/// agents. `controlling` is the priority of the candidate of the controlling agent, and
-/// `controlled` is the priority of the other agent's candidate. A priority above 2147483647, which
-/// no candidate may have, counts as 2147483647. This function is tested, and not proved.
+/// agents. `controlling` is the priority of the controlling agent's candidate, and `controlled` is
+/// the priority of the controlled agent's candidate. A priority above 2147483647, which no
+/// candidate may have, counts as 2147483647. This function is tested, and not proved.
 ///
 /// # Examples
 ///

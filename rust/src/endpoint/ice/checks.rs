@@ -17,14 +17,14 @@ use core::net::{Ipv4Addr, SocketAddr};
 use core::time::Duration;
 
 /// The checks of a session with their timers: a [`Checker`], and the times at which to retransmit
-/// each check of this agent and to give it up.
+/// each check of this agent and to give up on it.
 ///
 /// Each check that is started ends exactly once: [`receive`](Self::receive) returns the outcome of
 /// its answer, [`poll`](Self::poll) reports that no answer came in time, or
 /// [`cancel`](Self::cancel) ends it. After any other call, and when a wait is over, call
 /// [`poll`](Self::poll) until it returns [`ChecksOutput::Wait`].
 ///
-/// Candidates, pairs, their order, the pace of new checks (at most one every 50 ms, RFC 8445,
+/// The candidates, the pairs, the order and pace of new checks (at most one every 50 ms; RFC 8445,
 /// section 14.2) and nomination are up to you. This type is tested, and not proved, but the calls
 /// that it makes are proved.
 ///
@@ -74,7 +74,7 @@ pub struct Checks {
     /// The agent is used only for the timers of the checks, so its own address does not matter.
     timers: StunAgent,
     sent: BTreeMap<TransactionId, Sent>,
-    /// The checks that were not sent yet.
+    /// The checks that have not been sent yet.
     unsent: VecDeque<TransactionId>,
 }
 
@@ -98,7 +98,8 @@ impl fmt::Debug for Checks {
 ///
 /// # Examples
 ///
-/// A check for consent is sent once, and may be answered for 30 seconds (RFC 7675, section 5.1):
+/// A check for consent is sent once, and its answer may arrive up to 30 seconds later (RFC 7675,
+/// section 5.1):
 ///
 /// ```
 /// use seatcrane_stun::endpoint::Retransmission;
@@ -132,12 +133,12 @@ pub struct NewCheck {
 
 impl NewCheck {
     /// Returns a check from an address of this agent to an address of the peer. `from` is the base
-    /// of the local candidate: its own address, or for a relayed candidate the relayed address. The
-    /// only condition is that you pass the same address to [`Checks::receive`] as `at` when a
-    /// datagram arrives there. So for a socket that is bound to all addresses, you can choose any
-    /// of its addresses. The transaction ID must be random and new. If the peer learns a new
-    /// peer-reflexive candidate from this check, the candidate has the priority `priority` (RFC
-    /// 8445, section 7.1.1).
+    /// of the local candidate: the address of its socket, or, if the candidate is relayed, the
+    /// relayed address. The only condition is that you pass the same address to [`Checks::receive`]
+    /// as `at` when a datagram arrives at this candidate. So for a socket that is bound to all
+    /// addresses of a machine, you can choose any one of these addresses. The transaction ID must
+    /// be random and new. If the peer learns a new peer-reflexive candidate from this check, the
+    /// candidate has the priority `priority` (RFC 8445, section 7.1.1).
     pub fn new(id: TransactionId, from: SocketAddr, to: SocketAddr, priority: u32) -> NewCheck {
         NewCheck {
             id,
@@ -202,7 +203,7 @@ pub enum NewCheckError {
     /// A check with this transaction ID is outstanding, or was canceled since the last
     /// [`Checks::poll`].
     IdInUse,
-    /// An attribute of yours cannot be added.
+    /// One of the further attributes cannot be added.
     Attribute(StunWriteError),
     /// An allocation failed.
     OutOfMemory,
@@ -298,7 +299,7 @@ pub enum ChecksInput<'a, B = Vec<u8>> {
     /// A check of the peer. Send the answer from the address at which the check arrived to the
     /// address from which it came.
     Check {
-        /// The check, for its other attributes.
+        /// The check itself, in case you need its other attributes.
         message: Message<'a>,
         /// The username fragment of the peer, as in [`Received::Check`].
         fragment: Option<&'a [u8]>,
@@ -472,8 +473,8 @@ impl Checks {
     }
 
     /// Judges a datagram that was sent from the address `from` and arrived at this agent's address
-    /// `at`, and writes the answer if it is a check. The two forms of an IPv4 address, `a.b.c.d`
-    /// and `::ffff:a.b.c.d`, count as the same address.
+    /// `at`, and writes the answer if the datagram is a check. The two forms of an IPv4 address,
+    /// `a.b.c.d` and `::ffff:a.b.c.d`, count as the same address.
     ///
     /// The answer to a check must come from the address that the check was sent to, and arrive at
     /// the address from which the check was sent. If the peer's answer took another path, the check
@@ -511,7 +512,7 @@ impl Checks {
         self.received(received, id, now)
     }
 
-    /// Ends the check with this ID, if the datagram was its answer.
+    /// Ends the check with this ID if the datagram was its answer, and converts the outcome.
     fn received<'a, B>(
         &mut self,
         received: Received<'a, B>,

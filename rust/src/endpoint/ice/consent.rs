@@ -1,4 +1,4 @@
-//! Consent of the peer to receive (RFC 7675).
+//! The peer's consent to receive (RFC 7675).
 
 use crate::Instant;
 use core::time::Duration;
@@ -7,8 +7,8 @@ use core::time::Duration;
 const LASTS: Duration = Duration::from_secs(30);
 
 /// The timers of consent on a selected pair (RFC 7675, section 5.1): you send a check every 4 to 6
-/// seconds, and consent ends if no check was answered for 30 seconds. After that you must send
-/// nothing more to the peer.
+/// seconds, and consent ends when no check has been answered for 30 seconds. After that you must
+/// send nothing more to the peer.
 ///
 /// Create it when a pair is selected, and call [`poll`](Self::poll) until it returns
 /// [`ConsentStep::Wait`]. Send the checks once each, and call [`answered`](Self::answered) when the
@@ -60,7 +60,7 @@ pub struct Consent {
 pub enum ConsentStep {
     /// Send a check on the pair, once.
     Ask,
-    /// No check was answered for 30 seconds. Send nothing more to the peer.
+    /// No check has been answered for 30 seconds. Send nothing more to the peer.
     Over,
     /// Wait until this time.
     Wait(Instant),
@@ -79,7 +79,7 @@ impl Consent {
     }
 
     /// Returns the next thing to do. `random` is a random number. It is used only if the result is
-    /// [`ConsentStep::Ask`], and says when the next check is due, 4 to 6 seconds after this one.
+    /// [`ConsentStep::Ask`], and decides when the next check is due: 4 to 6 seconds after this one.
     pub fn poll(&mut self, now: Instant, random: u32) -> ConsentStep {
         if now >= self.until {
             ConsentStep::Over

@@ -7,7 +7,7 @@ use core::cmp::Ordering;
 use core::mem;
 use core::ops::{Bound, Range};
 
-/// The maximum number of entries of a node. Each node has the capacity for that many.
+/// The maximum number of entries in a node. Each node has the capacity for this number.
 pub(super) const MOST: usize = 32;
 
 /// The number of heads that a search in a node skips with one comparison.
@@ -76,7 +76,7 @@ impl Entry {
     const NONE: Entry = Entry { head: 0, row: 0 };
 }
 
-/// Where an entry is: its node, and its index in it.
+/// Where an entry is: its node, and its index in this node.
 #[derive(Clone, Copy)]
 pub(super) struct Spot<'a> {
     node: &'a Node,
@@ -103,7 +103,7 @@ impl Spot<'_> {
 /// When an entry below a child is removed, the child is merged with a neighbor if both together
 /// fill at most half a node. A node can still be empty if its neighbors are full.
 ///
-/// A node has no type parameter. So maps of all types share its code.
+/// A node has no type parameter, so maps of all types share its code.
 pub(super) struct Node {
     entries: Vec<Entry>,
     children: Vec<Node>,

@@ -11,7 +11,7 @@ const MOST: usize = 32;
 const SPARE: usize = MOST / 2;
 
 /// A block of memory with the capacity for `MOST` entries. The first block may have a smaller
-/// capacity, or none.
+/// capacity, or no memory.
 struct Block<K, V> {
     entries: Vec<(K, V)>,
     // A bit for each entry that was dismissed.

@@ -1,5 +1,5 @@
-//! Tests of walks by single keys, which the map speeds up, of the memory of a map of scattered
-//! keys, and of the heads of keys.
+//! Tests walks from key to key (which the map speeds up), the memory of a map with scattered keys,
+//! and the heads of keys.
 
 extern crate std;
 
@@ -60,8 +60,8 @@ fn a_walk_by_single_keys_is_as_the_standard_one() {
     });
 }
 
-/// Threads that walk over one map at the same time share what it remembers of the last step, and
-/// each of them gets its own next key.
+/// Threads that walk over one map at the same time share the recent entry, but each of them gets
+/// its own next key.
 #[test]
 fn walks_by_threads_do_not_mix() {
     let mut map = BTreeMap::new(Global);

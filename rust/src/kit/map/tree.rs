@@ -12,8 +12,9 @@ pub(super) struct Tree {
     root: Node,
     // The recent entry: its row, and the path to it. This is the entry that was last inserted,
     // replaced or borrowed mutably, or with which a range with an excluded start began. Successive
-    // calls are often about one key, or about a key and the next one. The row may have another
-    // entry since, and the path may lead to another row, so both must be compared.
+    // calls are often about one key, or about a key and the next one. Since then, another entry may
+    // have been moved to the row, and the path may lead to another row, so the caller must check
+    // both.
     recent: AtomicUsize,
     way: AtomicUsize,
 }
@@ -28,7 +29,7 @@ impl Tree {
         }
     }
 
-    /// Returns the recent row, which may have another entry since.
+    /// Returns the recent row, to which another entry may have been moved since.
     pub(super) fn recent(&self) -> usize {
         self.recent.load(Ordering::Relaxed)
     }
@@ -47,9 +48,10 @@ impl Tree {
         Some(row)
     }
 
-    /// Returns the row of a key that the tree has. Inserts a new key with this row, and returns
-    /// `None`. If the leaf for a new key is full, each full node on the path to it is split, so
-    /// that there is room in each. A full leaf whose neighbor has room moves entries to it instead.
+    /// Returns the row of a key that is in the tree. Inserts a new key with the given row, and
+    /// returns `None`. If the leaf for a new key is full, each full node on the path to it is
+    /// split, so that there is room in each. A full leaf whose neighbor has room moves entries to
+    /// this neighbor instead.
     pub(super) fn enter(
         &mut self,
         sought: &Sought<'_>,
@@ -101,7 +103,7 @@ impl Tree {
         }
     }
 
-    /// Sets the row of a key that the tree has.
+    /// Sets the row of a key that is in the tree.
     pub(super) fn renumber(&mut self, sought: &Sought<'_>, row: usize) {
         self.root.renumber(sought, row);
     }

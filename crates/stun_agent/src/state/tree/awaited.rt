@@ -107,8 +107,8 @@ impl Awaited {
         }
     }
 
-    /// Returns the earliest slot: the earliest time at which one of the requests is retransmitted,
-    /// or would be if its retransmissions were not canceled.
+    /// Returns the earliest slot of the requests, even if it belongs to a request whose
+    /// retransmissions are canceled.
     fn slot(&self) -> Option<Instant>
         ensures { result ≡ self.now.slot }
     {
@@ -138,7 +138,7 @@ impl Awaited {
         self.earliest()
     }
 
-    /// Joins another value to this one, which then stands for the requests of both.
+    /// Joins another value to this one, which then covers the requests of both.
     pub(super) fn join(&mut self, other: &Awaited)
         ensures { self.new ≡ joined self.old other.now }
     {

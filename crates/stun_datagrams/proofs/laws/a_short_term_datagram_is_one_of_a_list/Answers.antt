@@ -1,6 +1,6 @@
 -- Each datagram of a list comes to what it comes to alone.
 use Rattle.stun_endpoint.specs.ShortTerm.{received_signed}
-use Rattle.stun_endpoint.specs.ShortTermOutcomes.{short_term_outcome_of}
+use Rattle.stun_endpoint.specs.Outcomes.{outcome_of}
 use Rattle.stun_datagrams.specs.Others.{ShortTermDatagram}
 use Rattle.stun_datagrams.proofs.ListLemmas.{is_mapped}
 use Rattle.stun_datagrams.proofs.laws.a_short_term_datagram_is_one_of_a_list.Goals as goal
@@ -13,4 +13,4 @@ returns g c =
       bytes = c.args.bytes.now;
       users = c.args.users.now;
     })
-    short_term_outcome_of c.receive.result c.receive.ensures.received
+    outcome_of c.receive.result c.receive.ensures.received

@@ -153,7 +153,7 @@
  *         bool is_checking, is_valid, is_nominated, is_to_be_checked;
  *     };
  *
- *     // Writes a check, and returns its length. Send the check, and send it again until its answer
+ *     // Writes a check, and returns its length. Send the check, and retransmit it until its answer
  *     // arrives. `id` is 12 random bytes that no other check has.
  *     int64_t check_pair(stunp_ice_checker *agent, struct ice_pair *pair, const uint8_t *id,
  *                        bool nominate, uint8_t *out, size_t room) {
@@ -588,7 +588,7 @@ typedef enum stunp_drop {
                                        * stunp_endpoint_client_settings). The client no longer
                                        * answers challenges to this request */
     STUNP_DROP_REFUSED = 15           /* the response repeats the challenge for which the request is
-                                       * signed. The request is sent again when its timer is due,
+                                       * signed. The request is retransmitted when its timer is due,
                                        * and ends with STUNP_RESULT_UNAUTHORIZED if the challenge
                                        * arrives again after that */
 } stunp_drop;
@@ -1086,7 +1086,7 @@ int64_t stunp_endpoint_server_receive_own(stunp_endpoint_server *server,
  *                           (it is probably in nanoseconds), or `from` is not an IPv4 or IPv6
  *                           address
  *   STUNP_OUT_OF_MEMORY     an allocation failed. Over UDP nothing is lost, because the client
- *                           sends its request again
+ *                           retransmits its request
  *   STUNP_BUFFER_TOO_SMALL  the answer does not fit into `room` bytes. `received->needed` is then
  *                           the length of the answer */
 STUNP_USE_RESULT
@@ -1238,7 +1238,7 @@ int64_t stunp_endpoint_server_identify_own(stunp_endpoint_server *server,
  * without its user. Returns STUNP_LOOKUP for a signed request that names a user and has a nonce
  * that this server now accepts from the address `from`: look up `received->name`, and call
  * stunp_endpoint_server_resume. For every other datagram, the result does not depend on the users,
- * and is that of stunp_endpoint_server_receive. A client that sends its request again causes
+ * and is that of stunp_endpoint_server_receive. A client that retransmits its request causes
  * another look-up, so merge look-ups that have the same source address and transaction ID, which is
  * in the 12 bytes from `bytes + 8` on.
  *
@@ -1333,7 +1333,7 @@ stunp_endpoint_server_cause_for(const stunp_endpoint_server *server, const stunp
  *
  * A response has the method and the transaction ID of its request. It is signed with the key of the
  * user who sent the request, even if it is an error response, and ends with FINGERPRINT if the
- * request does. Answer each request at least once, because the client sends the request again until
+ * request does. Answer each request at least once, because the client retransmits the request until
  * it is answered.
  *
  *     stunp_writer answer = stunp_reply_success(&received.reply, out, sizeof out);
@@ -1483,8 +1483,8 @@ int64_t stunp_ice_checker_check_with(stunp_ice_checker *checker, const uint8_t i
                                      uint8_t *out, size_t room, stunp_ice_check *check);
 
 /* Writes a check to the front of `out`, and writes to `*check` the data that is needed to judge the
- * answer. Send the check to the address `to`, and send it again until its answer arrives (section
- * 7.2.4). To know when to send it again, use stunp_agent of stunp_state.h or a timer of your own;
+ * answer. Send the check to the address `to`, and retransmit it until its answer arrives (section
+ * 7.2.4). To know when to retransmit it, use stunp_agent of stunp_state.h or a timer of your own;
  * or call stunp_ice_checks_start instead, which includes the timer. A buffer of STUNP_ICE_CHECK_MAX
  * bytes is enough.
  *
@@ -1548,8 +1548,8 @@ int64_t stunp_ice_checker_receive_with(stunp_ice_checker *checker,
  *   STUNP_WRONG_HANDLE      the handle has no agent
  *   STUNP_BAD_ARGUMENT      `received->size` is wrong, or `from` or the address in `check` is not
  *                           an IPv4 or IPv6 address
- *   STUNP_OUT_OF_MEMORY     an allocation failed. Nothing is lost, because the peer sends its check
- *                           again
+ *   STUNP_OUT_OF_MEMORY     an allocation failed. Nothing is lost, because the peer retransmits its
+ *                           check
  *   STUNP_BUFFER_TOO_SMALL  the answer does not fit into `room` bytes. `received->needed` is then
  *                           the length of the answer */
 STUNP_USE_RESULT
@@ -1672,9 +1672,9 @@ STUNP_INLINED uint64_t stunp_ice_consent_until(const stunp_ice_consent *consent,
  *     that is signed for this challenge. But the client drops a challenge that is weaker than an
  *     earlier challenge that a success response has confirmed (STUNP_DROP_WEAKER_CHALLENGE).
  *   - A challenge for which the current message is already signed: the client drops it
- *     (STUNP_DROP_REFUSED), and sends the message again when its timer is due. If the challenge
- *     arrives once more after that, the request ends. Over a stream, where nothing is sent again,
- *     the request ends when the challenge first arrives.
+ *     (STUNP_DROP_REFUSED), and retransmits the message when its timer is due. If the challenge
+ *     arrives once more after that, the request ends. Over a stream, where nothing is
+ *     retransmitted, the request ends when the challenge first arrives.
  *   - An unsigned error 400, 437 or 441 to a signed message: it may be forged, so it does not end
  *     the request. Instead, the client sends another message of the request, or an unsigned message
  *     if there is no other message. Likewise, after an unsigned 437 to the unsigned message, the
@@ -1740,8 +1740,8 @@ enum { STUNP_BODY_MAX = 60000 };
  *                       an answer ends after 39.5 s. These transmissions and waits are the plan of
  *                       the message. Each message of a request has a plan of its own, but after the
  *                       end of the first plan the client sends no more messages of the request, and
- *                       answers no more challenges to it. So each request ends within two plans,
- *                       which is 79 s by default, or at the first call of
+ *                       answers no more challenges to it. So each request ends within twice the
+ *                       duration of a plan, which is 79 s by default, or at the first call of
  *                       stunp_endpoint_client_poll after that
  *   is_stream           whether messages go over a stream, such as TCP. Each message is then sent
  *                       once, and the client waits for the response as long as it would wait over
@@ -2180,10 +2180,10 @@ int64_t stunp_endpoint_client_poll_with(stunp_endpoint_client *client, uint64_t 
  *   STUNP_BAD_ARGUMENT      `event->size` is wrong
  *   STUNP_BUFFER_TOO_SMALL  the request or the response does not fit into `room` bytes, and is
  *                           lost. Nothing is written to `out`. `event->needed` is its length. If a
- *                           request is lost, `event->result` is 0, and the request is sent again
- *                           when its next transmission is due, but not over a stream. If a response
- *                           is lost, its request has ended: `event->request` is the number of the
- *                           request, and `event->result` its result */
+ *                           request is lost, `event->result` is 0, and the request is
+ *                           retransmitted when its next transmission is due, but not over a stream.
+ *                           If a response is lost, its request has ended: `event->request` is
+ *                           the number of the request, and `event->result` its result */
 STUNP_USE_RESULT
 STUNP_INLINED int64_t stunp_endpoint_client_poll(stunp_endpoint_client *client, uint64_t now,
                                                  uint8_t *out, size_t room, stunp_event *event);
@@ -2283,8 +2283,8 @@ STUNP_INLINED int64_t stunp_ice_checker_check_body(stunp_ice_checker *checker,
 /* ---- Checks of ICE with their timers
  *
  * A stunp_ice_checks stores the outstanding checks of an agent. For each check it has the time at
- * which the check is sent again, the time at which it times out, and the addresses between which it
- * is sent. It uses memory that you pass, and does not allocate. Each check that you start ends
+ * which the check is retransmitted, the time at which it times out, and the addresses between which
+ * it is sent. It uses memory that you pass, and does not allocate. Each check that you start ends
  * exactly once: in stunp_ice_checks_receive, if its answer arrives; in stunp_ice_checks_poll, if no
  * answer arrives in time; or in stunp_ice_checks_cancel. You choose the order and the pace of new
  * checks, which is at most one every 50 ms (section 14.2).

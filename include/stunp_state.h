@@ -358,8 +358,8 @@ void rattle_dealloc(void *at);
 
 /* ---- Types */
 
-/* A handle to an agent, which stores the outstanding requests of a client and reports when to send
- * each of them again (section 6.2). Initialize it with {0}; stunp_agent_new fills it, and
+/* A handle to an agent, which stores the outstanding requests of a client and reports when to
+ * retransmit each of them (section 6.2). Initialize it with {0}; stunp_agent_new fills it, and
  * stunp_agent_free empties it. Use it in only one thread at a time. `kind` is 0 if the handle is
  * empty. Do not write to the fields. */
 typedef struct stunp_agent { uint32_t kind; void *state; } stunp_agent;
@@ -995,8 +995,8 @@ STUNP_INLINED void stunp_write_server_sign(stunp_writer *writer, stunp_server *s
  * Each of these calls makes the keys of the user again. If one user sends many messages, as a TURN
  * client does, prepare the user once (stunp_user_new below). */
 
-/* Finds the user with whose key a message from the address `from` will be verified, so that you can
- * look that user up:
+/* Finds the user whose key will be used to verify a message from the address `from`, so that you
+ * can look that user up:
  *
  *   - for a request or an indication, the user of the last visible USERHASH, or of the last visible
  *     USERNAME if there is no USERHASH. A message with USERHASH names nobody if the server does not

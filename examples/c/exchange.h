@@ -24,10 +24,10 @@ struct exchange {
     stunp_agent agent;
     const struct remote *remotes;
     int remotes_number;
-    unsigned long repeated; /* how often a request was sent again */
+    unsigned long repeated; /* how often a request was retransmitted */
 };
 
-/* Send a message; `ask_remote` sends a request, which the agent sends again until it is answered.
+/* Send a message; `ask_remote` sends a request, which the agent retransmits until it is answered.
  * They return 0, or the refusal of the library. */
 int64_t tell(const struct exchange *exchange, const stunp_writer *message, const struct peer *to);
 int64_t ask_remote(struct exchange *exchange, const stunp_writer *request,

@@ -5,7 +5,7 @@
 //! ```
 //!
 //! For each number, a client starts that many Binding requests without credentials, sends them,
-//! sends them again half a second later, reads all the responses, and reports how each request
+//! retransmits them half a second later, reads all the responses, and reports how each request
 //! ended. Further clients do the same until a million requests have ended. A row has the mean time
 //! of a call of each kind, in nanoseconds, and the time of all calls of one client, in
 //! milliseconds. On Linux this is CPU time, so other work of the machine has little effect;

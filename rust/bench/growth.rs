@@ -115,8 +115,8 @@ fn shuffled(size: usize) -> Vec<usize> {
 const REMOTE: ([u8; 4], u16) = ([192, 0, 2, 1], 3478);
 const LOCAL: ([u8; 4], u16) = ([192, 0, 2, 2], 4242);
 
-/// Returns the time at which this request is sent first; `sent_again` returns when it is sent
-/// again.
+/// Returns the time at which this request is sent first; `sent_again` returns when it is
+/// retransmitted.
 fn first_sent(i: usize) -> Instant {
     at(i as u64 / 1000)
 }

@@ -63,7 +63,7 @@ impl PlainAgent {
         self.requests.insert(id, request);
     }
 
-    /// Returns the bytes of a request that is due to be sent again.
+    /// Returns the bytes of a request that is due for retransmission.
     pub fn poll_transmit(&mut self, now: Instant) -> Option<(&[u8], SocketAddr)> {
         let first = *self.deadlines.first()?;
         if first.0 > now {

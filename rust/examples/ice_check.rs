@@ -1,6 +1,6 @@
 //! A connectivity check of ICE in each direction (RFC 8445, section 7), both agents in one process,
 //! without a socket. Both begin as the controlling agent, so the first answer is a 487, and the
-//! agent that receives it takes the other role. A `StunAgent` would send each check again until its
+//! agent that receives it takes the other role. A `StunAgent` would retransmit each check until its
 //! answer arrives.
 
 use seatcrane_stun::Instant;

@@ -84,7 +84,7 @@ fn drive(socket: &UdpSocket, server: SocketAddr, mut client: Client, events: &Re
     loop {
         let until = loop {
             match client.poll(clock.now()) {
-                // lost datagrams are sent again
+                // lost datagrams are retransmitted
                 Output::Transmit { bytes, .. } => drop(socket.send(bytes)),
                 Output::Ended(request, answer) => {
                     let caller: Option<Sender<Answer>> = callers.remove(&request);

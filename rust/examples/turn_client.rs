@@ -27,7 +27,7 @@ const USAGE: &str =
     "turn_client HOST PORT NAME PASSWORD PEER PORT [PEER PORT].. [--address] [--within SECONDS]";
 /// The channel of the first peer. The second peer has the next channel, and so on.
 const FIRST_CHANNEL: u16 = 0x4000;
-/// Data that does not come back is sent again after this time.
+/// Data that does not come back is retransmitted after this time.
 const REPEAT: Duration = Duration::from_millis(500);
 
 type Failure = Box<dyn Error>;

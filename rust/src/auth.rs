@@ -1009,7 +1009,7 @@ impl LongTermServerAuth {
         judged(message, verdict)
     }
 
-    /// Returns the user with whose key a message will be verified, so that you can look that user
+    /// Returns the user whose key will be used to verify a message, so that you can look that user
     /// up in a database.
     ///
     /// - For a request or an indication, this is the user of the last visible USERHASH, or of the

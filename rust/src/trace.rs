@@ -1,4 +1,4 @@
-//! Events of the crate `tracing`, if the feature of that name is on.
+//! Emits `tracing` events if the `tracing` feature is enabled.
 
 use crate::message::Message;
 #[cfg(feature = "tracing")]

@@ -1,5 +1,5 @@
-//! Tests of an agent: when requests are sent again and when they end, whose responses are accepted,
-//! and what is counted.
+//! Tests of an agent: when requests are retransmitted and when they end, whose responses are
+//! accepted, and what is counted.
 use seatcrane_stun::Instant;
 use seatcrane_stun::agent::{StunAgent, StunAgentPollRet, StunError};
 use seatcrane_stun::stats::StunAgentStats;

@@ -405,7 +405,7 @@ fn a_malformed_request_of_a_known_user_is_answered_by_a_signed_400() {
             refusal.add_error_code(400, "Bad Request").unwrap();
             refusal
         };
-        // The client drops an unsigned 400, so it would send the request again until it times out.
+        // The client drops an unsigned 400, so it would retransmit the request until it times out.
         assert_eq!(
             both.read(&refusal().finish()),
             Err(LongTermClientAuthErrorReason::IntegrityFailed)

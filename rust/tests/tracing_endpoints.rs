@@ -262,7 +262,7 @@ fn forged(request: &[u8]) -> [Vec<u8>; 2] {
 
 /// Makes a client with this password send a request to a server, while an attacker forges
 /// responses. Returns when the client has no more to send. The server refuses a wrong password
-/// twice: the first refusal is dropped, and the message is sent again by its timer.
+/// twice: the first refusal is dropped, and the message is retransmitted by its timer.
 fn client_asks(trace: &Trace, client: &mut Client, request: u64) {
     let (server, users) = server();
     let (mut at, mut again, mut is_signed) = (Instant::ZERO, "", false);

@@ -85,7 +85,7 @@ before_sent transport now n (x ∷ xs) a =
     λ i. (x.0, here i) ∷ rest i
 
 -- ---- a part of the requests, and then perhaps the other
--- one that is due, and is sent again
+-- one that is due, and is retransmitted
 abbrev pub sends : TransportType → ℕ → ℕ × Transaction → Bool
 sends transport now e = is_due transport now e.1 && repeats e.1.sending
 

@@ -1,4 +1,4 @@
--- How often a request is sent again: each time uses up a timeout of its settings.
+-- How often a request is retransmitted: each time uses up a timeout of its settings.
 use Rattle.std.proofs.Common.{ℕ, ◌≡◌, ◌+◌, ◌-◌, ◌≤◌, Bool, true, false, cond, List}
 use Rattle.std.proofs.Common.{[], ◌∷◌, length, max, ap, sym, subst, refl, ◌∙◌, arith}
 use Rattle.std.specs.Prelude.{Option, Some, None, IfSome, ◌&&◌, nat_le}
@@ -337,7 +337,7 @@ bounded id (call ∷ calls) a t s there =
     by (Some u) is rises within few own rest = let more = rest u (ascending_call call a s) is in
         omega (arith, rises.0, rises.1, few, own, more)
 
--- over a transport that loses nothing there are no slots, so nothing is sent again
+-- over a transport that loses nothing there are no slots, so nothing is retransmitted
 once_over_tcp : (id : ℕ) (calls : List AgentCall) (a : Agent) (t : Transaction)
     → IsAscending a.transactions → at id a.transactions ≡ Some t → a.transport ≡ Tcp
     → repetitions_until_end id calls a ≡ 0

@@ -206,7 +206,8 @@ after_poll now agent =
     (ended_by_poll now agent) agent
 
 -- ---- retransmission
--- the transaction that is sent again: the one with the least ID among those that are due and repeat
+-- the transaction whose request is retransmitted: the one with the least ID among those that are
+-- due and repeat
 abbrev pub sent_by_poll : ℕ → Agent → Option (ℕ × Transaction)
 sent_by_poll now agent = next_sent agent.transport now agent.transactions
 

@@ -102,7 +102,7 @@ ends id (cancel_retransmissions other) agent = false
 ends id (cancel other) agent = false
 ends id (configure other settings) agent = false
 
--- a call sends the request of the transaction again
+-- a call retransmits the request of the transaction
 abbrev pub repeats_request : ℕ → AgentCall → Agent → Bool
 repeats_request id (poll_transmit now) agent =
     option_map_or (λ e. is_id id e.0) (sent_by_poll now agent) false
@@ -131,7 +131,7 @@ abbrev pub transmissions_allowed : ℕ → Agent → ℕ
 transmissions_allowed id agent =
     option_map_or (λ t. t.settings.transmissions) (at id agent.transactions) 0
 
--- how often the request of an outstanding transaction is sent again, until the transaction ends
+-- how often the request of an outstanding transaction is retransmitted, until the transaction ends
 abbrev pub repetitions_until_end : ℕ → List AgentCall → Agent → ℕ
 repetitions_until_end id [] agent = 0
 repetitions_until_end id (call ∷ calls) agent =

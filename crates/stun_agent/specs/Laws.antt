@@ -1,5 +1,5 @@
--- Laws of an agent over any calls, even if the times that are passed go back (RFC 8489, section
--- 6.2).
+-- Laws of an agent for every sequence of calls, even if the times that are passed go back (RFC
+-- 8489, section 6.2).
 use Rattle.std.specs.Prelude.{◌≡◌, ◌≢◌, ◌≤◌, ◌<◌, ◌+◌, ℕ, false, max, List}
 use Rattle.std.specs.Prelude.{[], Option, Some, None, IfSome, length}
 use Rattle.std.specs.declared.net.socket_addr.SocketAddr.{SocketAddr}
@@ -17,14 +17,14 @@ use Rattle.stun_agent.specs.Calls.{repetitions_until_end, most_transmissions_all
 use Rattle.stun_agent.specs.Timing.{Settings, timeout, planned_end}
 use Rattle.stun_agent.specs.Transactions.{Transaction, at, an_hour}
 
--- a request is sent again only once its current timeout has passed, counted from the end of the
+-- a request is retransmitted only once its current timeout has passed, counted from the end of the
 -- timeout before or, for the first timeout, from the time at which the request was sent
 abbrev pub IsNeverEarly : Type 0
 IsNeverEarly =
     (now : ℕ) (agent : Agent) (e : ℕ × Transaction) → sent_by_poll now agent ≡ Some e
     → moment_after e.1.last (timeout e.1.settings e.1.slot) ≤ now
 
--- nothing is sent again at this time, and nothing ends
+-- nothing is retransmitted at this time, and nothing ends
 pub record IsQuiet (moment : ℕ) (agent : Agent) : Type 0 where
   pub sends_nothing : sent_by_poll moment agent ≡ None
   pub ends_nothing : ended_by_poll moment agent ≡ None
@@ -62,15 +62,15 @@ abbrev pub EndsAlike : Type 0
 EndsAlike = (settings : Settings) (start : ℕ)
     → planned_end Udp settings start ≡ planned_end Tcp settings start
 
--- after any calls, each request that was sent is outstanding or has ended exactly once
+-- for every sequence of calls: each request that was sent is outstanding or has ended exactly once
 abbrev pub EndsOnce : Type 0
 EndsOnce =
     (id : ℕ) (calls : List AgentCall) (start : Agent) → start.transactions ≡ []
     → count begins id calls start
     ≡ count ends id calls start + one_if (is_outstanding id (after_agent_calls calls start))
 
--- over any calls, from the time at which a request is sent until it ends, the request is
--- transmitted at most as often as its settings ever allow, and only once over TCP
+-- for every sequence of calls: from the time at which a request is sent until it ends, the request
+-- is never transmitted more often than its settings ever allow, and only once over TCP
 abbrev pub IsTransmittedAtMost : Type 0
 IsTransmittedAtMost =
     (earlier later : List AgentCall) (start : Agent) (bytes : List ℕ) (to : SocketAddr) (now : ℕ)

@@ -1,6 +1,6 @@
 -- What the contracts of this crate say, in reading order.
 
--- when a request is sent again, and when it ends (RFC 8489, sections 6.2.1 and 6.2.2)
+-- when a request is retransmitted, and when it ends (RFC 8489, sections 6.2.1 and 6.2.2)
 pub mod Timing
 -- outstanding requests (section 6.2)
 pub mod Transactions
@@ -24,7 +24,7 @@ pub mod AgentLends
 pub mod Calls
 -- what the calls of a list count
 pub mod Transcript
--- laws of an agent over any calls
+-- laws of an agent for every sequence of calls
 pub mod Laws
 -- definitions that no clause of a public call cites: codings of models, views of structs, steps of
 -- the code

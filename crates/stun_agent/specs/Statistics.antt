@@ -77,7 +77,7 @@ no_tally =
 abbrev pub request_sent : ℕ → Tally
 request_sent bytes = record no_tally { requests_sent = 1; bytes_sent = bytes }
 
--- the request was sent again, which only counts its bytes
+-- the request was retransmitted, which only counts its bytes
 abbrev pub request_sent_again : ℕ → Tally
 request_sent_again bytes = record no_tally { bytes_sent = bytes }
 

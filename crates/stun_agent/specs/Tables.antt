@@ -106,7 +106,7 @@ with_other_datum id datum table =
     record table { attached = set_datum id datum table.attached }
 
 -- ---- polls
--- the request that is sent again: the one with the least ID among those that are due
+-- the request that is retransmitted: the one with the least ID among those that are due
 abbrev pub sent_in : {D : Type 0} → ℕ → TableSeen D → Option (ℕ × Transaction)
 sent_in now table = next_sent table.transport now table.requests
 

@@ -1,5 +1,5 @@
--- When a request is sent again, and when it ends (RFC 8489, sections 6.2.1 and 6.2.2). Spans are in
--- nanoseconds.
+-- When a request is retransmitted, and when it ends (RFC 8489, sections 6.2.1 and 6.2.2). Spans are
+-- in nanoseconds.
 use Rattle.std.specs.Prelude.{ℕ, zero, suc, ◌+◌, ◌-◌, ◌*◌, ◌^◌, min, max, nat_lt, nat_le}
 use Rattle.std.specs.Prelude.{if◌then◌else◌}
 use Rattle.std.specs.Duration.{as_nanos, max_nanos}
@@ -45,7 +45,7 @@ unfoldable pub sum_of_timeouts : Settings → ℕ → ℕ
 sum_of_timeouts settings zero = 0
 sum_of_timeouts settings (suc k) = sum_of_timeouts settings k + timeout settings k
 
--- how often a request is sent again over UDP
+-- how often a request is retransmitted over UDP
 abbrev pub repetitions : Settings → ℕ
 repetitions settings = max 1 settings.transmissions - 1
 

@@ -31,7 +31,7 @@ pub record Transaction : Type 0 where
   pub sending : Sending
 
 -- ---- what is still sent
--- it is sent again while timeouts are left
+-- it is retransmitted while timeouts are left
 abbrev pub repeats : Sending → Bool
 repeats Repeats = true
 repeats Silent = false
@@ -64,7 +64,7 @@ new_transaction bytes to integrity settings now =
       sending = Repeats;
     }
 
--- it is not sent again
+-- it is not retransmitted
 abbrev pub without_retransmissions : Transaction → Transaction
 without_retransmissions t = record t { sending = after_silence t.sending }
 
@@ -84,7 +84,7 @@ after_slot now t = record t { slot = t.slot + 1; last = now }
 abbrev pub has_slots : TransportType → Transaction → Bool
 has_slots transport t = nat_lt t.slot (slots transport t.settings)
 
--- the time at which it is sent again, or ends
+-- the time at which it is retransmitted, or ends
 abbrev pub awaited_moment : TransportType → Transaction → ℕ
 awaited_moment transport t =
     moment_after t.last

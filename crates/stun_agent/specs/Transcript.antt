@@ -54,8 +54,8 @@ abbrev pub tallies : List AgentCall → Agent → List Tally
 tallies [] agent = []
 tallies (call ∷ calls) agent = tally_of call agent ∷ tallies calls (after_agent_call call agent)
 
--- over any calls from the start of counting, each counter is the sum over the tallies of the calls,
--- capped once at the end, and the round trips are those of the tallies
+-- for every sequence of calls from the start of counting: each counter is the sum over the tallies
+-- of the calls, capped once at the end, and the round trips are those of the tallies
 abbrev pub CountsCalls : Type 0
 CountsCalls =
     (calls : List AgentCall) (agent : Agent) → agent.statistics ≡ Some new_statistics

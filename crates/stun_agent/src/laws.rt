@@ -1,4 +1,4 @@
-//! Laws about an agent that hold after any calls in any order, even if the time that is passed to a
+//! Laws about an agent that hold for every sequence of calls, even if the time that is passed to a
 //! call is earlier than the time that was passed to the call before it.
 ghost use Rattle.std.specs.Prelude.{◌≡◌, ◌≤◌, ◌<◌, ◌&&◌, ◌||◌, ◌↔◌, ℕ, true, not, min};
 ghost use Rattle.std.specs.declared.net.socket_addr.SocketAddr.{SocketAddr};
@@ -17,10 +17,10 @@ pub fn a_request_is_never_sent_early()
     ensures { IsNeverEarly }
 {}
 
-/// A request is transmitted at most as often as its settings allow (RFC 8489, section 6.2.1). The
-/// limit is the greatest number of transmissions that its settings have ever allowed, from its
-/// first settings on. A number of 0 counts as 1, and over TCP the request is transmitted once
-/// (section 6.2.2). The law holds over any calls of an agent that began without outstanding
+/// A request is never transmitted more often than its settings allow (RFC 8489, section 6.2.1). If
+/// the settings change while the request is outstanding, the largest number of transmissions that
+/// they have allowed counts. 0 counts as 1, and over TCP a request is transmitted once (section
+/// 6.2.2). This holds for every sequence of calls, if the agent starts without outstanding
 /// requests.
 pub fn a_request_is_transmitted_at_most_as_often_as_set()
     ensures { IsTransmittedAtMost }
@@ -34,8 +34,8 @@ pub fn a_poll_tells_how_long_all_is_quiet()
 {}
 
 /// Each request that `send_request` accepted is outstanding, or has ended exactly once: by a
-/// response, a timeout, or a cancellation. The law holds over any calls of an agent that began
-/// without outstanding requests.
+/// response, a timeout, or a cancellation. This holds for every sequence of calls, if the agent
+/// starts without outstanding requests.
 pub fn a_request_ends_once()
     ensures { EndsOnce }
 {}

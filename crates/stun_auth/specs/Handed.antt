@@ -45,7 +45,7 @@ named_at place =
     option_map (λ (c : ClientSeen). by_name c.name)
     (option_and_then (λ (p : PlaceSeen). p.client) place)
 
--- the user with whose key a message is judged: for a response the client of its address, for all
+-- the user whose key is used to verify a message: for a response the client of its address, for all
 -- others the user whom it names
 abbrev pub judged_by : Sight → Reading → Option Named
 judged_by s r =

@@ -92,7 +92,7 @@ abbrev pub transport_given : Bool → TransportType
 transport_given true = Tcp
 transport_given false = Udp
 
--- when a request is sent again, and when it ends: by default as in RFC 8489, section 6.2.1
+-- when a request is retransmitted, and when it ends: by default as in RFC 8489, section 6.2.1
 abbrev pub timeouts_given : ClientOptions → Settings
 timeouts_given o = record {
   initial = or_else o.initial 500000000;

@@ -236,7 +236,8 @@ pub fn drop_code(why: DropReason) -> u32
     }
 }
 
-/// A request or an indication that a server returns, whatever its credentials are.
+/// A request or an indication that a server returns. Implemented for each kind of server:
+/// long-term, short-term, or without credentials.
 pub trait Accepted {
     // The outcome that a caller receives.
     ghost told: { Self → AnyOutcome };

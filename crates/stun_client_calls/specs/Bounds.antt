@@ -92,9 +92,9 @@ WaitsInTime = (now : ℕ) (until : Option ℕ) (c after : Client) (number : ℕ)
 abbrev pub two_plans_after : Settings → ℕ → ℕ
 two_plans_after plan start = moment_after (moment_after start (plan_of plan)) (plan_of plan)
 
--- if a request is started after any calls of a new client, and any calls follow, then the request
--- is over once two plans have passed since its start and a poll says to wait: its end was returned,
--- and nothing of it is stored
+-- for every sequence of calls of a new client, one of which starts a request: the request is over
+-- once two plans have passed since its start and a poll says to wait. Its end was returned, and
+-- nothing of it is stored
 abbrev pub EndsWithinTwoPlans : Type 0
 EndsWithinTwoPlans = (transport : TransportType) (server : SocketAddr)
     (counts requires_fingerprint : Bool) (identity : Identity) (form : Form)

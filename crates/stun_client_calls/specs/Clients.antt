@@ -240,7 +240,7 @@ by_polled now c (Of.Ended number end) = (ends number end, c)
 by_polled now c (Of.TimedOut number a) = timed_out number a c
 by_polled now c (Of.Wait until) = (waits until, c)
 
--- the result of a poll: first bytes that were not returned yet, then bytes that are sent again,
+-- the result of a poll: first bytes that were not returned yet, then bytes that are retransmitted,
 -- then an end, then a request whose time is over, and then until when to wait
 abbrev pub told : ℕ → Client → Poll
 told now c =

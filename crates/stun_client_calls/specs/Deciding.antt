@@ -79,7 +79,7 @@ answered_refusal limits now a c =
 
 -- the challenge that the message is signed for already: the message stays the current one. The
 -- second such challenge that counts ends the request, and over a reliable transport, where nothing
--- is sent again, the first one does
+-- is retransmitted, the first one does
 abbrev pub refused_again : Limits → AskedSeen → DecisionSeen
 refused_again limits a =
     if limits.is_reliable || a.refusals.is_earlier then unauthorized else refuses

@@ -1,6 +1,6 @@
 -- The messages of a request (RFC 8489, sections 5, 6.2.1 and 9.2.5). A message is what is sent for
 -- a request under one transaction ID. It is signed for one challenge, or unsigned. The message that
--- was sent last is the current one, which is sent again by its timer. The others are earlier
+-- was sent last is the current one, which is retransmitted by its timer. The others are earlier
 -- messages, which are no longer sent, but a response that is signed with the key of one of them
 -- still ends the request.
 use Rattle.std.specs.Prelude.{ℕ, ◌+◌, ◌-◌, ◌==◌, Bool, true, false, not, ◌&&◌, List, [], find}

@@ -15,7 +15,7 @@ use Rattle.stun_client_calls.specs.Options.{Options}
 use Rattle.stun_client_calls.specs.Receiving.{Memory, Met, answered_by, answered_in, decision_for}
 use Rattle.stun_client_calls.specs.Receiving.{received}
 
--- whether a request is not signed, whatever the credentials of its client are
+-- whether the options of a request say that it is not signed
 abbrev pub is_unsigned : Option Options → Bool
 is_unsigned None = false
 is_unsigned (Some o) = not o.is_signed

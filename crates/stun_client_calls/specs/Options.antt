@@ -48,8 +48,8 @@ handed_out_at now Never = Once now
 handed_out_at now (Once before) = Again
 handed_out_at now Again = Again
 
--- the time between a message and its response. If a message was sent again, it is not known which
--- transmission the response answers (section 6.2.1, and RFC 6298, section 3)
+-- the time between a message and its response. If a message was retransmitted, it is not known
+-- which transmission the response answers (section 6.2.1, and RFC 6298, section 3)
 abbrev pub round_trip : ℕ → HandedOut → Option ℕ
 round_trip now Never = None
 round_trip now (Once before) = Some (now - before)

@@ -4,7 +4,7 @@
 //!
 //! A *message* of a request has one transaction ID, and may be sent several times. A request has a
 //! message for each challenge that it answers, and may have an unsigned message. The message that
-//! was sent last is the *current* one, and is sent again by its timer. The others are *earlier*
+//! was sent last is the *current* one, and is retransmitted by its timer. The others are *earlier*
 //! messages. They are no longer sent, but a response to one of them may still end the request.
 //!
 //! `asked` has the state of a request, and `options` the settings of the client that a single

@@ -25,7 +25,7 @@ pub struct RequestOptions {
     /// is believed, unless its FINGERPRINT is wrong, or missing although the client requires it.
     /// The client answers no challenge for the request, and the response confirms no challenge.
     pub is_signed: bool,
-    /// The times after which the request is sent again, and after which it times out (RFC 8489,
+    /// The times after which the request is retransmitted, and after which it times out (RFC 8489,
     /// section 6.2.1).
     pub timeouts: RequestRto,
     /// The address that the responses come from. This is the server's address, unless the request
@@ -69,7 +69,7 @@ impl HandedOut {
     }
 
     /// Returns the round-trip time of a message whose response arrives at this time, or `None` if
-    /// it is not known. If the message was sent again, it is not known which transmission the
+    /// it is not known. If the message was retransmitted, it is not known which transmission the
     /// response answers (RFC 8489, section 6.2.1, and RFC 6298, section 3).
     pub fn round_trip(self, now: Instant) -> Option<Duration>
         ensures { option_map as_nanos result ≡ round_trip now self }

@@ -23,7 +23,7 @@ settings_refusal name software =
 abbrev pub plan_of : Settings → ℕ
 plan_of settings = final_wait Tcp settings
 
--- whether nothing is sent again over a transport
+-- whether nothing is retransmitted over a transport
 abbrev pub is_reliable : TransportType → Bool
 is_reliable Udp = false
 is_reliable Tcp = true

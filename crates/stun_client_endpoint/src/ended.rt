@@ -23,8 +23,9 @@ pub enum DropReason {
     UnanswerableChallenge,
     /// The response is a challenge that is weaker than the challenge that a success has confirmed.
     WeakerChallenge,
-    /// The response repeats the challenge that the request is signed for. The request is sent again
-    /// by its timer, and ends as `Unauthorized` if the challenge arrives once more after that.
+    /// The response repeats the challenge that the request is signed for. The request is
+    /// retransmitted by its timer, and ends as `Unauthorized` if the challenge arrives once more
+    /// after that.
     Refused,
     /// The response is a challenge that arrived after the first plan of the request, so the request
     /// is not sent again for it.

@@ -21,7 +21,7 @@ pub struct Settings<A: Allocator = Global> {
     /// or because an error has cast doubt on the current message. After that, the next challenge
     /// ends the request.
     pub challenges: u32,
-    /// The times after which a request is sent again, and after which it times out.
+    /// The times after which a request is retransmitted, and after which it times out.
     pub timeouts: RequestRto,
 }
 

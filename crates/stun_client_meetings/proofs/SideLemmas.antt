@@ -1,4 +1,4 @@
--- Over any calls a client has the same server, user, form and FINGERPRINT.
+-- Every sequence of calls leaves the server, user, form and FINGERPRINT of a client as they are.
 use Rattle.std.proofs.Common.{◌≡◌, ◌∙◌, ℕ, Bool, true, false, List, [], ◌∷◌, Option, Some, None, Ok}
 use Rattle.std.proofs.Common.{Err}
 use Rattle.std.proofs.Common.{ap, cond, refl, sym}

@@ -195,7 +195,7 @@ pub record Meets (s : Settings) (users : UserSecrets) (from : SocketAddr) (side 
       → IsEndedBy side number a signed.asked later response now memory
 
 -- a request that is signed, and answered by the server, is started at a client that can meet a
--- server, and any calls follow, including those for other requests with any options
+-- server, and a sequence of calls follows, including those for other requests with any options
 abbrev pub ClientsMeetServers : Type 0
 ClientsMeetServers =
     (s : Settings) (users : UserSecrets) (from : SocketAddr) (side : ClientSide)

@@ -74,7 +74,7 @@ pub record IsFirst (transport : TransportType) (n id : ℕ) (q : Request AskedSe
   pub was_unsent : u ≡ true
   pub holds : Holds transport n id q t false p.1
 
--- its bytes are to be sent again
+-- its bytes are due for retransmission
 pub record IsAgain (transport : TransportType) (n id : ℕ) (q : Request AskedSeen) (t : Transaction)
     (u : Bool) (now : ℕ) (p : Polls) : Type 0 where
   pub told : p.0 ≡ Transmit n

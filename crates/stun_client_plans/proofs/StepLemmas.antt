@@ -118,7 +118,7 @@ pub record IsSilent (r : Sent) (is_unsent : Bool) (k more last due now : ℕ)
   pub unnamed : is_told_of r.number p.0 ≡ false
   pub stands : Stands r is_unsent k more last (due_after due now p.0) p.1
 
--- it is sent again
+-- it is retransmitted
 pub record IsRepeated (r : Sent) (k more last now was now_left was_last : ℕ) : Type 0 where
   pub was_is : was ≡ suc k
   pub left_is : suc now_left ≡ more
@@ -136,7 +136,7 @@ pub record IsSent (r : Sent) (is_unsent : Bool) (k more last due now : ℕ) (p :
       (IsRepeated r k more last now was now_left was_last)
   pub stands : Stands r false was now_left was_last due p.1
 
--- it would be sent again after k timeouts, with some left
+-- it would be retransmitted after k timeouts, with some left
 pub record IsToRepeat (r : Sent) (k more last now : ℕ) : Type 0 where
   pub left : ℕ
   pub left_is : suc left ≡ more

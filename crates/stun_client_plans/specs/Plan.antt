@@ -76,8 +76,8 @@ planned_at plan start k = moment_after start (sum_of_timeouts plan k)
 abbrev pub plan_ends : Client → Settings → ℕ → ℕ
 plan_ends c plan start = planned_end c.requests.table.transport plan start
 
--- when a request is due after k timeouts, the last of which passed at `last`: to be sent again, or
--- to end
+-- when a request is due after k timeouts, the last of which passed at `last`: for a retransmission,
+-- or to end
 abbrev pub request_due : Client → Settings → ℕ → ℕ → ℕ
 request_due c plan k last =
     moment_after last

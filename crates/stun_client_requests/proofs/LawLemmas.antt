@@ -1,4 +1,5 @@
--- Over any calls, a request that is stored stays so until its end is returned, and then it is gone.
+-- For every sequence of calls: a request that is stored stays so until its end is returned, and
+-- then it is gone.
 use Rattle.std.proofs.Common.{◌≡◌, ◌∙◌, ◌⊎◌, ◌<◌, ◌≤◌, ◌+◌, ℕ, Bool, true, false, List, ◌∷◌}
 use Rattle.std.proofs.Common.{Option, Some, None, IsSome, ap, arith, cond, inl, inr, refl, subst}
 use Rattle.std.proofs.Common.{sym}

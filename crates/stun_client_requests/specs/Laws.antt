@@ -1,4 +1,4 @@
--- Laws of the requests of a client over any calls.
+-- Laws of the requests of a client, for every sequence of calls.
 use Rattle.std.specs.Prelude.{◌≡◌, ◌⊎◌, ◌+◌, ◌<◌, ◌==◌, ℕ, Bool, false, List, [], ◌∷◌, Option, None}
 use Rattle.std.specs.Prelude.{if◌then◌else◌}
 use Rattle.std.specs.List.Sorted.{IsStrictlySortedBy}
@@ -88,8 +88,8 @@ StartsOne D E = (r : RequestsSeen D E) (id : ℕ) (bytes : List ℕ) (plan : Set
     → IsStored r.next (after_start id bytes plan datum now r)
     × (known_at r.next r.numbers.known ≡ None)
 
--- after any calls, a started request is still stored and its end was not returned, or it is over
--- and its end was returned once
+-- for every sequence of calls: a started request is still stored and its end was not returned, or
+-- it is over and its end was returned once
 abbrev pub EndsOnce : Type 0 → Type 0 → Type 0
 EndsOnce D E = (number : ℕ) (r after : RequestsSeen D E) (events : List Event)
     → IsStored number r → Calls r events after

@@ -6,7 +6,7 @@ pub mod Numbers
 pub mod Requests
 -- what always holds for the table and for the numbers
 pub mod OneTable
--- laws over any calls
+-- laws for every sequence of calls
 pub mod Laws
 -- when requests are sent for the last time, and when they end
 pub mod Timely

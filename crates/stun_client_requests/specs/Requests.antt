@@ -183,7 +183,7 @@ abbrev pub repeats_or : {D E : Type 0} → ℕ → RequestsSeen D E → Option �
 repeats_or now r (Some number) = (Transmit number, r)
 repeats_or now r None = ends_step now r
 
--- the request whose bytes are sent again
+-- the request whose bytes are retransmitted
 abbrev pub repeated : {D : Type 0} → ℕ → TableSeen (Request D) → Option ℕ
 repeated now table = option_and_then (λ e. number_at e.0 table.attached) (sent_in now table)
 
@@ -196,7 +196,7 @@ unsent_or now r (Some number) =
     (Transmit number, record r { numbers = without_first_unsent r.numbers })
 unsent_or now r None = repeats_step now r
 
--- what a poll returns: bytes that were not returned yet, then bytes that are sent again, then an
+-- what a poll returns: bytes that were not returned yet, then bytes that are retransmitted, then an
 -- end, then a request whose time is over, and then until when to wait
 unfoldable pub polled : {D E : Type 0} → ℕ → RequestsSeen D E → Poll D E
 polled now r = unsent_or now r (first_unsent r.numbers)

@@ -1,5 +1,5 @@
-//! Laws about the requests of a client that hold whatever calls are made. The calls may be made in
-//! any order, and a call may be passed an earlier time than the call before it.
+//! Laws about the requests of a client that hold for every sequence of calls. A call may be passed
+//! an earlier time than the call before it.
 ghost use Rattle.stun_client_requests.specs.Laws.{EndsOnce, StartsOne, StaysOver};
 ghost use Rattle.stun_client_requests.specs.Timely.{PollsKeepTime, WaitsInTime};
 

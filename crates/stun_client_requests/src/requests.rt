@@ -203,8 +203,8 @@ impl<A: Memory, D: Drop, E: Drop> Requests<A, D, E> {
     }
 
     /// Starts a request with this transaction ID, and returns its number. `bytes` must be a message
-    /// with this ID. `poll` then returns `Transmit` for the request, which is sent again and times
-    /// out according to `plan`. `datum` is stored with the request until it ends.
+    /// with this ID. `poll` then returns `Transmit` for the request, which is retransmitted and
+    /// times out according to `plan`. `datum` is stored with the request until it ends.
     ///
     /// # Errors
     ///
@@ -375,7 +375,7 @@ impl<A: Memory, D: Drop, E: Drop> Requests<A, D, E> {
     /// Returns the next thing to do. Call it until it returns `Wait`. It does not allocate.
     ///
     /// It returns first the requests whose bytes were not returned yet, in the order of their
-    /// numbers, and then the requests that are due to be sent again, in the order of their
+    /// numbers, and then the requests that are due for retransmission, in the order of their
     /// transaction IDs. After these come the requests that have ended, in the order of their
     /// numbers, and last the requests that have timed out, in the order of their transaction IDs.
     #[tactic(auto, unfolding(crate::specs::Requests::polled))]
@@ -388,7 +388,7 @@ impl<A: Memory, D: Drop, E: Drop> Requests<A, D, E> {
         }
     }
 
-    /// Returns a request that is due to be sent again, or continues with the requests that have
+    /// Returns a request that is due for retransmission, or continues with the requests that have
     /// ended.
     fn poll_repeats(&mut self, now: Instant) -> Polled<D, E>
         ensures { (result, self.new) ≡ repeats_step now self.old }
@@ -436,7 +436,7 @@ impl<A: Memory, D: Drop, E: Drop> Requests<A, D, E> {
 }
 
 /// Advances the requests of the table that are due, like `Table::poll_transmit`, and returns the
-/// number of the request to send again. Returns `None` if no request is due.
+/// number of the request to retransmit. Returns `None` if no request is due.
 fn next_repeated<A: Allocator + Copy, D: Drop>(
     table: &mut Table<A, Request<D>>,
     now: Instant,

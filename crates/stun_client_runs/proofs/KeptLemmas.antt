@@ -1,4 +1,4 @@
--- A client stays in order over any calls.
+-- Every sequence of calls leaves a client in order.
 use Rattle.std.proofs.Common.{◌≡◌, ◌≤◌, ℕ, Bool, List, Option, Some, None, Ok, Err, ap, arith}
 use Rattle.std.proofs.Common.{refl}
 use Rattle.std.proofs.Common.{subst, sym}

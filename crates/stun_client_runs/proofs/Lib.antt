@@ -18,11 +18,11 @@ pub mod PollLemmas
 pub mod PollAtLemmas
 -- one datagram
 pub mod ReceivingLemmas
--- any calls
+-- every sequence of calls
 pub mod KeptLemmas
--- ends, over any calls
+-- ends, for every sequence of calls
 pub mod EffectLemmas
--- bytes, over any calls
+-- bytes, for every sequence of calls
 pub mod SentLemmas
--- round trips, over any calls
+-- round trips, for every sequence of calls
 pub mod RoundTripLemmas

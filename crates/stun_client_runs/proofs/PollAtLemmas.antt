@@ -21,7 +21,7 @@ use Rattle.stun_client_calls.proofs.TurnLemmas.{All, IsOne}
 use Rattle.stun_client_runs.proofs.EachAtLemmas.{Each, datum_in, is_there, numbered, over_each}
 use Rattle.stun_client_runs.proofs.EachAtLemmas.{stored_one}
 
--- the requests once what is due is sent again
+-- the requests once what is due is retransmitted
 abbrev sent_again : ℕ → All → All
 sent_again now r = record r { table = after_transmission now r.table }
 

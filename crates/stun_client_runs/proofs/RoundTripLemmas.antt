@@ -1,4 +1,5 @@
--- What is stored of a current message says how often it was handed out, over any calls.
+-- What is stored of a current message says how often `poll` returned its bytes, for every sequence
+-- of calls.
 use Rattle.std.proofs.Common.{◌≡◌, ◌∙◌, ◌<◌, ◌≤◌, ◌+◌, ◌-◌, ℕ, zero, suc, Bool, true, false, List, []}
 use Rattle.std.proofs.Common.{◌∷◌, Option, Some, None, Ok, Err, ap, arith, cond, length}
 use Rattle.std.proofs.Common.{refl, subst, sym}

@@ -1,4 +1,4 @@
--- The bytes of a request are those that it was started for, over any calls.
+-- The bytes of a request are those that it was started for, for every sequence of calls.
 use Rattle.std.proofs.Common.{◌≡◌, ◌∙◌, ◌<◌, ℕ, Bool, true, false, List, Option, Some, None, Ok}
 use Rattle.std.proofs.Common.{ap, arith, cond, refl, subst, sym}
 use Rattle.std.specs.Option.{IsSome, is_some, option_and_then, option_map, option_map_or}

@@ -1,5 +1,5 @@
--- What holds for every client, from its creation on and over any calls (RFC 8489, sections 5, 6.1,
--- 6.2.1 and 9.2.5).
+-- What holds for every client, from its creation on, for every sequence of calls (RFC 8489,
+-- sections 5, 6.1, 6.2.1 and 9.2.5).
 use Rattle.std.specs.Prelude.{◌≡◌, ℕ, Bool, true, List, Option, Some, Ok}
 use Rattle.std.specs.BTreeMap.{is_at}
 use Rattle.std.specs.List.{AllByRecursion, list_any}
@@ -36,7 +36,7 @@ pub record IsDerived (seed : List ℕ) (id : ℕ) : Type 0 where
 -- the current message of a request has this transaction ID, which is derived from the seed. Its
 -- bytes are those of the request's method and body, written with the identity of the client for
 -- this request with its options, and signed for the challenge that is stored with it. They have
--- this ID, and the table has sent them to the server and sends them again
+-- this ID, and the table has sent them to the server and retransmits them
 pub record IsCurrent (c : Client) (id : ℕ) (a : AskedSeen) : Type 0 where
   pub from_seed : IsDerived c.seed id
   pub transaction : Transaction
@@ -86,7 +86,7 @@ BeginsAsClient = (transport : TransportType) (server : SocketAddr)
     (new_client transport server counts requires_fingerprint identity form understood turns plan
     seed)
 
--- over any calls, what holds for every client still holds
+-- for every sequence of calls: what holds for every client still holds afterwards
 abbrev pub StaysAClient : Type 0
 StaysAClient = (c after : Client) (events : List Event) → IsClient c → Calls c events after
     → IsClient after

@@ -1,5 +1,5 @@
--- Laws of the requests of a client over any calls. Their times may go back (RFC 8489, sections 6.2
--- and 6.3).
+-- Laws of the requests of a client, for every sequence of calls. The times of the calls may go back
+-- (RFC 8489, sections 6.2 and 6.3).
 use Rattle.std.specs.Prelude.{◌≡◌, ◌⊎◌, ℕ, List, None}
 use Rattle.std.specs.Option.{IsSome}
 use Rattle.stun_client_requests.specs.Laws.{IsOver as IsOverIn, IsStored}
@@ -22,8 +22,8 @@ abbrev pub StartsOne : Type 0
 StartsOne = (c after : Client) (number : ℕ) → IsClient c → Call c (starts number) after
     → IsStarted number after × (known_at number c.requests.numbers.known ≡ None)
 
--- over any calls, a started request is stored and its end was not returned, or it is over and its
--- end was returned once
+-- for every sequence of calls: a started request is stored and its end was not returned, or it is
+-- over and its end was returned once
 abbrev pub EndsOnce : Type 0
 EndsOnce = (number : ℕ) (c after : Client) (events : List Event) → IsClient c → IsStarted number c
     → Calls c events after

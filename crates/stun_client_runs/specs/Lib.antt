@@ -4,7 +4,7 @@
 pub mod Kept
 -- which request an earlier message belongs to
 pub mod Noted
--- the requests of a client over any calls
+-- the requests of a client, for every sequence of calls
 pub mod Laws
 -- which bytes are sent
 pub mod Sent

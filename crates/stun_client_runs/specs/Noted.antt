@@ -59,7 +59,7 @@ BeginsNoted = (transport : TransportType) (server : SocketAddr)
     (new_client transport server counts requires_fingerprint identity form understood turns plan
     seed)
 
--- and any calls preserve it
+-- and every sequence of calls preserves it
 abbrev pub StaysNoted : Type 0
 StaysNoted = (c after : Client) (events : List Event) → IsClient c → NotesMessages c
     → Calls c events after → NotesMessages after

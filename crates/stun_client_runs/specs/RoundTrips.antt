@@ -59,10 +59,10 @@ pub record IsOfOnePoll (times : List ℕ) (now trip : ℕ) : Type 0 where
   pub once : times ≡ sent ∷ []
   pub since : trip ≡ now - sent
 
--- any calls of a new client, and then a datagram that answers a message of a request. If a round
--- trip is stored with it, exactly one of the calls is a poll that has returned this message, and
--- the round trip is the time since that poll. No two of the transaction IDs that the client has
--- used are the same
+-- a sequence of calls of a new client, and then a datagram that answers a message of a request. If
+-- a round trip is stored with it, exactly one of the calls is a poll that has returned this
+-- message, and the round trip is the time since that poll. No two of the transaction IDs that the
+-- client has used are the same
 abbrev pub RoundTripsAreOfOnePoll : Type 0
 RoundTripsAreOfOnePoll = (transport : TransportType) (server : SocketAddr)
     (counts requires_fingerprint : Bool) (identity : Identity) (form : Form)

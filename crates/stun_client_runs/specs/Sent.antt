@@ -1,5 +1,5 @@
--- Which bytes are sent: over any calls, those of the request that was started (RFC 8489, sections
--- 6.1, 6.2.1 and 9.2.5).
+-- Which bytes are sent: for every sequence of calls, those of the request that was started (RFC
+-- 8489, sections 6.1, 6.2.1 and 9.2.5).
 use Rattle.std.specs.Prelude.{◌≡◌, ◌<◌, ℕ, List, Option, None, Some, Ok}
 use Rattle.std.specs.declared.net.socket_addr.SocketAddr.{SocketAddr}
 use Rattle.stun_base.specs.Header.{transaction_id_field, type_field}
@@ -49,7 +49,7 @@ asking c method body options = record {
 -- returns the bytes of a request with its method, this ID and its body, written with the identity
 -- of the client for this request with its options, and signed for the challenge that is stored with
 -- it. Their header has this method and this ID, and they are what the table has sent to the server
--- and sends again
+-- and retransmits
 pub record IsSentAs (s : Asking) (a : AskedSeen) (c : Client) : Type 0 where
   pub method : a.method ≡ s.method
   pub body : a.body ≡ s.body
@@ -76,8 +76,8 @@ pub record HasItsBytes (s : Asking) (c : Client) : Type 0 where
   pub there : datum_of s.number c.requests ≡ Some asked
   pub sent : IsSentAs s asked c
 
--- a request is started with any options, and any calls follow. As long as it is outstanding, its
--- bytes are those that it was started for. A method has 12 bits
+-- a request is started with any options, and a sequence of calls follows. As long as it is
+-- outstanding, its bytes are those that it was started for. A method has 12 bits
 abbrev pub KeepsItsBytes : Type 0
 KeepsItsBytes = (c later : Client) (between : List Event) (method : ℕ) (body : Body)
     (options : Option Options) (now : ℕ) (a : AskedSeen) → IsClient c → method < 4096

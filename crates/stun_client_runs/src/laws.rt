@@ -1,6 +1,5 @@
-//! Laws about a client that hold whatever calls are made. The calls may be made in any order, and
-//! the time that is passed to a call may be earlier than the time that was passed to the call
-//! before it.
+//! Laws about a client that hold for every sequence of calls. The time that is passed to a call may
+//! be earlier than the time that was passed to the call before it.
 ghost use Rattle.stun_client_runs.specs.Kept.{BeginsAsClient, StaysAClient};
 ghost use Rattle.stun_client_runs.specs.Laws.{EndsOnce, StartsOne, StaysOver, TransmitsWhatIsThere};
 ghost use Rattle.stun_client_runs.specs.Noted.{BeginsNoted, StaysNoted};
@@ -49,8 +48,8 @@ pub fn what_is_to_be_sent_is_there()
     ensures { TransmitsWhatIsThere }
 {}
 
-/// A request is sent with the method and the body with which it was started, whatever its options
-/// are, and whatever calls are made.
+/// A request is sent with the method and the body with which it was started. This holds for all
+/// options of the request and for every sequence of calls.
 ///
 /// - `kept`: as long as a request is outstanding, its method, body and options are stored as they
 ///   were passed, and `bytes_of` returns a message with this method and this body. The transaction
@@ -69,8 +68,8 @@ pub fn requests_are_sent_as_they_were_started()
 
 /// The client stores a round-trip time with a response only if exactly one `poll` has returned the
 /// message that the response answers, so that it is known which transmission was answered (RFC
-/// 6298, section 3). The round-trip time is the time since that `poll`. This holds after any calls
-/// of a new client.
+/// 6298, section 3). The round-trip time is the time since that `poll`. This holds for every
+/// sequence of calls of a new client.
 ///
 /// Premise: the transaction IDs that the client has used are all different.
 pub fn round_trips_are_of_messages_sent_once()

@@ -1,5 +1,5 @@
 -- What holds of the standing challenges of a client, and of each request, after each change that a
--- call makes, holds over any calls.
+-- call makes, holds for every sequence of calls.
 use Rattle.std.proofs.Common.{◌≡◌, ◌∙◌, ◌≤◌, ℕ, Bool, true, false, List, [], ◌∷◌, length}
 use Rattle.std.proofs.Common.{Option, Some, None, Ok, Err, ap, arith, cond, refl, subst, sym}
 use Rattle.std.specs.Option.{is_some, option_and_then, option_map, option_map_or}

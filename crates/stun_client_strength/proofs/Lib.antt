@@ -4,7 +4,7 @@
 pub mod TurnLemmas
 -- requests that are not to be signed
 pub mod UnsignedLemmas
--- what holds over any calls
+-- what holds for every sequence of calls
 pub mod HeldLemmas
 -- challenges by the client's own rule
 pub mod RuleLemmas

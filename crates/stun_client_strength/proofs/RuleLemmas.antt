@@ -1,4 +1,4 @@
--- Over any calls, the challenges of all messages are by the client's own rule.
+-- For every sequence of calls: the challenges of all messages are by the client's own rule.
 use Rattle.std.proofs.Common.{◌≡◌, ℕ, Bool, true, false, List, []}
 use Rattle.std.proofs.Common.{◌∷◌, Option, Some, None, ap, cond, length, refl, subst}
 use Rattle.std.proofs.Common.{sym}

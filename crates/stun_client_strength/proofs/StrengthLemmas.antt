@@ -1,4 +1,4 @@
--- Over any calls, no challenge that is weaker than a confirmed one is answered.
+-- For every sequence of calls: no challenge that is weaker than a confirmed one is answered.
 use Rattle.std.proofs.Common.{◌≡◌, ◌∙◌, ◌≤◌, ◌+◌, ℕ, Bool, true, false, List}
 use Rattle.std.proofs.Common.{Option, Some, None, ap, arith, cond, min, refl, subst, sym}
 use Rattle.std.specs.Bool.{⊤}

@@ -62,7 +62,7 @@ pub record IsCheap (standing : Option Answered) (options : Option Options) (coun
   pub two : IsSome standing → count ≤ 2
   pub one : is_unsigned options ≡ true → count ≤ 1
 
--- the bytes of a request are returned no more often, whatever its options are
+-- the bytes of a request with any options are returned no more often
 abbrev pub CostsThreeDatagrams : Type 0
 CostsThreeDatagrams =
     (c later : Client) (method : ℕ) (body : Body) (options : Option Options) (start count : ℕ)

@@ -82,8 +82,8 @@ abbrev pub is_sent_in : ℕ → List Event → Bool
 is_sent_in number [] = false
 is_sent_in number (event ∷ events) = sends number event || is_sent_in number events
 
--- a refusal is remembered, any calls follow, and one of them returns the bytes of the request. If
--- the request is still outstanding, the next refusal ends it
+-- a refusal is remembered, a sequence of calls follows, and one of them returns the bytes of the
+-- request. If the request is still outstanding, the next refusal ends it
 abbrev pub RefusalsAreRemembered : Type 0
 RefusalsAreRemembered =
     (c later : Client) (events : List Event) (number : ℕ) (a : AskedSeen) (memory : Memory)

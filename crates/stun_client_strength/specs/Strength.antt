@@ -60,8 +60,8 @@ pub record IsSentByRule (c : NewClient) (options : Option Options) (method numbe
   pub reads : IsReadAsMade c.form method (added_to asked.signed_for) bytes
   pub not_bid_down : IsNowhereBidDown c.preferences (reading_of bytes)
 
--- a request with any options is started after any calls of a new client, any calls follow, and
--- `poll` says to send it
+-- after a sequence of calls of a new client, a request with any options is started, further calls
+-- follow, and `poll` says to send it
 abbrev pub NothingIsBidDown : Type 0
 NothingIsBidDown =
     (c : NewClient) (e later last : Client) (before between : List Event) (method : ℕ) (body : Body)

@@ -22,7 +22,7 @@ pub record IsNeverSigned (a : AskedSeen) : Type 0 where
   pub current : a.signed_for ≡ None
   pub earlier : a.earlier ≡ []
 
--- any calls of a new client have led to this one, whatever its credentials are
+-- a sequence of calls of a new client, with any kind of credentials, has led to this client
 pub record IsReached (c : Client) : Type 0 where
   pub transport : TransportType
   pub server : SocketAddr

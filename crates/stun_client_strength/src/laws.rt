@@ -36,11 +36,11 @@ pub fn refusals_end_requests()
     stun_client_runs::laws::clients_stay_in_order();
 }
 
-/// If the password of a client is wrong, the client sends a request at most three times, whatever
-/// the options of the request are: the unsigned message once, and the signed message twice. If the
-/// client already has a challenge to sign the request for, it sends the request at most twice. If
-/// the options of the request say that it is not signed, the client sends it at most once, because
-/// it answers no challenge for such a request.
+/// If the password of a client is wrong, the client sends a request with any options at most three
+/// times: the unsigned message once, and the signed message twice. If the client already has a
+/// challenge to sign the request for, it sends the request at most twice. If the options of the
+/// request say that it is not signed, the client sends it at most once, because it answers no
+/// challenge for such a request.
 ///
 /// Premises (`IsRefusedRun`):
 ///
@@ -58,8 +58,8 @@ pub fn a_wrong_password_costs_three_datagrams()
 }
 
 /// An attacker cannot make a server accept a client's request with an algorithm that is weaker than
-/// the strongest that both support. The law is about a client with long-term credentials, whatever
-/// datagrams it has received, and whatever calls were made.
+/// the strongest that both support. The law is about a client with long-term credentials. It holds
+/// for all datagrams that the client has received, and for every sequence of calls.
 ///
 /// - `any`: when `poll` returns `Transmit` for a request, a reader of the request's bytes finds
 ///   that they are not signed, or that they are signed for a challenge that follows the client's
@@ -110,7 +110,7 @@ pub fn nothing_sent_is_bid_down()
 }
 
 /// A request whose options say that it is not signed does not change the challenges that its client
-/// stores. This holds whatever credentials the client has, and whatever calls were made before.
+/// stores. This holds for every kind of credentials, and after every sequence of calls.
 ///
 /// - `unsigned`: the request has one message, which is not signed.
 /// - `responses`: a response to the request either ends it or is dropped. The client does not

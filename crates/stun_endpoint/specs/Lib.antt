@@ -16,7 +16,7 @@ pub mod Answers
 pub mod Ended
 -- the codes of error responses and their reason phrases (section 14.8)
 pub mod Refusals
--- how a server responds, whatever its credentials are (section 6.3)
+-- how a server of every kind responds (section 6.3)
 pub mod Responding
 -- the outcome of a datagram (sections 6.3 and 9.2.4)
 pub mod Received

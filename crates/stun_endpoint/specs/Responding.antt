@@ -1,5 +1,5 @@
--- How a server responds, whatever its credentials are: why it drops a datagram, what it
--- understands, and the responses that it writes by itself (RFC 8489, sections 6.3 and 14.8).
+-- How a server of every kind responds: why it drops a datagram, what it understands, and the
+-- responses that it writes by itself (RFC 8489, sections 6.3 and 14.8).
 use Rattle.std.specs.Prelude.{ℕ, List, Bool, ◌&&◌}
 use Rattle.std.specs.Prelude.{if◌then◌else◌, Option, Some, None}
 use Rattle.std.specs.Option.{is_none, is_some}
@@ -39,8 +39,8 @@ pub record Reply : Type 0 where
   pub to : SocketAddr
   pub ending : Ending
 
--- the outcome of a datagram at a server, whatever its credentials are: `R` describes a request that
--- is returned to the caller, and `I` an indication
+-- the outcome of a datagram at a server of any kind: `R` describes a request that is returned to
+-- the caller, and `I` an indication
 pub data OutcomeOf (R I : Type 0) : Type 0 where
   answered : Answer → OutcomeOf R I
   requested : R → OutcomeOf R I

@@ -11,7 +11,8 @@ use stun_base::header::MessageHeader;
 use stun_extra::fingerprint::{Fingerprint, check_fingerprint};
 use stun_types::message::{Message, MessageClass};
 
-/// A datagram that has arrived at a server, whatever credentials the server has.
+/// A datagram that has arrived at a server, before any credentials are checked. All kinds of
+/// servers use it.
 #[derive(Drop)]
 pub(crate) enum Arrived<'a> {
     /// A request, and whether it has a valid FINGERPRINT.

@@ -46,11 +46,7 @@ pub enum ReceivedInto<'a, R = Request<'a>, I = Message<'a>> {
 pub type OpenReceivedInto<'a, A = Global> = ReceivedInto<'a, OpenRequest<'a, A>>;
 
 /// The outcome of a datagram at a server with short-term credentials.
-pub type ShortTermReceivedInto<'a, A = Global> = ReceivedInto<
-    'a,
-    Request<'a, A>,
-    ShortTermIndication<'a>,
->;
+pub type ShortTermReceivedInto<'a, A> = ReceivedInto<'a, Request<'a, A>, ShortTermIndication<'a>>;
 
 /// The result of `Server::identify_into` for a datagram.
 #[derive(Debug, Drop)]

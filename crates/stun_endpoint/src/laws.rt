@@ -145,8 +145,8 @@ pub fn causes_have_their_codes()
         ≡ refused_code (received_by s realm from now bytes) }
 {}
 
-/// If `identify` returns the outcome of a datagram, without a look-up of the user, the outcome is
-/// the same for every user with whom the datagram could be judged.
+/// If `identify` returns an outcome rather than a look-up, the outcome does not depend on the user:
+/// `receive` would return the same one with any user, or with none.
 pub fn identify_needs_no_user()
     ensures { (s : Settings) (from : SocketAddr) (now : ℕ) (bytes : List ℕ) (outcome : Outcome)
         → identified_by s from now bytes ≡ done outcome → (user : Option Registered)
@@ -292,10 +292,10 @@ pub fn only_requests_are_answered()
         → (is_undropped_request s.requires_fingerprint bytes ≡ true) × (answer.to ≡ from) }
 {}
 
-/// If a request from an accepted client has a comprehension-required attribute that the server does
-/// not understand, the server answers it with a 420, whatever its method is (RFC 8489, section
-/// 6.3.1). This holds for servers with long-term credentials (`long_term`), with short-term
-/// credentials (`short_term`), and without credentials, which accept everybody (`no_credentials`).
+/// If a request of any method from an accepted client has a comprehension-required attribute that
+/// the server does not understand, the server answers it with a 420 (RFC 8489, section 6.3.1). This
+/// holds for servers with long-term credentials (`long_term`), with short-term credentials
+/// (`short_term`), and without credentials, which accept everybody (`no_credentials`).
 pub fn unknown_attributes_are_refused()
     ensures long_term { (s : Settings) (realm : Realm) (from : SocketAddr) (now : ℕ)
         (bytes : List ℕ) (client : ClientSeen)

@@ -32,8 +32,8 @@ pub enum Identified<'a, A: Allocator = Global> {
 /// Only such requests reach your database. An attacker who invents a nonce causes no look-up. An
 /// attacker who forges a source address must be on the path to cause look-ups, because he needs to
 /// see a nonce that is still accepted for that address. The request is judged at the time at which
-/// it arrived, so a slow database does not make its nonce stale. A client that sends its request
-/// again causes another look-up, so merge look-ups that have the same `transaction_id`.
+/// it arrived, so a slow database does not make its nonce stale. A client that retransmits its
+/// request causes another look-up, so merge look-ups that have the same `transaction_id`.
 ///
 /// Contracts: a look-up is a record of the message, its source address, the time at which it
 /// arrived, and the user whom it names.
@@ -101,7 +101,7 @@ impl<'a> Lookup<'a> {
         self.user
     }
 
-    /// Returns the transaction ID of the request. A client that sends the request again uses the
+    /// Returns the transaction ID of the request. A client that retransmits the request uses the
     /// same transaction ID.
     pub fn transaction_id(&self) -> TransactionId
         ensures { result ≡ transaction_id_field self.now.message }

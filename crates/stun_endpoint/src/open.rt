@@ -172,7 +172,7 @@ impl<A: Memory> OpenServer<A> {
     ///   responses, are returned to you.
     ///
     /// Fails if an allocation fails, which can happen only for a request. Over UDP nothing is lost
-    /// then, because the client sends its request again.
+    /// then, because the client retransmits its request.
     pub fn receive<'a>(
         &self,
         bytes: &'a [u8],
@@ -193,7 +193,7 @@ impl<A: Memory> OpenServer<A> {
     /// The buffer is empty afterwards if there is no response, or if the call fails.
     ///
     /// Fails if an allocation fails, which can happen only for a request. Over UDP nothing is lost
-    /// then, because the client sends its request again.
+    /// then, because the client retransmits its request.
     pub fn receive_into<'a>(
         &self,
         bytes: &'a [u8],

@@ -35,7 +35,7 @@ use stun_types::prelude::*;
 /// A response has the request's method and transaction ID. It is signed with the key of the user
 /// who sent the request, even if it is an error, and has the integrity attribute that the request
 /// has. It ends with FINGERPRINT if the request does. Respond to each request at least once,
-/// because the client sends it again until then.
+/// because the client retransmits it until then.
 ///
 /// `success` or `error` begins a response, to which you add attributes, and `finish` ends it.
 ///

@@ -1,5 +1,5 @@
-//! The part that all servers share, whatever their credentials are: it reads datagrams, knows which
-//! attributes are understood, and writes some of the responses (RFC 8489, sections 6.3 and 14.8).
+//! The part that all kinds of servers share: it reads datagrams, knows which attributes are
+//! understood, and writes some of the responses (RFC 8489, sections 6.3 and 14.8).
 
 ghost use Rattle.std.specs.Option.{option_map};
 ghost use Rattle.std.specs.Prelude.{◌≡◌, ◌≤◌, ◌++◌, ◌&&◌, [], Err, IfOk, IsOk, IsOkUnless};

@@ -72,12 +72,7 @@ impl<A: Allocator> fmt::Debug for ShortTermServer<A> {
 
 /// The outcome of a datagram at a server with short-term credentials, whose requests and indications
 /// its users have signed.
-pub type ShortTermReceived<'a, A = Global> = Received<
-    'a,
-    A,
-    Request<'a, A>,
-    ShortTermIndication<'a>,
->;
+pub type ShortTermReceived<'a, A> = Received<'a, A, Request<'a, A>, ShortTermIndication<'a>>;
 
 /// An indication that a user has signed.
 ///
@@ -170,7 +165,7 @@ impl<A: Memory> ShortTermServer<A> {
     ///   responses, are returned to you.
     ///
     /// Fails if an allocation fails, which can happen only for a request. Over UDP nothing is lost
-    /// then, because the client sends its request again.
+    /// then, because the client retransmits its request.
     pub fn receive<'a>(
         &self,
         bytes: &'a [u8],
@@ -192,7 +187,7 @@ impl<A: Memory> ShortTermServer<A> {
     /// The buffer is empty afterwards if there is no response, or if the call fails.
     ///
     /// Fails if an allocation fails, which can happen only for a request. Over UDP nothing is lost
-    /// then, because the client sends its request again.
+    /// then, because the client retransmits its request.
     pub fn receive_into<'a>(
         &self,
         bytes: &'a [u8],

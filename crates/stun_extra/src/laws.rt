@@ -24,8 +24,8 @@ pub fn one_changed_byte_changes_the_crc()
         → crc32 (front ++ byte ∷ behind) ≡ crc32 (front ++ other ∷ behind) → byte ≡ other }
 {}
 
-/// If two messages have the same FINGERPRINT at the same offset, and differ in one byte before it,
-/// the FINGERPRINT is valid in at most one of them.
+/// If two messages have the same FINGERPRINT at the same offset, and the only byte in which they
+/// differ is before that offset, at most one of the two messages has a valid FINGERPRINT.
 pub fn one_changed_byte_makes_fingerprint_wrong()
     ensures { (front behind : List ℕ) (byte other : ℕ) (m : Member)
         → byte < 256 → other < 256 → length front < m.0

@@ -1,4 +1,4 @@
--- The kind with which a handle begins: which value it has, if any.
+-- The kind of a handle, which is its first field: which value the handle has, if any.
 use Rattle.std.specs.Prelude.{ℕ, ℤ, Bool, ◌==◌, ◌||◌, if◌then◌else◌}
 use Rattle.stun_numbers.specs.Refusals.{refusal_number}
 use Rattle.stun_numbers.specs.declared.refusal.Refusal.TheVariants.{EmptyHandle, WrongHandle}

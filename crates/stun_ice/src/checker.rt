@@ -398,7 +398,7 @@ impl<A: Memory> Checker<A> {
         }
     }
 
-    /// Writes a check. Send it to the address `to`, and send it again until its answer arrives (RFC
+    /// Writes a check. Send it to the address `to`, and retransmit it until its answer arrives (RFC
     /// 8445, section 7.2.4). The transaction ID must be random and new, because otherwise the
     /// answer to one check could end another.
     ///

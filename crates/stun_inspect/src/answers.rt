@@ -240,9 +240,9 @@ pub fn list<W: Write, A: Allocator + Copy>(
     Ok(found_of(refusal))
 }
 
-/// Prints `place`, which is the position of one of several messages, and the line for the message.
-/// Writes both at once, so that no part of a line is printed if an allocation fails. Returns a
-/// `Found` for the bytes.
+/// Prints the line for the message, with `place` (where the message is in the input) in front. The
+/// line is written in one piece, so a failed allocation leaves no partial line. Returns a `Found`
+/// for the bytes.
 pub fn list_at<W: Write, A: Allocator + Copy>(
     alloc: A,
     place: &str,

@@ -85,15 +85,15 @@ pub fn a_check_is_accepted_by_its_peer()
         (role_after_check b.role b.tie_breaker (rival_of b.role (said_by a))) }
 {}
 
-/// States that the answer of an agent to a check of its peer has the intended effect, if it comes
-/// from the address to which the check was sent. A success makes the pair valid, with the address
-/// from which the check came (`valid`, `address`). A 487 switches the role of the peer, if the peer
-/// still has the role in which it sent the check (`conflict`).
+/// States that when agent `b` answers a check sent by agent `a`, the answer has the intended effect
+/// at `a`, provided it comes from the address to which the check was sent. A success makes the pair
+/// valid, with the address from which the check came (`valid`, `address`). A 487 switches the role
+/// of `a`, if `a` still has the role in which it sent the check (`conflict`).
 ///
-/// `a` is the agent that sent the check, as it was then, with the credentials `sent` of its peer.
-/// `now` is this agent when the answer arrives: its role and its tie-breaker may have changed. The
-/// check arrived at the agent `b` from the address `from`, and the answer arrives from the address
-/// `source`.
+/// `a` is the sender's state when it sent the check, and `sent` is the peer credentials that it had
+/// then. `now` is the sender's state when the answer arrives; its role and tie-breaker may have
+/// changed since. The check arrived at `b` from the address `from`, and the answer arrives from the
+/// address `source`.
 pub fn its_answer_makes_the_pair_valid()
     ensures valid { (a b now : Agent) (sent peer : Peer) (id priority : ℕ) (nominates : Bool)
         (to from source : SocketAddr) → IsAgent a sent → IsNumbered id priority → Knows now b peer

@@ -1,5 +1,5 @@
--- An agent in whatever loop its user has: any calls, each at a time of its own (RFC 8489, section
--- 6.2.1).
+-- An agent in whatever loop its user has: a sequence of calls, each at a time of its own (RFC 8489,
+-- section 6.2.1).
 use Rattle.std.specs.Prelude.{ℕ, ◌≡◌, ◌+◌, ◌*◌, ◌<◌, ◌≤◌, suc, if◌then◌else◌, nat_lt, List, [], ◌∷◌}
 use Rattle.std.specs.Prelude.{◌++◌, Some, None}
 use Rattle.std.specs.List.{AllByRecursion}
@@ -66,8 +66,8 @@ pub data Calls (late : ℕ) :
       → Calls late from a events more last c
 
 -- ---- a request in it
--- the time at which it is due, after k timeouts, the last of which passed at `before`: to be sent
--- again, or to time out
+-- the time at which it is due, after k timeouts, the last of which passed at `before`: for a
+-- retransmission, or to time out
 abbrev pub next_due : TransportType → Settings → ℕ → ℕ → ℕ
 next_due transport settings k before =
     moment_after before
@@ -101,8 +101,8 @@ pub data InTime (late id : ℕ) (transport : TransportType) (settings : Settings
       → InTime late id transport settings bytes to start last k before (TimedOut now id ∷ [])
 
 -- ---- the laws
--- A request that an agent accepts at `start`, and at which no later event is aimed: in whatever
--- calls follow, its steps are in time
+-- A request that an agent accepts at `start`, and at which no later event is aimed: in every
+-- sequence of calls that follows, its steps are in time
 abbrev pub CallsSendInTime : Type 0
 CallsSendInTime =
     (late last start : ℕ) (a b : Agent) (bytes : Vec ℕ) (to : SocketAddr)
@@ -130,7 +130,7 @@ abbrev pub AreNoEarlier : ℕ → List (ℕ × Called) → Type 0
 AreNoEarlier from [] = Unit {0}
 AreNoEarlier from (c ∷ calls) = (from ≤ c.0) × (c.0 < last_moment) × AreNoEarlier c.0 calls
 
--- whatever is called at times that do not go back, there are such calls, however late
+-- for every sequence of calls at times that do not go back, there are such calls, however late
 abbrev pub CallsExist : Type 0
 CallsExist =
     (from : ℕ) (a : Agent) (calls : List (ℕ × Called)) → AreNoEarlier from calls

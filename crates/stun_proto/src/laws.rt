@@ -133,18 +133,18 @@ pub fn loops_are_driven()
 /// request is retransmitted and times out in time (`in_time`):
 ///
 /// - The request is retransmitted after its timeout since the previous transmission has passed, and
-///   at most `late` after that. It is sent at most as often as its settings allow.
+///   at most `late` after that. It is never transmitted more often than its settings allow.
 /// - The request times out after the final wait has passed, and at most `late` after that.
 /// - So transmission k, counted from 0, is never before its time in the plan, and at most k times
 ///   `late` after it.
 /// - If one of these steps is missing at the end, the last call was at most `late` after the step
 ///   was due.
 ///
-/// The calls may be any calls in any order (`Calls`), but no call has a time before that of the
+/// This holds for every sequence of calls (`Calls`) in which no call has a time before that of the
 /// previous call. The program need not poll after each event, and need not repeat `poll_transmit`
 /// until it returns `None`. It may also make calls that change no request. Premise: at each call,
-/// no deadline is more than `late` nanoseconds ago. Any calls at times that do not go back satisfy
-/// this for some `late` (`exist`).
+/// no deadline is more than `late` nanoseconds ago. Every such sequence satisfies this for some
+/// `late` (`exist`).
 pub fn any_loop_sends_in_time()
     ensures in_time { CallsSendInTime }
     ensures exist { CallsExist }

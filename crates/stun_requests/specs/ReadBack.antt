@@ -60,8 +60,8 @@ pub record IsReadAsMade (form : Form) (method : ℕ) (added : Added) (bytes : Li
   pub print : fingerprint_in bytes ≡ print_of form.has_fingerprint
   pub reads : ReadsAs Request None added (reading_of bytes)
 
--- each request with long-term credentials that is written, whatever its body and its form are. A
--- method has 12 bits, and the texts of a challenge are UTF-8
+-- each request with long-term credentials that is written, for every body and every form. A method
+-- has 12 bits, and the texts of a challenge are UTF-8
 abbrev pub RequestsAreReadBack : Type 0
 RequestsAreReadBack =
     (form : Form) (who : NameAndPassword) (p : Preferences) (accepts_unsigned : Bool)

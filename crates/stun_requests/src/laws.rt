@@ -45,7 +45,8 @@ pub fn written_requests_are_not_bid_down()
 }
 
 /// A server answers each unsigned request with a 401 that has the current nonce of the request's
-/// source address, whatever method and body the request has, and whatever users the server has.
+/// source address. This holds for every method and body of the request, and for all users of the
+/// server.
 ///
 /// Premises: the method has 12 bits, the body has only attributes that `Body` accepts, and the
 /// client sends FINGERPRINT if the server requires it.

@@ -68,8 +68,9 @@ settings_of_timeouts t =
       last_wait = t.last;
     }
 
--- whether a request with these timeouts is sent again without a wait, so that all its transmissions
--- are due at the same time: there is more than one, and the first wait or the longest is 0
+-- whether a request with these timeouts is retransmitted without a wait, so that all its
+-- transmissions are due at the same time: there is more than one, and the first wait or the longest
+-- is 0
 abbrev pub has_no_wait : Timeouts → Bool
 has_no_wait t = nat_lt 1 t.transmissions && ((t.initial == 0) || (t.longest == 0))
 
@@ -182,7 +183,7 @@ id_told (WaitUntil moment) buffer = buffer
 id_told (TransactionTimedOut id) buffer = big_bytes 12 id ++ drop 12 buffer
 id_told (TransactionCancelled id) buffer = big_bytes 12 id ++ drop 12 buffer
 
--- how many bytes are sent again, with a buffer of this many bytes
+-- how many bytes are retransmitted, with a buffer of this many bytes
 abbrev pub sent_again : ℕ → Option (ℕ × Transaction) → Result ℕ Refusal
 sent_again room None = Ok 0
 sent_again room (Some e) =

@@ -24,8 +24,8 @@ use Rattle.stun_state.specs.declared.handle.state.Server.{Server as Kept}
 
 -- ---- the user whom a message names
 
--- the user with whose key the bytes from an address are judged, if they are a message that names a
--- user
+-- the user whose key is used to verify the bytes from an address, if they are a message that names
+-- a user
 abbrev pub named_if : Option Refusal → Option Named → Option Named
 named_if None named = named
 named_if (Some refusal) named = None

@@ -104,7 +104,7 @@ TellsOfPoll (TransactionTimedOut id) number until buffer =
 TellsOfPoll (TransactionCancelled id) number until buffer =
     (number ≡ 2) × (rest : List ℕ) × (buffer ≡ big_bytes 12 id ++ rest)
 
--- a caller reads what is sent again: nothing, or the bytes of the request at the front of the
+-- a caller reads what is retransmitted: nothing, or the bytes of the request at the front of the
 -- buffer, how many these are, and the address to which the request was sent
 abbrev pub TellsOfSending : Option (ℕ × Transaction) → ℕ → List ℕ → Address → Type 0
 TellsOfSending None number buffer to = number ≡ 0

@@ -47,7 +47,7 @@ pub(crate) enum Given<'a> {
     Keys(&'a [u8], &'a [u8]),
 }
 
-/// Determines the user with whose key a message from an address will be verified. Returns 1 and
+/// Determines the user whose key will be used to verify a message from an address. Returns 1 and
 /// writes the name of the user to `name`, returns 2 and writes the hash of the name, or returns 0
 /// if the message names nobody. If the name or the hash does not fit into `name`, fails with
 /// `BufferTooSmall`, but still writes its length to `name_length`.

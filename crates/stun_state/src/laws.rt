@@ -119,8 +119,8 @@ pub fn numbers_tell_results_apart()
 {}
 
 /// A call that needs an agent (`agent`), a server (`server`), a client (`client`) or a prepared
-/// user (`user`) fails with `STUNP_EMPTY_HANDLE` if the handle begins with 0, and with
-/// `STUNP_WRONG_HANDLE` if the handle has a value of another kind.
+/// user (`user`) fails with `STUNP_EMPTY_HANDLE` if the handle's kind (its first field) is 0, and
+/// with `STUNP_WRONG_HANDLE` if the handle has a value of another kind.
 pub fn other_handles_are_refused()
     ensures agent { (h : StateHandle) (result : ℤ) → WithoutAgent h result ⊤
         → IsRefusedAs h agent_kind result }
@@ -132,8 +132,8 @@ pub fn other_handles_are_refused()
         → IsRefusedAs h user_kind result }
 {}
 
-/// States that only the calls that create or free an object change the kind with which a handle
-/// begins. All other calls leave the kind unchanged, whatever they return.
+/// Only the calls that create or free an object change a handle's kind (its first field). Every
+/// other call leaves the kind unchanged, whatever the call returns.
 pub fn handles_keep_their_kind()
     ensures agent { (old new : StateHandle) (result : ℤ) (number : Agent → ℤ)
         (after : Agent → Agent) → ChangesAgent old new result number after
@@ -361,9 +361,10 @@ pub fn users_are_those_who_are_handed_in()
         × IsKeyPassed 16 sha1 keys.sha1 × IsKeyPassed 32 sha256 keys.sha256 }
 {}
 
-/// `stunp_server_named_user` reports the user with whose key the library judges the message. The
-/// number that the call returns says whether it writes a name or a hash. It writes the name or the
-/// hash to the front of the buffer, and also writes its length.
+/// States that `stunp_server_named_user`, if it succeeds, reports the user whose key will be used
+/// to verify the message. The result says whether that user is given by name, by hash, or not at
+/// all. The call writes the name or the hash to the front of the buffer, and its length to the
+/// caller's length variable.
 pub fn callers_are_told_who_is_named()
     ensures { (s : ServerSeen) (bytes buffer : List ℕ) (from : Address) (before n : ℕ)
         → number_answer
@@ -451,7 +452,7 @@ pub fn agents_are_made_as_asked_for()
 {}
 
 /// States that a caller that polls receives what the library returns: the time to wait until, or
-/// the ID of a request that has ended and how it ended (`polled`), and the bytes to send again,
+/// the ID of a request that has ended and how it ended (`polled`), and the bytes to retransmit,
 /// with the address to which the request was sent (`sent`).
 pub fn polls_tell_what_the_library_returns()
     ensures polled { (answer : StunAgentPollRet) (until : ℕ) (buffer : List ℕ) (n : ℕ)

@@ -62,8 +62,9 @@ use core::net::SocketAddr;
 /// - A challenge is answered with the message that is signed for it. If there is no such message
 ///   yet, it is written. A challenge is dropped if it is weaker than a challenge that a success has
 ///   confirmed. If the challenge that the message is signed for arrives once more, it is a refusal:
-///   the first refusal is dropped, and a refusal that arrives after the message was sent again ends
-///   the request. (Over a stream no message is sent again, so the first refusal ends the request.)
+///   the first refusal is dropped, and a refusal that arrives after the message was retransmitted
+///   ends the request. (Over a stream no message is retransmitted, so the first refusal ends the
+///   request.)
 /// - Servers do not sign the errors 400, 437 and 441 with which they refuse a message that is
 ///   signed for a forged challenge. So such an error without a signature does not end the request.
 ///   Instead, the client makes another message of the request the current one, at most three times.
@@ -114,7 +115,7 @@ use core::net::SocketAddr;
 ///     client.request(BINDING, Body::new(), clock.now())?;
 ///     loop {
 ///         match client.poll(clock.now()) {
-///             // what is lost is sent again
+///             // lost datagrams are retransmitted
 ///             Output::Transmit { bytes, .. } => drop(socket.send(bytes)),
 ///             Output::Ended(_, result) => {
 ///                 return Ok(result?.message().xor_mapped_address()?);
@@ -310,7 +311,7 @@ impl Client {
     /// Returns the next thing to do. Call it until it returns [`Output::Wait`]: after each
     /// `request`, `receive` and `cancel`, and when the wait is over.
     ///
-    /// It first returns new messages, then messages that are due to be sent again, then requests
+    /// It first returns new messages, then messages that are due for retransmission, then requests
     /// that have ended, and last a request whose time is over. New messages are returned in the
     /// order in which their requests were started, and so are requests that have ended. If a
     /// message is due after the first plan of its request, the request ends instead.

@@ -228,7 +228,7 @@ impl Default for Retransmission {
 #[derive(Clone, Copy, Debug, PartialEq, Eq, Hash, Default)]
 #[non_exhaustive]
 pub enum Transport {
-    /// Datagrams, which may be lost: a request is sent again until it is answered, up to seven
+    /// Datagrams, which may be lost: a request is retransmitted until it is answered, up to seven
     /// times in total by default ([`ClientBuilder::retransmission`]).
     #[default]
     Datagram,
@@ -356,7 +356,7 @@ impl ClientBuilder {
         self
     }
 
-    /// Sets when each message is sent again, and when a request without a response ends.
+    /// Sets when each message is retransmitted, and when a request without a response ends.
     pub fn retransmission(mut self, plan: Retransmission) -> ClientBuilder {
         self.plan = plan;
         self

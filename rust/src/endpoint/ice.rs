@@ -104,7 +104,7 @@
 //!
 //! # In a program
 //!
-//! [`Checks`] sends each check again until it ends, and reports exactly once how it ended:
+//! [`Checks`] retransmits each check until it ends, and reports exactly once how it ended:
 //!
 //! ```no_run
 //! use seatcrane_stun::Instant;
@@ -156,7 +156,7 @@
 //! ```
 //!
 //! A program with timers of its own uses a `Checker`. The program stores each check with its pair,
-//! and sends the check again until it ends. It passes each datagram to [`Checker::receive`],
+//! and retransmits the check until it ends. It passes each datagram to [`Checker::receive`],
 //! together with the stored check that has the transaction ID of the datagram, if that check was
 //! sent from the address that the datagram arrived at.
 
@@ -351,7 +351,7 @@ impl Checker {
         self.0.set_tie_breaker(tie_breaker);
     }
 
-    /// Writes a check. Send it to the address `to`, and send it again until its answer arrives (RFC
+    /// Writes a check. Send it to the address `to`, and retransmit it until its answer arrives (RFC
     /// 8445, section 7.2.4).
     ///
     /// The transaction ID must be random and new. If the peer learns a new peer-reflexive candidate
@@ -772,7 +772,7 @@ impl fmt::Display for Judged {
 /// ```
 /// use seatcrane_stun::endpoint::ice::{Failure, Outcome};
 ///
-/// /// Whether to try the pair again, as after an error that may pass.
+/// /// Returns whether the failure may be temporary, so that the pair is worth retrying.
 /// fn is_temporary(outcome: Outcome) -> bool {
 ///     matches!(outcome, Outcome::Failed(Failure::Error(500)))
 /// }
@@ -854,7 +854,7 @@ pub enum DropReason {
     /// before the credentials of the peer are known. A 400 or 401 is not signed, so a check that
     /// the peer refuses with one of these times out.
     WrongSignature,
-    /// An allocation failed. The peer sends its check again.
+    /// An allocation failed. The peer retransmits its check.
     OutOfMemory,
 }
 

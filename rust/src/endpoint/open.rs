@@ -473,11 +473,15 @@ fn signed_of_core<B>(
     received: Result<buffered::ShortTermReceivedInto<'_, Global>, DropReason>,
     bytes: B,
 ) -> ShortTermReceived<'_, B> {
-    received_of(received, bytes, request_of, indication_of)
+    received_of(received, bytes, request_of, |indication| {
+        indication_of(&indication)
+    })
 }
 
 /// Converts an indication of the core to the type of this module.
-fn indication_of(indication: short_term::ShortTermIndication<'_>) -> ShortTermIndication<'_> {
+fn indication_of<'a>(
+    indication: &short_term::ShortTermIndication<'a>,
+) -> ShortTermIndication<'a> {
     ShortTermIndication {
         message: Message(crate::copies::copy(indication.message())),
         user: indication.user(),

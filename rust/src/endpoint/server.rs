@@ -1063,7 +1063,7 @@ pub enum Identified<'a, B = Vec<u8>> {
 /// A request that waits until you have looked up its user. It carries a nonce that the server
 /// accepts for its source.
 ///
-/// A client that sends its request again causes another look-up, so merge look-ups that have the
+/// A client that retransmits its request causes another look-up, so merge look-ups that have the
 /// same source address and [`transaction_id`](Self::transaction_id).
 ///
 /// # Examples
@@ -1257,12 +1257,12 @@ fn of_core<B>(received: Judged<'_>, bytes: B) -> Received<'_, B> {
 
 /// Converts an outcome of the core, at a server of any kind, to the type of this module, with the
 /// bytes of the response. `request_of` returns `None` if there is no memory for the request.
-pub(super) fn received_of<'a, B, R, I, S, J>(
-    received: Result<buffered::ReceivedInto<'a, R, I>, DropReason>,
+pub(super) fn received_of<B, R, I, S, J>(
+    received: Result<buffered::ReceivedInto<'_, R, I>, DropReason>,
     bytes: B,
     request_of: impl FnOnce(R) -> Option<S>,
     indication_of: impl FnOnce(I) -> J,
-) -> Received<'a, B, S, J> {
+) -> Received<'_, B, S, J> {
     use buffered::ReceivedInto as Core;
 
     match received {
@@ -1783,7 +1783,7 @@ impl<'a> Request<'a> {
 /// The response has the method and the transaction ID of the request, and ends with FINGERPRINT if
 /// the request did. It is signed with the key of the user who sent the request, even if it is an
 /// error (a reply of an [`OpenServer`](super::OpenServer) is not signed). Respond to each request
-/// at least once, because the client sends it again until then.
+/// at least once, because the client retransmits it until then.
 ///
 /// # Examples
 ///

@@ -7,7 +7,7 @@ use Rattle.stun_agent.specs.Transactions.{Transaction, Transactions, awaited_mom
 use Rattle.stun_agent.specs.Transactions.{is_cancelled, sooner}
 
 -- the earliest times that some transactions await, by what happens then: one with timeouts left is
--- sent again, another ends, and a canceled one ends at once
+-- retransmitted, another ends, and a canceled one ends at once
 pub record Awaited : Type 0 where
   pub slot : Option ℕ
   pub end : Option ℕ
@@ -17,7 +17,7 @@ pub record Awaited : Type 0 where
 abbrev pub nothing : Awaited
 nothing = record { slot = None; end = None; cancelled = false }
 
--- one that is sent again at a time, or would be if it were not silent
+-- one that is retransmitted at a time, or would be if it were not silent
 abbrev pub slot_at : ℕ → Awaited
 slot_at moment = record { slot = Some moment; end = None; cancelled = false }
 
@@ -58,7 +58,7 @@ awaited_of transport (e ∷ es) = joined (awaited_by transport e.1) (awaited_of 
 abbrev pub has_come : ℕ → Option ℕ → Bool
 has_come now moment = option_map_or (λ m. nat_le m now) moment false
 
--- one of them is due to be sent again, or would be if it were not silent
+-- one of them is due for retransmission, or would be if it were not silent
 abbrev pub some_due : ℕ → Awaited → Bool
 some_due now awaited = has_come now awaited.slot
 

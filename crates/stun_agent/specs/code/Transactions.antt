@@ -31,7 +31,7 @@ abbrev pub has_room : Option ℕ → Option (ℕ × ℕ) → Bool
 has_room room sent =
     option_map_or (λ most. option_map_or (λ s. nat_le s.1 most) sent true) room true
 
--- what is returned for a request that ends: its ID, and whether it was still sent again
+-- what is returned for a request that ends: its ID, and whether it was still retransmitted
 abbrev pub id_and_repeats : ℕ × Transaction → ℕ × Bool
 id_and_repeats e = (e.0, repeats e.1.sending)
 

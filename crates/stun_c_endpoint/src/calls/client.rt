@@ -120,9 +120,9 @@ pub extern "C" fn stunp_endpoint_client_request_with(
 /// Starts a request like `stunp_endpoint_client_request_with`, but with options that say how it is
 /// sent, and from which address its response is accepted.
 ///
-/// Fails like `stunp_endpoint_client_request_with`. In addition, it fails with `BadArgument`, right
-/// after the test of the method, if `options.size` is wrong, or if the length of `options.from` is
-/// not 0, 4 or 16.
+/// Fails like `stunp_endpoint_client_request_with`, and also with `BadArgument` if `options.size`
+/// is wrong or the length of `options.from` is not 0, 4 or 16. This check comes right after the
+/// check of `method`.
 #[unsafe(no_mangle)]
 pub extern "C" fn stunp_endpoint_client_request_as_with(
     alloc: Global,

@@ -18,7 +18,7 @@ impl<A: Allocator + Copy> ClientEndpoint<A> {
     /// wait is over, call it until it returns `Wait`. It does not allocate.
     ///
     /// It returns first the messages that it has not returned yet, in the order of the numbers of
-    /// their requests, and then the messages that are due to be sent again, in the order of their
+    /// their requests, and then the messages that are due for retransmission, in the order of their
     /// transaction IDs. After these come the requests that have ended, in the order of their
     /// numbers, and last the requests that time out, in the order of their transaction IDs. If a
     /// message is due after the first plan of its request, the request ends instead.

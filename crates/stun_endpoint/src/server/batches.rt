@@ -27,7 +27,7 @@ impl<A: Memory> Server<A> {
     ///
     /// Fails if an allocation fails. The results then cover only the first datagrams, whose
     /// responses are in the buffer. Send these responses. Then pass the remaining datagrams again,
-    /// or drop them: over UDP their clients send them again.
+    /// or drop them: over UDP their clients retransmit them.
     pub fn receive_many<'a>(
         &self,
         datagrams: &[Datagram<'a>],

@@ -37,7 +37,7 @@ impl<A: Memory> Server<A> {
     /// logs each refusal needs no second call.
     ///
     /// Fails if an allocation fails, which can happen only for a request. Over UDP nothing is lost
-    /// then, because the client sends its request again.
+    /// then, because the client retransmits its request.
     ///
     /// Contracts: law `causes_have_their_codes`.
     pub fn receive_with_cause<'a>(
@@ -62,7 +62,7 @@ impl<A: Memory> Server<A> {
     /// does, or `None` if it is not refused. The datagram is judged only once.
     ///
     /// Fails if an allocation fails, which can happen only for a request. Over UDP nothing is lost
-    /// then, because the client sends its request again.
+    /// then, because the client retransmits its request.
     ///
     /// Contracts: law `causes_have_their_codes`.
     pub fn receive_for_with_cause<'a>(

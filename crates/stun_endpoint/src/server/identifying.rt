@@ -53,7 +53,7 @@ impl<A: Memory> Server<A> {
     /// seeing a nonce that is still accepted for that address.
     ///
     /// Fails if an allocation fails, which can happen only for a request. Over UDP nothing is lost
-    /// then, because the client sends its request again.
+    /// then, because the client retransmits its request.
     ///
     /// Contracts: laws `identify_needs_no_user`, `lookups_have_accepted_nonces` and
     /// `resume_is_receive_with_all_users`.
@@ -78,7 +78,7 @@ impl<A: Memory> Server<A> {
     /// The buffer is empty afterwards if there is no response, or if the call fails.
     ///
     /// Fails if an allocation fails, which can happen only for a request. Over UDP nothing is lost
-    /// then, because the client sends its request again.
+    /// then, because the client retransmits its request.
     pub fn identify_into<'a>(
         &'a self,
         bytes: &'a [u8],
@@ -139,8 +139,8 @@ impl<A: Memory> Server<A> {
     /// case, the client gets a 401. You may resume at another server with the same secret, for
     /// example after a change of settings.
     ///
-    /// Fails if an allocation fails. Over UDP nothing is lost then, because the client sends its
-    /// request again.
+    /// Fails if an allocation fails. Over UDP nothing is lost then, because the client retransmits
+    /// its request.
     pub fn resume<'a>(
         &'a self,
         lookup: Lookup<'a>,
@@ -159,8 +159,8 @@ impl<A: Memory> Server<A> {
     /// names, or with no user if there is none. The result is what `receive` returns at the time at
     /// which the request arrived.
     ///
-    /// Fails if an allocation fails. Over UDP nothing is lost then, because the client sends its
-    /// request again.
+    /// Fails if an allocation fails. Over UDP nothing is lost then, because the client retransmits
+    /// its request.
     pub fn resume_among<'a>(
         &'a self,
         lookup: Lookup<'a>,
@@ -180,8 +180,8 @@ impl<A: Memory> Server<A> {
     /// allocated for it. The buffer is empty afterwards if there is no response, or if the call
     /// fails.
     ///
-    /// Fails if an allocation fails. Over UDP nothing is lost then, because the client sends its
-    /// request again.
+    /// Fails if an allocation fails. Over UDP nothing is lost then, because the client retransmits
+    /// its request.
     pub fn resume_into<'a>(
         &'a self,
         lookup: Lookup<'a>,

@@ -66,7 +66,7 @@ impl<A: Memory> Server<A> {
     ///   responses, are returned to you.
     ///
     /// Fails if an allocation fails, which can happen only for a request. Over UDP nothing is lost
-    /// then, because the client sends its request again.
+    /// then, because the client retransmits its request.
     pub fn receive<'a>(
         &self,
         bytes: &'a [u8],
@@ -89,7 +89,7 @@ impl<A: Memory> Server<A> {
     /// table of all users.
     ///
     /// Fails if an allocation fails, which can happen only for a request. Over UDP nothing is lost
-    /// then, because the client sends its request again.
+    /// then, because the client retransmits its request.
     pub fn receive_for<'a>(
         &'a self,
         bytes: &'a [u8],
@@ -113,7 +113,7 @@ impl<A: Memory> Server<A> {
     /// The buffer is empty afterwards if there is no response, or if the call fails.
     ///
     /// Fails if an allocation fails, which can happen only for a request. Over UDP nothing is lost
-    /// then, because the client sends its request again.
+    /// then, because the client retransmits its request.
     pub fn receive_into<'a>(
         &self,
         bytes: &'a [u8],
@@ -139,7 +139,7 @@ impl<A: Memory> Server<A> {
     /// The buffer is empty afterwards if there is no response, or if the call fails.
     ///
     /// Fails if an allocation fails, which can happen only for a request. Over UDP nothing is lost
-    /// then, because the client sends its request again.
+    /// then, because the client retransmits its request.
     pub fn receive_for_into<'a>(
         &'a self,
         bytes: &'a [u8],

@@ -170,8 +170,8 @@ impl<A: Memory> Checker<A> {
     /// - An indication is dropped if it has a comprehension-required attribute that this agent does
     ///   not understand.
     ///
-    /// Fails if an allocation fails. The role is then unchanged, and the peer sends its check
-    /// again. Memory is allocated only for the answer to a check.
+    /// Fails if an allocation fails. The role is then unchanged, and the peer retransmits its
+    /// check. Memory is allocated only for the answer to a check.
     pub fn receive<'a>(
         &mut self,
         bytes: &'a [u8],
@@ -204,8 +204,8 @@ impl<A: Memory> Checker<A> {
     /// its contents. If the buffer has the capacity for the answer, no memory is allocated for it.
     /// The buffer is empty afterwards if there is no answer, or if the call fails.
     ///
-    /// Fails if an allocation fails. The role is then unchanged, and the peer sends its check
-    /// again.
+    /// Fails if an allocation fails. The role is then unchanged, and the peer retransmits its
+    /// check.
     pub fn receive_into<'a>(
         &mut self,
         bytes: &'a [u8],

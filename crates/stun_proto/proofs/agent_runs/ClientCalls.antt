@@ -205,7 +205,7 @@ events_end late a b xs i first second past reach =
     subst (λ es. EventsReach late a b es [] first second) (take_all i xs past)
     (subst (λ left. EventsReach late a b (take i xs) left first second) (drop_all i xs past) reach)
 
--- the whole round: a look at the deadlines, what is sent again, another look, and `poll`
+-- the whole round: a look at the deadlines, what is retransmitted, another look, and `poll`
 pub events_lead : (one other third_late last_late all now : ℕ) (a b c d : Agent)
     (es : List (ℕ × AgentEvent)) (first second third fourth : Option (List Step))
     (wait : Option ℕ) → one ≤ all → other ≤ all → third_late ≤ all → last_late ≤ all

@@ -1,4 +1,4 @@
--- When a request is due after some timeouts: to be sent again, or to time out.
+-- When a request is due after some timeouts: for a retransmission, or to time out.
 use Rattle.std.proofs.Common.{ℕ, ◌+◌, ◌≡◌, ◌<◌, ◌≤◌, min, cond, ap, arith}
 use Rattle.std.specs.Prelude.{nat_lt}
 use Rattle.std.proofs.lemmas.Bool.{le-ltb, lt-ltb}

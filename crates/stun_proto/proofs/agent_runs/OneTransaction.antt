@@ -1,4 +1,4 @@
--- One request among others: what a call of the agent leaves of it. It is still sent again.
+-- One request among others: what a call of the agent leaves of it. It is still retransmitted.
 use Rattle.std.proofs.Common.{ℕ, ◌≡◌, ◌<◌, ◌≤◌, Bool, true, false, ◌&&◌, cond}
 use Rattle.std.proofs.Common.{subst, ap, sym, refl, ◌∙◌, arith}
 use Rattle.std.specs.Prelude.{find, Some, None, nat_le}

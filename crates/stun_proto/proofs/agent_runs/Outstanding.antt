@@ -1,5 +1,5 @@
--- A request that is outstanding and still sent again, in an agent: what each call of a turn leaves
--- of it.
+-- A request that is outstanding and still retransmitted, in an agent: what each call of a turn
+-- leaves of it.
 use Rattle.std.proofs.Common.{ℕ, ◌≡◌, ◌<◌, ◌≤◌, Bool, true, false, not, ◌&&◌, ◌||◌, cond, List, map}
 use Rattle.std.proofs.Common.{min, subst, ap, sym, refl, ◌∙◌}
 use Rattle.std.specs.Prelude.{Option, Some, None, fold, nat_le}

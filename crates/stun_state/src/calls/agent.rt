@@ -345,8 +345,9 @@ pub extern "C" fn stunp_agent_cancel_retransmissions(
 }
 
 /// Sets the timeouts of the request with this transaction ID. Returns 1, or 0 if no such request is
-/// outstanding. Fails with `BadArgument` if `id` does not have 12 bytes or if the size of the
-/// timeouts is wrong, then with `NoWait` if several transmissions would be due at the same time.
+/// outstanding. Fails with `BadArgument` if `id` is not 12 bytes long or `timeouts.size` is wrong.
+/// Otherwise fails with `NoWait` if the timeouts would make several transmissions due at the same
+/// time.
 #[unsafe(no_mangle)]
 pub extern "C" fn stunp_agent_configure(
     alloc: Global,

@@ -26,9 +26,9 @@ use std::alloc::Global;
 use stun_handles::address::Address;
 use stun_handles::kind::{SERVER, missing};
 
-/// Determines the user with whose key a message that arrived from the address `from` will be
-/// verified. Returns 1 and writes the name of the user to `name`, or returns 2 and writes the hash
-/// of the name, which has 32 bytes. In both cases it writes the length of the name or the hash to
+/// Determines the user whose key will be used to verify a message that arrived from the address
+/// `from`. Returns 1 and writes the name of the user to `name`, or returns 2 and writes the hash of
+/// the name, which has 32 bytes. In both cases it writes the length of the name or the hash to
 /// `name_length`. Returns 0 if the message names nobody. A request or an indication with a USERHASH
 /// names nobody if the server does not accept hashes, even if it has a USERNAME too.
 ///

@@ -52,7 +52,7 @@ async fn drive(mut client: Client, socket: UdpSocket, mut asked: mpsc::Receiver<
     loop {
         let until = loop {
             match client.poll(clock.now()) {
-                // sent again if it is lost
+                // retransmitted if it is lost
                 Output::Transmit { bytes, .. } => drop(socket.send(bytes).await),
                 Output::Ended(request, answer) => {
                     let answer = answer.map_err(Into::into);
@@ -75,7 +75,7 @@ async fn drive(mut client: Client, socket: UdpSocket, mut asked: mpsc::Receiver<
                     Err(error) => drop(caller.send(Err(error.into()))),
                 }
             }
-            // A request may be due to be sent again, or to time out.
+            // A request may be due for retransmission, or may time out.
             () = sleep_until(due.unwrap_or_else(Instant::now)), if due.is_some() => {
                 for (request, _) in callers.iter().filter(|(_, caller)| caller.is_closed()) {
                     client.cancel(*request);

@@ -111,7 +111,7 @@ pub async fn serve(
 
 // ---- The database
 
-/// How long a request waits for its user. After that the client has sent it again.
+/// How long a request waits for its user. After that the client has retransmitted it.
 const LONGEST_QUERY: Duration = Duration::from_secs(1);
 const SET: &str = "insert into stun_user (name, userhash, key_sha1, key_sha256) \
     values ($1, $2, $3, $4) on conflict (name) do update \

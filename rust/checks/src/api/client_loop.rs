@@ -1,5 +1,5 @@
 //! A client that uses an agent and an authenticator, as an application would: it sends requests,
-//! waits, sends them again, and drops forged responses.
+//! waits, retransmits them, and drops forged responses.
 use crate::api::dialogue::{
     CHALLENGE, RENEWED_REQUEST, REQUEST, SIGNED_REQUEST, STALE_NONCE, SUCCESS, Socket, arrivals,
     user,
@@ -64,7 +64,7 @@ fn ask(
     Ok(End::Unanswered)
 }
 
-/// Waits until a request ends, and sends it again meanwhile. Returns `None` if the request was
+/// Waits until a request ends, and retransmits it meanwhile. Returns `None` if the request was
 /// challenged and another one must be sent.
 fn wait_for_end(
     agent: &mut StunAgent,

@@ -36,7 +36,7 @@ fn send<A: Allocator + Copy, D>(
     )
 }
 
-/// Polls both for requests to send again, until neither returns one.
+/// Polls both for requests to retransmit, until neither returns one.
 fn transmitted(agent: &mut StunAgent, table: &mut Table<Global, u8>, millis: u64) {
     loop {
         let sent = agent

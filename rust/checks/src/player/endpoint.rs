@@ -19,6 +19,8 @@ use crate::kit::prelude::String as HeapString;
 /// The settings so far, the server that was built from them, and the last reply of the server.
 pub struct Endpoint<'a> {
     settings: LongTerm,
+    /// Whether the list of algorithms is empty, which no set of them expresses.
+    lacks_algorithms: bool,
     built: Option<Realm<'a>>,
     /// The reply to the last request that was returned to the caller.
     reply: Option<Reply<&'a Heap>>,
@@ -35,6 +37,7 @@ impl Endpoint<'_> {
     pub fn new() -> Self {
         Endpoint {
             settings: LongTerm::new(Global, HeapString::new(Global), drawn(1)),
+            lacks_algorithms: false,
             built: None,
             reply: None,
         }
@@ -54,7 +57,14 @@ pub fn call(stage: &mut Stage<'_>, words: &[&str]) -> Answer {
         ["nonce"] => nonce(stage),
         ["hears", words @ ..] => heard::hear(stage, words),
         ["responds", words @ ..] => respond::respond(stage, words),
+        ["algorithms", "-"] => {
+            stage.endpoint.lacks_algorithms = true;
+            Some(String::new())
+        }
         [name, word] => {
+            if ["realm", "algorithms"].contains(name) {
+                stage.endpoint.lacks_algorithms = false;
+            }
             settings::set(&mut stage.endpoint.settings, name, word)?;
             Some(String::new())
         }
@@ -68,6 +78,8 @@ fn build(stage: &mut Stage<'_>) -> Answer {
     let settings = settings::on_heap(stage, &stage.endpoint.settings)?;
     stage.begin();
     match realm(stage.heap, settings) {
+        // As the crate in Rust does, an empty list is refused after the other settings.
+        Ok(_) if stage.endpoint.lacks_algorithms => return Some("NoAlgorithm".to_string()),
         Ok(realm) => stage.endpoint.built = Some(realm),
         Err(error) => return Some(format!("{error:?}")),
     }

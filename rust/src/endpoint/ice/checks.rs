@@ -158,8 +158,8 @@ impl NewCheck {
         self
     }
 
-    /// Sets when the check is sent again, and how long to wait for its answer. The default is the
-    /// plan of RFC 8489, section 6.2.1. By RFC 8445, section 14.3, the wait after the first
+    /// Sets when the check is retransmitted, and how long to wait for its answer. The default is
+    /// the plan of RFC 8489, section 6.2.1. By RFC 8445, section 14.3, the wait after the first
     /// transmission grows with the number of pairs.
     pub fn retransmission(mut self, retransmission: Retransmission) -> NewCheck {
         self.retransmission = retransmission;

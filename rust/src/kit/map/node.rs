@@ -281,7 +281,7 @@ impl Node {
         self.children.push(child);
     }
 
-    /// Moves the entries in a range of indices to another node, before its entry at `at`.
+    /// Moves the entries in `range` to `other`, inserting them at index `at`.
     fn pass(&mut self, range: Range<usize>, other: &mut Self, at: usize) {
         let (count, end) = (range.len(), other.len());
         other.entries.resize(end + count, Entry::NONE);

@@ -96,7 +96,7 @@ known_of side c later method body options bytes signed_for of meetable signed is
     same : is.bytes ≡ bytes
     same = some_bytes is.bytes bytes (sym is.there ∙ signed.sent)
 
--- what is known of the client after any calls
+-- what is known of the client after a sequence of calls
 record IsLater (side : ClientSide) (later : Client) : Type 0 where
   one : IsOneTable later.requests.table.attached later.requests.numbers later.requests.next
   hears : is_same_address side.server later.server ≡ true

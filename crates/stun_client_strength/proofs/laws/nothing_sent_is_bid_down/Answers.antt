@@ -1,4 +1,4 @@
--- What holds of the challenges of a client holds over any calls.
+-- What holds of the challenges of a client holds for every sequence of calls.
 use Rattle.std.proofs.Common.{◌≡◌, ◌∙◌, ℕ, Bool, true, false, List, [], ◌∷◌, Option, Some, None}
 use Rattle.std.proofs.Common.{Ok, ap, arith, refl, sym}
 use Rattle.std.specs.Bool.{⊤}

@@ -37,7 +37,7 @@ impl<A: Memory> Server<A> {
     /// and pass them to `receive_for`.
     ///
     /// Fails if an allocation fails, which can happen only for a request. Over UDP nothing is lost
-    /// then, because the client sends its request again.
+    /// then, because the client retransmits its request.
     pub fn receive_found<'a>(
         &'a self,
         bytes: &'a [u8],

@@ -1,5 +1,5 @@
-//! Plays the calls on outstanding requests: where they were sent, when they are sent again, and how
-//! they end.
+//! Plays the calls on outstanding requests: where they were sent, when they are retransmitted, and
+//! how they end.
 
 use super::answers;
 use super::timeouts::timeouts;
@@ -53,7 +53,7 @@ pub fn change(stage: &mut Stage<'_>, words: &[&str]) -> Answer {
 }
 
 /// Plays the calls that are made in a loop: `agent poll` prints `wait TIME`, `timed out ID` or
-/// `cancelled ID`; `agent transmit` prints the ID of the request that is sent again, or `none`;
+/// `cancelled ID`; `agent transmit` prints the ID of the request that is retransmitted, or `none`;
 /// `agent transmit-within NUMBER` prints `NoRoom` if that request has more bytes; `agent
 /// next-transmit` prints what `transmit` would print; `agent next-awaited` prints the earliest time
 /// that a request waits for, or `none`.

@@ -54,7 +54,7 @@ impl Requests {
         Some(())
     }
 
-    /// Returns the number of the request that the agent returns to be sent again, if the
+    /// Returns the number of the request that the agent returns for retransmission, if the
     /// transmission has the address of that request and the transport and address of the agent.
     /// Otherwise returns its parts, and `none` if nothing is to be sent.
     pub fn text(&self, sent: Option<Transmit<&[u8]>>, way: Way) -> String {

@@ -1,4 +1,4 @@
-//! The timeouts of a request: when it is sent again, and when it times out.
+//! The timeouts of a request: when it is retransmitted, and when it times out.
 
 use super::answers;
 use crate::exported::stun_agent::agent::RequestRto;
@@ -18,7 +18,7 @@ pub fn timeouts(initial: &str, max: &str, retransmits: &str, last: &str) -> Opti
 }
 
 /// Plays `agent rto [INITIAL MAX RETRANSMITS FINAL] ..`, for these timeouts or for the defaults:
-/// `.. slots udp|tcp` prints how often a request is sent again, `.. timeout NUMBER` the timeout
+/// `.. slots udp|tcp` prints how often a request is retransmitted, `.. timeout NUMBER` the timeout
 /// after this transmission, counted from 0, `.. final-wait udp|tcp` the last timeout, and no word
 /// all four settings.
 pub fn tell(words: &[&str]) -> Answer {

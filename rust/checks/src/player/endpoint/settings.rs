@@ -1,5 +1,6 @@
 //! Plays the settings of a server, one by one.
 
+use crate::exported::stun_auth::auth::AlgorithmSet;
 use crate::exported::stun_endpoint::server::LongTerm;
 use crate::exported::stun_types::attribute::AttributeType;
 use crate::kit::alloc::Global;
@@ -18,10 +19,7 @@ pub fn set(settings: &mut LongTerm, name: &str, word: &str) -> Option<()> {
         "realm" => *settings = LongTerm::new(Global, owned(word), drawn(1)),
         "secret" => settings.secret = secret(word)?,
         "previous-secret" => settings.previous_secret = Some(secret(word)?),
-        "algorithms" => {
-            settings.hmac_sha1 = word.split(',').any(|name| name == "sha1");
-            settings.hmac_sha256 = word.split(',').any(|name| name == "sha256");
-        }
+        "algorithms" => settings.algorithms = algorithms(word)?,
         "hashes" => settings.user_hashes = yes(word)?,
         "lifetime" => settings.nonce_lifetime = span(word)?.as_secs(),
         "understands" => {
@@ -37,13 +35,22 @@ pub fn set(settings: &mut LongTerm, name: &str, word: &str) -> Option<()> {
     Some(())
 }
 
+/// Returns the set of the algorithms of a list.
+fn algorithms(word: &str) -> Option<AlgorithmSet> {
+    match word {
+        "sha1" => Some(AlgorithmSet::OnlySha1),
+        "sha256" => Some(AlgorithmSet::OnlySha256),
+        "sha1,sha256" | "sha256,sha1" => Some(AlgorithmSet::Both),
+        _ => None,
+    }
+}
+
 /// Copies settings to the heap.
 pub fn on_heap<'a>(stage: &Stage<'a>, settings: &LongTerm) -> Option<LongTerm<&'a Heap>> {
     let realm = stage.on_heap(&settings.realm)?;
     let mut copy = LongTerm::new(stage.heap, realm, settings.secret);
     copy.previous_secret = settings.previous_secret;
-    copy.hmac_sha1 = settings.hmac_sha1;
-    copy.hmac_sha256 = settings.hmac_sha256;
+    copy.algorithms = settings.algorithms;
     copy.user_hashes = settings.user_hashes;
     copy.nonce_lifetime = settings.nonce_lifetime;
     copy.answers_binding = settings.answers_binding;

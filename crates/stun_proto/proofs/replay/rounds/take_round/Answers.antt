@@ -1,4 +1,4 @@
--- The events, a look at the deadlines, what is sent again, another look, and `poll`.
+-- The events, a look at the deadlines, what is retransmitted, another look, and `poll`.
 use Rattle.std.proofs.Common.{arith}
 use Rattle.stun_proto.proofs.agent_runs.ClientCalls.{events_lead}
 use Rattle.stun_proto.proofs.replay.rounds.take_round.Goals as goal

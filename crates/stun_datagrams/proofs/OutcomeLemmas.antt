@@ -127,8 +127,8 @@ module _ (s : Settings) (realm : Realm) (from : SocketAddr) (now : ℕ) (bytes :
   }
 
   same_client : (accepted : ClientSeen) (key : List ℕ) (request : AcceptedRequest)
-      → requested (request_for accepted key) ≡ requested request → request.client ≡ client
-      → accepted ≡ client
+      → ◌≡◌ {A = Outcome} (requested (request_for accepted key)) (requested request)
+      → request.client ≡ client → accepted ≡ client
   same_client accepted key request h is =
       let same : request_for accepted key ≡ request = cc in
       ap (λ (q : AcceptedRequest). q.client) same ∙ is

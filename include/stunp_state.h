@@ -436,8 +436,9 @@ typedef struct {
     uint32_t transmissions;
 } stunp_timeouts;
 
-/* The timeouts of section 6.2.1: `initial` is 500 ms, `longest` means no bound, `last` is 8 s, and
- * `transmissions` is 7. Use them in `stunp_timeouts timeouts = STUNP_DEFAULT_TIMEOUTS;` */
+/* Initializer with the timeouts of section 6.2.1: `initial` is 500 ms, `longest` is unlimited,
+ * `last` is 8 s, and `transmissions` is 7. For example, `stunp_timeouts timeouts =
+ * STUNP_DEFAULT_TIMEOUTS;` */
 #define STUNP_DEFAULT_TIMEOUTS {sizeof(stunp_timeouts), 500000000, UINT64_MAX, 8000000000, 7}
 
 /* The counters of an agent, which stunp_agent_statistics writes.

@@ -108,7 +108,7 @@ pub fn is_same_client_validation(
     one == other
 }
 
-/// Returns whether two reasons of a server are equal: the same variant.
+/// Returns whether two error reasons of a server are the same variant.
 pub fn is_same_server_reason(
     one: LongTermServerAuthErrorReason,
     other: LongTermServerAuthErrorReason,
@@ -118,7 +118,7 @@ pub fn is_same_server_reason(
     one == other
 }
 
-/// Returns whether two reasons of a client are equal: the same variant.
+/// Returns whether two error reasons of a client are the same variant.
 pub fn is_same_client_reason(
     one: LongTermClientAuthErrorReason,
     other: LongTermClientAuthErrorReason,

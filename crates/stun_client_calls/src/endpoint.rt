@@ -38,12 +38,13 @@ mod requesting;
 /// of each request once. Take every `now` from one clock that never goes back, because otherwise
 /// requests are retransmitted too late.
 ///
-/// With long-term credentials, a request has a message for each challenge that it answers, and at
-/// most one unsigned message. Each message has a plan of its own: the times at which it is sent,
-/// and how long the client waits for its response. The plan is `Settings::timeouts`, 39.5 seconds
-/// by default, unless the options of the request have other timeouts. After the first plan of a
-/// request nothing is sent for it, so `poll` ends the request after at most two plans, 79 seconds
-/// by default.
+/// With long-term credentials, the client writes a new message of a request for each challenge that
+/// it answers, and at most one unsigned message. Each message has a plan of its own: the times at
+/// which it is sent, and how long the client waits for its response. The plan is
+/// `Settings::timeouts`, 39.5 seconds by default, unless the request's options override it. The
+/// client answers the challenges of a request only within the plan of the request's first message,
+/// and sends nothing for the request after that plan. So `poll` ends a request after at most two
+/// plans, 79 seconds by default.
 ///
 /// If an allocation fails, `request` returns an error. `poll` and `cancel` do not allocate.
 ///

@@ -36,9 +36,10 @@ use stun_extra::canonical_address::canonical;
 use stun_types::message::{Message, MessageClass, Method};
 
 /// A STUN server without credentials, which answers everybody and signs nothing. It stores nothing
-/// about its clients, and no call changes it, so threads share it without a lock.
+/// about its clients, and no call changes it, so threads can share it without a lock.
 ///
-/// Contracts: a server is a record of what it understands, and of what it adds to its responses.
+/// Contracts: a server is a record of the attribute types that it understands, and of its settings
+/// for responses and FINGERPRINT.
 #[derive(Drop)]
 pub struct OpenServer<A: Allocator = Global> {
     responder: Responder<A>,

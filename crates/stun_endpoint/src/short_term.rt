@@ -38,10 +38,11 @@ use signer::{Signer, signer_of};
 pub use users::ShortTermUsers;
 
 /// A STUN server with short-term credentials (RFC 8489, section 9.1). It stores nothing about its
-/// clients, and no call changes it, so threads share it without a lock. The users are an argument
-/// of each call.
+/// clients, and no call changes it, so threads can share it without a lock. The users are an
+/// argument of each call.
 ///
-/// Contracts: a server is a record of what it understands, and of what it adds to its responses.
+/// Contracts: a server is a record of the attribute types that it understands, and of its settings
+/// for responses and FINGERPRINT.
 #[derive(Drop)]
 pub struct ShortTermServer<A: Allocator = Global> {
     responder: Responder<A>,

@@ -12,15 +12,15 @@ use alloc::string::{String, ToString};
 use alloc::vec::Vec;
 use core::fmt;
 
-/// Users whose names are valid for a limited time, as on TURN servers for browsers. A name is
-/// `EXPIRY:USER`, where EXPIRY is in seconds since the beginning of 1970. The password is the
-/// HMAC-SHA1 of the name under a secret, in base64. The service that issues names and the servers
-/// that accept them share the secret, and neither stores a user. No RFC describes this form, but
-/// coturn and many services use it.
+/// Users with time-limited names, as TURN servers for WebRTC use them. A name is `EXPIRY:USER`,
+/// where EXPIRY is a Unix timestamp in seconds. The password is the HMAC-SHA1 of the name under a
+/// secret, in base64. The service that issues names and the servers that accept them share the
+/// secret, and neither stores a user. No RFC describes this form, but coturn and many services use
+/// it.
 ///
 /// The server cannot find a user by the hash of such a name, so switch off
-/// [`user_hashes`](super::LongTerm::user_hashes). If somebody has two names, the server sees two
-/// users, so count users by [`user_in`](Self::user_in).
+/// [`user_hashes`](super::LongTerm::user_hashes). A user with two names looks like two users to the
+/// server. To count users, use [`user_in`](Self::user_in).
 ///
 /// # Examples
 ///

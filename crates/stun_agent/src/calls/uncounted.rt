@@ -1,7 +1,8 @@
-//! The permission to search the requests, or to read one of them, without a count. Only the modules
-//! below `calls` can create it. `poll` is not one of these modules, so it cannot create it.
+//! A token that allows code to search or read the requests without counting the reads. `poll` must
+//! count each read (see `poll::reads`), so only the modules below `calls`, of which `poll` is none,
+//! can create the token.
 
-/// The permission to search the requests, or to read one of them, without a count.
+/// A token that allows code to search or read the requests without counting the reads.
 #[derive(Clone, Copy)]
 pub(crate) struct Uncounted {
     leave: (),

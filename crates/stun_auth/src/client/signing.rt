@@ -90,7 +90,7 @@ impl<A: Allocator> KeptChallenge<A> {
         add_integrity(writer, &self.key, self.algorithm)
     }
 
-    /// Returns the number of bytes that signing adds to a request, at most 2^64 - 1.
+    /// Returns the number of bytes that signing adds to a request, saturating at 2^64 - 1.
     fn signature_bytes(&self) -> usize
         ensures { result ≡ min (growth (challenge_additions true (challenge_seen self.now)))
             (2 ^ 64 - 1) }
@@ -100,7 +100,7 @@ impl<A: Allocator> KeptChallenge<A> {
             .saturating_add(integrity_bytes(self.algorithm))
     }
 
-    /// Returns the number of bytes that `add_identity` adds, at most 2^64 - 1.
+    /// Returns the number of bytes that `add_identity` adds, saturating at 2^64 - 1.
     fn identity_bytes(&self) -> usize
         ensures { result ≡ min (growth (identity (challenge_seen self.now))) (2 ^ 64 - 1) }
     {
@@ -109,7 +109,7 @@ impl<A: Allocator> KeptChallenge<A> {
             .saturating_add(self.naming.bytes())
     }
 
-    /// Returns the number of bytes that `add_algorithm_choice` adds, at most 2^64 - 1.
+    /// Returns the number of bytes that `add_algorithm_choice` adds, saturating at 2^64 - 1.
     fn choice_bytes(&self) -> usize
         ensures { result ≡ min (growth (algorithm_choice
             (challenge_seen self.now).algorithms self.now.algorithm)) (2 ^ 64 - 1) }
@@ -165,7 +165,7 @@ impl<A: Allocator> LongTermClientAuth<A> {
     }
 
     /// Returns the number of bytes that `sign_outgoing_message` adds to a request, or 0 if the
-    /// client has not accepted a challenge yet. The result is at most 2^64 - 1.
+    /// client has not accepted a challenge yet. The result saturates at 2^64 - 1.
     pub fn message_signature_bytes(&self) -> usize
         ensures { result ≡ min (growth (client_additions true self.now.state)) (2 ^ 64 - 1) }
     {

@@ -1,4 +1,4 @@
-//! The causes for which a request is refused, for counters and a log (RFC 8489, sections 6.3.1 and
+//! The reasons why a server refuses a request, for counters and logs (RFC 8489, sections 6.3.1 and
 //! 9.2.4).
 
 ghost use Rattle.std.specs.Option.{option_copied};

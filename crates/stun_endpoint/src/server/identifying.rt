@@ -241,7 +241,8 @@ impl<A: Memory> Server<A> {
         }
     }
 
-    /// Returns the user whom a request waits for, or `None` if it does not wait.
+    /// Returns the user who must be looked up before the request can be judged, or `None` if no
+    /// look-up is needed.
     #[tactic(auto, using(crate::proofs::ReadyLemmas::claim_is_awaited, crate::proofs::ReadyLemmas::nobody_is_awaited))]
     fn awaited<'a>(
         &self,

@@ -21,9 +21,9 @@ use stun_base::memory::Memory;
 use stun_base::prepared_key::PreparedKey;
 
 impl<A: Memory> Server<A> {
-    /// Judges a request that arrived from the address `from` in this epoch. If its nonce is not the
-    /// current one, it is judged under the earlier nonce that it has. `nonce` is the current nonce,
-    /// which the server makes for `from` in this epoch.
+    /// Judges a request that arrived from the address `from` in this epoch. `nonce` is the current
+    /// nonce, which the server makes for `from` in this epoch. A request with an earlier nonce that
+    /// is still accepted is judged under that nonce.
     #[tactic(auto, using(crate::proofs::EarlierLemmas::accepted_decides, crate::proofs::EarlierLemmas::unauthorized_decides, crate::proofs::EarlierLemmas::bad_decides, crate::proofs::EarlierLemmas::no_earlier_accepts))]
     pub(super) fn judged_in<'a>(
         &self,

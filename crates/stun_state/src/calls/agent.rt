@@ -393,9 +393,8 @@ pub extern "C" fn stunp_agent_validated_peer(
     answer
 }
 
-/// Returns 1 if the address `peer` is a validated peer, because a message from it was accepted or
-/// because it was added, and otherwise 0. Fails with `BadArgument` if `peer` is not an IPv4 or IPv6
-/// address.
+/// Returns 1 if the address `peer` is a validated peer (a message from it was accepted, or it was
+/// added), and 0 if it is not. Fails with `BadArgument` if `peer` is not an IPv4 or IPv6 address.
 #[unsafe(no_mangle)]
 pub extern "C" fn stunp_agent_is_validated_peer(
     alloc: Global,

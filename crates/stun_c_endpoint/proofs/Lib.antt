@@ -14,5 +14,6 @@ mod NumberLemmas
 mod ReplyLemmas
 mod RoleLemmas
 mod ServerLawLemmas
+mod ReasonLemmas
 mod SettingLawLemmas
 mod UserLawLemmas

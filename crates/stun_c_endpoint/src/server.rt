@@ -61,8 +61,8 @@ fn answered(
     Ok(1)
 }
 
-/// Writes the outcome of a datagram at a server to `received`, and the server's own response, if there
-/// is one, to `out`. Returns the `stunp_kind`.
+/// Writes the outcome of a datagram at a server to `received`, and the server's own response, if
+/// there is one, to `out`. Returns the `stunp_kind`.
 pub fn tell<R: Accepted, I: Accepted>(
     outcome: &Outcome<'_, Global, R, I>,
     out: &mut [u8],

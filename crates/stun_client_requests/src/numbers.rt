@@ -1,5 +1,5 @@
-//! Maps the number of each request to its transaction ID while the request is outstanding, and to its
-//! outcome once it has ended.
+//! Maps the number of each request to its transaction ID while the request is outstanding, and to
+//! its outcome once it has ended.
 ghost use Rattle.std.specs.BTreeMap.{insert_entry, is_at};
 ghost use Rattle.std.specs.List.Sorted.{IsStrictlySortedBy};
 ghost use Rattle.std.specs.Map.{keys_of, remove_entry, values_of};

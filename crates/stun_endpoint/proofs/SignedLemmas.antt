@@ -2,7 +2,7 @@
 -- else is refused.
 use Rattle.std.proofs.Common.{◌≡◌, inl, inr, ℕ, List, Option, Some, None}
 use Rattle.std.proofs.Common.{Bool, true, false, refl, sym, ◌∙◌, ap, subst, Ok, Err}
-use Rattle.std.specs.Prelude.{cond}
+use Rattle.std.specs.Prelude.{◌⊎◌, cond}
 use Rattle.std.specs.FinMap as map
 use Rattle.std.specs.Option.{is_none}
 use Rattle.std.specs.declared.net.socket_addr.SocketAddr.{SocketAddr}
@@ -31,6 +31,7 @@ use Rattle.stun_endpoint.specs.ShortTerm.{name_or_refusal, named_by, named_or_re
 use Rattle.stun_endpoint.specs.ShortTerm.{received_signed, requested, signature_of, signer_named}
 use Rattle.stun_endpoint.specs.ShortTerm.{signer_of, unless_dropped}
 use Rattle.stun_endpoint.specs.declared.received.DropReason.{DropReason}
+use Rattle.stun_endpoint.specs.declared.received.DropReason.TheVariants.{NotSigned}
 use Rattle.stun_endpoint.specs.declared.received.DropReason.TheVariants.{UnknownAttribute}
 use Rattle.stun_endpoint.specs.declared.received.Refusal.{Refusal}
 use Rattle.stun_endpoint.specs.declared.received.Refusal.TheVariants as refused
@@ -256,6 +257,42 @@ module _ (s : Responding) (users : Keys) (from : SocketAddr) (bytes : List ℕ) 
   signed_comes_to signer kept request is =
       request_comes_to kept request
       ∙ ap (by_signer s from bytes) ((signed-iff users bytes signer).1 is)
+
+  -- ---- an indication that no user has signed
+  unsigned_by : (r : Result Signer Refusal) → signer_of users bytes ≡ r → IsPlain r
+      → ((signer : Signer) → IsSignedBy users bytes signer → ⊥)
+      → (indicated_by s bytes r ≡ dropped (NotSigned refused.BadRequest))
+      ⊎ (indicated_by s bytes r ≡ dropped (NotSigned refused.Unauthenticated))
+  unsigned_by (Ok signer) is plain nobody =
+      absurd (nobody signer ((signed-iff users bytes signer).0 is))
+  unsigned_by (Err refused.BadRequest) is plain nobody = inl refl
+  unsigned_by (Err refused.Unauthenticated) is plain nobody = inr refl
+  unsigned_by (Err refused.UnknownAttribute) is plain nobody = absurd plain
+  unsigned_by (Err refused.StaleNonce) is plain nobody = absurd plain
+
+  indication_comes_to : drop_reason s.requires_fingerprint bytes ≡ None
+      → class_in bytes ≡ Indication
+      → received_signed s users from bytes ≡ indicated_by s bytes (signer_of users bytes)
+  indication_comes_to kept indication =
+      ap (unless_dropped (by_class_signed s users from bytes (class_in bytes))) kept
+      ∙ ap (by_class_signed s users from bytes) indication
+
+  pub unsigned_indication : drop_reason s.requires_fingerprint bytes ≡ None
+      → class_in bytes ≡ Indication
+      → ((signer : Signer) → IsSignedBy users bytes signer → ⊥)
+      → (received_signed s users from bytes ≡ dropped (NotSigned refused.BadRequest))
+      ⊎ (received_signed s users from bytes ≡ dropped (NotSigned refused.Unauthenticated))
+  unsigned_indication kept indication nobody =
+      by (unsigned_by (signer_of users bytes) refl (plain_signer users bytes) nobody)
+    where
+      by : (indicated_by s bytes (signer_of users bytes)
+          ≡ dropped (NotSigned refused.BadRequest))
+          ⊎ (indicated_by s bytes (signer_of users bytes)
+          ≡ dropped (NotSigned refused.Unauthenticated))
+          → (received_signed s users from bytes ≡ dropped (NotSigned refused.BadRequest))
+          ⊎ (received_signed s users from bytes ≡ dropped (NotSigned refused.Unauthenticated))
+      by (inl is) = inl (indication_comes_to kept indication ∙ is)
+      by (inr is) = inr (indication_comes_to kept indication ∙ is)
 
   by_refused : (r : Result Signer Refusal) → signer_of users bytes ≡ r
       → ((signer : Signer) → IsSignedBy users bytes signer → ⊥)

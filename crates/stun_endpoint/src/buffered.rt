@@ -24,8 +24,8 @@ pub struct BufferedAnswer {
     pub refusal: Option<Refusal>,
 }
 
-/// The outcome of a datagram whose response is in your buffer. `R` is the type of an accepted request
-/// and `I` that of an accepted indication, as in `Received`.
+/// The outcome of a datagram whose response is in your buffer. `R` is the type of an accepted
+/// request and `I` that of an accepted indication, as in `Received`.
 #[derive(Debug, Drop)]
 #[non_exhaustive]
 pub enum ReceivedInto<'a, R = Request<'a>, I = Message<'a>> {

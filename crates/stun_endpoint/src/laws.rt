@@ -44,6 +44,7 @@ ghost use Rattle.stun_endpoint.specs.ShortTerm as short_term;
 ghost use Rattle.stun_endpoint.specs.ShortTerm.{IsSignedBy, Keys, SignedIndication, Signer};
 ghost use Rattle.stun_endpoint.specs.ShortTerm.{or_handed, received_signed, signature_of};
 ghost use Rattle.stun_endpoint.specs.ShortTerm.{signer_of};
+ghost use Rattle.stun_endpoint.specs.declared.received.DropReason.TheVariants.{NotSigned};
 ghost use Rattle.stun_endpoint.specs.declared.received.DropReason.TheVariants.{UnknownAttribute};
 ghost use Rattle.stun_endpoint.specs.declared.received.Refusal.{Refusal};
 ghost use Rattle.stun_endpoint.specs.declared.received.Refusal.TheVariants as refused;
@@ -253,6 +254,19 @@ pub fn signers_are_known_exactly()
         → ((signer : Signer) → IsSignedBy users bytes signer → ⊥)
         → (why : Refusal)
         × (received_signed s users from bytes ≡ short_term.answered (refusal_by s why from bytes)) }
+{}
+
+/// At a server with short-term credentials, an indication that is not dropped for another reason
+/// and that no user has signed is dropped as `NotSigned`, with the refusal 400 or 401.
+pub fn unsigned_indications_are_dropped()
+    ensures { (s : Responding) (users : Keys) (from : SocketAddr) (bytes : List ℕ)
+        → drop_reason s.requires_fingerprint bytes ≡ None
+        → class_in bytes ≡ MessageClass.Indication
+        → ((signer : Signer) → IsSignedBy users bytes signer → ⊥)
+        → (received_signed s users from bytes
+        ≡ short_term.dropped (NotSigned refused.BadRequest))
+        ⊎ (received_signed s users from bytes
+        ≡ short_term.dropped (NotSigned refused.Unauthenticated)) }
 {}
 
 /// A request or an indication that `received_signed` returns to the caller comes from the user who

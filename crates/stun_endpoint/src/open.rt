@@ -68,8 +68,8 @@ impl<A: Allocator> fmt::Debug for OpenServer<A> {
     }
 }
 
-/// The outcome of a datagram at a server without credentials, whose requests and indications anybody
-/// may have sent.
+/// The outcome of a datagram at a server without credentials, whose requests and indications
+/// anybody may have sent.
 pub type OpenReceived<'a, A = Global> = Received<'a, A, OpenRequest<'a, A>>;
 
 /// A request to a server without credentials. Anybody may have sent it.

@@ -71,8 +71,8 @@ impl<A: Allocator> fmt::Debug for ShortTermServer<A> {
     }
 }
 
-/// The outcome of a datagram at a server with short-term credentials, whose requests and indications
-/// its users have signed.
+/// The outcome of a datagram at a server with short-term credentials, whose requests and
+/// indications its users have signed.
 pub type ShortTermReceived<'a, A> = Received<'a, A, Request<'a, A>, ShortTermIndication<'a>>;
 
 /// An indication that a user has signed.

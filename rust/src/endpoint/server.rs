@@ -1593,10 +1593,10 @@ impl Users {
 /// The outcome of a datagram at a server.
 ///
 /// `B` is the type of a response's bytes: a `Vec`, a slice of the buffer that was passed to
-/// [`receive_into`](Server::receive_into), or in a batch a range of its [`Answers`](super::Answers).
-/// `R` and `I` are the types of an accepted request and of an accepted indication. They depend on
-/// the kind of server: the defaults are those of [`Server`], and [`OpenReceived`] and
-/// [`ShortTermReceived`] name the types of the two other kinds.
+/// [`receive_into`](Server::receive_into), or in a batch a range of its
+/// [`Answers`](super::Answers). `R` and `I` are the types of an accepted request and of an accepted
+/// indication. They depend on the kind of server: the defaults are those of [`Server`], and
+/// [`OpenReceived`] and [`ShortTermReceived`] name the types of the two other kinds.
 ///
 /// [`OpenReceived`]: super::OpenReceived
 /// [`ShortTermReceived`]: super::ShortTermReceived

@@ -8,12 +8,15 @@ ghost use Rattle.stun_c_endpoint.specs.HandleLaws.{IsErrorNumber};
 ghost use Rattle.stun_c_endpoint.specs.Kept.{Judge};
 ghost use Rattle.stun_c_endpoint.specs.Lookups.{IdentifiesAs, identified_at};
 ghost use Rattle.stun_c_endpoint.specs.ServerLaws.{Names};
-ghost use Rattle.stun_c_endpoint.specs.Told.{IsTold, ReceivesAs, failed, outcome_at, outcome_by};
+ghost use Rattle.stun_c_endpoint.specs.Told.{IsTold, ReceivesAs, failed, of_users, outcome_at};
+ghost use Rattle.stun_c_endpoint.specs.Told.{outcome_by, told_of};
 ghost use Rattle.stun_c_endpoint.specs.declared.received.Received.{Received};
 ghost use Rattle.stun_endpoint.specs.Causes.{cause_of};
 ghost use Rattle.stun_endpoint.specs.Judged.{realm_of_table};
 ghost use Rattle.stun_endpoint.specs.Lookups.{LookupSeen, identified_by, looked_up};
 ghost use Rattle.stun_endpoint.specs.Settings.{Settings};
+ghost use Rattle.stun_endpoint.specs.ShortTerm as short_term;
+ghost use Rattle.stun_endpoint.specs.declared.received.DropReason.{DropReason};
 ghost use Rattle.stun_handles.specs.Addresses.{socket_address};
 ghost use Rattle.stun_handles.specs.declared.address.Address.{Address};
 ghost use Rattle.stun_numbers.specs.Refusals.{refusal_number};
@@ -48,6 +51,17 @@ pub fn datagrams_are_judged_as_by_the_library()
         → (address : SocketAddr) × (socket_address from ≡ Some address)
         × (n ≡ cause_number
         (cause_of realm.settings (realm_of_table realm.users) address seconds bytes)) }
+{}
+
+/// States that the fields `why` and `code` of the caller's struct tell the reasons to drop a
+/// datagram apart: if two dropped datagrams have the same numbers there, the library dropped both
+/// for the same reason.
+pub fn reasons_are_told_apart()
+    ensures { (one other : DropReason) (r before : Received)
+        → (told_of (of_users (short_term.dropped one)) r).why
+        ≡ (told_of (of_users (short_term.dropped other)) before).why
+        → (told_of (of_users (short_term.dropped one)) r).code
+        ≡ (told_of (of_users (short_term.dropped other)) before).code → one ≡ other }
 {}
 
 /// States that a call asks its caller to look up the user of a request only if the library does.

@@ -70,6 +70,8 @@ use crate::Instant;
 use crate::copies::{granted, text};
 use crate::credentials::{LongTermCredentials, ShortTermCredentials};
 use crate::exported::stun_auth::auth as proved;
+use crate::exported::stun_judging::read_message::ReadMessage;
+use crate::exported::stun_judging::user::LongTermServerUser as ProvedUser;
 use crate::exported::stun_types::message::{IntegrityAlgorithm, StunWriteError, ValidateError};
 use crate::exported::stun_types::prelude::MessageWrite;
 use crate::keys::IntegrityKey;
@@ -84,12 +86,26 @@ use core::net::SocketAddr;
 use core::time::Duration;
 
 pub use crate::exported::stun_auth::auth::{
-    Feature, LONG_TERM_RFC8489_NONCE_COOKIE, LongTermAuthError, LongTermClientAuthError,
-    LongTermClientAuthErrorReason, LongTermClientValidation, LongTermServerAuthError,
-    LongTermServerAuthErrorReason, LongTermServerValidation, NamedUser, StoredKeys, VerdictRefusal,
+    LongTermAuthError, LongTermClientAuthError, LongTermClientAuthErrorReason,
+    LongTermClientValidation, LongTermServerAuthError, LongTermServerAuthErrorReason,
+    LongTermServerValidation,
 };
+pub use crate::exported::stun_judging::feature::Feature;
+pub use crate::exported::stun_judging::named_user::NamedUser;
+pub use crate::exported::stun_judging::nonce::LONG_TERM_RFC8489_NONCE_COOKIE;
+pub use crate::exported::stun_judging::refusal::VerdictRefusal;
+pub use crate::exported::stun_judging::stored_keys::StoredKeys;
 pub use crate::keys::Accepted;
 pub use crate::nonce::NonceSecurityBits;
+
+impl VerdictRefusal {
+    /// Returns the reason with which [`LongTermServerAuth::validate_incoming_message`] fails for
+    /// this refusal.
+    #[must_use]
+    pub fn reason(self) -> LongTermServerAuthErrorReason {
+        LongTermServerAuthErrorReason::from(self)
+    }
+}
 
 /// The shortest nonce lifetime that a server accepts: 30 seconds.
 ///
@@ -1063,7 +1079,7 @@ impl LongTermServerAuth {
     ///
     /// This call checks neither the signature nor the nonce, so an attacker can name any user.
     pub fn named_in<'a>(&self, message: &'a Message<'_>) -> Option<NamedUser<'a>> {
-        self.proved.named_in(&message.0)
+        self.proved.as_realm().named_in(&ReadMessage::of(&message.0))
     }
 
     /// Makes the keys of a user who is not registered with this server.
@@ -1075,7 +1091,7 @@ impl LongTermServerAuth {
     /// supported now. The server itself is unchanged.
     pub fn prepare_user(&self, credentials: LongTermCredentials) -> LongTermServerUser {
         LongTermServerUser {
-            proved: granted(self.proved.prepare_user(credentials.0)),
+            proved: granted(self.proved.as_realm().prepare_user(credentials.0)),
         }
     }
 
@@ -1085,7 +1101,11 @@ impl LongTermServerAuth {
     /// ignored.
     pub fn prepare_user_with_keys(&self, username: String, keys: StoredKeys) -> LongTermServerUser {
         LongTermServerUser {
-            proved: granted(self.proved.prepare_user_with_keys(text(username), keys)),
+            proved: granted(
+                self.proved
+                    .as_realm()
+                    .prepare_user_with_keys(text(username), keys),
+            ),
         }
     }
 
@@ -1112,7 +1132,7 @@ impl LongTermServerAuth {
     /// secret, the address of the client and the time, because anybody who can predict them can
     /// predict nonces.
     pub fn nonce_of_words(&self, words: &[u32; 16]) -> String {
-        String::from(granted(self.proved.nonce_of_words(words)).as_str())
+        String::from(granted(self.proved.as_realm().nonce_of_words(words)).as_str())
     }
 
     /// Judges a request or an indication as if the nonce that you pass were the current one, and
@@ -1182,7 +1202,9 @@ impl LongTermServerAuth {
         message: &'a Message<'_>,
         nonce: &str,
     ) -> Result<Accepted<'a>, VerdictRefusal> {
-        judged(message, self.proved.judge(&message.0, nonce).map(Accepted))
+        let read = ReadMessage::of(&message.0);
+        let accepted = self.proved.as_realm().judge(&read, nonce);
+        judged(message, accepted.map(Accepted))
     }
 
     /// Judges a request or an indication like [`judge`](Self::judge), as a server whose only user
@@ -1202,7 +1224,9 @@ impl LongTermServerAuth {
         nonce: &str,
         user: &'a LongTermServerUser,
     ) -> Result<Accepted<'a>, VerdictRefusal> {
-        let accepted = self.proved.judge_of(&message.0, nonce, &user.proved);
+        let read = ReadMessage::of(&message.0);
+        let realm = self.proved.as_realm();
+        let accepted = realm.judge_of(&read, nonce, &user.proved);
         judged(message, accepted.map(Accepted))
     }
 
@@ -1279,7 +1303,8 @@ impl LongTermServerAuth {
         message: W,
         nonce: &str,
     ) -> Result<W, StunWriteError> {
-        self.proved.add_challenge(with_header(message)?, nonce)
+        let realm = self.proved.as_realm();
+        realm.add_challenge(with_header(message)?, nonce)
     }
 
     /// Judges a message like a server whose only user is `user`, with random numbers from your own
@@ -1398,7 +1423,7 @@ impl LongTermServerAuth {
 ///     auth.prepare_user_with_keys("alice".to_string(), keys);
 /// ```
 pub struct LongTermServerUser {
-    proved: proved::LongTermServerUser,
+    proved: ProvedUser,
 }
 
 impl LongTermServerUser {
@@ -1408,7 +1433,7 @@ impl LongTermServerUser {
     /// If so, you can pass the user to the server. If not, prepare the user again, because the
     /// server would judge and sign for the realm and the algorithms that the user was prepared for.
     pub fn belongs_to(&self, server: &LongTermServerAuth) -> bool {
-        self.proved.belongs_to(&server.proved)
+        self.proved.belongs_to(server.proved.as_realm())
     }
 }
 

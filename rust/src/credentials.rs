@@ -2,7 +2,7 @@
 //! neither.
 
 use crate::copies::{copy, granted, text};
-use crate::exported::stun_auth::auth::StoredKeys;
+use crate::exported::stun_judging::stored_keys::StoredKeys;
 use crate::exported::stun_types::message::MessageIntegrityCredentials as Proved;
 use crate::exported::stun_types::message::{self as proved, IntegrityAlgorithm};
 use crate::keys::IntegrityKey;

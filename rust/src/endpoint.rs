@@ -44,8 +44,8 @@
 //! ```
 
 use crate::exported::stun_client_endpoint::ended;
-use crate::exported::stun_auth::auth::AlgorithmSet;
 use crate::exported::stun_endpoint::{received, server as core_server};
+use crate::exported::stun_judging::algorithm_set::AlgorithmSet;
 use crate::exported::stun_types::message::IntegrityAlgorithm;
 use core::fmt;
 

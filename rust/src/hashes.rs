@@ -1,10 +1,10 @@
 //! `Hash` of types of the core, for maps of counters.
 
-use crate::exported::stun_auth::auth::NamedUser;
 use crate::exported::stun_endpoint::{received, server::Cause};
 use crate::exported::stun_extra::{fingerprint::Fingerprint, framing::Frame};
 use crate::exported::stun_ice::received::{Judged, Refusal};
 use crate::exported::stun_ice::role::Role;
+use crate::exported::stun_judging::named_user::NamedUser;
 use core::hash::{Hash, Hasher};
 use core::mem::discriminant;
 

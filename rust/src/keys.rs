@@ -1,8 +1,8 @@
 //! Keys, and the user from whom a message was accepted.
 
 use crate::copies::{copy, granted};
-use crate::exported::stun_auth::auth as proved_auth;
 use crate::exported::stun_base::compare::is_same_text;
+use crate::exported::stun_judging::accepted as judging;
 use crate::exported::stun_types::message::{self as proved, IntegrityAlgorithm};
 use crate::kit::alloc::Global;
 use core::fmt;
@@ -149,7 +149,7 @@ impl fmt::Debug for PreparedKey {
 ///     println!("{} by {}", accepted.name(), accepted.algorithm());
 /// }
 /// ```
-pub struct Accepted<'a>(pub(crate) proved_auth::Accepted<'a, Global>);
+pub struct Accepted<'a>(pub(crate) judging::Accepted<'a, Global>);
 
 impl<'a> Accepted<'a> {
     /// Returns the user's name, even if the message named the user by a hash.

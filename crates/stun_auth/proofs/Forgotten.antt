@@ -19,9 +19,10 @@ use Rattle.stun_auth.specs.declared.server.places.Place.{Place}
 use Rattle.stun_auth.specs.Forgetting.{is_forgotten, place_kept, places_kept}
 use Rattle.stun_auth.specs.Places.{PlacesSeen}
 use Rattle.stun_auth.specs.code.Places.{place_seen, places_seen}
-use Rattle.stun_auth.specs.Seen.{ClientSeen, PlaceSeen}
+use Rattle.stun_judging.specs.Verdict.{ClientSeen}
+use Rattle.stun_auth.specs.Seen.{PlaceSeen}
 use Rattle.stun_base.proofs.Addresses.{address_total, address_exact}
-use Rattle.stun_auth.proofs.Maps.{get-seen}
+use Rattle.stun_judging.proofs.Maps.{get-seen}
 use Rattle.stun_auth.proofs.PlaceMaps.{derived, derived_is}
 
 -- a place that is kept is what is kept of it

@@ -4,16 +4,14 @@ use Rattle.std.proofs.Common.{Bool, true, false, refl, sym, ◌∙◌, ap}
 use Rattle.std.specs.Prelude.{cond, slice_get, ◌||◌}
 use Rattle.std.specs.Option.{option_map}
 use Rattle.std.specs.Str.{bytes_eq}
-use Rattle.stun_auth.specs.declared.server.reason.VerdictRefusal.{VerdictRefusal}
-use Rattle.stun_auth.specs.declared.server.reason.VerdictRefusal.TheVariants.{Unauthorized}
-use Rattle.stun_auth.specs.declared.server.reason.VerdictRefusal.TheVariants.{BadRequest}
-use Rattle.stun_auth.specs.declared.server.reason.VerdictRefusal.TheVariants.{StaleNonce}
+use Rattle.stun_judging.specs.declared.refusal.VerdictRefusal.{VerdictRefusal}
+use Rattle.stun_judging.specs.declared.refusal.VerdictRefusal.TheVariants.{Unauthorized, BadRequest}
+use Rattle.stun_judging.specs.declared.refusal.VerdictRefusal.TheVariants.{StaleNonce}
 use Rattle.stun_auth.specs.Datagrams.{TimedDatagram, Derivation, JudgesEachDatagram}
-use Rattle.stun_auth.specs.Datagrams.{judged_datagram}
-use Rattle.stun_auth.specs.Datagrams.{nonce_for_datagram, told_refusal}
-use Rattle.stun_auth.specs.Reading.{Reading, reading_of}
-use Rattle.stun_auth.specs.Server.{their_nonce}
-use Rattle.stun_auth.specs.Validation.{ServerSeen, is_malformed}
+use Rattle.stun_auth.specs.Datagrams.{judged_datagram, nonce_for_datagram}
+use Rattle.stun_judging.specs.Verdict.{told_refusal, their_nonce}
+use Rattle.stun_judging.specs.Reading.{Reading, reading_of, is_malformed}
+use Rattle.stun_auth.specs.Validation.{ServerSeen}
 use Rattle.stun_auth.proofs.JudgedEpochs.{accepted_in}
 
 get-map : {A B : Type 0} (f : A → B) (xs : List A) (i : ℕ) (x : A) → slice_get xs i ≡ Some x

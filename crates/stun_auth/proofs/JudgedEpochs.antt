@@ -5,20 +5,18 @@ use Rattle.std.specs.Prelude.{cond, not}
 use Rattle.std.specs.Str.{bytes_eq}
 use Rattle.std.proofs.lemmas.Slice.Eq.{bytes_eq-Decides}
 use Rattle.std.specs.declared.result.Result.{Result}
-use Rattle.stun_auth.specs.declared.server.reason.VerdictRefusal.{VerdictRefusal}
-use Rattle.stun_auth.specs.declared.server.reason.VerdictRefusal.TheVariants.{Unauthorized}
-use Rattle.stun_auth.specs.declared.server.reason.VerdictRefusal.TheVariants.{BadRequest}
-use Rattle.stun_auth.specs.declared.server.reason.VerdictRefusal.TheVariants.{StaleNonce}
-use Rattle.stun_auth.specs.Epochs.{IsAcceptedAt, IsAcceptedIn, judged_in, nonce_in, or_before}
+use Rattle.stun_judging.specs.declared.refusal.VerdictRefusal.{VerdictRefusal}
+use Rattle.stun_judging.specs.declared.refusal.VerdictRefusal.TheVariants.{Unauthorized, BadRequest}
+use Rattle.stun_judging.specs.declared.refusal.VerdictRefusal.TheVariants.{StaleNonce}
+use Rattle.stun_auth.specs.Epochs.{IsAcceptedAt, IsAcceptedIn, judged_in, nonce_in}
+use Rattle.stun_judging.specs.Verdict.{or_before, ClientSeen, bits_differ}
 use Rattle.stun_auth.specs.Judged.{verdict_by_nonce}
-use Rattle.stun_auth.specs.Nonces.{security_bits}
-use Rattle.stun_auth.specs.Reading.{Reading}
-use Rattle.stun_auth.specs.Seen.{ClientSeen}
-use Rattle.stun_auth.specs.Server.{bits_differ}
+use Rattle.stun_judging.specs.Nonces.{security_bits}
+use Rattle.stun_judging.specs.Reading.{Reading}
 use Rattle.stun_auth.specs.Validation.{ServerSeen}
-use Rattle.stun_auth.proofs.Accepting.{accepted_from_verdict, verdict_from_accepted}
-use Rattle.stun_auth.proofs.Accepting.{verdict_under_other}
-use Rattle.stun_auth.proofs.NonceTexts.{bits_alike}
+use Rattle.stun_judging.proofs.Accepting.{accepted_from_verdict, verdict_from_accepted}
+use Rattle.stun_judging.proofs.Accepting.{verdict_under_other}
+use Rattle.stun_judging.proofs.NonceTexts.{bits_alike}
 
 bits-same : (bits : Option (List ℕ)) → bits_differ bits bits ≡ false
 bits-same None = refl

@@ -6,13 +6,14 @@ use Rattle.std.specs.declared.net.socket_addr.SocketAddr.{SocketAddr}
 use Rattle.stun_base.specs.MessageType.{is_response}
 use Rattle.stun_base.specs.Moments.{moment_after}
 use Rattle.stun_auth.specs.Judged.{verdict_by_nonce}
-use Rattle.stun_auth.specs.Nonces.{nonce_of}
-use Rattle.stun_auth.specs.Reading.{Reading}
+use Rattle.stun_judging.specs.Nonces.{nonce_of}
+use Rattle.stun_judging.specs.Reading.{Reading}
 use Rattle.stun_auth.specs.Seen.{PlaceSeen, renewed_place}
-use Rattle.stun_auth.specs.Server.{current_place, current_place_of, has_current_nonce, verdict}
+use Rattle.stun_auth.specs.Server.{current_place, current_place_of, has_current_nonce}
+use Rattle.stun_judging.specs.Verdict.{verdict}
 use Rattle.stun_auth.specs.Validation.{ServerSeen, answer, answer_to, needs_nonce, place_after}
 use Rattle.stun_auth.specs.Validation.{sight, verdict_at, with_accepted}
-use Rattle.stun_auth.proofs.Accepting.{unresponded}
+use Rattle.stun_auth.proofs.AcceptedAnswers.{unresponded}
 
 module _ (s : ServerSeen) (from : SocketAddr) (now : ℕ) (words : List ℕ) (place : PlaceSeen)
     (is : fin.get s.places from ≡ Some place)

@@ -13,22 +13,22 @@ use Rattle.stun_base.specs.MessageType.{is_response}
 use Rattle.stun_base.specs.Moments.{moment_after}
 use Rattle.stun_base.specs.declared.keys.algorithm.IntegrityAlgorithm.{IntegrityAlgorithm}
 use Rattle.stun_base.specs.declared.keys.algorithm.IntegrityAlgorithm.TheVariants.{Sha1}
-use Rattle.stun_auth.specs.declared.algorithm_set.AlgorithmSet.{AlgorithmSet}
-use Rattle.stun_auth.specs.declared.feature.Feature.{Feature}
-use Rattle.stun_auth.specs.declared.server.reason.VerdictRefusal.{VerdictRefusal}
-use Rattle.stun_auth.specs.Algorithms.{algorithms_of}
+use Rattle.stun_judging.specs.declared.algorithm_set.AlgorithmSet.{AlgorithmSet}
+use Rattle.stun_judging.specs.declared.feature.Feature.{Feature}
+use Rattle.stun_judging.specs.declared.refusal.VerdictRefusal.{VerdictRefusal}
+use Rattle.stun_judging.specs.Algorithms.{algorithms_of}
 use Rattle.stun_auth.specs.Forgetting.{without_place}
 use Rattle.stun_auth.specs.Judged.{offered_after, verdict_by_nonce}
-use Rattle.stun_auth.specs.Nonces.{asks_for_algorithms, nonce_of}
+use Rattle.stun_judging.specs.Nonces.{asks_for_algorithms, nonce_of}
 use Rattle.stun_auth.specs.Places.{PlacesSeen, at_place, with_offer}
-use Rattle.stun_auth.specs.Reading.{Reading}
-use Rattle.stun_auth.specs.Registered.{Registered}
-use Rattle.stun_auth.specs.Seen.{ClientSeen, PlaceSeen, renewed_place}
-use Rattle.stun_auth.specs.Server.{IsAccepted, agreement, choice, current_place_of, verdict}
-use Rattle.stun_auth.specs.Validation.{ServerSeen, after_validation, answer, answer_to}
-use Rattle.stun_auth.specs.Validation.{is_malformed, needs_nonce, place_after, put_place, sight}
-use Rattle.stun_auth.specs.Validation.{verdict_at, with_accepted}
-use Rattle.stun_auth.proofs.Accepting.{accepted_from_verdict, verdict_from_accepted}
+use Rattle.stun_judging.specs.Reading.{Reading, is_malformed}
+use Rattle.stun_judging.specs.Registered.{Registered}
+use Rattle.stun_judging.specs.Verdict.{ClientSeen, IsAccepted, agreement, choice, verdict}
+use Rattle.stun_auth.specs.Seen.{PlaceSeen, renewed_place}
+use Rattle.stun_auth.specs.Server.{current_place_of}
+use Rattle.stun_auth.specs.Validation.{ServerSeen, after_validation, answer, answer_to, needs_nonce}
+use Rattle.stun_auth.specs.Validation.{place_after, put_place, sight, verdict_at, with_accepted}
+use Rattle.stun_judging.proofs.Accepting.{accepted_from_verdict, verdict_from_accepted}
 use Rattle.stun_auth.proofs.JudgedLemmas.{answer-at}
 use Rattle.stun_auth.proofs.Unchanged.{equal_or}
 

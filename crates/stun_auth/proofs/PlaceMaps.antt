@@ -22,7 +22,7 @@ use Rattle.stun_auth.specs.code.Places.{PlacesKept, client_seen, last_users_of, 
 use Rattle.stun_auth.specs.code.Places.{places_seen}
 use Rattle.stun_auth.specs.declared.server.places.Place.{Place}
 use Rattle.stun_base.proofs.Addresses.{address_total, address_exact}
-use Rattle.stun_auth.proofs.Maps.{get-seen, lookup-inserted, seen_inserted, seen_removed}
+use Rattle.stun_judging.proofs.Maps.{get-seen, lookup-inserted, seen_inserted, seen_removed}
 
 -- the order that `SocketAddr` derives
 abbrev pub derived : SocketAddr → SocketAddr → Ordering

@@ -13,27 +13,28 @@ use Rattle.stun_base.specs.Keys.{userhash_of}
 use Rattle.stun_base.specs.MessageType.{is_response}
 use Rattle.stun_base.specs.declared.keys.algorithm.IntegrityAlgorithm.{IntegrityAlgorithm}
 use Rattle.stun_base.specs.declared.wire.error.StunWriteError.{StunWriteError}
-use Rattle.stun_auth.specs.declared.algorithm_set.AlgorithmSet.{AlgorithmSet}
-use Rattle.stun_auth.specs.declared.feature.Feature.{Feature}
-use Rattle.stun_auth.specs.declared.server.reason.VerdictRefusal.{VerdictRefusal}
-use Rattle.stun_auth.specs.declared.server.reason.VerdictRefusal.TheVariants as Refused
-use Rattle.stun_auth.specs.Additions.{Addition, Page, added_all, after}
-use Rattle.stun_auth.specs.Feature.{is_possible}
+use Rattle.stun_judging.specs.declared.algorithm_set.AlgorithmSet.{AlgorithmSet}
+use Rattle.stun_judging.specs.declared.feature.Feature.{Feature}
+use Rattle.stun_judging.specs.declared.refusal.VerdictRefusal.{VerdictRefusal}
+use Rattle.stun_judging.specs.declared.refusal.VerdictRefusal.TheVariants as Refused
+use Rattle.stun_judging.specs.Additions.{Addition, Page, added_all, after}
+use Rattle.stun_judging.specs.Feature.{is_possible}
 use Rattle.stun_auth.specs.Handed.{with_users}
-use Rattle.stun_auth.specs.Reading.{Reading, verified_under}
-use Rattle.stun_auth.specs.Registered.{Registered, UserSecret, key_at, name_cmp}
-use Rattle.stun_auth.specs.Seen.{ClientSeen, PlaceSeen}
-use Rattle.stun_auth.specs.Server.{agreement, nonce_refusal, current_place, verdict}
+use Rattle.stun_judging.specs.Reading.{Reading, verified_under, is_complete}
+use Rattle.stun_judging.specs.Registered.{Registered, UserSecret, key_at, name_cmp}
+use Rattle.stun_judging.specs.Verdict.{ClientSeen, agreement, nonce_refusal, verdict}
+use Rattle.stun_auth.specs.Seen.{PlaceSeen}
+use Rattle.stun_auth.specs.Server.{current_place}
 use Rattle.stun_auth.specs.ServerSigning.{additions_at, after_signing, attributes_for}
 use Rattle.stun_auth.specs.ServerSigning.{digest_for, digest_under, signed_under_key, protected_for}
 use Rattle.stun_auth.specs.ServerSigning.{server_additions, server_signed, signed_at}
 use Rattle.stun_auth.specs.Validation.{ServerSeen, after_validation, answer, answer_to}
-use Rattle.stun_auth.specs.Validation.{client_verified, is_complete, needs_nonce, put_place, sight}
+use Rattle.stun_auth.specs.Validation.{client_verified, needs_nonce, put_place, sight}
 use Rattle.stun_auth.specs.Validation.{validated_or_failed, verified_for_client, with_accepted}
-use Rattle.stun_auth.specs.code.Judging.{name_by, name_in}
-use Rattle.stun_auth.proofs.VerdictLemmas.{by_steps-verdict}
-use Rattle.stun_auth.proofs.VerdictSteps.{by_attributes, by_choice, by_digest}
-use Rattle.stun_auth.proofs.VerdictSteps.{by_name, by_nonce, by_steps}
+use Rattle.stun_judging.specs.code.Claims.{name_by, name_in}
+use Rattle.stun_judging.proofs.VerdictLemmas.{by_steps-verdict}
+use Rattle.stun_judging.proofs.VerdictSteps.{by_attributes, by_choice, by_digest}
+use Rattle.stun_judging.proofs.VerdictSteps.{by_name, by_nonce, by_steps}
 
 -- the users of a realm, each known by these secrets
 abbrev pub knowing : Registered → fin.FinMap name_cmp UserSecret → Registered

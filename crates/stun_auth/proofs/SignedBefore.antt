@@ -11,14 +11,13 @@ use Rattle.stun_types.specs.Message.{LENGTH_LIMIT}
 use Rattle.stun_types.specs.Visible.{has_kind}
 use Rattle.stun_types.specs.Walk.{Member, walk}
 use Rattle.stun_types.specs.Writing.{IsAddable, IsOpen, with_attribute}
-use Rattle.stun_auth.specs.Additions.{Addition, attribute, integrity, Page, added_all}
-use Rattle.stun_auth.specs.Additions.{growth_of}
-use Rattle.stun_auth.specs.Joined.{IsTyped}
-use Rattle.stun_auth.specs.Signed.{Added, IsSignable, additions_of, kinds_in}
-use Rattle.stun_auth.proofs.JoinedLemmas.{WritingLaws, behind_digest, first_added, or_none}
-use Rattle.stun_auth.proofs.JoinedLemmas.{taken, taken_digest}
-use Rattle.stun_auth.proofs.SignedReading.{typed-additions, written-within}
-use Rattle.stun_auth.proofs.SignedRoom.{IsReady, length-one_more}
+use Rattle.stun_judging.specs.Additions.{Addition, attribute, integrity, Page, added_all, growth_of}
+use Rattle.stun_judging.specs.Joined.{IsTyped}
+use Rattle.stun_judging.specs.Signed.{Added, IsSignable, additions_of, kinds_in}
+use Rattle.stun_judging.proofs.JoinedLemmas.{WritingLaws, behind_digest, first_added, or_none}
+use Rattle.stun_judging.proofs.JoinedLemmas.{taken, taken_digest}
+use Rattle.stun_judging.proofs.SignedReading.{typed-additions, written-within}
+use Rattle.stun_judging.proofs.SignedRoom.{IsReady, length-one_more}
 
 -- types that are not there after one attribute more were not there before it
 fresh_before : (message longer : List ℕ) (a : TypedValue) (kinds : List ℕ)

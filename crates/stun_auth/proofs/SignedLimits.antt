@@ -4,13 +4,14 @@ use Rattle.std.proofs.Common.{ℕ, ◌≤◌, Bool, true, false, List, length, O
 use Rattle.std.specs.Option.{IfSome, IsSomeAnd, option_map}
 use Rattle.stun_auth.specs.Client.{Challenge, ClientState}
 use Rattle.stun_auth.specs.ClientSigning.{kept_challenge}
-use Rattle.stun_auth.specs.Registered.{Registered, key_at}
-use Rattle.stun_auth.specs.Seen.{ClientSeen, PlaceSeen}
+use Rattle.stun_judging.specs.Registered.{Registered, key_at}
+use Rattle.stun_judging.specs.Verdict.{ClientSeen}
+use Rattle.stun_auth.specs.Seen.{PlaceSeen}
 use Rattle.stun_auth.specs.Server.{Sight}
-use Rattle.stun_auth.specs.Signed.{Added, IsSignableAtClient, IsSignable, IsSignableByClient}
-use Rattle.stun_auth.specs.Signed.{IsSignableByServer, IsSignableAtServer, added_at}
-use Rattle.stun_auth.specs.Signed.{added_by_client, added_by_server, added_for, added_if_kept}
-use Rattle.stun_auth.specs.Signed.{added_under_key, added_without_client, nothing, only_if}
+use Rattle.stun_judging.specs.Signed.{Added, IsSignable, nothing, only_if}
+use Rattle.stun_auth.specs.Signed.{IsSignableAtClient, IsSignableByClient, IsSignableByServer}
+use Rattle.stun_auth.specs.Signed.{IsSignableAtServer, added_at, added_by_client, added_by_server}
+use Rattle.stun_auth.specs.Signed.{added_for, added_if_kept, added_under_key, added_without_client}
 use Rattle.stun_auth.specs.code.ClientKept.{KeepsShortTexts}
 
 pub by_client : (a : Added) (message : List ℕ) (room : ℕ) → IsSignable a message room

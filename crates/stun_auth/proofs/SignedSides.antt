@@ -6,19 +6,20 @@ use Rattle.std.specs.Option.{IsSome, option_map}
 use Rattle.stun_base.specs.declared.keys.algorithm.IntegrityAlgorithm.{IntegrityAlgorithm}
 use Rattle.stun_base.specs.declared.keys.algorithm.IntegrityAlgorithm.TheVariants.{Sha1, Sha256}
 use Rattle.stun_base.specs.declared.wire.error.StunWriteError.{StunWriteError}
-use Rattle.stun_auth.specs.Additions.{Page, added_all, after, integrity}
-use Rattle.stun_auth.specs.Client.{Naming, plain, hashed, ClientState}
-use Rattle.stun_auth.specs.Client.{initial, authenticating, authenticated}
+use Rattle.stun_judging.specs.Additions.{Page, added_all, after, integrity}
+use Rattle.stun_judging.specs.Naming.{Naming, plain, hashed}
+use Rattle.stun_auth.specs.Client.{ClientState, initial, authenticating, authenticated}
 use Rattle.stun_auth.specs.ClientSigning.{challenge_additions, client_additions}
-use Rattle.stun_auth.specs.Registered.{Registered, key_at}
-use Rattle.stun_auth.specs.Seen.{ClientSeen, PlaceSeen}
+use Rattle.stun_judging.specs.Registered.{Registered, key_at}
+use Rattle.stun_judging.specs.Verdict.{ClientSeen}
+use Rattle.stun_auth.specs.Seen.{PlaceSeen}
 use Rattle.stun_auth.specs.Server.{Sight}
 use Rattle.stun_auth.specs.ServerSigning.{attributes_for, signed_under_key}
 use Rattle.stun_auth.specs.ServerSigning.{protected_for, server_signed, signed_at}
-use Rattle.stun_auth.specs.Signed.{Added, added_at, added_by_client, added_by_server}
-use Rattle.stun_auth.specs.Signed.{added_for, added_under, added_under_key}
-use Rattle.stun_auth.specs.Signed.{added_without_client, additions_of, nothing}
-use Rattle.stun_auth.proofs.AdditionLemmas.{added_all-append}
+use Rattle.stun_judging.specs.Signed.{Added, additions_of, nothing}
+use Rattle.stun_auth.specs.Signed.{added_at, added_by_client, added_by_server, added_for}
+use Rattle.stun_auth.specs.Signed.{added_under, added_under_key, added_without_client}
+use Rattle.stun_judging.proofs.AdditionLemmas.{added_all-append}
 
 challenge_parts : (request : Bool) (naming : Naming) (realm nonce : List ℕ)
     (algorithms : List IntegrityAlgorithm) (algorithm : IntegrityAlgorithm) (key : List ℕ)

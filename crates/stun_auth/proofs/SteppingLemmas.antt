@@ -32,9 +32,9 @@ use Rattle.stun_base.proofs.Addresses.{address_total, address_exact}
 use Rattle.stun_auth.proofs.KeptPlaces.{get-kept_where, places_kept_where-all}
 use Rattle.stun_auth.proofs.KeptPlaces.{places_kept_where-none, places_kept_where-same}
 use Rattle.stun_auth.proofs.KeptPlaces.{places_kept_where-twice}
-use Rattle.stun_auth.proofs.LeastNames.{find-least, find-none}
-use Rattle.stun_auth.proofs.ListSteps.{find-passes}
-use Rattle.stun_auth.proofs.Maps.{get-seen}
+use Rattle.stun_judging.proofs.LeastNames.{find-least, find-none}
+use Rattle.stun_judging.proofs.ListSteps.{find-passes}
+use Rattle.stun_judging.proofs.Maps.{get-seen}
 use Rattle.stun_auth.proofs.PlaceMaps.{derived, derived_is}
 
 -- ---- the order

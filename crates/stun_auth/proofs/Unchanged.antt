@@ -9,9 +9,10 @@ use Rattle.std.specs.FinMap as fin
 use Rattle.std.specs.FinMap.{same_map, get-insert, get_tied}
 use Rattle.std.specs.declared.net.socket_addr.SocketAddr.{SocketAddr}
 use Rattle.stun_base.specs.Address.{address_cmp}
-use Rattle.stun_auth.specs.Seen.{ClientSeen, PlaceSeen, renewed_place}
+use Rattle.stun_judging.specs.Verdict.{ClientSeen}
+use Rattle.stun_auth.specs.Seen.{PlaceSeen, renewed_place}
 use Rattle.stun_auth.specs.Places.{at_place}
-use Rattle.stun_auth.specs.Reading.{Reading}
+use Rattle.stun_judging.specs.Reading.{Reading}
 use Rattle.stun_auth.specs.Reasons.{ServerUnlessMemory, ServerRefusal}
 use Rattle.stun_base.specs.Moments.{moment_after}
 use Rattle.stun_auth.specs.Server.{Sight, current_place, current_place_of, has_current_nonce}
@@ -28,7 +29,7 @@ use Rattle.stun_auth.specs.declared.server.reason.LongTermServerAuthErrorReason.
   StaleNonce,
   OutOfMemory,
 }
-use Rattle.stun_auth.specs.Nonces.{nonce_of}
+use Rattle.stun_judging.specs.Nonces.{nonce_of}
 use Rattle.std.specs.declared.result.Result.{Result}
 use Rattle.std.specs.declared.result.Result.TheVariants.{Ok, Err}
 use Rattle.stun_base.proofs.Addresses.{address_total, address_exact}

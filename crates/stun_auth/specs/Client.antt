@@ -1,21 +1,18 @@
 -- A client: its settings, and what it stores (RFC 8489, section 9.2).
-use Rattle.std.specs.Prelude.{ℕ, List, [], ◌∷◌, Option, None}
+use Rattle.std.specs.Prelude.{[]}
+use Rattle.std.specs.Prelude.{ℕ, List, ◌∷◌, Option, None}
 use Rattle.stun_base.specs.Credentials.{NameAndPassword}
 use Rattle.stun_base.specs.declared.keys.algorithm.IntegrityAlgorithm.{IntegrityAlgorithm}
 use Rattle.stun_base.specs.declared.keys.algorithm.IntegrityAlgorithm.TheVariants.{Sha1}
-use Rattle.stun_auth.specs.declared.feature.Feature.{Feature}
-use Rattle.stun_auth.specs.declared.feature.Feature.TheVariants.{Auto}
+use Rattle.stun_judging.specs.declared.feature.Feature.{Feature}
+use Rattle.stun_judging.specs.declared.feature.Feature.TheVariants.{Auto}
+use Rattle.stun_judging.specs.Naming.{Naming}
 
 -- the algorithms in the order in which they were added, whether names are hashed, and the user
 pub record ClientSettings : Type 0 where
   pub supported : List IntegrityAlgorithm
   pub feature : Feature
   pub credentials : Option NameAndPassword
-
--- how a client names its user: by USERNAME or by USERHASH (section 9.2.5)
-pub data Naming : Type 0 where
-  plain : List ℕ → Naming
-  hashed : List ℕ → Naming
 
 -- what a client stores of a server's challenge: what later requests carry, and the key that they
 -- are signed with

@@ -2,26 +2,15 @@
 -- Additions are written in this order, and refused in it. `added_by_client` in Signed.antt lists
 -- them by attribute, which is what a reader finds. `laws::sides_add_by_attribute` says that both
 -- add the same.
-use Rattle.std.specs.Prelude.{ℕ, List, [], ◌∷◌, ◌++◌, Bool, if◌then◌else◌, Option, Some, None}
+use Rattle.std.specs.Prelude.{[]}
+use Rattle.std.specs.Prelude.{List, ◌∷◌, ◌++◌, Bool, if◌then◌else◌, Option, Some, None}
 use Rattle.std.specs.Option.{option_map}
 use Rattle.stun_base.specs.declared.keys.algorithm.IntegrityAlgorithm.{IntegrityAlgorithm}
-use Rattle.stun_types.specs.Attribute.{TypedValue}
-use Rattle.stun_auth.specs.Additions.{Addition, attribute, integrity}
-use Rattle.stun_auth.specs.AddedAttribute as added
-use Rattle.stun_auth.specs.Algorithms.{is_sha256}
-use Rattle.stun_auth.specs.Client.{Naming, plain, hashed, Challenge, ClientState}
-use Rattle.stun_auth.specs.Client.{initial, authenticating, authenticated}
-
--- the name of the user
-abbrev pub name_attribute : Naming → TypedValue
-name_attribute (plain name) = added.username name
-name_attribute (hashed hash) = added.userhash hash
-
--- the identity in a request: nonce, realm and name
-abbrev pub who_asks : List ℕ → List ℕ → Naming → List Addition
-who_asks nonce realm naming =
-    attribute (added.nonce nonce) ∷ attribute (added.realm realm)
-    ∷ attribute (name_attribute naming) ∷ []
+use Rattle.stun_judging.specs.Additions.{Addition, attribute, integrity}
+use Rattle.stun_judging.specs.AddedAttribute as added
+use Rattle.stun_judging.specs.Algorithms.{is_sha256}
+use Rattle.stun_auth.specs.Client.{Challenge, ClientState, initial, authenticating, authenticated}
+use Rattle.stun_judging.specs.Naming.{who_asks}
 
 abbrev pub identity : Challenge → List Addition
 identity c = who_asks c.nonce c.realm c.naming

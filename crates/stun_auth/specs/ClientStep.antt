@@ -1,21 +1,21 @@
 -- How a client answers a message, and its state after it (RFC 8489, section 9.2.5). It is a
 -- function of the client's settings, its state and the reading of the message.
-use Rattle.std.specs.Prelude.{ℕ, ◌==◌, List, [], find, Bool, true, false, not, ◌&&◌}
+use Rattle.std.specs.Prelude.{[]}
+use Rattle.std.specs.Prelude.{ℕ, List, find, Bool, true, false, not, ◌&&◌}
 use Rattle.std.specs.Prelude.{if◌then◌else◌, Option, Some, None, Result, Ok, Err, is_some, ⊤}
 use Rattle.std.specs.Str.{bytes_eq}
 use Rattle.stun_base.specs.Credentials.{NameAndPassword}
-use Rattle.stun_base.specs.Keys.{long_term_key, userhash_of}
+use Rattle.stun_base.specs.Keys.{long_term_key}
 use Rattle.stun_base.specs.declared.keys.algorithm.IntegrityAlgorithm.{IntegrityAlgorithm}
 use Rattle.stun_base.specs.declared.keys.algorithm.IntegrityAlgorithm.TheVariants.{Sha1}
-use Rattle.stun_auth.specs.Algorithms.{has}
-use Rattle.stun_auth.specs.Client.{ClientSettings, Naming, plain, hashed, Challenge}
+use Rattle.stun_judging.specs.Algorithms.{has}
+use Rattle.stun_auth.specs.Client.{ClientSettings, Challenge}
 use Rattle.stun_auth.specs.Client.{ClientState, initial, authenticating, authenticated}
-use Rattle.stun_auth.specs.Feature.{is_possible}
-use Rattle.stun_auth.specs.Nonces.{security_bits, asks_for_algorithms, asks_for_userhash}
+use Rattle.stun_judging.specs.Feature.{is_possible, is_required}
+use Rattle.stun_judging.specs.Nonces.{security_bits, asks_for_algorithms, asks_for_userhash}
 use Rattle.stun_base.specs.MessageType.{is_success}
-use Rattle.stun_auth.specs.Reading.{Reading, verified_under}
-use Rattle.stun_auth.specs.declared.feature.Feature.{Feature}
-use Rattle.stun_auth.specs.declared.feature.Feature.TheVariants.{Auto, Required, Disabled}
+use Rattle.stun_judging.specs.Reading.{Reading, verified_under, UNAUTHORIZED, STALE_NONCE, is_code}
+use Rattle.stun_judging.specs.declared.feature.Feature.{Feature}
 use Rattle.stun_auth.specs.declared.client.challenge.ChallengeRefusal.{ChallengeRefusal}
 use Rattle.stun_auth.specs.declared.client.challenge.ChallengeRefusal.TheVariants as Refused
 use Rattle.stun_auth.specs.declared.client.answer.LongTermClientAuthErrorReason.{
@@ -34,6 +34,7 @@ use Rattle.stun_auth.specs.declared.client.answer.LongTermClientValidation.TheVa
   ResendRequest,
   Validated,
 }
+use Rattle.stun_judging.specs.Naming.{naming_of}
 
 -- the answer to a message
 abbrev pub ClientAnswer : Type 0
@@ -61,12 +62,6 @@ abbrev pub choose_by_list : List IntegrityAlgorithm → Bool → Option (List In
 choose_by_list supported asks (Some list) = or_unsupported (first_supported supported list)
 choose_by_list supported asks None = if asks then Err Refused.Unauthorized else Ok Sha1
 
--- whether names must be hashed
-abbrev pub is_required : Feature → Bool
-is_required Auto = false
-is_required Required = true
-is_required Disabled = false
-
 -- a choice, unless a required feature is missing
 abbrev pub unless_missing : Bool → Result IntegrityAlgorithm ChallengeRefusal
     → Result IntegrityAlgorithm ChallengeRefusal
@@ -91,11 +86,6 @@ choose supported feature nonce list =
     unless_missing (is_required feature && not (asks_for_userhash nonce))
     (choose_by_list supported (asks_for_algorithms nonce) list)
     else choose_without_bits supported feature
-
--- a user by name, or by the hash of the name
-abbrev pub naming_of : Bool → List ℕ → List ℕ → Naming
-naming_of true username realm = hashed (userhash_of username realm)
-naming_of false username realm = plain username
 
 abbrev pub list_or_none : Option (List IntegrityAlgorithm) → List IntegrityAlgorithm
 list_or_none None = []
@@ -194,19 +184,6 @@ after_stale state digest (Some realm) (Some nonce) =
     record { answer = Ok (ResendRequest digest); state = with_realm_and_nonce state realm nonce }
 after_stale state digest None _ = after_digest state false digest
 after_stale state digest (Some realm) None = after_digest state false digest
-
--- the code of a challenge (section 14.8)
-abbrev pub UNAUTHORIZED : ℕ
-UNAUTHORIZED = 401
-
--- the code of a stale nonce (section 14.8)
-abbrev pub STALE_NONCE : ℕ
-STALE_NONCE = 438
-
--- whether an error has a code
-abbrev pub is_code : ℕ → Option ℕ → Bool
-is_code code None = false
-is_code code (Some other) = other == code
 
 -- the answer of a client to a message, and its state after it
 abbrev pub client_step : ClientSettings → ClientState → Reading → ClientStep

@@ -1,19 +1,15 @@
 -- The outcome of a list of datagrams at a server that stores nothing about an address.
-use Rattle.std.specs.Prelude.{◌≡◌, ◌↔◌, ◌⊎◌, ◌||◌, ℕ, List, slice_get, true, Some}
-use Rattle.std.specs.Prelude.{if◌then◌else◌}
+use Rattle.std.specs.Prelude.{◌≡◌, ◌↔◌, ◌⊎◌, ℕ, List, slice_get, true, Some}
 use Rattle.std.specs.Str.{bytes_eq}
 use Rattle.std.specs.declared.net.socket_addr.SocketAddr.{SocketAddr}
 use Rattle.std.specs.declared.result.Result.{Result}
 use Rattle.std.specs.declared.result.Result.TheVariants.{Ok}
-use Rattle.stun_auth.specs.declared.server.reason.VerdictRefusal.{VerdictRefusal}
-use Rattle.stun_auth.specs.declared.server.reason.VerdictRefusal.TheVariants.{Unauthorized}
-use Rattle.stun_auth.specs.declared.server.reason.VerdictRefusal.TheVariants.{BadRequest}
-use Rattle.stun_auth.specs.declared.server.reason.VerdictRefusal.TheVariants.{StaleNonce}
+use Rattle.stun_judging.specs.declared.refusal.VerdictRefusal.{VerdictRefusal}
+use Rattle.stun_judging.specs.declared.refusal.VerdictRefusal.TheVariants.{BadRequest}
 use Rattle.stun_auth.specs.Epochs.{IsAcceptedIn, judged_in, nonce_in}
-use Rattle.stun_auth.specs.Reading.{Reading, reading_of}
-use Rattle.stun_auth.specs.Seen.{ClientSeen}
-use Rattle.stun_auth.specs.Server.{their_nonce}
-use Rattle.stun_auth.specs.Validation.{ServerSeen, is_malformed}
+use Rattle.stun_judging.specs.Reading.{reading_of, is_malformed}
+use Rattle.stun_judging.specs.Verdict.{ClientSeen, their_nonce, told_refusal}
+use Rattle.stun_auth.specs.Validation.{ServerSeen}
 
 -- a datagram: its source, its time, and its bytes
 pub record TimedDatagram : Type 0 where
@@ -35,14 +31,6 @@ abbrev pub judged_datagram : ServerSeen → Derivation → TimedDatagram
     → Result ClientSeen VerdictRefusal
 judged_datagram s how d =
     judged_in s (how.words d.from) (how.epoch d.now) (reading_of d.bytes)
-
--- the refusal that is sent to a client: a bad request is sent as such if the message is malformed
--- or has the current nonce, and otherwise as a stale nonce
-abbrev pub told_refusal : List ℕ → Reading → VerdictRefusal → VerdictRefusal
-told_refusal ours r Unauthorized = Unauthorized
-told_refusal ours r StaleNonce = StaleNonce
-told_refusal ours r BadRequest =
-    if is_malformed r || bytes_eq (their_nonce r) ours then BadRequest else StaleNonce
 
 -- each datagram is judged alone
 pub record JudgesEachDatagram (s : ServerSeen) (how : Derivation) (datagrams : List TimedDatagram)

@@ -3,31 +3,16 @@
 -- accepted too.
 use Rattle.std.specs.Prelude.{ℕ, zero, suc, List, Some, ◌⊎◌}
 use Rattle.std.specs.declared.result.Result.{Result}
-use Rattle.std.specs.declared.result.Result.TheVariants.{Ok, Err}
-use Rattle.stun_auth.specs.declared.server.reason.VerdictRefusal.{VerdictRefusal}
-use Rattle.stun_auth.specs.declared.server.reason.VerdictRefusal.TheVariants.{Unauthorized}
-use Rattle.stun_auth.specs.declared.server.reason.VerdictRefusal.TheVariants.{BadRequest}
-use Rattle.stun_auth.specs.declared.server.reason.VerdictRefusal.TheVariants.{StaleNonce}
+use Rattle.stun_judging.specs.declared.refusal.VerdictRefusal.{VerdictRefusal}
 use Rattle.stun_auth.specs.Judged.{verdict_by_nonce}
-use Rattle.stun_auth.specs.Nonces.{nonce_of}
-use Rattle.stun_auth.specs.Reading.{Reading}
-use Rattle.stun_auth.specs.Seen.{ClientSeen}
-use Rattle.stun_auth.specs.Server.{IsAccepted}
+use Rattle.stun_judging.specs.Nonces.{nonce_of}
+use Rattle.stun_judging.specs.Reading.{Reading}
+use Rattle.stun_judging.specs.Verdict.{ClientSeen, IsAccepted, or_before}
 use Rattle.stun_auth.specs.Validation.{ServerSeen}
 
 -- the nonce of an epoch, by the words of each epoch at one address
 abbrev pub nonce_in : ServerSeen → (ℕ → List ℕ) → ℕ → List ℕ
 nonce_in s words epoch = nonce_of s.registered.algorithms s.feature (words epoch)
-
--- a verdict or, if the verdict is that the nonce is stale, an acceptance under the nonce of the
--- epoch before
-abbrev pub or_before : Result ClientSeen VerdictRefusal → Result ClientSeen VerdictRefusal
-    → Result ClientSeen VerdictRefusal
-or_before (Ok client) before = Ok client
-or_before (Err Unauthorized) before = Err Unauthorized
-or_before (Err BadRequest) before = Err BadRequest
-or_before (Err StaleNonce) (Ok client) = Ok client
-or_before (Err StaleNonce) (Err refusal) = Err StaleNonce
 
 -- the verdict in an epoch
 abbrev pub judged_in : ServerSeen → (ℕ → List ℕ) → ℕ → Reading → Result ClientSeen VerdictRefusal

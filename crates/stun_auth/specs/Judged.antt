@@ -1,35 +1,13 @@
--- Which client a server accepts under a nonce that its caller passes, for a server that stores
--- nothing about an address (RFC 8489, section 9.2.4).
-use Rattle.std.specs.Prelude.{◌≡◌, ◌↔◌, ℕ, List, Some, true}
-use Rattle.std.specs.Option.{IsSome}
+-- The verdict of a server under a nonce that its caller passes, and the server after a first message
+-- and the response to it (RFC 8489, section 9.2.4).
+use Rattle.std.specs.Prelude.{ℕ, List, Some, true}
 use Rattle.std.specs.declared.net.socket_addr.SocketAddr.{SocketAddr}
 use Rattle.std.specs.declared.result.Result.{Result}
-use Rattle.std.specs.declared.result.Result.TheVariants.{Ok, Err}
-use Rattle.stun_auth.specs.declared.algorithm_set.AlgorithmSet.{AlgorithmSet}
-use Rattle.stun_auth.specs.declared.feature.Feature.{Feature}
-use Rattle.stun_auth.specs.declared.server.reason.VerdictRefusal.{VerdictRefusal}
-use Rattle.stun_auth.specs.Reading.{Reading, verified_under}
-use Rattle.stun_auth.specs.Registered.{Registered, key_at}
-use Rattle.stun_auth.specs.Seen.{ClientSeen}
-use Rattle.stun_auth.specs.Server.{IsAccepted, verdict}
+use Rattle.stun_judging.specs.declared.refusal.VerdictRefusal.{VerdictRefusal}
+use Rattle.stun_judging.specs.Reading.{Reading}
+use Rattle.stun_judging.specs.Verdict.{ClientSeen, verdict}
 use Rattle.stun_auth.specs.ServerSigning.{after_signing}
 use Rattle.stun_auth.specs.Validation.{ServerSeen, after_validation}
-
--- the user who is accepted, the algorithm that was agreed on, and the user's key for it
-pub record AcceptedSeen : Type 0 where
-  pub client : ClientSeen
-  pub key : List ℕ
-
--- the client alone, without the key
-abbrev pub client_judged : Result AcceptedSeen VerdictRefusal → Result ClientSeen VerdictRefusal
-client_judged (Ok accepted) = Ok accepted.client
-client_judged (Err refusal) = Err refusal
-
--- the key is the one that the client's user has, and the digest verifies under it
-abbrev pub HasVerifyingKey : Registered → Reading → AcceptedSeen → Type 0
-HasVerifyingKey users r accepted =
-    (key_at users accepted.client.name accepted.client.algorithm ≡ Some accepted.key)
-    × IsSome (verified_under r accepted.key)
 
 -- the verdict of a server under a nonce, if it offered all algorithms that it supports
 abbrev pub verdict_by_nonce : ServerSeen → List ℕ → Reading → Result ClientSeen VerdictRefusal
@@ -38,11 +16,3 @@ verdict_by_nonce s nonce r = verdict s.registered s.feature nonce (Some s.regist
 -- the server after a first message, once a response to it is signed
 abbrev pub offered_after : ServerSeen → SocketAddr → ℕ → List ℕ → Reading → ServerSeen
 offered_after s from now words r = after_signing (after_validation s from now words r) from true
-
--- a message is judged to be from a client if and only if it is accepted from that client
-abbrev pub JudgesAccepted : Registered → Feature → List ℕ → AlgorithmSet → Reading
-    → Result AcceptedSeen VerdictRefusal
-    → Type 0
-JudgesAccepted users feature nonce offered r given =
-    (client : ClientSeen)
-    → (client_judged given ≡ Ok client) ↔ IsAccepted users feature nonce (Some offered) r client

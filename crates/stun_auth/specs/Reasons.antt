@@ -2,8 +2,8 @@
 -- may replace.
 use Rattle.std.specs.declared.result.Result.{Result}
 use Rattle.std.specs.declared.result.Result.TheVariants.{Ok, Err}
-use Rattle.stun_auth.specs.declared.server.reason.VerdictRefusal.{VerdictRefusal}
-use Rattle.stun_auth.specs.declared.server.reason.VerdictRefusal.TheVariants as Refused
+use Rattle.stun_judging.specs.declared.refusal.VerdictRefusal.{VerdictRefusal}
+use Rattle.stun_judging.specs.declared.refusal.VerdictRefusal.TheVariants as Refused
 use Rattle.stun_auth.specs.declared.server.reason.LongTermServerAuthErrorReason.{
   LongTermServerAuthErrorReason,
 }

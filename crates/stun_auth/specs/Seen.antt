@@ -1,12 +1,7 @@
 -- The record that a server has of an address (RFC 8489, section 9.2.4).
 use Rattle.std.specs.Prelude.{ℕ, List, Option, Some, None}
-use Rattle.stun_base.specs.declared.keys.algorithm.IntegrityAlgorithm.{IntegrityAlgorithm}
-use Rattle.stun_auth.specs.declared.algorithm_set.AlgorithmSet.{AlgorithmSet}
-
--- the user who was validated last, and the algorithm that was agreed on
-pub record ClientSeen : Type 0 where
-  pub name : List ℕ
-  pub algorithm : IntegrityAlgorithm
+use Rattle.stun_judging.specs.declared.algorithm_set.AlgorithmSet.{AlgorithmSet}
+use Rattle.stun_judging.specs.Verdict.{ClientSeen}
 
 -- the nonce and when it expires, the algorithms that were offered, if any, and the client
 pub record PlaceSeen : Type 0 where

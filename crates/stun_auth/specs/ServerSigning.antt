@@ -2,7 +2,8 @@
 -- Additions are written in this order, and refused in it. If the client's user was removed, only
 -- the digest fails. `added_by_server` in Signed.antt lists the additions by attribute, which is
 -- what a reader finds. `laws::sides_add_by_attribute` says that both add the same.
-use Rattle.std.specs.Prelude.{ℕ, ◌+◌, List, [], ◌∷◌, ◌++◌, Bool, true, if◌then◌else◌}
+use Rattle.std.specs.Prelude.{[]}
+use Rattle.std.specs.Prelude.{ℕ, ◌+◌, List, ◌∷◌, ◌++◌, Bool, if◌then◌else◌}
 use Rattle.std.specs.Prelude.{Option, Some, None, Result, Ok, Err}
 use Rattle.std.specs.declared.net.socket_addr.SocketAddr.{SocketAddr}
 use Rattle.stun_base.specs.Algorithm.{digest_length}
@@ -10,34 +11,17 @@ use Rattle.stun_base.specs.declared.keys.algorithm.IntegrityAlgorithm.{Integrity
 use Rattle.stun_base.specs.declared.wire.error.StunWriteError.{StunWriteError}
 use Rattle.stun_base.specs.declared.wire.error.StunWriteError.TheVariants.{IntegrityFailed}
 use Rattle.stun_types.specs.Attribute.{attribute_length}
-use Rattle.stun_auth.specs.Additions.{Addition, Page, added_all, after}
-use Rattle.stun_auth.specs.Additions.{attribute, growth, integrity}
-use Rattle.stun_auth.specs.AddedAttribute as added
-use Rattle.stun_auth.specs.Algorithms.{is_sha256, algorithms_of}
-use Rattle.stun_auth.specs.Nonces.{asks_for_algorithms}
+use Rattle.stun_judging.specs.Additions.{Addition, Page, added_all, after}
+use Rattle.stun_judging.specs.Additions.{attribute, growth, integrity}
+use Rattle.stun_judging.specs.AddedAttribute as added
+use Rattle.stun_judging.specs.Algorithms.{is_sha256}
 use Rattle.stun_auth.specs.Places.{with_change, with_offer}
-use Rattle.stun_auth.specs.Registered.{Registered, key_at}
-use Rattle.stun_auth.specs.Seen.{ClientSeen, PlaceSeen}
+use Rattle.stun_judging.specs.Registered.{Registered, key_at}
+use Rattle.stun_judging.specs.Verdict.{ClientSeen}
+use Rattle.stun_auth.specs.Seen.{PlaceSeen}
 use Rattle.stun_auth.specs.Server.{Sight}
 use Rattle.stun_auth.specs.Validation.{ServerSeen}
-
--- nonce and realm, which a response carries
-abbrev pub challenge : Bool → Registered → List ℕ → List Addition
-challenge response users nonce =
-    if response then attribute (added.nonce nonce) ∷ attribute (added.realm users.realm) ∷ []
-    else []
-
--- the algorithms that a response offers if no client is known, the strongest first
-abbrev pub offer : Bool → Registered → List Addition
-offer response users =
-    if response then attribute (added.password_algorithms (algorithms_of users.algorithms)) ∷ []
-    else []
-
--- the attributes that a client needs in a response to sign its next request under a nonce: nonce
--- and realm, and the algorithms if the nonce asks for a choice. A server that lists algorithms must
--- set that security bit
-abbrev pub challenge_under : Registered → List ℕ → List Addition
-challenge_under users nonce = challenge true users nonce ++ offer (asks_for_algorithms nonce) users
+use Rattle.stun_judging.specs.Challenge.{challenge, offer}
 
 -- the algorithm of a client, which is named unless it is HMAC-SHA1
 abbrev pub named_algorithm : IntegrityAlgorithm → List Addition

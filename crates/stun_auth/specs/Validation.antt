@@ -1,16 +1,16 @@
 -- A server, its answer to a message, and its state after it (RFC 8489, section 9.2.4).
 use Rattle.std.specs.Prelude.{◌≡◌, ◌↔◌, ℕ, List, Bool, not, ◌&&◌, ◌||◌}
 use Rattle.std.specs.Prelude.{if◌then◌else◌, Option, Some, None, false}
-use Rattle.std.specs.Option.{is_some, option_and_then}
+use Rattle.std.specs.Option.{option_and_then}
 use Rattle.std.specs.declared.result.Result.{Result}
 use Rattle.std.specs.declared.result.Result.TheVariants.{Ok, Err}
 use Rattle.std.specs.FinMap as map
 use Rattle.std.specs.declared.net.socket_addr.SocketAddr.{SocketAddr}
 use Rattle.stun_base.specs.Address.{address_cmp}
 use Rattle.stun_base.specs.declared.keys.algorithm.IntegrityAlgorithm.{IntegrityAlgorithm}
-use Rattle.stun_auth.specs.declared.feature.Feature.{Feature}
-use Rattle.stun_auth.specs.declared.feature.Feature.TheVariants.{Auto}
-use Rattle.stun_auth.specs.declared.server.reason.VerdictRefusal.{VerdictRefusal}
+use Rattle.stun_judging.specs.declared.feature.Feature.{Feature}
+use Rattle.stun_judging.specs.declared.feature.Feature.TheVariants.{Auto}
+use Rattle.stun_judging.specs.declared.refusal.VerdictRefusal.{VerdictRefusal}
 use Rattle.stun_auth.specs.declared.server.reason.LongTermServerAuthErrorReason.{
   LongTermServerAuthErrorReason,
 }
@@ -22,11 +22,13 @@ use Rattle.stun_auth.specs.declared.server.reason.LongTermServerValidation.{
 }
 use Rattle.stun_auth.specs.declared.server.reason.LongTermServerValidation.TheVariants.{Validated}
 use Rattle.stun_base.specs.MessageType.{is_response}
-use Rattle.stun_auth.specs.Reading.{Reading, verified_under}
+use Rattle.stun_judging.specs.Reading.{Reading, verified_under, is_malformed}
 use Rattle.stun_auth.specs.Reasons.{server_reason}
-use Rattle.stun_auth.specs.Registered.{Registered, key_at, new_registered}
-use Rattle.stun_auth.specs.Seen.{ClientSeen, PlaceSeen}
-use Rattle.stun_auth.specs.Server.{Sight, IsAccepted, has_current_nonce, current_place, verdict}
+use Rattle.stun_judging.specs.Realm.{RealmSeen}
+use Rattle.stun_judging.specs.Registered.{Registered, key_at, new_registered}
+use Rattle.stun_judging.specs.Verdict.{ClientSeen, IsAccepted, verdict}
+use Rattle.stun_auth.specs.Seen.{PlaceSeen}
+use Rattle.stun_auth.specs.Server.{Sight, has_current_nonce, current_place}
 
 -- the users with the realm and the supported algorithms, the settings, and the record of each
 -- address that has one
@@ -35,6 +37,10 @@ pub record ServerSeen : Type 0 where
   pub feature : Feature
   pub expiry : ℕ
   pub places : map.FinMap address_cmp PlaceSeen
+
+-- the shortest time for which a nonce may be valid, in nanoseconds: 30 seconds
+abbrev pub MINIMUM_EXPIRY : ℕ
+MINIMUM_EXPIRY = 30000000000
 
 -- HMAC-SHA1 alone, hashed names if the client sends them, nonces of an hour, no users and no
 -- records
@@ -46,6 +52,10 @@ new_server realm =
       expiry = 3600000000000;
       places = map.empty;
     }
+
+-- the users and the use of hashed names alone
+abbrev pub realm_of : ServerSeen → RealmSeen
+realm_of s = record { registered = s.registered; feature = s.feature }
 
 -- the part of the server that concerns one address
 abbrev pub sight : ServerSeen → SocketAddr → Sight
@@ -80,15 +90,6 @@ client_verified users r place =
 abbrev pub validated_or_failed : Option IntegrityAlgorithm → Answer
 validated_or_failed None = Err IntegrityFailed
 validated_or_failed (Some a) = Ok (Validated a)
-
--- whether a message has REALM, NONCE and a name
-abbrev pub is_complete : Reading → Bool
-is_complete r = is_some r.realm && is_some r.nonce && (is_some r.userhash || is_some r.username)
-
--- whether a message has integrity but lacks one of these. It is refused whichever nonce is current,
--- and no nonce is made for it
-abbrev pub is_malformed : Reading → Bool
-is_malformed r = is_some r.integrity && not (is_complete r)
 
 -- whether a message needs a nonce
 abbrev pub needs_nonce : Reading → Bool

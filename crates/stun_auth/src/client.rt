@@ -11,14 +11,12 @@
 ghost use Rattle.std.specs.Prelude.{◌≡◌, ◌∷◌, [], ⊤, Some, OnErr, codes, option_copied};
 ghost use Rattle.std.specs.Prelude.{string_bytes};
 ghost use Rattle.std.specs.Fmt.{WritesOnOk, WritesStyledOnOk};
-ghost use Rattle.stun_auth.specs.Reading.{reading_of};
+ghost use Rattle.stun_judging.specs.Reading.{reading_of, is_code};
 ghost use Rattle.stun_auth.specs.Client.{new_client};
 ghost use Rattle.stun_auth.specs.ClientStep.{IsResend, ClientUnlessMemory, after_challenge};
-ghost use Rattle.stun_auth.specs.ClientStep.{after_digest};
-ghost use Rattle.stun_auth.specs.ClientStep.{after_stale, client_step, is_authenticated, is_code};
-ghost use Rattle.stun_auth.specs.ClientStep.{is_repeated, client_reason, verified_under_kept};
-ghost use Rattle.stun_auth.specs.ClientStep.{taken_up};
-ghost use Rattle.stun_auth.specs.code.ReadingSeen.{reading_seen};
+ghost use Rattle.stun_auth.specs.ClientStep.{after_digest, after_stale, client_step};
+ghost use Rattle.stun_auth.specs.ClientStep.{is_authenticated, is_repeated, client_reason};
+ghost use Rattle.stun_auth.specs.ClientStep.{verified_under_kept, taken_up};
 ghost use Rattle.stun_auth.specs.code.ClientKept.{offer_seen, state_seen};
 ghost use Rattle.stun_auth.specs.Supported.{with_supported};
 ghost use Rattle.stun_auth.specs.code.Supported.{in_order};
@@ -31,14 +29,14 @@ use crate::client::answer::{
     LongTermClientAuthError, LongTermClientAuthErrorReason, LongTermClientValidation,
 };
 use crate::client::challenge::{ChallengeRefusal, KeptChallenge, Offer, choose};
-use crate::feature::Feature;
-use crate::limited_text::LimitedText;
-use crate::message::reading::MessageReading;
 use crate::supported::Supported;
 use std::alloc::{Allocator, Global};
 use std::marker::Model;
 use std::{fmt, mem};
 use stun_base::memory::Memory;
+use stun_judging::feature::Feature;
+use stun_judging::limited_text::LimitedText;
+use stun_judging::read_message::ReadMessage;
 use stun_types::attribute::ErrorCode;
 use stun_types::message::{IntegrityAlgorithm, LongTermCredentials, Message};
 
@@ -286,13 +284,13 @@ impl<A: Allocator> LongTermClientAuth<A> {
 
     /// Returns the algorithm of a message's signature if the signature is valid under the stored
     /// key, and `None` otherwise.
-    fn verified_under_kept(&self, reading: &MessageReading<'_, '_>) -> Option<IntegrityAlgorithm>
-        ensures { result ≡ verified_under_kept self.now.state (reading_seen reading.now) }
+    fn verified_under_kept(&self, read: &ReadMessage<'_, '_>) -> Option<IntegrityAlgorithm>
+        ensures { result ≡ verified_under_kept self.now.state (reading_of read.now) }
     {
         match &self.state {
             State::Initial => None,
-            State::Authenticating(kept) => reading.verified_under(&kept.key),
-            State::Authenticated(kept) => reading.verified_under(&kept.key),
+            State::Authenticating(kept) => read.verified_under(&kept.key),
+            State::Authenticated(kept) => read.verified_under(&kept.key),
         }
     }
 
@@ -311,11 +309,8 @@ impl<A: Allocator> LongTermClientAuth<A> {
     }
 
     /// Returns the challenge in a message, or the reason to refuse it.
-    fn offer<'a, 'm>(
-        &'a self,
-        reading: MessageReading<'m, '_>,
-    ) -> Result<Offer<'a, 'm>, ChallengeRefusal>
-        ensures { let r = reading_seen reading.entry in
+    fn offer<'a, 'm>(&'a self, read: ReadMessage<'m, '_>) -> Result<Offer<'a, 'm>, ChallengeRefusal>
+        ensures { let r = reading_of read.entry in
             offer_seen self.now.settings.feature result
             ≡ taken_up self.now.settings self.now.state self.now.settings.credentials r.realm
             r.nonce r.algorithms }
@@ -323,16 +318,16 @@ impl<A: Allocator> LongTermClientAuth<A> {
         let Some(user) = &self.credentials else {
             return Err(ChallengeRefusal::Unauthorized);
         };
-        let Some(realm) = reading.realm else {
+        let Some(realm) = read.realm() else {
             return Err(ChallengeRefusal::Unauthorized);
         };
-        let Some(nonce) = reading.nonce else {
+        let Some(nonce) = read.nonce() else {
             return Err(ChallengeRefusal::Unauthorized);
         };
         if self.is_repeated(realm, nonce) {
             return Err(ChallengeRefusal::Unauthorized);
         }
-        let list = reading.algorithms;
+        let list = read.into_password_algorithms();
         match choose(self.supported, self.feature, nonce, &list) {
             Err(refusal) => Err(refusal),
             Ok(algorithm) => Ok(Offer {
@@ -428,30 +423,30 @@ impl<A: Memory> LongTermClientAuth<A> {
         ensures refused { OnErr result (self.new ≡ self.old) }
         ensures granted { A.grants → ClientUnlessMemory result ⊤ ⊥ }
     {
-        let reading = MessageReading::of(message);
-        let digest = self.verified_under_kept(&reading);
-        if is_code(ErrorCode::UNAUTHORIZED, reading.error) && !self.is_authenticated() {
-            return self.take_up(reading, digest);
+        let read = ReadMessage::of(message);
+        let digest = self.verified_under_kept(&read);
+        if is_code(ErrorCode::UNAUTHORIZED, read.error_code()) && !self.is_authenticated() {
+            return self.take_up(read, digest);
         }
-        if is_code(ErrorCode::STALE_NONCE, reading.error) {
-            return self.renew(&reading, digest);
+        if is_code(ErrorCode::STALE_NONCE, read.error_code()) {
+            return self.renew(&read, digest);
         }
-        self.settle(reading.is_success(), digest)
+        self.settle(read.is_success(), digest)
     }
 
     /// Accepts the challenge in a message and returns `ResendRequest`, or fails with the reason to
     /// refuse it.
     fn take_up(
         &mut self,
-        reading: MessageReading<'_, '_>,
+        read: ReadMessage<'_, '_>,
         digest: Option<IntegrityAlgorithm>,
     ) -> Result<LongTermClientValidation, LongTermClientAuthError>
-        ensures answer { let r = reading_seen reading.entry in
+        ensures answer { let r = reading_of read.entry in
             let step = after_challenge self.old.state digest
             (taken_up self.old.settings self.old.state self.old.settings.credentials r.realm
             r.nonce r.algorithms) in
             ClientUnlessMemory result (result ≡ step.answer) (IsResend step.answer) }
-        ensures state { let r = reading_seen reading.entry in
+        ensures state { let r = reading_of read.entry in
             let step = after_challenge self.old.state digest
             (taken_up self.old.settings self.old.state self.old.settings.credentials r.realm
             r.nonce r.algorithms) in
@@ -460,7 +455,7 @@ impl<A: Memory> LongTermClientAuth<A> {
         ensures refused { OnErr result (self.new ≡ self.old) }
         ensures granted { A.grants → ClientUnlessMemory result ⊤ ⊥ }
     {
-        let kept = match self.offer(reading) {
+        let kept = match self.offer(read) {
             Err(refusal) => return Err(refused(refusal)),
             Ok(offer) => offer.kept(self.alloc, self.feature),
         };
@@ -477,23 +472,23 @@ impl<A: Memory> LongTermClientAuth<A> {
     /// NONCE, judges it by its signature.
     fn renew(
         &mut self,
-        reading: &MessageReading<'_, '_>,
+        read: &ReadMessage<'_, '_>,
         digest: Option<IntegrityAlgorithm>,
     ) -> Result<LongTermClientValidation, LongTermClientAuthError>
         ensures answer { let step = after_stale self.old.state digest
-            (reading_seen reading.now).realm (reading_seen reading.now).nonce in
+            (reading_of read.now).realm (reading_of read.now).nonce in
             ClientUnlessMemory result (result ≡ step.answer) (IsResend step.answer) }
         ensures state { let step = after_stale self.old.state digest
-            (reading_seen reading.now).realm (reading_seen reading.now).nonce in
+            (reading_of read.now).realm (reading_of read.now).nonce in
             ClientUnlessMemory result (self.new ≡ record self.old { state = step.state })
             (self.new ≡ self.old) }
         ensures refused { OnErr result (self.new ≡ self.old) }
         ensures granted { A.grants → ClientUnlessMemory result ⊤ ⊥ }
     {
-        let Some(realm) = reading.realm else {
+        let Some(realm) = read.realm() else {
             return self.settle(false, digest);
         };
-        let Some(nonce) = reading.nonce else {
+        let Some(nonce) = read.nonce() else {
             return self.settle(false, digest);
         };
         let Ok(realm) = LimitedText::copied(self.alloc, realm) else {

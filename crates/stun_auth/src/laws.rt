@@ -1,106 +1,57 @@
 //! Laws about the definitions that the contracts of this crate cite. They do nothing when they run.
 ghost use Rattle.std.specs.Prelude.{map as list_map, ◌↔◌};
-ghost use Rattle.std.specs.Prelude.{◌≡◌, ◌≢◌, ◌<◌, ◌≤◌, ◌^◌, ◌||◌, ℕ, ◌+◌, Bool, true};
-ghost use Rattle.std.specs.Prelude.{false, List, [], ◌∷◌, ◌++◌, length, Ok, Err, Option};
-ghost use Rattle.std.specs.Prelude.{Some, None, if◌then◌else◌, IsOk, IsUtf8, ◌⊎◌, nat_le};
-ghost use Rattle.std.specs.Prelude.{◌%◌, nat_lt};
-ghost use Rattle.std.specs.List.{AllByRecursion};
-ghost use Rattle.std.specs.Option.{IsSome, IsSomeAnd, is_some, option_and_then};
+ghost use Rattle.std.specs.Prelude.{◌≡◌, ◌≤◌, ◌||◌, ℕ, ◌+◌, Bool, true};
+ghost use Rattle.std.specs.Prelude.{false, List, length, Ok, Err, Option};
+ghost use Rattle.std.specs.Prelude.{Some, None, IsOk, ◌⊎◌, nat_le};
+ghost use Rattle.std.specs.Prelude.{nat_lt};
+ghost use Rattle.std.specs.Option.{IsSome, IsSomeAnd};
 ghost use Rattle.std.specs.FinMap as map;
 ghost use Rattle.std.specs.declared.net.socket_addr.SocketAddr.{SocketAddr};
 ghost use Rattle.stun_base.specs.Credentials.{NameAndPassword};
-ghost use Rattle.stun_base.specs.Keys.{long_term_key};
 ghost use Rattle.stun_base.specs.Moments.{moment_after};
-ghost use Rattle.stun_base.specs.MessageType.{class_of, class_in, is_error, is_response};
-ghost use Rattle.stun_base.specs.declared.keys.algorithm.IntegrityAlgorithm.{IntegrityAlgorithm};
-ghost use Rattle.stun_base.specs.declared.keys.algorithm.IntegrityAlgorithm.TheVariants.{Sha256};
+ghost use Rattle.stun_base.specs.MessageType.{is_response};
 ghost use Rattle.stun_base.specs.declared.wire.message_type.MessageClass.{MessageClass};
-ghost use Rattle.stun_types.specs.ErrorCode.{CodeAndReason, IsError};
-ghost use Rattle.stun_types.specs.Grammar.{spelled_message};
 ghost use Rattle.stun_types.specs.Message.{LENGTH_LIMIT};
 ghost use Rattle.stun_types.specs.Tail.{AgreeUpToIntegrity};
 ghost use Rattle.stun_types.specs.Writing.{IsOpen};
-ghost use Rattle.stun_auth.specs.declared.algorithm_set.AlgorithmSet.{AlgorithmSet};
-ghost use Rattle.stun_auth.specs.declared.feature.Feature.{Feature as TheFeature};
-ghost use Rattle.stun_auth.specs.declared.server.stored_keys.StoredKeys.{StoredKeys};
-ghost use Rattle.stun_auth.specs.Additions.{Addition, Page, added_all, growth};
-ghost use Rattle.stun_auth.specs.Algorithms.{contains};
+ghost use Rattle.stun_judging.specs.declared.stored_keys.StoredKeys.{StoredKeys};
+ghost use Rattle.stun_judging.specs.Additions.{Page, added_all};
 ghost use Rattle.stun_auth.specs.Client.{ClientSettings, ClientState};
 ghost use Rattle.stun_auth.specs.ClientSigning.{client_additions};
 ghost use Rattle.stun_auth.specs.ClientStep.{client_step};
 ghost use Rattle.stun_auth.specs.Datagrams.{TimedDatagram, Derivation, JudgesEachDatagram};
 ghost use Rattle.stun_auth.specs.Datagrams.{judged_datagram};
 ghost use Rattle.stun_auth.specs.Epochs.{IsAcceptedIn, judged_in};
-ghost use Rattle.stun_auth.specs.Feature.{is_possible};
-ghost use Rattle.stun_auth.specs.Found.{ClaimSeen, claim_of, found_key, found_verdict};
 ghost use Rattle.stun_auth.specs.Forgetting.{after_forgetting, place_kept, without_place};
 ghost use Rattle.stun_auth.specs.ForgettingSteps.{after_steps};
-ghost use Rattle.stun_auth.specs.Handed.{AreKeysOf, judged_by, just, meant_user, named_at};
-ghost use Rattle.stun_auth.specs.Handed.{named_in, user_of};
-ghost use Rattle.stun_auth.specs.Handed.{with_just, with_users};
+ghost use Rattle.stun_judging.specs.Named.{AreKeysOf, just};
+ghost use Rattle.stun_auth.specs.Handed.{judged_by, meant_user, named_at, with_just, with_users};
 ghost use Rattle.stun_auth.specs.Judged.{offered_after, verdict_by_nonce};
-ghost use Rattle.stun_auth.specs.Joined.{HasAdded, IsReadBack, IsTyped, page_after};
-ghost use Rattle.stun_auth.specs.Nonces.{asks_for_algorithms, asks_for_userhash};
-ghost use Rattle.stun_auth.specs.Nonces.{begins_with_cookie, letter};
-ghost use Rattle.stun_auth.specs.Nonces.{nonce_of, security_bits, spelled_bits};
-ghost use Rattle.stun_auth.specs.OtherUsers.{MeansAnother, VerifiesUnderNone, with_secret_for};
+ghost use Rattle.stun_judging.specs.Nonces.{nonce_of};
+ghost use Rattle.stun_judging.specs.OtherUsers.{MeansAnother, VerifiesUnderNone, with_secret_for};
 ghost use Rattle.stun_auth.specs.Places.{with_change, with_client};
-ghost use Rattle.stun_auth.specs.Reading.{Reading, error_code, reading_of, verified_under};
+ghost use Rattle.stun_judging.specs.Reading.{Reading, reading_of};
 ghost use Rattle.stun_auth.specs.Reasons.{ServerRefusal};
-ghost use Rattle.stun_auth.specs.Registered.{Registered, RegisteredUser, key_at, user_by_keys};
-ghost use Rattle.stun_auth.specs.Registered.{UserSecret, stored_key, user_by_password, with_user};
-ghost use Rattle.stun_auth.specs.Registered.{with_user_by_keys, without_user};
-ghost use Rattle.stun_auth.specs.Seen.{ClientSeen, PlaceSeen};
-ghost use Rattle.stun_auth.specs.Server.{Sight, has_current_nonce, their_nonce, verdict};
+ghost use Rattle.stun_judging.specs.Registered.{user_by_keys, UserSecret, user_by_password};
+ghost use Rattle.stun_judging.specs.Verdict.{ClientSeen};
+ghost use Rattle.stun_auth.specs.Seen.{PlaceSeen};
+ghost use Rattle.stun_auth.specs.Server.{Sight, has_current_nonce};
 ghost use Rattle.stun_auth.specs.ServerSigning.{after_signing, server_additions, server_signed};
 ghost use Rattle.stun_auth.specs.ShortTerm.{Secret, short_term_answer};
-ghost use Rattle.stun_auth.specs.Signed.{Added, IsSignableAtClient, HasRoomFor, IsBuilt};
-ghost use Rattle.stun_auth.specs.Signed.{IsSignable};
-ghost use Rattle.stun_auth.specs.Signed.{IsSmall, IsText, IsUnsigned, IsWithinLimits, ReadsAs};
+ghost use Rattle.stun_judging.specs.Signed.{Added, IsBuilt, IsSignable, IsSmall, IsText, ReadsAs};
+ghost use Rattle.stun_judging.specs.Signed.{additions_of};
+ghost use Rattle.stun_auth.specs.Signed.{IsSignableAtClient};
 ghost use Rattle.stun_auth.specs.Signed.{IsSignableAtServer, added_by_client, added_by_server};
-ghost use Rattle.stun_auth.specs.Signed.{additions_of, error_attribute};
 ghost use Rattle.stun_auth.specs.Validation.{ChangesNothing, ServerSeen};
 ghost use Rattle.stun_auth.specs.Validation.{ValidatesAccepted, after_validation, answer};
 ghost use Rattle.stun_auth.specs.Validation.{answer_to, draws, needs_nonce, place_after, sight};
 ghost use Rattle.stun_auth.specs.Validation.{verdict_at, with_accepted};
 
-/// If attributes are added to a message that has neither an integrity attribute nor FINGERPRINT
-/// (`IsOpen`), a reader finds the new attributes after the attributes that the message had, which
-/// stay visible (`added`). If a signature was added last, it is valid under its key (`read`).
-pub fn additions_are_read_back()
-    ensures added { (list : List Addition) (message : List ℕ) (room : ℕ) (page : Page)
-        → IsOpen message → AllByRecursion IsTyped list
-        → added_all list (record { bytes = message; room = room }) ≡ Ok page
-        → HasAdded message list page.bytes }
-    ensures read { (list : List Addition) (message : List ℕ) (room : ℕ) (page : Page)
-        → IsOpen message → AllByRecursion IsTyped list
-        → added_all list (record { bytes = message; room = room }) ≡ Ok page
-        → IsReadBack message list page.bytes }
-{
-    stun_types::laws::writing_adds_one_attribute();
-    stun_types::laws::signed_message_stands();
-}
-
-/// A reader of a signed message finds its class, its error code, and exactly the attributes that
-/// signing added, with a valid signature. Premises: the added texts are UTF-8, and the message had
-/// no FINGERPRINT and no attribute of a type that signing adds (`IsUnsigned`).
-pub fn signed_messages_are_read()
-    ensures { (a : Added) (message : List ℕ) (room : ℕ) (page : Page) → IsUnsigned message
-        → IsText a
-        → added_all (additions_of a) (record { bytes = message; room = room }) ≡ Ok page
-        → ReadsAs (class_in message) (error_code message) a (reading_of page.bytes) }
-{
-    stun_types::laws::writing_adds_one_attribute();
-    stun_types::laws::signed_message_stands();
-}
-
-/// Nothing is read after the integrity attribute with which a message is verified. Two messages
-/// that are equal up to the end of this attribute have the same reading (`reading`). So each server
-/// (`server`) and client (`client`) returns the same result for both, and is then in the same
-/// state. The result is also the same under each short-term password (`short_term`).
-pub fn what_follows_integrity_is_not_read()
-    ensures reading { (bytes others : List ℕ) → AgreeUpToIntegrity bytes others
-        → reading_of bytes ≡ reading_of others }
+/// Nothing after the integrity attribute with which a message is verified has an effect. For two
+/// messages that are equal up to the end of this attribute, each server (`server`) and client
+/// (`client`) returns the same result, and is then in the same state. The result is also the same
+/// under each short-term password (`short_term`).
+pub fn what_follows_integrity_changes_nothing()
     ensures server { (s : ServerSeen) (from : SocketAddr) (now : ℕ) (words bytes others : List ℕ)
         → AgreeUpToIntegrity bytes others
         → (answer (sight s from) now words (reading_of bytes)
@@ -115,6 +66,7 @@ pub fn what_follows_integrity_is_not_read()
         → AgreeUpToIntegrity bytes others
         → short_term_answer secret bytes ≡ short_term_answer secret others }
 {
+    stun_judging::laws::what_follows_integrity_is_not_read();
     stun_types::laws::what_follows_integrity_is_hidden();
 }
 
@@ -192,35 +144,6 @@ pub fn datagrams_are_judged_alone()
         → JudgesEachDatagram s how datagrams (list_map (judged_datagram s how) datagrams) }
 {}
 
-/// The verdict on a message depends only on the user whom the message names. A server that has only
-/// this user judges the message, under each nonce and offer, like the server that has all users. If
-/// this user is not registered, a server without any users returns the same verdict.
-pub fn the_named_user_is_enough_to_judge()
-    ensures { (users : Registered) (feature : TheFeature) (nonce : List ℕ)
-        (offered : Option AlgorithmSet) (r : Reading)
-        → verdict (just users (option_and_then (user_of users)
-        (named_in r.userhash r.username feature))) feature nonce offered r
-        ≡ verdict users feature nonce offered r }
-{}
-
-/// `verify_found` judges a message like `judge_of` with a prepared user. It returns the verdict
-/// that a server with only the found user returns under the message's own nonce (`verdict`). So if
-/// `verify_found` returns a key, the message is accepted from that user. This key is the user's key
-/// for the agreed algorithm (`key`), and the signature is valid under it (`verifies`).
-pub fn found_users_are_judged_as_prepared_ones()
-    ensures verdict { (users : Registered) (user : RegisteredUser) (feature : TheFeature)
-        (bytes : List ℕ) (claim : ClaimSeen) → claim_of users.algorithms feature bytes ≡ Some claim
-        → verdict (just users (Some user)) feature (their_nonce (reading_of bytes))
-        (Some users.algorithms) (reading_of bytes)
-        ≡ found_verdict claim user (found_key users claim user) }
-    ensures key { (users : Registered) (user : RegisteredUser) (claim : ClaimSeen)
-        (found : IntegrityAlgorithm × List ℕ) → found_key users claim user ≡ Some found
-        → key_at (just users (Some user)) user.username claim.algorithm ≡ Some found.1 }
-    ensures verifies { (users : Registered) (user : RegisteredUser) (claim : ClaimSeen)
-        (found : IntegrityAlgorithm × List ℕ) → found_key users claim user ≡ Some found
-        → verified_under (reading_of claim.message) found.1 ≡ Some found.0 }
-{}
-
 /// The answer to a message depends only on the user whose key the message must be signed with. A
 /// server that has only this user gives the same answer as the server that has all users
 /// (`answer`), uses the same number of random numbers (`source`), and stores the same record
@@ -277,44 +200,14 @@ pub fn stored_keys_are_as_their_password()
         response) s.registered }
 {}
 
-/// A user who is added with a password has the long-term key of this name, realm and password for
-/// each supported algorithm, and no other key (`added`). A user who is added with stored keys has
-/// only the keys for supported algorithms (`by_keys`). A user who is removed has no key
-/// (`removed`). Other users keep their keys. `user_verifies` checks signatures with these keys.
-pub fn users_have_their_keys()
-    ensures added { (users : Registered) (user : NameAndPassword) (a : IntegrityAlgorithm)
-        → key_at (with_user users user) user.username a
-        ≡ (if contains a users.algorithms
-        then Some (long_term_key a user.username users.realm user.password) else None) }
-    ensures by_keys { (users : Registered) (name : List ℕ) (keys : StoredKeys)
-        (a : IntegrityAlgorithm) → key_at (with_user_by_keys users name keys) name a
-        ≡ (if contains a users.algorithms then stored_key keys a else None) }
-    ensures removed { (users : Registered) (name : List ℕ) (a : IntegrityAlgorithm)
-        → key_at (without_user users name) name a ≡ None }
-    ensures others_at_adding { (users : Registered) (user : NameAndPassword) (name : List ℕ)
-        (a : IntegrityAlgorithm) → name ≢ user.username
-        → key_at (with_user users user) name a ≡ key_at users name a }
-    ensures others_at_keys { (users : Registered) (added name : List ℕ) (keys : StoredKeys)
-        (a : IntegrityAlgorithm) → name ≢ added
-        → key_at (with_user_by_keys users added keys) name a ≡ key_at users name a }
-    ensures others_at_removal { (users : Registered) (gone name : List ℕ) (a : IntegrityAlgorithm)
-        → name ≢ gone → key_at (without_user users gone) name a ≡ key_at users name a }
-{}
-
 /// Users do not affect each other. If a user is added or removed, or gets a new password or new
 /// keys, nothing changes for the other users. Each message that refers to another user gets the
-/// same verdict (`judged`) and the same answer (`answer`), uses the same number of random numbers
-/// (`source`), and leaves the same record (`state`). Messages to the address of another user are
-/// signed as before (`signed`).
+/// same answer (`answer`), uses the same number of random numbers (`source`), and leaves the same
+/// record (`state`). Messages to the address of another user are signed as before (`signed`).
 ///
 /// A message refers to another user if it has another name, or a hash that is not the hash of this
 /// user's name. A response refers to the client of its address.
 pub fn users_do_not_meet()
-    ensures judged { (users : Registered) (name : List ℕ) (secret : Option UserSecret)
-        (feature : TheFeature) (nonce : List ℕ) (offered : Option AlgorithmSet) (r : Reading)
-        → MeansAnother users name (named_in r.userhash r.username feature)
-        → verdict (with_secret_for users name secret) feature nonce offered r
-        ≡ verdict users feature nonce offered r }
     ensures answer { (s : ServerSeen) (name : List ℕ) (secret : Option UserSecret)
         (from : SocketAddr) (now : ℕ) (words : List ℕ) (r : Reading)
         → MeansAnother s.registered name (judged_by (sight s from) r)
@@ -339,19 +232,13 @@ pub fn users_do_not_meet()
         ≡ server_signed (sight s to) response page }
 {}
 
-/// A refusal reveals nothing about a password. Take two servers that differ only in the password or
+/// An answer reveals nothing about a password. Take two servers that differ only in the password or
 /// keys of one user, and a message whose signature is valid under neither of them. Both servers
-/// give it the same verdict (`judged`) and the same answer (`answer`), store the same record of its
-/// address (`state`), and use the same number of random numbers (`source`). A message with the name
-/// in USERNAME and no USERHASH is refused as if the user were not registered (`unregistered`).
+/// give it the same answer (`answer`), store the same record of its address (`state`), and use the
+/// same number of random numbers (`source`).
 ///
 /// The law says nothing about the time that an answer takes.
-pub fn refusals_tell_no_password()
-    ensures judged { (users : Registered) (name : List ℕ) (one other : UserSecret) (r : Reading)
-        → VerifiesUnderNone users name one r → VerifiesUnderNone users name other r
-        → (feature : TheFeature) (nonce : List ℕ) (offered : Option AlgorithmSet)
-        → verdict (with_secret_for users name (Some one)) feature nonce offered r
-        ≡ verdict (with_secret_for users name (Some other)) feature nonce offered r }
+pub fn answers_tell_no_password()
     ensures answer { (s : ServerSeen) (name : List ℕ) (one other : UserSecret) (r : Reading)
         → VerifiesUnderNone s.registered name one r → VerifiesUnderNone s.registered name other r
         → (from : SocketAddr) (now : ℕ) (words : List ℕ)
@@ -371,28 +258,6 @@ pub fn refusals_tell_no_password()
         → draws (sight (with_users s (with_secret_for s.registered name (Some one))) from) now r
         ≡ draws (sight (with_users s (with_secret_for s.registered name (Some other))) from)
         now r }
-    ensures unregistered { (users : Registered) (name : List ℕ) (secret : UserSecret)
-        (feature : TheFeature) (nonce : List ℕ) (offered : Option AlgorithmSet) (r : Reading)
-        → r.userhash ≡ None → r.username ≡ Some name → VerifiesUnderNone users name secret r
-        → verdict (with_secret_for users name (Some secret)) feature nonce offered r
-        ≡ verdict (with_secret_for users name None) feature nonce offered r }
-{}
-
-/// Different random numbers give different nonces. Two nonces of the same settings are equal only
-/// if their random numbers are equal modulo 62, the number of letters to choose from (`with_bits`).
-/// This also holds for nonces without security bits (`without_bits`), unless their letters begin
-/// with the nonce cookie by chance, because the first letter is then replaced.
-pub fn nonces_of_different_words_differ()
-    ensures with_bits { (set : AlgorithmSet) (feature : TheFeature) (words others : List ℕ)
-        → (contains Sha256 set || is_possible feature) ≡ true
-        → nonce_of set feature words ≡ nonce_of set feature others
-        → list_map (λ word. word % 62) words ≡ list_map (λ word. word % 62) others }
-    ensures without_bits { (set : AlgorithmSet) (feature : TheFeature) (words others : List ℕ)
-        → (contains Sha256 set || is_possible feature) ≡ false
-        → begins_with_cookie (list_map letter words) ≡ false
-        → begins_with_cookie (list_map letter others) ≡ false
-        → nonce_of set feature words ≡ nonce_of set feature others
-        → list_map (λ word. word % 62) words ≡ list_map (λ word. word % 62) others }
 {}
 
 /// If a server validates messages only while it has fewer records than a bound, or has a record of
@@ -437,44 +302,6 @@ pub fn steps_forget_what_has_expired()
         → after_steps s now None sizes ≡ Some left → left ≡ after_forgetting s now }
 {}
 
-/// A message that is built without attributes (`bare`) or with an error code alone (`error`) can be
-/// signed. A reader finds in it the class and the error code that it was built with.
-pub fn built_messages_can_be_signed()
-    ensures bare { (message_type transaction_id : ℕ) → message_type < 2 ^ 14
-        → IsBuilt (spelled_message message_type transaction_id []) (class_of message_type) None }
-    ensures error { (message_type transaction_id : ℕ) (error : CodeAndReason)
-        → message_type < 2 ^ 14 → IsError error
-        → IsBuilt (spelled_message message_type transaction_id (error_attribute error ∷ []))
-        (class_of message_type) (if is_error
-        (class_of message_type) then Some error.code else None) }
-{
-    stun_types::laws::writing_adds_one_attribute();
-    stun_types::laws::signed_message_stands();
-}
-
-/// If signing succeeds, the texts that it added are within their limits (`within`). Signing
-/// succeeds if the texts are within their limits, and the message and the writer have room for all
-/// attributes to add (`succeeds`, `signable`). These attributes take at most 2,148 bytes if at most
-/// two algorithms are listed (`growth`), so this room is enough to sign a built message (`room`).
-pub fn signing_succeeds_with_room()
-    ensures within { (a : Added) (page signed : Page) → added_all (additions_of a) page ≡ Ok signed
-        → IsWithinLimits a }
-    ensures growth { (a : Added) → IsSmall a → growth (additions_of a) ≤ 2148 }
-    ensures room { (a : Added) (message : List ℕ) (room : ℕ) (class : MessageClass)
-        (error : Option ℕ) → IsBuilt message class error → IsSmall a → 2148 ≤ room
-        → HasRoomFor a message room }
-    ensures succeeds { (a : Added) (message : List ℕ) (room : ℕ) → IsUnsigned message
-        → IsWithinLimits a → HasRoomFor a message room
-        → added_all (additions_of a) (record { bytes = message; room = room })
-        ≡ Ok (page_after (additions_of a) (record { bytes = message; room = room })) }
-    ensures signable { (a : Added) (message : List ℕ) (room : ℕ) → IsSignable a message room
-        → added_all (additions_of a) (record { bytes = message; room = room })
-        ≡ Ok (page_after (additions_of a) (record { bytes = message; room = room })) }
-{
-    stun_types::laws::writing_adds_one_attribute();
-    stun_types::laws::signed_message_stands();
-}
-
 /// `added_by_client` gives the attributes that a client adds (`client`). `added_by_server` gives
 /// those that a server adds (`server`), and has a value if the server signs successfully (`there`).
 pub fn sides_add_by_attribute()
@@ -485,27 +312,6 @@ pub fn sides_add_by_attribute()
         → server_signed s response page ≡ added_all (additions_of a) page }
     ensures there { (s : Sight) (response : Bool) (page : Page)
         → IsOk (server_signed s response page) → IsSome (added_by_server s response) }
-{}
-
-/// The nonces that a server makes are UTF-8 (`text`; RFC 8489, section 9.2). They ask for password
-/// algorithms if and only if HMAC-SHA256 is supported (`algorithms`), and allow a hashed user name
-/// if and only if the server does (`userhash`). They have security bits if and only if one of these
-/// two conditions holds (`there`), and the same bits if the settings are the same (`alike`). Before
-/// the letters made from random numbers, a nonce has at most 13 bytes (`short`).
-pub fn nonces_ask_for_what_is_supported()
-    ensures text { (set : AlgorithmSet) (feature : TheFeature) (words : List ℕ)
-        → IsUtf8 (nonce_of set feature words) }
-    ensures algorithms { (set : AlgorithmSet) (feature : TheFeature) (words : List ℕ)
-        → asks_for_algorithms (nonce_of set feature words) ≡ contains Sha256 set }
-    ensures userhash { (set : AlgorithmSet) (feature : TheFeature) (words : List ℕ)
-        → asks_for_userhash (nonce_of set feature words) ≡ is_possible feature }
-    ensures there { (set : AlgorithmSet) (feature : TheFeature) (words : List ℕ)
-        → is_some (security_bits (nonce_of set feature words))
-        ≡ (contains Sha256 set || is_possible feature) }
-    ensures alike { (set : AlgorithmSet) (feature : TheFeature) (words others : List ℕ)
-        → security_bits (nonce_of set feature words) ≡ security_bits (nonce_of set feature others) }
-    ensures short { (set : AlgorithmSet) (feature : TheFeature) (words : List ℕ)
-        → length (nonce_of set feature words) ≤ 13 + length words }
 {}
 
 /// If a message is signable (`IsSignable`), a client and a server can sign it: signing fails only
@@ -519,7 +325,7 @@ pub fn sides_sign_what_is_signable()
         → IsSomeAnd (added_by_server s response) (λ a. IsSignable a message room)
         → IsOk (server_signed s response (record { bytes = message; room = room })) }
 {
-    signing_succeeds_with_room();
+    stun_judging::laws::signing_succeeds_with_room();
     sides_add_by_attribute();
 }
 
@@ -548,13 +354,6 @@ pub fn signing_leaves_what_is_added()
         ≡ added_by_server (sight s to) later }
 {}
 
-/// `security_bits` returns the security bits that a nonce begins with, whatever text follows them
-/// (RFC 8489, section 9.2).
-pub fn security_bits_are_read_back()
-    ensures { (a b c : ℕ) (text : List ℕ) → a < 2 ^ 8 → b < 2 ^ 8 → c < 2 ^ 8
-        → security_bits (spelled_bits (a ∷ b ∷ c ∷ []) ++ text) ≡ Some (a ∷ b ∷ c ∷ []) }
-{}
-
 /// A client and a server can sign a message that was built without attributes or with an error code
 /// alone, if what they add is within its limits (`IsSmall`) and there is room for 2,148 bytes.
 pub fn sides_sign_with_room()
@@ -568,7 +367,7 @@ pub fn sides_sign_with_room()
         → added_by_server s response ≡ Some a → IsSmall a → 2148 ≤ room
         → IsOk (server_signed s response (record { bytes = message; room = room })) }
 {
-    signing_succeeds_with_room();
+    stun_judging::laws::signing_succeeds_with_room();
     sides_add_by_attribute();
 }
 
@@ -582,7 +381,7 @@ pub fn client_messages_are_read()
         ≡ Ok page
         → ReadsAs class error (added_by_client request state) (reading_of page.bytes) }
 {
-    signed_messages_are_read();
+    stun_judging::laws::signed_messages_are_read();
     sides_add_by_attribute();
 }
 
@@ -595,6 +394,6 @@ pub fn server_messages_are_read()
         → server_signed s response (record { bytes = message; room = room }) ≡ Ok page
         → ReadsAs class error a (reading_of page.bytes) }
 {
-    signed_messages_are_read();
+    stun_judging::laws::signed_messages_are_read();
     sides_add_by_attribute();
 }

@@ -5,7 +5,7 @@
 //!
 //! `validate_incoming_message` and `sign_outgoing_message` keep a record of each client address. A
 //! server that stores nothing about its clients calls `nonce_of_words`, `judge` and `add_challenge`
-//! in place of these two calls.
+//! of a `Realm` (`as_realm`) in place of these two calls.
 
 ghost use Rattle.std.specs.Prelude.{◌≡◌, ◌≤◌, Option, None, Some, OnOk, OnErr, Ok};
 ghost use Rattle.std.specs.Prelude.{IsOk, codes};
@@ -14,21 +14,16 @@ ghost use Rattle.std.specs.Fmt.{WritesOnOk, WritesStyledOnOk};
 ghost use Rattle.std.specs.Option.{option_copied, option_map};
 ghost use Rattle.std.specs.FinMap as map;
 ghost use Rattle.std.specs.String.{string_bytes};
-ghost use Rattle.stun_auth.specs.Algorithms.{algorithms_of, only, with_algorithm};
+ghost use Rattle.stun_judging.specs.Algorithms.{algorithms_of, only, with_algorithm};
 ghost use Rattle.stun_auth.specs.Forgetting.{after_forgetting, without_place};
 ghost use Rattle.stun_auth.specs.ForgettingSteps.{after_step, next_address};
-ghost use Rattle.stun_auth.specs.Nonces.{MINIMUM_EXPIRY};
+ghost use Rattle.stun_auth.specs.Validation.{MINIMUM_EXPIRY, client_at, new_server, realm_of};
 ghost use Rattle.stun_auth.specs.Seen.{PlaceSeen};
 ghost use Rattle.stun_auth.specs.Places.{with_change, with_client};
-ghost use Rattle.stun_auth.specs.Registered.{name_with_hash, with_user, with_user_by_keys};
-ghost use Rattle.stun_auth.specs.Registered.{without_user};
-ghost use Rattle.stun_auth.specs.Validation.{client_at, new_server};
+ghost use Rattle.stun_judging.specs.Registered.{name_with_hash, with_user, with_user_by_keys};
+ghost use Rattle.stun_judging.specs.Registered.{without_user};
 
-use crate::algorithm_set::AlgorithmSet;
-use crate::feature::Feature;
 use crate::server::places::Places;
-use crate::server::registry::Registry;
-use crate::server::stored_keys::StoredKeys;
 use std::alloc::{AllocError, Allocator, Global};
 use std::fmt;
 use std::marker::Model;
@@ -38,25 +33,17 @@ use stun_base::algorithm::IntegrityAlgorithm;
 use stun_base::credentials::LongTermCredentials;
 use stun_base::instant::Instant;
 use stun_base::memory::Memory;
+use stun_judging::algorithm_set::AlgorithmSet;
+use stun_judging::feature::Feature;
+use stun_judging::realm::Realm;
+use stun_judging::stored_keys::StoredKeys;
 
-pub(crate) mod accepted;
-mod claim;
-pub(crate) mod found;
+mod drawn;
 mod handed;
-mod judged;
-pub(crate) mod name_index;
-pub(crate) mod named_user;
 pub(crate) mod places;
-pub(crate) mod read_message;
 pub(crate) mod reason;
-pub(crate) mod registry;
 mod signing;
-pub(crate) mod stored_keys;
-pub(crate) mod told;
-pub(crate) mod user;
-pub(crate) mod user_secret;
 mod validation;
-pub(crate) mod verdict;
 
 /// The shortest time for which a nonce may be valid, in seconds.
 const MINIMUM_NONCE_EXPIRY_SECONDS: u64 = 30;
@@ -95,8 +82,7 @@ pub fn minimum_nonce_expiry_duration() -> Duration
 #[derive(Drop)]
 pub struct LongTermServerAuth<A: Allocator = Global> {
     alloc: A,
-    registry: Registry<A>,
-    feature: Feature,
+    realm: Realm<A>,
     expiry: Duration,
     places: Places<A>,
 }
@@ -111,8 +97,8 @@ impl<A: Allocator> Model for LongTermServerAuth<A> {
     ghost coded = { coded_server };
 
     ghost view = { λ s. record {
-      registered = s.registry;
-      feature = s.feature;
+      registered = s.realm.registered;
+      feature = s.realm.feature;
       expiry = as_nanos s.expiry;
       places = s.places.seen;
     } };
@@ -144,18 +130,31 @@ impl<A: Memory> LongTermServerAuth<A> {
     {
         LongTermServerAuth {
             alloc,
-            registry: Registry::new(alloc, realm),
-            feature: Feature::Auto,
+            realm: Realm::new(alloc, realm, AlgorithmSet::OnlySha1, Feature::Auto),
             expiry: Duration::from_secs(DEFAULT_NONCE_EXPIRY_SECONDS),
             places: Places::new(alloc),
         }
+    }
+
+    /// Returns the realm with its users, which judges messages under nonces that you pass
+    /// (`Realm::judge`). A server that derives its nonces from a secret, the address and the time
+    /// needs no record of an address, so it uses these calls alone. They take `&self`, so threads
+    /// can share the server.
+    ///
+    /// The calls also return the user whom a message names (`Realm::named_in`), and prepare a user
+    /// whom you look up elsewhere (`Realm::prepare_user`). They neither read nor make a record of
+    /// an address, use no random numbers, and judge without an allocation.
+    pub fn as_realm(&self) -> &Realm<A>
+        ensures { result.now ≡ realm_of self.now }
+    {
+        &self.realm
     }
 
     /// Returns the realm, which is the value of REALM in signed responses (RFC 8489, section 14.9).
     pub fn realm(&self) -> &str
         ensures { result.now ≡ self.now.registered.realm }
     {
-        self.registry.realm()
+        self.realm.name()
     }
 
     /// Returns the name of the registered user whose name has this hash at the realm (USERHASH, RFC
@@ -164,14 +163,14 @@ impl<A: Memory> LongTermServerAuth<A> {
     pub fn name_with_hash(&self, hash: &[u8; 32]) -> Option<&str>
         ensures { option_copied result ≡ name_with_hash self.now.registered hash.now }
     {
-        self.registry.name_with_hash(hash)
+        self.realm.name_with_hash(hash)
     }
 
     /// Returns the supported algorithms, the strongest first: HMAC-SHA256 before HMAC-SHA1.
     pub fn supported_integrity(&self) -> &[IntegrityAlgorithm]
         ensures { result.now ≡ algorithms_of self.now.registered.algorithms }
     {
-        self.registry.supported().as_slice()
+        self.realm.algorithms().as_slice()
     }
 
     /// Returns whether clients may send a hash (USERHASH) in place of the user name (RFC 8489,
@@ -179,7 +178,7 @@ impl<A: Memory> LongTermServerAuth<A> {
     pub fn anonymous_username(&self) -> Feature
         ensures { result ≡ self.now.feature }
     {
-        self.feature
+        self.realm.feature()
     }
 
     /// Returns the number of addresses that have a record. It takes constant time.
@@ -245,7 +244,7 @@ impl<A: Memory> LongTermServerAuth<A> {
         ensures err { OnErr result (self.new ≡ self.old) }
         ensures granted { A.grants → IsOk result }
     {
-        self.registry.add_user(credentials)
+        self.realm.add_user(credentials)
     }
 
     /// Adds a user with stored keys in place of a password, or replaces the password or keys of an
@@ -270,14 +269,14 @@ impl<A: Memory> LongTermServerAuth<A> {
         ensures err { OnErr result (self.new ≡ self.old) }
         ensures granted { A.grants → IsOk result }
     {
-        self.registry.add_user_with_keys(name, keys)
+        self.realm.add_user_with_keys(name, keys)
     }
 
     /// Returns the supported algorithms as a set.
     pub fn algorithms(&self) -> AlgorithmSet
         ensures { result ≡ self.now.registered.algorithms }
     {
-        self.registry.supported()
+        self.realm.algorithms()
     }
 
     /// Sets the supported algorithms, and makes the keys of each user anew. Of a user's stored
@@ -290,7 +289,7 @@ impl<A: Memory> LongTermServerAuth<A> {
           registered = record self.old.registered { algorithms = algorithms };
         } }
     {
-        self.registry.set_supported(algorithms);
+        self.realm.set_algorithms(algorithms);
     }
 
     /// Adds a supported algorithm, and makes the keys of each user anew. It does not allocate.
@@ -331,7 +330,7 @@ impl<A: Memory> LongTermServerAuth<A> {
         ensures ok { result ≡ Ok tt }
         ensures state { self.new ≡ record self.old { feature = feature } }
     {
-        self.feature = feature;
+        self.realm.set_feature(feature);
         Ok(())
     }
 
@@ -345,7 +344,7 @@ impl<A: Memory> LongTermServerAuth<A> {
           registered = without_user self.old.registered name.now;
         } }
     {
-        self.registry.remove_user(name);
+        self.realm.remove_user(name);
     }
 
     /// Forgets the client of an address, but keeps the nonce of the address and the algorithms that

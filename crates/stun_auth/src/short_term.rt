@@ -8,11 +8,11 @@ ghost use Rattle.stun_auth.specs.ShortTerm.{IsSignableShortTerm, short_term_answ
 ghost use Rattle.stun_auth.specs.ShortTerm.{short_term_growth};
 ghost use Rattle.stun_auth.specs.ShortTerm.{short_term_refusal, short_term_signed};
 
-use crate::message::addition::integrity_bytes;
 use std::alloc::{AllocError, Allocator, Global};
 use std::fmt;
 use std::marker::Model;
 use stun_base::memory::Memory;
+use stun_judging::addition::integrity_bytes;
 use stun_types::message::{
     IntegrityAlgorithm, IntegrityKey, Message, PreparedKey, ShortTermCredentials, StunWriteError,
     ValidateError,
@@ -121,7 +121,7 @@ impl<A: Allocator> ShortTermAuth<A> {
     /// - `TooLarge`: the message would be too long.
     /// - `TooSmall`: the writer has too little room.
     /// - `OutOfMemory`: an allocation failed.
-    #[tactic(auto, using(crate::proofs::Growth::length_of_signed))]
+    #[tactic(auto, using(stun_judging::proofs::Growth::length_of_signed))]
     pub fn sign_outgoing_message<W: MessageWrite>(&mut self, writer: W) -> Result<W, StunWriteError>
         requires { 20 ≤ length (W.bytes writer) }
         ensures signed { IfOk result (λ signed. W.bytes signed
@@ -155,7 +155,7 @@ impl<A: Allocator> ShortTermAuth<A> {
     /// for HMAC-SHA1, 36 for HMAC-SHA256.
     ///
     /// Fails if an allocation fails.
-    #[tactic(auto, using(crate::proofs::Growth::length_of_signed))]
+    #[tactic(auto, using(stun_judging::proofs::Growth::length_of_signed))]
     pub fn sign_outgoing_message_unchecked<W: MessageWrite>(
         &mut self,
         writer: W,

@@ -1,6 +1,6 @@
 //! The algorithms that a client supports.
 ghost use Rattle.std.specs.Prelude.{◌≡◌, ◌∷◌, []};
-ghost use Rattle.stun_auth.specs.Algorithms.{has};
+ghost use Rattle.stun_judging.specs.Algorithms.{has};
 ghost use Rattle.stun_auth.specs.Supported.{with_supported};
 ghost use Rattle.stun_auth.specs.code.Supported.{in_order};
 

@@ -3,7 +3,7 @@ use Rattle.std.proofs.Common.{◌≡◌, ℕ, ℤ, List, Bool, true, false, Opti
 use Rattle.std.proofs.Common.{sym, ap, subst}
 use Rattle.std.specs.Prelude.{◌||◌, ◌==◌, cond, nat_lt, not}
 use Rattle.std.specs.declared.net.socket_addr.SocketAddr.{SocketAddr}
-use Rattle.stun_auth.specs.Validation.{ServerSeen}
+use Rattle.stun_judging.specs.Realm.{RealmSeen}
 use Rattle.stun_endpoint.specs.Causes.{cause_of}
 use Rattle.stun_endpoint.specs.Judged.{realm_of_table}
 use Rattle.stun_endpoint.specs.Settings.{Settings}
@@ -23,7 +23,7 @@ use Rattle.stun_c_endpoint.specs.declared.handle.endpoint.Kept.TheVariants.{Shor
 use Rattle.stun_c_endpoint.specs.declared.received.Received.{Received}
 
 module _ (from : Address) (seconds : ℕ) (bytes : List ℕ) where
-  by_address : (s : Settings) (u : ServerSeen) (o : Option SocketAddr) (cause : Option Cause)
+  by_address : (s : Settings) (u : RealmSeen) (o : Option SocketAddr) (cause : Option Cause)
       → at_address o (λ from. Ok (cause_of s (realm_of_table u) from seconds bytes)) ≡ Ok cause
       → cause_by s u o seconds bytes ≡ cause_number cause
   by_address s u None cause h = cc
@@ -31,7 +31,7 @@ module _ (from : Address) (seconds : ℕ) (bytes : List ℕ) where
       let same : cause_of s (realm_of_table u) at seconds bytes ≡ cause = cc in
       ap cause_number same
 
-  by_time : (s : Settings) (u : ServerSeen) (is_late : Bool) (cause : Option Cause)
+  by_time : (s : Settings) (u : RealmSeen) (is_late : Bool) (cause : Option Cause)
       → cond is_late (Err BadArgument) (at_address (socket_address from)
       (λ from. Ok (cause_of s (realm_of_table u) from seconds bytes))) ≡ Ok cause
       → cond is_late 0 (cause_by s u (socket_address from) seconds bytes) ≡ cause_number cause

@@ -4,7 +4,7 @@ use Rattle.std.proofs.Common.{Option, Some, None, MatchOption, refl, sym, ap, in
 use Rattle.std.proofs.Common.{Ok, Err}
 use Rattle.std.specs.Prelude.{◌≢◌, Result}
 use Rattle.std.specs.declared.net.socket_addr.SocketAddr.{SocketAddr}
-use Rattle.stun_auth.specs.Validation.{ServerSeen}
+use Rattle.stun_judging.specs.Realm.{RealmSeen}
 use Rattle.stun_client_calls.specs.Clients.{Client as ClientSeen}
 use Rattle.stun_endpoint.specs.Responding.{Responding}
 use Rattle.stun_endpoint.specs.Settings.{Settings}
@@ -85,7 +85,7 @@ takes_server handle = record {
   other = λ k is other. ap long_term_in is ∙ other_server k other;
 }
 
-pub not_added : (name password : List ℕ) (k : Kept) → ((u : ServerSeen) → k ≢ kind.Users u)
+pub not_added : (name password : List ℕ) (k : Kept) → ((u : RealmSeen) → k ≢ kind.Users u)
     → ((u : Keys) → k ≢ kind.ShortTermUsers u) → adding name password k ≡ Err WrongHandle
 not_added name password (kind.Users u) other short = absurd (other u refl)
 not_added name password (kind.ShortTermUsers u) other short = absurd (short u refl)
@@ -95,7 +95,7 @@ not_added name password (kind.ShortTerm u) other short = refl
 not_added name password (kind.Checker u) other short = refl
 not_added name password (kind.Client u) other short = refl
 
-pub not_removed : (name : List ℕ) (k : Kept) → ((u : ServerSeen) → k ≢ kind.Users u)
+pub not_removed : (name : List ℕ) (k : Kept) → ((u : RealmSeen) → k ≢ kind.Users u)
     → ((u : Keys) → k ≢ kind.ShortTermUsers u) → removing name k ≡ Err WrongHandle
 not_removed name (kind.Users u) other short = absurd (other u refl)
 not_removed name (kind.ShortTermUsers u) other short = absurd (short u refl)
@@ -105,7 +105,7 @@ not_removed name (kind.ShortTerm u) other short = refl
 not_removed name (kind.Checker u) other short = refl
 not_removed name (kind.Client u) other short = refl
 
-pub not_stored : (name sha1 sha256 : List ℕ) (k : Kept) → ((u : ServerSeen) → k ≢ kind.Users u)
+pub not_stored : (name sha1 sha256 : List ℕ) (k : Kept) → ((u : RealmSeen) → k ≢ kind.Users u)
     → adding_keys name sha1 sha256 k ≡ Err WrongHandle
 not_stored name sha1 sha256 (kind.Users u) other = absurd (other u refl)
 not_stored name sha1 sha256 (kind.ShortTermUsers u) other = refl

@@ -7,7 +7,7 @@ use Rattle.std.specs.Prelude.{◌⊎◌, Result, nat_lt}
 use Rattle.std.proofs.Math.Seq.{take-append_seam}
 use Rattle.std.proofs.lemmas.List.{take_all}
 use Rattle.std.specs.declared.net.socket_addr.SocketAddr.{SocketAddr}
-use Rattle.stun_auth.specs.Handed.{Named, by_hash, by_name}
+use Rattle.stun_judging.specs.Named.{Named, by_hash, by_name}
 use Rattle.stun_endpoint.specs.Causes.{cause_of}
 use Rattle.stun_endpoint.specs.Judged.{realm_of_table}
 use Rattle.stun_endpoint.specs.Lookups.{Identification, LookupSeen, identified_by, looked_up}

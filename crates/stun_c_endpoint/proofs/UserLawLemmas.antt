@@ -6,14 +6,14 @@ use Rattle.std.specs.Prelude.{◌≢◌, ◌==◌, Result, Ok, Err, cond}
 use Rattle.std.specs.Cmp.Lexicographic.{nat_list_cmp_total}
 use Rattle.std.specs.FinMap as fin
 use Rattle.std.specs.Str.{is_utf8}
-use Rattle.stun_auth.specs.Algorithms.{contains}
-use Rattle.stun_auth.specs.Registered.{Registered, RegisteredUser, UserSecret, key_at, key_of}
-use Rattle.stun_auth.specs.Registered.{name_cmp, stored_key}
-use Rattle.stun_auth.specs.Registered.{with_user, with_user_by_keys, without_user}
-use Rattle.stun_auth.specs.Validation.{ServerSeen}
-use Rattle.stun_auth.specs.declared.server.stored_keys.StoredKeys.{StoredKeys}
-use Rattle.stun_auth.proofs.UserKeys.{key-added, key-by_keys, key-by_others, key-by_others_keys}
-use Rattle.stun_auth.proofs.UserKeys.{key-of_others, key-removed, other_name, same_name}
+use Rattle.stun_judging.specs.Algorithms.{contains}
+use Rattle.stun_judging.specs.Registered.{Registered, RegisteredUser, UserSecret, key_at, key_of}
+use Rattle.stun_judging.specs.Registered.{name_cmp, stored_key}
+use Rattle.stun_judging.specs.Registered.{with_user, with_user_by_keys, without_user}
+use Rattle.stun_judging.specs.Realm.{RealmSeen}
+use Rattle.stun_judging.specs.declared.stored_keys.StoredKeys.{StoredKeys}
+use Rattle.stun_judging.proofs.UserKeys.{key-added, key-by_keys, key-by_others, key-by_others_keys}
+use Rattle.stun_judging.proofs.UserKeys.{key-of_others, key-removed, other_name, same_name}
 use Rattle.stun_base.specs.Credentials.{NameAndPassword}
 use Rattle.stun_base.specs.Keys.{long_term_key}
 use Rattle.stun_base.specs.declared.keys.algorithm.IntegrityAlgorithm.{IntegrityAlgorithm}
@@ -136,9 +136,9 @@ has_none users name = record {
 
 -- ---- calls
 
-pub by_password : (u : ServerSeen) (name password : List ℕ) (before now : Option Kept)
+pub by_password : (u : RealmSeen) (name password : List ℕ) (before now : Option Kept)
     → LeavesTableOr (adding name password (kind.Users u)) (pos 0) before now
-    → (t : ServerSeen) × (now ≡ Some (kind.Users t)) × IsName name × (length password ≢ 0)
+    → (t : RealmSeen) × (now ≡ Some (kind.Users t)) × IsName name × (length password ≢ 0)
     × HasUser u.registered t.registered name
     (λ a. Some (long_term_key a name u.registered.realm password))
 by_password u name password before now h =
@@ -190,14 +190,14 @@ abbrev ArePassed : List ℕ → List ℕ → StoredKeys → Type 0
 ArePassed sha1 sha256 keys = IsKeyPassed 16 sha1 keys.sha1 × IsKeyPassed 32 sha256 keys.sha256
 
 -- both keys were accepted, and are what the table stores
-stored : (u : ServerSeen) (name sha1 sha256 : List ℕ) (a b : Result (Option (List ℕ)) Refusal)
+stored : (u : RealmSeen) (name sha1 sha256 : List ℕ) (a b : Result (Option (List ℕ)) Refusal)
     (before now : Option Kept) → key_given 16 sha1 ≡ a → key_given 32 sha256 ≡ b
     → LeavesTableOr (keys_added u name (keys_given a b)) (pos 0) before now
-    → (t : ServerSeen) × (keys : StoredKeys) × (now ≡ Some (kind.Users t))
+    → (t : RealmSeen) × (keys : StoredKeys) × (now ≡ Some (kind.Users t))
     × ArePassed sha1 sha256 keys × HasUser u.registered t.registered name (stored_key keys)
 stored u name sha1 sha256 (Ok x) (Ok y) before now one other h =
     let keys : StoredKeys = record { sha1 = x; sha256 = y } in
-    let table : ServerSeen =
+    let table : RealmSeen =
     record u { registered = with_user_by_keys u.registered name keys } in (
       table,
       keys,
@@ -208,9 +208,9 @@ stored u name sha1 sha256 (Ok x) (Ok y) before now one other h =
 stored u name sha1 sha256 (Err why) b before now one other h = no_refusal 0 why h.0
 stored u name sha1 sha256 (Ok x) (Err why) before now one other h = no_refusal 0 why h.0
 
-pub by_keys : (u : ServerSeen) (name sha1 sha256 : List ℕ) (before now : Option Kept)
+pub by_keys : (u : RealmSeen) (name sha1 sha256 : List ℕ) (before now : Option Kept)
     → LeavesTableOr (adding_keys name sha1 sha256 (kind.Users u)) (pos 0) before now
-    → (t : ServerSeen) × (keys : StoredKeys) × (now ≡ Some (kind.Users t)) × IsName name
+    → (t : RealmSeen) × (keys : StoredKeys) × (now ≡ Some (kind.Users t)) × IsName name
     × IsKeyPassed 16 sha1 keys.sha1 × IsKeyPassed 32 sha256 keys.sha256
     × HasUser u.registered t.registered name (stored_key keys)
 by_keys u name sha1 sha256 before now h =
@@ -234,12 +234,12 @@ gone : (o : Option Refusal) (table : Kept) (before now : Option Kept)
 gone None table before now h = h.1
 gone (Some why) table before now h = no_refusal 0 why h.0
 
-pub removed : (u : ServerSeen) (name : List ℕ) (before now : Option Kept)
+pub removed : (u : RealmSeen) (name : List ℕ) (before now : Option Kept)
     → LeavesTable (removing name (kind.Users u)) (pos 0) before now
-    → (t : ServerSeen) × (now ≡ Some (kind.Users t))
+    → (t : RealmSeen) × (now ≡ Some (kind.Users t))
     × HasUser u.registered t.registered name (λ a. None)
 removed u name before now h =
-    let table : ServerSeen = record u { registered = without_user u.registered name } in (
+    let table : RealmSeen = record u { registered = without_user u.registered name } in (
       table,
       gone (text_refusal name) (kind.Users table) before now h,
       has_removed u.registered name,
@@ -273,7 +273,7 @@ no_key : (s : Settings) (name : List ℕ) (a : IntegrityAlgorithm)
 no_key s name a = ap (key_by (table_of s).registered name a) (fin.get-empty name_cmp name)
 
 pub new_realm : (s : Settings) (k : Kept) → table_for (kind.Server s) ≡ Ok k
-    → (t : ServerSeen) × (k ≡ kind.Users t) × (t.registered.realm ≡ s.realm)
+    → (t : RealmSeen) × (k ≡ kind.Users t) × (t.registered.realm ≡ s.realm)
     × (t.registered.algorithms ≡ s.algorithms)
     × ((name : List ℕ) (a : IntegrityAlgorithm) → key_at t.registered name a ≡ None)
 new_realm s k h = (

@@ -1,7 +1,7 @@
 -- Why a request is refused, as a caller in C receives it (RFC 8489, sections 9.2.4 and 6.3.1).
 use Rattle.std.specs.Prelude.{◌≡◌, ◌⊎◌, ℕ, ℤ, pos, List, ◌||◌, ◌==◌, not, nat_lt, Option, Some}
 use Rattle.std.specs.Prelude.{None, if◌then◌else◌, Result, Ok, Err}
-use Rattle.stun_auth.specs.Validation.{ServerSeen}
+use Rattle.stun_judging.specs.Realm.{RealmSeen}
 use Rattle.stun_endpoint.specs.Causes.{cause_of}
 use Rattle.stun_endpoint.specs.Judged.{realm_of_table}
 use Rattle.stun_endpoint.specs.Settings.{Settings}
@@ -30,7 +30,7 @@ use Rattle.stun_c_endpoint.specs.declared.received.Received.{Received}
 -- a server with long-term credentials, and its users
 pub record OfRealm : Type 0 where
   pub settings : Settings
-  pub users : ServerSeen
+  pub users : RealmSeen
 
 -- the table of users, which must be one of a realm
 abbrev pub with_table : Settings → Kept → Result OfRealm Refusal
@@ -79,7 +79,7 @@ cause_number (Some UnknownAttribute) = 7
 -- ---- the cause besides the outcome of a datagram
 
 -- the number of the cause, at a server with long-term credentials and with its users
-abbrev pub cause_by : Settings → ServerSeen → Option SocketAddr → ℕ → List ℕ → ℕ
+abbrev pub cause_by : Settings → RealmSeen → Option SocketAddr → ℕ → List ℕ → ℕ
 cause_by s u None seconds bytes = 0
 cause_by s u (Some from) seconds bytes =
     cause_number (cause_of s (realm_of_table u) from seconds bytes)

@@ -7,8 +7,8 @@ use Rattle.stun_base.specs.declared.keys.algorithm.IntegrityAlgorithm.{Integrity
 use Rattle.stun_base.specs.declared.keys.algorithm.IntegrityAlgorithm.TheVariants.{Sha1, Sha256}
 use Rattle.stun_base.specs.declared.wire.transport.TransportType.{TransportType}
 use Rattle.stun_base.specs.declared.wire.transport.TransportType.TheVariants.{Tcp, Udp}
-use Rattle.stun_auth.specs.declared.feature.Feature.{Feature}
-use Rattle.stun_auth.specs.declared.feature.Feature.TheVariants.{Auto, Disabled, Required}
+use Rattle.stun_judging.specs.declared.feature.Feature.{Feature}
+use Rattle.stun_judging.specs.declared.feature.Feature.TheVariants.{Auto, Disabled, Required}
 use Rattle.stun_agent.specs.Timing.{Settings}
 use Rattle.stun_client.specs.Judging.{Identity, long_term, short_term, unsigned}
 use Rattle.stun_client.specs.declared.preferences.Preferences.{Preferences}

@@ -5,9 +5,9 @@ use Rattle.std.specs.Prelude.{replicate, slice_index}
 use Rattle.std.specs.Str.{bytes_eq, is_utf8}
 use Rattle.stun_types.specs.Limits.{TEXT_LIMIT}
 use Rattle.stun_extra.specs.Unknown.{types_of}
-use Rattle.stun_auth.specs.declared.algorithm_set.AlgorithmSet.{AlgorithmSet}
-use Rattle.stun_auth.specs.declared.algorithm_set.AlgorithmSet.TheVariants.{OnlySha1}
-use Rattle.stun_auth.specs.declared.algorithm_set.AlgorithmSet.TheVariants.{OnlySha256, Both}
+use Rattle.stun_judging.specs.declared.algorithm_set.AlgorithmSet.{AlgorithmSet}
+use Rattle.stun_judging.specs.declared.algorithm_set.AlgorithmSet.TheVariants.{OnlySha1}
+use Rattle.stun_judging.specs.declared.algorithm_set.AlgorithmSet.TheVariants.{OnlySha256, Both}
 use Rattle.stun_endpoint.specs.Realm.{feature_for}
 use Rattle.stun_endpoint.specs.Responding.{Responding}
 use Rattle.stun_endpoint.specs.Settings.{Settings}

@@ -1,7 +1,7 @@
 -- The value of a handle: a server, a table of users, an ICE agent or a client. An empty handle
 -- fails with one error, and one of another kind with another.
 use Rattle.std.specs.Prelude.{Option, Some, None, Result, Ok, Err}
-use Rattle.stun_auth.specs.Validation.{ServerSeen}
+use Rattle.stun_judging.specs.Realm.{RealmSeen}
 use Rattle.stun_endpoint.specs.Responding.{Responding}
 use Rattle.stun_endpoint.specs.Settings.{Settings}
 use Rattle.stun_endpoint.specs.ShortTerm.{Keys}
@@ -22,7 +22,7 @@ at_handle (Some kept) answer = answer kept
 
 -- what judges a datagram: a server, with its users if it has credentials
 pub data Judge : Type 0 where
-  by_realm : Settings → ServerSeen → Judge
+  by_realm : Settings → RealmSeen → Judge
   by_users : Responding → Keys → Judge
   openly : Responding → Judge
 

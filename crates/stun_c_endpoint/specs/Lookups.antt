@@ -2,7 +2,7 @@
 -- section 9.2.4).
 use Rattle.std.specs.Prelude.{◌≡◌, ◌⊎◌, ℕ, ℤ, pos, List, ◌||◌, ◌==◌, true, not, length, nat_lt}
 use Rattle.std.specs.Prelude.{if◌then◌else◌, Option, Result, Ok, Err}
-use Rattle.stun_auth.specs.Handed.{Named, by_hash, by_name}
+use Rattle.stun_judging.specs.Named.{Named, by_hash, by_name}
 use Rattle.stun_base.specs.Header.{type_field}
 use Rattle.stun_base.specs.MessageType.{method_of}
 use Rattle.stun_endpoint.specs.Lookups.{Identification, LookupSeen, done, identified_by, looked_up}

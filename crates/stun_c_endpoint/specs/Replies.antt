@@ -2,7 +2,7 @@
 -- 9.2.4).
 use Rattle.std.specs.Prelude.{◌≡◌, ◌≤◌, ℕ, List, take, Option, Some, None}
 use Rattle.std.specs.FinMap as map
-use Rattle.stun_auth.specs.Registered.{key_at}
+use Rattle.stun_judging.specs.Registered.{key_at}
 use Rattle.stun_base.specs.Algorithm.{digest_length}
 use Rattle.stun_base.specs.declared.keys.algorithm.IntegrityAlgorithm.{IntegrityAlgorithm}
 use Rattle.stun_types.specs.Integrity.{verified_algorithm}

@@ -1,6 +1,6 @@
 -- The statements of the laws over how a server judges a datagram.
 use Rattle.std.specs.Prelude.{◌≡◌, ◌≤◌, ℕ, List, true, false, length}
-use Rattle.stun_auth.specs.Handed.{Named, by_hash, by_name}
+use Rattle.stun_judging.specs.Named.{Named, by_hash, by_name}
 use Rattle.stun_c_endpoint.specs.Replies.{told_name}
 use Rattle.stun_c_endpoint.specs.declared.received.Received.{Received}
 

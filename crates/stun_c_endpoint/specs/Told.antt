@@ -6,7 +6,7 @@ use Rattle.byteorder.specs.Endian.{big_bytes}
 use Rattle.std.specs.Option.{option_map, option_map_or}
 use Rattle.sha1.specs.Sha1.{sha1}
 use Rattle.sha2.specs.Sha256.{sha256}
-use Rattle.stun_auth.specs.Seen.{ClientSeen}
+use Rattle.stun_judging.specs.Verdict.{ClientSeen}
 use Rattle.stun_base.specs.declared.keys.algorithm.IntegrityAlgorithm.{IntegrityAlgorithm}
 use Rattle.stun_base.specs.declared.keys.algorithm.IntegrityAlgorithm.TheVariants.{Sha1, Sha256}
 use Rattle.stun_base.specs.Hmac.{block_of, key_block, short_key}

@@ -3,8 +3,8 @@ use Rattle.std.specs.Prelude.{◌≡◌, ◌≢◌, ◌≤◌, ◌⊎◌, ℕ, L
 use Rattle.std.specs.Prelude.{Some, None}
 use Rattle.std.specs.FinMap as map
 use Rattle.std.specs.Str.{is_utf8}
-use Rattle.stun_auth.specs.Algorithms.{contains}
-use Rattle.stun_auth.specs.Registered.{Registered, key_at}
+use Rattle.stun_judging.specs.Algorithms.{contains}
+use Rattle.stun_judging.specs.Registered.{Registered, key_at}
 use Rattle.stun_base.specs.declared.keys.algorithm.IntegrityAlgorithm.{IntegrityAlgorithm}
 use Rattle.stun_endpoint.specs.ShortTerm.{Keys}
 

@@ -4,9 +4,9 @@ use Rattle.std.specs.Prelude.{Some, None}
 use Rattle.std.specs.Prelude.{Result, Ok, Err}
 use Rattle.std.specs.FinMap as map
 use Rattle.stun_endpoint.specs.Realm.{table_of}
-use Rattle.stun_auth.specs.Registered.{with_user, with_user_by_keys, without_user}
-use Rattle.stun_auth.specs.Validation.{ServerSeen}
-use Rattle.stun_auth.specs.declared.server.stored_keys.StoredKeys.{StoredKeys}
+use Rattle.stun_judging.specs.Registered.{with_user, with_user_by_keys, without_user}
+use Rattle.stun_judging.specs.Realm.{RealmSeen}
+use Rattle.stun_judging.specs.declared.stored_keys.StoredKeys.{StoredKeys}
 use Rattle.stun_types.specs.Limits.{USERNAME_LIMIT}
 use Rattle.stun_handles.specs.Answers.{text_refusal, texts_refusal}
 use Rattle.stun_handles.specs.Keys.{key_given, keys_given}
@@ -29,7 +29,7 @@ abbrev pub password_refusal : List ℕ → Option Refusal
 password_refusal password = if length password == 0 then Some BadArgument else None
 
 -- a table with a user with a password
-abbrev pub added : ServerSeen → List ℕ → List ℕ → ServerSeen
+abbrev pub added : RealmSeen → List ℕ → List ℕ → RealmSeen
 added u name password = record u {
   registered = with_user u.registered (record { username = name; password = password });
 }
@@ -53,7 +53,7 @@ adding name password (Checker a) = Err WrongHandle
 adding name password (Client c) = Err WrongHandle
 
 -- a table with a user with stored keys
-abbrev pub keys_added : ServerSeen → List ℕ → Result StoredKeys Refusal → Result Kept Refusal
+abbrev pub keys_added : RealmSeen → List ℕ → Result StoredKeys Refusal → Result Kept Refusal
 keys_added u name (Ok keys) = Ok (Users (record u {
   registered = with_user_by_keys u.registered name keys;
 }))
@@ -61,7 +61,7 @@ keys_added u name (Err refusal) = Err refusal
 
 -- a table after a user with stored keys is added: a name that is not a text or is too long fails,
 -- and then a key of another length
-abbrev pub with_stored : ServerSeen → List ℕ → List ℕ → List ℕ → Result Kept Refusal
+abbrev pub with_stored : RealmSeen → List ℕ → List ℕ → List ℕ → Result Kept Refusal
 with_stored u name sha1 sha256 =
     refusal_or (text_refusal name)
     (refusal_or (name_refusal name)

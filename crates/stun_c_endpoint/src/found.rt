@@ -12,11 +12,11 @@ use crate::received::{RECEIVED_SIZE, Received};
 use crate::server::{LAST_SECOND, tell};
 use crate::users::{check_name, check_password};
 use std::alloc::Global;
-use stun_auth::auth::FoundUser;
 use stun_endpoint::server::Server;
 use stun_endpoint::unix_time::UnixTime;
 use stun_handles::address::Address;
 use stun_handles::keys::keys_of;
+use stun_judging::found::FoundUser;
 use stun_numbers::refusal::Refusal;
 use stun_numbers::text::text;
 

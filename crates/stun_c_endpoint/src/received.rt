@@ -15,18 +15,18 @@ ghost use Rattle.stun_c_endpoint.specs.Told.{told_signed_indication};
 ghost use Rattle.stun_c_endpoint.specs.Lookups.{lookup_told, named_told};
 ghost use Rattle.stun_c_endpoint.specs.Told.{block_told, hash_by, key_length_told, reply_told};
 ghost use Rattle.stun_c_endpoint.specs.Told.{responded, told_of};
-ghost use Rattle.stun_auth.specs.Handed.{named_seen};
+ghost use Rattle.stun_judging.specs.Named.{named_seen};
 
 use byteorder::{BigEndian, ByteOrder};
 use sha1::Sha1;
 use sha2::{Digest, Sha256};
 use std::alloc::Global;
-use stun_auth::auth::NamedUser;
 use stun_endpoint::lookup::Lookup;
 use stun_endpoint::open::OpenRequest;
 use stun_endpoint::received::{DropReason, Request};
 use stun_endpoint::reply::Reply as EndpointReply;
 use stun_endpoint::short_term::ShortTermIndication;
+use stun_judging::named_user::NamedUser;
 use stun_types::message::{IntegrityAlgorithm, Message, TransactionId};
 
 /// The number of bytes of a block of HMAC, which is the greatest length of a key in a reply.

@@ -6,8 +6,8 @@ use Rattle.std.specs.Option.{IsSome, is_some, option_map}
 use Rattle.stun_base.specs.Credentials.{NameAndPassword}
 use Rattle.stun_base.specs.declared.keys.algorithm.IntegrityAlgorithm.{IntegrityAlgorithm}
 use Rattle.stun_base.specs.declared.keys.algorithm.IntegrityAlgorithm.TheVariants.{Sha1, Sha256}
-use Rattle.stun_auth.specs.Algorithms.{has, same_algorithm}
-use Rattle.stun_auth.specs.Nonces.{asks_for_algorithms}
+use Rattle.stun_judging.specs.Algorithms.{has, same_algorithm}
+use Rattle.stun_judging.specs.Nonces.{asks_for_algorithms}
 use Rattle.stun_client.specs.Challenge.{Challenge, new_challenge}
 use Rattle.stun_client.specs.Challenges.{Answered, IsAnswerable, by_rule, by_rule_if}
 use Rattle.stun_client.specs.Challenges.{challenge_of, is_one}

@@ -15,18 +15,17 @@ use Rattle.stun_types.specs.Walk.{Member}
 use Rattle.stun_types.specs.declared.attribute.password_algorithm.PasswordAlgorithmValue.{
   PasswordAlgorithmValue,
 }
-use Rattle.stun_auth.specs.Algorithms.{algorithms_of, has, is_sha256, offered_list}
-use Rattle.stun_auth.specs.Algorithms.{same_algorithm, same_list}
+use Rattle.stun_judging.specs.Algorithms.{algorithms_of, has, is_sha256, offered_list}
+use Rattle.stun_judging.specs.Algorithms.{same_algorithm, same_list}
 use Rattle.stun_client.specs.Challenge.{Challenge, added_under, is_listed, list_read}
-use Rattle.stun_auth.specs.Feature.{is_possible}
-use Rattle.stun_auth.specs.Nonces.{asks_for_algorithms, asks_for_userhash}
-use Rattle.stun_auth.specs.Reading.{has_visible_integrity, reading_of, verified_under}
-use Rattle.stun_auth.specs.Registered.{Registered}
-use Rattle.stun_auth.specs.Seen.{ClientSeen}
-use Rattle.stun_auth.specs.Server.{IsAccepted, choice}
-use Rattle.stun_auth.specs.Signed.{ReadsAs, only_if}
-use Rattle.stun_auth.specs.declared.algorithm_set.AlgorithmSet.{AlgorithmSet}
-use Rattle.stun_auth.specs.declared.feature.Feature.{Feature}
+use Rattle.stun_judging.specs.Feature.{is_possible}
+use Rattle.stun_judging.specs.Nonces.{asks_for_algorithms, asks_for_userhash}
+use Rattle.stun_judging.specs.Reading.{has_visible_integrity, reading_of, verified_under}
+use Rattle.stun_judging.specs.Registered.{Registered}
+use Rattle.stun_judging.specs.Verdict.{ClientSeen, IsAccepted, choice}
+use Rattle.stun_judging.specs.Signed.{ReadsAs, only_if}
+use Rattle.stun_judging.specs.declared.algorithm_set.AlgorithmSet.{AlgorithmSet}
+use Rattle.stun_judging.specs.declared.feature.Feature.{Feature}
 use Rattle.stun_client.specs.Downgrade.{IsNotBidDown, IsStrongestOfBoth, IsUpToDate}
 use Rattle.stun_client.specs.Offers.{algorithms_in}
 use Rattle.stun_client.specs.Preferences.{supports}

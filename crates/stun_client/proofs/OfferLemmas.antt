@@ -15,8 +15,8 @@ use Rattle.stun_types.specs.declared.attribute.password_algorithm.PasswordAlgori
   PasswordAlgorithmValue,
 }
 use Rattle.stun_types.proofs.WalkLemmas.{has_attribute-within, walk_from-end, walk_from-step}
-use Rattle.stun_auth.specs.AddedAttribute.{password_algorithm}
-use Rattle.stun_auth.specs.Additions.{attribute}
+use Rattle.stun_judging.specs.AddedAttribute.{password_algorithm}
+use Rattle.stun_judging.specs.Additions.{attribute}
 use Rattle.stun_client.specs.Challenge.{algorithm_choice, repeated_list}
 use Rattle.stun_client.specs.Offers.{algorithms_in, in_front, known, known_of}
 use Rattle.stun_client.specs.Preferences.{supports}

@@ -19,17 +19,17 @@ use Rattle.stun_types.specs.PasswordAlgorithms.{password_algorithms_in}
 use Rattle.stun_types.specs.Text.{text_of, text_of-written}
 use Rattle.stun_types.specs.Userhash.{hash_of, hash_of-written}
 use Rattle.stun_types.specs.Visible.{visible}
-use Rattle.stun_auth.specs.AddedAttribute.{nonce, password_algorithm, realm, userhash, username}
-use Rattle.stun_auth.specs.Additions.{Page, UnlessMemory, added_all, page_in, written_page}
-use Rattle.stun_auth.specs.Algorithms.{is_sha256}
-use Rattle.stun_auth.specs.Client.{Naming, hashed, plain}
-use Rattle.stun_auth.specs.Joined.{IsTyped, added_last, last_value, protection_in}
-use Rattle.stun_auth.specs.Reading.{error_code, has_visible_integrity, last, last_of, reading_of}
-use Rattle.stun_auth.specs.Signed.{IsText, IsUnsigned, ReadsAs, hashed_name, only_if, plain_name}
-use Rattle.stun_auth.proofs.JoinedLemmas.{WritingLaws, all_short, has_added, not_above, or_none}
-use Rattle.stun_auth.proofs.JoinedReading.{read_back}
-use Rattle.stun_auth.proofs.ReadingLemmas.{is_some-cond}
-use Rattle.stun_auth.proofs.SignedReading.{algorithm_again, by_value, none_before, read_added}
+use Rattle.stun_judging.specs.AddedAttribute.{nonce, password_algorithm, realm, userhash, username}
+use Rattle.stun_judging.specs.Additions.{Page, UnlessMemory, added_all, page_in, written_page}
+use Rattle.stun_judging.specs.Algorithms.{is_sha256}
+use Rattle.stun_judging.specs.Naming.{Naming, hashed, plain}
+use Rattle.stun_judging.specs.Joined.{IsTyped, added_last, last_value, protection_in}
+use Rattle.stun_judging.specs.Reading.{error_code, has_visible_integrity, last, last_of, reading_of}
+use Rattle.stun_judging.specs.Signed.{IsText, IsUnsigned, ReadsAs, hashed_name, only_if, plain_name}
+use Rattle.stun_judging.proofs.JoinedLemmas.{WritingLaws, all_short, has_added, not_above, or_none}
+use Rattle.stun_judging.proofs.JoinedReading.{read_back}
+use Rattle.stun_judging.proofs.ReadingLemmas.{is_some-cond}
+use Rattle.stun_judging.proofs.SignedReading.{algorithm_again, by_value, none_before, read_added}
 use Rattle.stun_client.specs.Challenge.{Challenge, added_under, challenge_additions, is_listed}
 use Rattle.stun_client.specs.Challenge.{list_read, repeated_list}
 

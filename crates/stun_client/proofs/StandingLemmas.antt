@@ -4,9 +4,9 @@ use Rattle.std.proofs.Common.{◌≡◌, ◌⊎◌, inl, inr, Bool, true, false,
 use Rattle.std.proofs.Common.{Option, Some, None, cond, refl, ◌∙◌, ap, sym}
 use Rattle.std.specs.Prelude.{◌&&◌, ◌||◌, not}
 use Rattle.std.specs.Option.{IfSome, IsSome, is_none, is_some}
-use Rattle.stun_auth.specs.Algorithms.{is_sha256}
+use Rattle.stun_judging.specs.Algorithms.{is_sha256}
 use Rattle.stun_client.specs.Challenge.{Challenge}
-use Rattle.stun_auth.specs.Signed.{plain_name}
+use Rattle.stun_judging.specs.Signed.{plain_name}
 use Rattle.stun_client.specs.Challenges.{Answered, is_one, is_weaker}
 use Rattle.stun_client.specs.Standing.{AreHeededEvents, AreUsualEvents, IsHeededEvent, StandingEvent}
 use Rattle.stun_client.specs.Standing.{IsUsualEvent, StandingSeen, after_answer, after_confirming}

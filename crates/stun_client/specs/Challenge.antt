@@ -9,16 +9,14 @@ use Rattle.stun_base.specs.Keys.{long_term_key}
 use Rattle.stun_base.specs.declared.keys.algorithm.IntegrityAlgorithm.{IntegrityAlgorithm}
 use Rattle.stun_types.specs.Attribute.{TypedValue}
 use Rattle.stun_types.specs.PasswordAlgorithms.{integrity_of, password_algorithms_in}
-use Rattle.stun_auth.specs.AddedAttribute as attributes
-use Rattle.stun_auth.specs.Additions.{Addition, attribute, integrity}
-use Rattle.stun_auth.specs.Algorithms.{is_sha256}
-use Rattle.stun_auth.specs.Client.{Naming}
-use Rattle.stun_auth.specs.ClientSigning.{who_asks}
-use Rattle.stun_auth.specs.ClientStep.{naming_of}
-use Rattle.stun_auth.specs.Feature.{is_possible}
-use Rattle.stun_auth.specs.Nonces.{asks_for_userhash}
-use Rattle.stun_auth.specs.Signed.{Added, hashed_name, only_if, plain_name}
-use Rattle.stun_auth.specs.declared.feature.Feature.{Feature}
+use Rattle.stun_judging.specs.AddedAttribute as attributes
+use Rattle.stun_judging.specs.Additions.{Addition, attribute, integrity}
+use Rattle.stun_judging.specs.Algorithms.{is_sha256}
+use Rattle.stun_judging.specs.Naming.{Naming, who_asks, naming_of}
+use Rattle.stun_judging.specs.Feature.{is_possible}
+use Rattle.stun_judging.specs.Nonces.{asks_for_userhash}
+use Rattle.stun_judging.specs.Signed.{Added, hashed_name, only_if, plain_name}
+use Rattle.stun_judging.specs.declared.feature.Feature.{Feature}
 
 -- what requests for a challenge have, and the key that they are signed with
 pub record Challenge : Type 0 where

@@ -7,10 +7,10 @@ use Rattle.stun_base.specs.Credentials.{NameAndPassword}
 use Rattle.stun_base.specs.declared.keys.algorithm.IntegrityAlgorithm.{IntegrityAlgorithm}
 use Rattle.stun_base.specs.declared.keys.algorithm.IntegrityAlgorithm.TheVariants.{Sha1}
 use Rattle.stun_types.specs.Integrity.{verified_algorithm}
-use Rattle.stun_auth.specs.ClientStep.{STALE_NONCE, is_code}
-use Rattle.stun_auth.specs.Algorithms.{has, is_sha256, same_algorithm}
-use Rattle.stun_auth.specs.Nonces.{asks_for_algorithms, asks_for_userhash}
-use Rattle.stun_auth.specs.Signed.{plain_name}
+use Rattle.stun_judging.specs.Reading.{STALE_NONCE, is_code}
+use Rattle.stun_judging.specs.Algorithms.{has, is_sha256, same_algorithm}
+use Rattle.stun_judging.specs.Nonces.{asks_for_algorithms, asks_for_userhash}
+use Rattle.stun_judging.specs.Signed.{plain_name}
 use Rattle.stun_client.specs.Challenge.{Challenge, new_challenge}
 use Rattle.stun_client.specs.Challenging.{code_in, is_challenge, list_in, nonce_in, realm_in}
 use Rattle.stun_client.specs.Offers.{algorithms_in}

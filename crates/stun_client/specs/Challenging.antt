@@ -12,7 +12,7 @@ use Rattle.stun_types.specs.Text.{text_of}
 use Rattle.stun_types.specs.Visible.{visible}
 use Rattle.stun_extra.specs.Values.{bytes_of}
 use Rattle.stun_client.specs.Offers.{if_entries}
-use Rattle.stun_auth.specs.ClientStep.{STALE_NONCE, UNAUTHORIZED, is_code}
+use Rattle.stun_judging.specs.Reading.{STALE_NONCE, UNAUTHORIZED, is_code}
 
 -- the reading of the first visible attribute of a type
 abbrev pub first : {A : Type 0} → (TypedValue → Option A) → ℕ → List ℕ → Option A

@@ -3,15 +3,14 @@
 use Rattle.std.specs.Prelude.{◌≡◌, ◌⊎◌, ℕ, List, true, Option, Some, None}
 use Rattle.stun_base.specs.declared.keys.algorithm.IntegrityAlgorithm.{IntegrityAlgorithm}
 use Rattle.stun_base.specs.declared.keys.algorithm.IntegrityAlgorithm.TheVariants.{Sha256}
-use Rattle.stun_auth.specs.Algorithms.{contains}
-use Rattle.stun_auth.specs.Feature.{is_possible}
-use Rattle.stun_auth.specs.Nonces.{asks_for_algorithms, asks_for_userhash}
-use Rattle.stun_auth.specs.Reading.{Reading, verified_under}
-use Rattle.stun_auth.specs.Registered.{Registered}
-use Rattle.stun_auth.specs.Seen.{ClientSeen}
-use Rattle.stun_auth.specs.Server.{IsAccepted}
-use Rattle.stun_auth.specs.declared.algorithm_set.AlgorithmSet.{AlgorithmSet}
-use Rattle.stun_auth.specs.declared.feature.Feature.{Feature}
+use Rattle.stun_judging.specs.Algorithms.{contains}
+use Rattle.stun_judging.specs.Feature.{is_possible}
+use Rattle.stun_judging.specs.Nonces.{asks_for_algorithms, asks_for_userhash}
+use Rattle.stun_judging.specs.Reading.{Reading, verified_under}
+use Rattle.stun_judging.specs.Registered.{Registered}
+use Rattle.stun_judging.specs.Verdict.{ClientSeen, IsAccepted}
+use Rattle.stun_judging.specs.declared.algorithm_set.AlgorithmSet.{AlgorithmSet}
+use Rattle.stun_judging.specs.declared.feature.Feature.{Feature}
 use Rattle.stun_client.specs.Preferences.{supports}
 use Rattle.stun_client.specs.declared.preferences.Preferences.{Preferences}
 

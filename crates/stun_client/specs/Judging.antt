@@ -6,8 +6,8 @@ use Rattle.std.specs.Option.{is_none, is_some, option_map}
 use Rattle.stun_base.specs.Credentials.{NameAndPassword}
 use Rattle.stun_base.specs.declared.keys.algorithm.IntegrityAlgorithm.{IntegrityAlgorithm}
 use Rattle.stun_types.specs.Integrity.{verified_algorithm}
-use Rattle.stun_auth.specs.Algorithms.{same_algorithm}
-use Rattle.stun_auth.specs.ClientStep.{UNAUTHORIZED, is_code}
+use Rattle.stun_judging.specs.Algorithms.{same_algorithm}
+use Rattle.stun_judging.specs.Reading.{UNAUTHORIZED, is_code}
 use Rattle.stun_extra.specs.Fingerprint.{fingerprint_in}
 use Rattle.stun_extra.specs.declared.fingerprint.Fingerprint.{Fingerprint}
 use Rattle.stun_extra.specs.declared.fingerprint.Fingerprint.TheVariants.{Right, Wrong}

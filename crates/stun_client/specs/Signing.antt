@@ -1,7 +1,7 @@
 -- What a client adds to a request to sign it (RFC 8489, sections 9.1.2 and 9.2.5).
 use Rattle.std.specs.Prelude.{List, [], ◌∷◌, true, Option, Some, None}
-use Rattle.stun_auth.specs.AddedAttribute.{username}
-use Rattle.stun_auth.specs.Additions.{Addition, attribute, integrity}
+use Rattle.stun_judging.specs.AddedAttribute.{username}
+use Rattle.stun_judging.specs.Additions.{Addition, attribute, integrity}
 use Rattle.stun_client.specs.Challenge.{challenge_additions}
 use Rattle.stun_client.specs.Challenges.{Answered}
 use Rattle.stun_client.specs.Judging.{Identity, long_term, short_term, unsigned}

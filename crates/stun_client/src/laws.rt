@@ -5,11 +5,11 @@ ghost use Rattle.stun_base.specs.Credentials.{NameAndPassword};
 ghost use Rattle.stun_base.specs.declared.keys.algorithm.IntegrityAlgorithm.{IntegrityAlgorithm};
 ghost use Rattle.stun_base.specs.declared.wire.message_type.MessageClass.{MessageClass};
 ghost use Rattle.stun_types.specs.Integrity.{verified_algorithm};
-ghost use Rattle.stun_auth.specs.Nonces.{front, nonce_of, security_byte};
-ghost use Rattle.stun_auth.specs.Reading.{reading_of};
-ghost use Rattle.stun_auth.specs.Registered.{Registered};
-ghost use Rattle.stun_auth.specs.Signed.{ReadsAs};
-ghost use Rattle.stun_auth.specs.declared.feature.Feature.{Feature as TheFeature};
+ghost use Rattle.stun_judging.specs.Nonces.{front, nonce_of, security_byte};
+ghost use Rattle.stun_judging.specs.Reading.{reading_of};
+ghost use Rattle.stun_judging.specs.Registered.{Registered};
+ghost use Rattle.stun_judging.specs.Signed.{ReadsAs};
+ghost use Rattle.stun_judging.specs.declared.feature.Feature.{Feature as TheFeature};
 ghost use Rattle.stun_client.specs.Challenge.{Challenge, added_under};
 ghost use Rattle.stun_client.specs.Challenges.{Answered, IsAnswerable, IsOfMessage};
 ghost use Rattle.stun_client.specs.Challenges.{challenge_of, is_one};
@@ -92,7 +92,7 @@ pub fn nonces_of_a_server_are_up_to_date()
         → IsUpToDate users feature (front (security_byte users.algorithms feature) ++ behind)
         (Some users.algorithms) }
 {
-    stun_auth::laws::nonces_ask_for_what_is_supported();
+    stun_judging::laws::nonces_ask_for_what_is_supported();
 }
 
 /// A client believes a response only in one of these cases: the client has no credentials, it

@@ -1,7 +1,8 @@
 //! The algorithms that a client supports, and its use of hashed user names.
 ghost use Rattle.std.specs.Prelude.{◌≡◌};
 
-use stun_auth::auth::{AlgorithmSet, Feature};
+use stun_judging::algorithm_set::AlgorithmSet;
+use stun_judging::feature::Feature;
 use stun_types::message::IntegrityAlgorithm;
 
 /// The algorithms that a client supports, and whether it sends its user name as a hash.

@@ -1,11 +1,11 @@
 //! Signs a request with the credentials of a client (RFC 8489, sections 9.1.2 and 9.2.5).
 ghost use Rattle.std.specs.Option.{IfSome, option_copied};
 ghost use Rattle.std.specs.Prelude.{◌≡◌, ◌≤◌, ⊤, IfOk, length};
-ghost use Rattle.stun_auth.specs.Additions.{UnlessMemory, WantsMemory, added_all, page_in};
-ghost use Rattle.stun_auth.specs.Additions.{written_page};
-ghost use Rattle.stun_auth.specs.Outcome.{IsOutcome};
-ghost use Rattle.stun_auth.specs.Reading.{reading_of};
-ghost use Rattle.stun_auth.specs.Signed.{IsUnsigned};
+ghost use Rattle.stun_judging.specs.Additions.{UnlessMemory, WantsMemory, added_all, page_in};
+ghost use Rattle.stun_judging.specs.Additions.{written_page};
+ghost use Rattle.stun_judging.specs.Outcome.{IsOutcome};
+ghost use Rattle.stun_judging.specs.Reading.{reading_of};
+ghost use Rattle.stun_judging.specs.Signed.{IsUnsigned};
 ghost use Rattle.stun_client.specs.Downgrade.{IsNowhereBidDown};
 ghost use Rattle.stun_client.specs.Judging.{identity_of};
 ghost use Rattle.stun_client.specs.Signing.{additions_of, challenge_for};
@@ -14,7 +14,7 @@ ghost use Rattle.stun_client.specs.code.Signing.{short_term_additions};
 use crate::challenge::Challenge;
 use crate::credentials::{Credentials, ShortTerm};
 use std::alloc::Allocator;
-use stun_auth::answering::{AddedAttribute, add, add_integrity};
+use stun_judging::addition::{AddedAttribute, add, add_integrity};
 use stun_types::message::StunWriteError;
 use stun_types::prelude::*;
 

@@ -7,7 +7,7 @@ use Rattle.std.proofs.lemmas.Bool.{and_parts, or_parts}
 use Rattle.stun_base.specs.declared.keys.algorithm.IntegrityAlgorithm.{IntegrityAlgorithm}
 use Rattle.stun_base.specs.declared.keys.algorithm.IntegrityAlgorithm.TheVariants.{Sha1, Sha256}
 use Rattle.stun_types.specs.Integrity.{verified_algorithm}
-use Rattle.stun_auth.proofs.ListSteps.{find-passes}
+use Rattle.stun_judging.proofs.ListSteps.{find-passes}
 use Rattle.stun_client.specs.Challenges.{Answered, is_one}
 use Rattle.stun_client.specs.Judging.{Identity, IsEndOrNothing, IsSentAgain, Verdict, anew}
 use Rattle.stun_client.specs.Judging.{believed, by_sole_algorithm, doubted, dropped, fault_in}

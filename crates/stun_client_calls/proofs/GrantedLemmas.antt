@@ -12,7 +12,7 @@ use Rattle.stun_base.specs.declared.wire.message_type.MessageClass.{MessageClass
 use Rattle.stun_types.specs.Message.{refusal}
 use Rattle.stun_agent.specs.Tables.{datum_at}
 use Rattle.stun_agent.specs.Transactions.{at as transaction_at}
-use Rattle.stun_auth.specs.Additions.{UnlessMemory as UnlessRefused}
+use Rattle.stun_judging.specs.Additions.{UnlessMemory as UnlessRefused}
 use Rattle.stun_client.specs.Challenges.{Answered}
 use Rattle.stun_client.specs.Ids.{id_of}
 use Rattle.stun_client_endpoint.specs.Bodies.{Body}

@@ -2,7 +2,7 @@
 ghost use Rattle.std.specs.Option.{option_copied};
 ghost use Rattle.std.specs.Prelude.{◌≡◌, ◌⊎◌, ⊤, Err, IfErr, IfOk, Ok, true};
 ghost use Rattle.stun_agent.specs.Transactions.{IsRequestOf};
-ghost use Rattle.stun_auth.specs.Additions.{UnlessMemory};
+ghost use Rattle.stun_judging.specs.Additions.{UnlessMemory};
 ghost use Rattle.stun_client.specs.Judging.{identity_of};
 ghost use Rattle.stun_client_calls.specs.Writing.{message_bytes};
 ghost use Rattle.stun_client_endpoint.specs.Written.{is_text_too_long};

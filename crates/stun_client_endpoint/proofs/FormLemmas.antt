@@ -4,8 +4,8 @@ use Rattle.std.specs.Prelude.{Err, IfOk, Ok, Result}
 use Rattle.stun_base.specs.declared.wire.error.StunWriteError.{StunWriteError}
 use Rattle.stun_types.specs.Limits.{LENGTH_LIMIT}
 use Rattle.stun_types.specs.WriteVec.{Written}
-use Rattle.stun_auth.specs.Additions.{Addition, UnlessMemory, added_all, page_in, written_page}
-use Rattle.stun_auth.proofs.Growth.{grown_answer}
+use Rattle.stun_judging.specs.Additions.{Addition, UnlessMemory, added_all, page_in, written_page}
+use Rattle.stun_judging.proofs.Growth.{grown_answer}
 
 abbrev pub bytes_in : Written → List ℕ
 bytes_in page = page.bytes

@@ -15,23 +15,12 @@ use Rattle.stun_types.specs.Visible.{has_kind}
 use Rattle.stun_types.specs.Walk.{walk}
 use Rattle.stun_types.specs.Writing.{another_refusal, attribute_refusal, has_integrity, is_set_apart}
 use Rattle.stun_types.specs.Writing.{length_with, size_refusal}
-use Rattle.stun_auth.specs.Additions.{UnlessMemory}
+use Rattle.stun_judging.specs.Additions.{UnlessMemory}
+use Rattle.stun_judging.proofs.Wanting.{attribute_not_memory, if_not, size_not_memory}
 use Rattle.stun_extra.specs.Fingerprint.{fingerprint_refusal}
 use Rattle.stun_client_endpoint.specs.Written.{room_left}
 
 -- ---- refusals
-
-if_not : (b : Bool) (reason : StunWriteError) (rest : Option StunWriteError)
-    → (reason ≡ OutOfMemory → ⊥) → (rest ≡ Some OutOfMemory → ⊥)
-    → (if b then Some reason else rest) ≡ Some OutOfMemory → ⊥
-if_not true reason rest not others is = not (let h : Some reason ≡ Some OutOfMemory = is in cc)
-if_not false reason rest not others is = others is
-
-size_not_memory : (message : List ℕ) (room n : ℕ)
-    → size_refusal message room n ≡ Some OutOfMemory → ⊥
-size_not_memory message room n =
-    if_not (nat_lt max_length (length_with message n)) TooLarge _ (λ is. cc)
-    (if_not (nat_lt room (attribute_length n)) TooSmall None (λ is. cc) (λ is. cc))
 
 another_not_memory : (message : List ℕ) (room kind n : ℕ)
     → another_refusal message room kind n ≡ Some OutOfMemory → ⊥
@@ -39,14 +28,6 @@ another_not_memory message room kind n =
     if_not (is_set_apart kind) NotAllowed _ (λ is. cc)
     (if_not (has_integrity message) MessageIntegrityExists _ (λ is. cc)
     (size_not_memory message room n))
-
-attribute_not_memory : (message : List ℕ) (room kind n : ℕ)
-    → attribute_refusal message room kind n ≡ Some OutOfMemory → ⊥
-attribute_not_memory message room kind n =
-    if_not (is_set_apart kind) NotAllowed _ (λ is. cc)
-    (if_not (has_integrity message) MessageIntegrityExists _ (λ is. cc)
-    (if_not (has_kind kind (walk message)) (AttributeExists (record { 0 = kind })) _ (λ is. cc)
-    (size_not_memory message room n)))
 
 fingerprint_not_memory : (message : List ℕ) (room : ℕ)
     → fingerprint_refusal message room ≡ Some OutOfMemory → ⊥

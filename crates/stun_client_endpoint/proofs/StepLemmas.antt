@@ -9,9 +9,9 @@ use Rattle.stun_base.specs.declared.wire.message_type.MessageClass.TheVariants.{
 use Rattle.stun_types.specs.Attribute.{TypedValue}
 use Rattle.stun_types.specs.Limits.{TEXT_LIMIT}
 use Rattle.stun_types.specs.Writing.{empty_message, integrity_attribute, with_attribute}
-use Rattle.stun_auth.specs.Additions.{Addition, Page, added_all, added_one, addition_refusal, after}
-use Rattle.stun_auth.specs.Additions.{attribute, growth_of, integrity, page_of, page_unless_refused}
-use Rattle.stun_auth.specs.Additions.{with_addition}
+use Rattle.stun_judging.specs.Additions.{Addition, Page, added_all, added_one, addition_refusal}
+use Rattle.stun_judging.specs.Additions.{after, attribute, growth_of, integrity, page_of}
+use Rattle.stun_judging.specs.Additions.{page_unless_refused, with_addition}
 use Rattle.stun_extra.specs.AttributeTypes.{SOFTWARE}
 use Rattle.stun_extra.specs.Fingerprint.{fingerprint_attribute, with_fingerprint}
 use Rattle.stun_client.specs.Challenges.{Answered}

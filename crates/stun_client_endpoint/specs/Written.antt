@@ -8,7 +8,7 @@ use Rattle.stun_types.specs.Attribute.{TypedValue}
 use Rattle.stun_types.specs.Limits.{LENGTH_LIMIT, TEXT_LIMIT}
 use Rattle.stun_types.specs.Writing.{another_refusal, attribute_refusal, empty_message}
 use Rattle.stun_types.specs.Writing.{with_attribute}
-use Rattle.stun_auth.specs.Additions.{Page, added_all, page_of}
+use Rattle.stun_judging.specs.Additions.{Page, added_all, page_of}
 use Rattle.stun_extra.specs.AttributeTypes.{SOFTWARE}
 use Rattle.stun_extra.specs.Fingerprint.{fingerprint_refusal, with_fingerprint}
 use Rattle.stun_client.specs.Challenges.{Answered}

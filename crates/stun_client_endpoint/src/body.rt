@@ -1,7 +1,7 @@
 //! The body of a request: the attributes that the caller of a client adds to it.
 ghost use Rattle.std.specs.Prelude.{◌≡◌, ◌≤◌, ◌++◌, ◌∷◌, ◌⊎◌, ⊤, [], Err, IfErr, IfOk};
 ghost use Rattle.std.specs.Prelude.{IsOk, IsOkUnless, MatchOption, None, Ok, OnErr, OnOk, length, true};
-ghost use Rattle.stun_auth.specs.Additions.{UnlessMemory};
+ghost use Rattle.stun_judging.specs.Additions.{UnlessMemory};
 ghost use Rattle.stun_types.specs.Attribute.{attribute_length};
 ghost use Rattle.stun_client_endpoint.specs.Bodies.{body_refusal, fits, is_reserved, of_peer};
 ghost use Rattle.stun_client_endpoint.specs.Bodies.{BODY_LIMIT as limit, body_length};

@@ -3,7 +3,7 @@ ghost use Rattle.std.specs.Option.{option_copied, option_map};
 ghost use Rattle.std.specs.Prelude.{◌≡◌, ◌≤◌, ◌⊎◌, ⊤, Err, IfErr, IfOk, IsOk, Ok, OnOk, length, true};
 ghost use Rattle.std.specs.String.{string_bytes};
 ghost use Rattle.stun_types.specs.Writing.{empty_message};
-ghost use Rattle.stun_auth.specs.Additions.{UnlessMemory};
+ghost use Rattle.stun_judging.specs.Additions.{UnlessMemory};
 ghost use Rattle.stun_client.specs.Judging.{identity_of};
 ghost use Rattle.stun_client_endpoint.specs.Bodies.{BODY_LIMIT as limit};
 ghost use Rattle.stun_client_endpoint.specs.Written.{closed_request, completed_request};

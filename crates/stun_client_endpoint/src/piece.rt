@@ -1,7 +1,7 @@
 //! One attribute in the body of a request.
 ghost use Rattle.std.specs.Option.{option_map};
 ghost use Rattle.std.specs.Prelude.{◌≡◌, ◌≤◌, ◌⊎◌, ⊤, Err, IfErr, IfOk, IsOk, Ok, OnErr, OnOk, length};
-ghost use Rattle.stun_auth.specs.Additions.{UnlessMemory};
+ghost use Rattle.stun_judging.specs.Additions.{UnlessMemory};
 ghost use Rattle.stun_client_endpoint.specs.Bodies.{attribute_for};
 ghost use Rattle.stun_client_endpoint.specs.Written.{with_another};
 

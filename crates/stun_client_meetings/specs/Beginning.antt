@@ -10,8 +10,8 @@ use Rattle.stun_base.specs.declared.keys.algorithm.IntegrityAlgorithm.TheVariant
 use Rattle.stun_base.specs.declared.wire.transport.TransportType.TheVariants.{Udp}
 use Rattle.stun_types.specs.Limits.{TEXT_LIMIT}
 use Rattle.stun_agent.specs.Timing.{default_settings}
-use Rattle.stun_auth.specs.Signed.{plain_name}
-use Rattle.stun_auth.specs.declared.feature.Feature.TheVariants.{Disabled}
+use Rattle.stun_judging.specs.Signed.{plain_name}
+use Rattle.stun_judging.specs.declared.feature.Feature.TheVariants.{Disabled}
 use Rattle.stun_client.specs.Ids.{id_of}
 use Rattle.stun_client_endpoint.specs.Bodies.{Body, with_value}
 use Rattle.stun_client_endpoint.specs.Settings.{plan_of}

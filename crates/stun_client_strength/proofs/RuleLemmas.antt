@@ -21,9 +21,8 @@ use Rattle.stun_types.specs.Limits.{TEXT_LIMIT}
 use Rattle.stun_types.specs.Text.{short_text, text_of}
 use Rattle.stun_types.specs.Visible.{visible}
 use Rattle.stun_types.specs.Walk.{Member}
-use Rattle.stun_auth.specs.Client.{Naming}
-use Rattle.stun_auth.specs.ClientStep.{naming_of}
-use Rattle.stun_auth.specs.Signed.{IsText, hashed_name, plain_name}
+use Rattle.stun_judging.specs.Naming.{Naming, naming_of}
+use Rattle.stun_judging.specs.Signed.{IsText, hashed_name, plain_name}
 use Rattle.stun_client.specs.Challenge.{Challenge, added_under}
 use Rattle.stun_client.specs.Challenges.{Answered, IsOfMessage, challenge_of, is_one}
 use Rattle.stun_client.specs.Standing.{answering}

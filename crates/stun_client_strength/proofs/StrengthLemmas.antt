@@ -5,8 +5,8 @@ use Rattle.std.specs.Bool.{⊤}
 use Rattle.std.specs.Option.{is_none, is_some, option_map_or}
 use Rattle.std.specs.Prelude.{◌&&◌, ◌||◌, not}
 use Rattle.stun_agent.specs.Tables.{datum_at}
-use Rattle.stun_auth.specs.Algorithms.{is_sha256}
-use Rattle.stun_auth.specs.Signed.{plain_name}
+use Rattle.stun_judging.specs.Algorithms.{is_sha256}
+use Rattle.stun_judging.specs.Signed.{plain_name}
 use Rattle.stun_client.specs.Challenge.{Challenge}
 use Rattle.stun_client.specs.Challenges.{Answered, is_one, is_weaker}
 use Rattle.stun_client.specs.Standing.{answering}

@@ -6,7 +6,7 @@ use Rattle.std.specs.Option.{IfSome}
 use Rattle.std.specs.declared.net.socket_addr.SocketAddr.{SocketAddr}
 use Rattle.stun_base.specs.Moments.{last_moment}
 use Rattle.stun_base.specs.declared.keys.algorithm.IntegrityAlgorithm.{IntegrityAlgorithm}
-use Rattle.stun_auth.specs.Reading.{reading_of}
+use Rattle.stun_judging.specs.Reading.{reading_of}
 use Rattle.stun_client.specs.Challenges.{Answered, is_weaker}
 use Rattle.stun_client.specs.Downgrade.{IsNowhereBidDown}
 use Rattle.stun_client.specs.Rule.{IsByRule}

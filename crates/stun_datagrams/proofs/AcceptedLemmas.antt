@@ -5,7 +5,7 @@ use Rattle.std.specs.Prelude.{cond, slice_get}
 use Rattle.std.specs.Global.{Vec}
 use Rattle.std.specs.declared.net.socket_addr.SocketAddr.{SocketAddr}
 use Rattle.stun_base.specs.declared.keys.algorithm.IntegrityAlgorithm.{IntegrityAlgorithm}
-use Rattle.stun_auth.specs.Reading.{reading_of}
+use Rattle.stun_judging.specs.Reading.{reading_of}
 use Rattle.stun_proto.specs.Serving.{Validated}
 use Rattle.stun_endpoint.specs.Nonces.{epoch_of}
 use Rattle.stun_endpoint.specs.Responding.{is_undropped_request}

@@ -15,7 +15,7 @@ use Rattle.stun_base.specs.declared.wire.message_type.MessageClass.TheVariants.{
 use Rattle.stun_base.specs.declared.wire.message_type.MessageClass.TheVariants.{Indication}
 use Rattle.stun_base.specs.declared.wire.message_type.MessageClass.TheVariants.{Success, Error}
 use Rattle.stun_types.specs.Message.{refusal}
-use Rattle.stun_auth.specs.Reading.{reading_of}
+use Rattle.stun_judging.specs.Reading.{reading_of}
 use Rattle.stun_auth.specs.Validation.{Answer as Validation, answer_to}
 use Rattle.stun_extra.specs.Fingerprint.{fingerprint_in}
 use Rattle.stun_proto.specs.Serving.{Reply, after_calls, replies, reply_of_answer}
@@ -24,7 +24,7 @@ use Rattle.stun_endpoint.specs.Judged.{judged}
 use Rattle.stun_endpoint.specs.Nonces.{epoch_of, uses_features}
 use Rattle.stun_endpoint.specs.Responding.{drop_reason, fault_of, is_undropped_request}
 use Rattle.stun_endpoint.specs.Responding.{no_message}
-use Rattle.stun_endpoint.specs.Runs.{Arrival, verdict_by_class}
+use Rattle.stun_datagrams.specs.Runs.{Arrival, verdict_by_class}
 use Rattle.stun_endpoint.specs.Settings.{Settings}
 use Rattle.stun_endpoint.specs.declared.received.DropReason.{DropReason}
 use Rattle.stun_datagrams.specs.Calls.{CanBeCalled, calls_for, calls_of, calls_under}

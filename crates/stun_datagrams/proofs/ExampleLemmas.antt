@@ -19,20 +19,20 @@ use Rattle.stun_types.specs.Visible.{visible}
 use Rattle.stun_types.specs.Walk.{Member, walk_up_to}
 use Rattle.stun_types.specs.Writing.{IsOpen}
 use Rattle.stun_types.proofs.MessageLemmas.{refusal-none}
-use Rattle.stun_auth.specs.declared.algorithm_set.AlgorithmSet.{AlgorithmSet}
-use Rattle.stun_auth.specs.declared.algorithm_set.AlgorithmSet.TheVariants.{OnlySha1}
-use Rattle.stun_auth.specs.declared.algorithm_set.AlgorithmSet.TheVariants.{OnlySha256, Both}
-use Rattle.stun_auth.specs.Additions.{Addition, Page, added_all, page_of}
-use Rattle.stun_auth.specs.Algorithms.{algorithms_of, contains}
-use Rattle.stun_auth.specs.Joined.{HasAdded, IsTyped, added_members}
-use Rattle.stun_auth.specs.Nonces.{letter}
-use Rattle.stun_auth.specs.Reading.{Reading, error_code, reading_of}
-use Rattle.stun_auth.specs.Registered.{UserSecret, of_password}
-use Rattle.stun_auth.specs.Seen.{ClientSeen}
-use Rattle.stun_auth.specs.Server.{IsAccepted, agreement, choice, named_by, named_user}
-use Rattle.stun_auth.specs.Signed.{Added, HasRoomFor, IsBuilt, IsSmall, IsText, IsUnsigned}
-use Rattle.stun_auth.specs.Signed.{IsWithinLimits, ReadsAs, additions_of}
-use Rattle.stun_auth.proofs.SignedReading.{typed-additions}
+use Rattle.stun_judging.specs.declared.algorithm_set.AlgorithmSet.{AlgorithmSet}
+use Rattle.stun_judging.specs.declared.algorithm_set.AlgorithmSet.TheVariants.{OnlySha1}
+use Rattle.stun_judging.specs.declared.algorithm_set.AlgorithmSet.TheVariants.{OnlySha256, Both}
+use Rattle.stun_judging.specs.Additions.{Addition, Page, added_all, page_of}
+use Rattle.stun_judging.specs.Algorithms.{algorithms_of, contains}
+use Rattle.stun_judging.specs.Joined.{HasAdded, IsTyped, added_members}
+use Rattle.stun_judging.specs.Nonces.{letter}
+use Rattle.stun_judging.specs.Reading.{Reading, error_code, reading_of}
+use Rattle.stun_judging.specs.Registered.{UserSecret, of_password}
+use Rattle.stun_judging.specs.Verdict.{ClientSeen}
+use Rattle.stun_judging.specs.Verdict.{IsAccepted, agreement, choice, named_by, named_user}
+use Rattle.stun_judging.specs.Signed.{Added, HasRoomFor, IsBuilt, IsSmall, IsText, IsUnsigned}
+use Rattle.stun_judging.specs.Signed.{IsWithinLimits, ReadsAs, additions_of}
+use Rattle.stun_judging.proofs.SignedReading.{typed-additions}
 use Rattle.stun_extra.specs.Fingerprint.{fingerprint_if, fingerprint_in}
 use Rattle.stun_extra.specs.declared.fingerprint.Fingerprint.TheVariants.{Absent}
 use Rattle.stun_proto.specs.Negotiation.{request}

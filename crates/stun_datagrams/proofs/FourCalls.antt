@@ -9,10 +9,10 @@ use Rattle.std.proofs.lemmas.List.{length-take}
 use Rattle.std.specs.declared.net.socket_addr.SocketAddr.{SocketAddr}
 use Rattle.stun_base.specs.MessageType.{class_in, is_response}
 use Rattle.stun_types.specs.Message.{refusal}
-use Rattle.stun_auth.specs.Additions.{Page}
+use Rattle.stun_judging.specs.Additions.{Page}
 use Rattle.stun_auth.specs.Judged.{offered_after}
 use Rattle.stun_auth.specs.Places.{PlacesSeen}
-use Rattle.stun_auth.specs.Reading.{Reading, reading_of}
+use Rattle.stun_judging.specs.Reading.{Reading, reading_of}
 use Rattle.stun_auth.specs.ServerSigning.{after_signing}
 use Rattle.stun_auth.specs.Validation.{Answer as Validation, ServerSeen, after_validation, answer}
 use Rattle.stun_auth.specs.Validation.{answer_to, sight}
@@ -22,9 +22,9 @@ use Rattle.stun_proto.specs.Signing.{if_signed, signing}
 use Rattle.stun_proto.specs.declared.replay.call.ServerCall.{ServerCall}
 use Rattle.stun_proto.specs.declared.replay.call.ServerCall.TheVariants as Call
 use Rattle.stun_endpoint.specs.Judged.{Realm}
-use Rattle.stun_endpoint.specs.Runs.{asked}
+use Rattle.stun_datagrams.specs.Runs.{asked}
 use Rattle.stun_endpoint.specs.Settings.{Settings}
-use Rattle.stun_endpoint.proofs.RunLemmas.{asked_once}
+use Rattle.stun_datagrams.proofs.EndpointRuns.{asked_once}
 use Rattle.stun_datagrams.specs.Calls.{CanBeCalled, calls_under, second_validations, server_with}
 use Rattle.stun_datagrams.specs.Calls.{words_under}
 use Rattle.stun_datagrams.specs.Events.{Secrets, realm_with}

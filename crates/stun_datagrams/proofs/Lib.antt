@@ -5,6 +5,7 @@ pub mod ResponseLemmas
 pub mod StartLemmas
 pub mod SignLemmas
 pub mod FourCalls
+pub mod EndpointRuns
 pub mod EventLemmas
 pub mod AcceptedLemmas
 pub mod OutcomeLemmas

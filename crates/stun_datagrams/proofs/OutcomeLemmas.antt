@@ -10,9 +10,9 @@ use Rattle.stun_base.specs.declared.wire.message_type.MessageClass.{MessageClass
 use Rattle.stun_base.specs.declared.wire.message_type.MessageClass.TheVariants.{Request}
 use Rattle.stun_base.specs.declared.wire.message_type.MessageClass.TheVariants.{Indication}
 use Rattle.stun_base.specs.declared.wire.message_type.MessageClass.TheVariants.{Success, Error}
-use Rattle.stun_auth.specs.declared.server.reason.VerdictRefusal.{VerdictRefusal}
-use Rattle.stun_auth.specs.Reading.{reading_of}
-use Rattle.stun_auth.specs.Seen.{ClientSeen}
+use Rattle.stun_judging.specs.declared.refusal.VerdictRefusal.{VerdictRefusal}
+use Rattle.stun_judging.specs.Reading.{reading_of}
+use Rattle.stun_judging.specs.Verdict.{ClientSeen}
 use Rattle.stun_extra.specs.Unknown.{unknown_types}
 use Rattle.stun_endpoint.specs.Judged.{Realm, judged, key_of_client}
 use Rattle.stun_endpoint.specs.Nonces.{epoch_of}
@@ -28,8 +28,7 @@ use Rattle.stun_endpoint.specs.declared.received.DropReason.TheVariants.{Unknown
 use Rattle.stun_endpoint.proofs.AcceptedLemmas.{accepted_at}
 use Rattle.stun_datagrams.specs.Events.{ServerEvent, UserAdded, UserRemoved, Arrived, Secrets}
 use Rattle.stun_datagrams.specs.Events.{is_of_source, outcome_of_event, outcomes, own_events}
-use Rattle.stun_datagrams.specs.Events.{own_outcomes, realm_with}
-use Rattle.stun_datagrams.specs.Events.{users_after, users_after_event}
+use Rattle.stun_datagrams.specs.Events.{own_outcomes, realm_with, users_after, users_after_event}
 use Rattle.stun_datagrams.specs.Sentence.{AreIsolated, AreJudgedAlone, HandsOutAccepted}
 use Rattle.stun_datagrams.specs.Sentence.{IsHandedOut, is_for_caller}
 use Rattle.stun_datagrams.proofs.EventLemmas.{kept_request}

@@ -5,16 +5,14 @@ use Rattle.std.proofs.Common.{Option, Some, None, true, refl, ◌∙◌, Ok, Err
 use Rattle.std.specs.Option.{option_map_or}
 use Rattle.std.specs.declared.net.socket_addr.SocketAddr.{SocketAddr}
 use Rattle.std.specs.declared.result.Result.{Result}
-use Rattle.stun_auth.specs.declared.server.reason.VerdictRefusal.{VerdictRefusal}
-use Rattle.stun_auth.specs.declared.server.reason.VerdictRefusal.TheVariants.{Unauthorized}
-use Rattle.stun_auth.specs.declared.server.reason.VerdictRefusal.TheVariants.{BadRequest}
-use Rattle.stun_auth.specs.declared.server.reason.VerdictRefusal.TheVariants.{StaleNonce}
-use Rattle.stun_auth.specs.Epochs.{or_before}
-use Rattle.stun_auth.specs.Nonces.{letter, nonce_of}
-use Rattle.stun_auth.specs.Reading.{Reading}
-use Rattle.stun_auth.specs.Seen.{ClientSeen}
+use Rattle.stun_judging.specs.declared.refusal.VerdictRefusal.{VerdictRefusal}
+use Rattle.stun_judging.specs.declared.refusal.VerdictRefusal.TheVariants.{Unauthorized, BadRequest}
+use Rattle.stun_judging.specs.declared.refusal.VerdictRefusal.TheVariants.{StaleNonce}
+use Rattle.stun_judging.specs.Verdict.{or_before, ClientSeen}
+use Rattle.stun_judging.specs.Nonces.{letter, nonce_of}
+use Rattle.stun_judging.specs.Reading.{Reading}
 use Rattle.stun_auth.specs.Validation.{answer_to}
-use Rattle.stun_auth.proofs.Accepting.{accepted_from_verdict}
+use Rattle.stun_judging.proofs.Accepting.{accepted_from_verdict}
 use Rattle.stun_proto.specs.Serving.{Reply, reply_of_answer}
 use Rattle.stun_endpoint.specs.Judged.{IsAcceptedBy, IsAcceptedByPrevious, IsAcceptedUnder, Realm}
 use Rattle.stun_endpoint.specs.Judged.{judged_under, or_previous, verdict_under}

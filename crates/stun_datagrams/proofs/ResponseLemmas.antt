@@ -6,7 +6,7 @@ use Rattle.stun_types.specs.Grammar.{spelled_message}
 use Rattle.stun_types.specs.Message.{refusal}
 use Rattle.stun_types.specs.Visible.{visible}
 use Rattle.stun_types.specs.Walk.{walk_up_to}
-use Rattle.stun_auth.specs.Signed.{IsBuilt}
+use Rattle.stun_judging.specs.Signed.{IsBuilt}
 use Rattle.stun_proto.specs.Negotiation.{success}
 use Rattle.stun_proto.specs.Signing.{written_anew}
 use Rattle.stun_datagrams.specs.Calls.{IsPlainResponse}

@@ -16,26 +16,27 @@ use Rattle.stun_base.specs.declared.keys.algorithm.IntegrityAlgorithm.{Integrity
 use Rattle.stun_base.specs.declared.wire.error.StunWriteError.{StunWriteError}
 use Rattle.stun_base.specs.declared.wire.message_type.MessageClass.{MessageClass}
 use Rattle.stun_types.specs.Limits.{TEXT_LIMIT}
-use Rattle.stun_auth.specs.declared.algorithm_set.AlgorithmSet.{AlgorithmSet}
-use Rattle.stun_auth.specs.declared.algorithm_set.AlgorithmSet.TheVariants.{OnlySha1}
-use Rattle.stun_auth.specs.declared.algorithm_set.AlgorithmSet.TheVariants.{OnlySha256, Both}
-use Rattle.stun_auth.specs.declared.server.reason.VerdictRefusal.{VerdictRefusal}
-use Rattle.stun_auth.specs.Additions.{Page, page_of}
-use Rattle.stun_auth.specs.Algorithms.{algorithms_of}
-use Rattle.stun_auth.specs.Nonces.{nonce_of}
+use Rattle.stun_judging.specs.declared.algorithm_set.AlgorithmSet.{AlgorithmSet}
+use Rattle.stun_judging.specs.declared.algorithm_set.AlgorithmSet.TheVariants.{OnlySha1}
+use Rattle.stun_judging.specs.declared.algorithm_set.AlgorithmSet.TheVariants.{OnlySha256, Both}
+use Rattle.stun_judging.specs.declared.refusal.VerdictRefusal.{VerdictRefusal}
+use Rattle.stun_judging.specs.Additions.{Page, page_of}
+use Rattle.stun_judging.specs.Algorithms.{algorithms_of}
+use Rattle.stun_judging.specs.Nonces.{nonce_of}
 use Rattle.stun_auth.specs.Places.{PlacesSeen}
-use Rattle.stun_auth.specs.Reading.{Reading}
-use Rattle.stun_auth.specs.Registered.{Registered, RegisteredUser, UserSecret, key_at, key_if}
-use Rattle.stun_auth.specs.Registered.{key_of}
-use Rattle.stun_auth.specs.Seen.{ClientSeen, PlaceSeen, renewed_place}
-use Rattle.stun_auth.specs.Server.{IsAccepted, Sight, current_place_of, verdict}
+use Rattle.stun_judging.specs.Reading.{Reading}
+use Rattle.stun_judging.specs.Registered.{Registered, RegisteredUser, UserSecret, key_at, key_if}
+use Rattle.stun_judging.specs.Registered.{key_of}
+use Rattle.stun_judging.specs.Verdict.{ClientSeen, IsAccepted, verdict}
+use Rattle.stun_auth.specs.Seen.{PlaceSeen, renewed_place}
+use Rattle.stun_auth.specs.Server.{Sight, current_place_of}
 use Rattle.stun_auth.specs.ServerSigning.{server_signed}
-use Rattle.stun_auth.specs.Signed.{Added, IsBuilt, IsSmall, added_at, added_by_server, nothing}
-use Rattle.stun_auth.specs.Signed.{added_under_key, added_without_client}
+use Rattle.stun_judging.specs.Signed.{Added, IsBuilt, IsSmall, nothing}
+use Rattle.stun_auth.specs.Signed.{added_at, added_by_server, added_under_key, added_without_client}
 use Rattle.stun_auth.specs.Validation.{ServerSeen, after_validation, needs_nonce, put_place, sight}
 use Rattle.stun_auth.specs.Validation.{with_accepted}
-use Rattle.stun_auth.proofs.Accepting.{accepted_from_verdict}
-use Rattle.stun_auth.proofs.NonceLengths.{nonce_is_short}
+use Rattle.stun_judging.proofs.Accepting.{accepted_from_verdict}
+use Rattle.stun_judging.proofs.NonceLengths.{nonce_is_short}
 use Rattle.stun_proto.specs.Signing.{next_if_written, signing}
 use Rattle.stun_endpoint.specs.Lookups.{users_with}
 use Rattle.stun_endpoint.specs.Settings.{Settings}

@@ -13,11 +13,11 @@ use Rattle.stun_base.specs.declared.keys.algorithm.IntegrityAlgorithm.TheVariant
 use Rattle.stun_base.specs.declared.wire.message_type.MessageClass.{MessageClass}
 use Rattle.stun_types.specs.Limits.{TEXT_LIMIT}
 use Rattle.stun_types.specs.Message.{refusal}
-use Rattle.stun_auth.specs.declared.algorithm_set.AlgorithmSet.{AlgorithmSet}
-use Rattle.stun_auth.specs.declared.algorithm_set.AlgorithmSet.TheVariants.{OnlySha1}
-use Rattle.stun_auth.specs.declared.algorithm_set.AlgorithmSet.TheVariants.{OnlySha256, Both}
+use Rattle.stun_judging.specs.declared.algorithm_set.AlgorithmSet.{AlgorithmSet}
+use Rattle.stun_judging.specs.declared.algorithm_set.AlgorithmSet.TheVariants.{OnlySha1}
+use Rattle.stun_judging.specs.declared.algorithm_set.AlgorithmSet.TheVariants.{OnlySha256, Both}
 use Rattle.stun_auth.specs.Handed.{with_users}
-use Rattle.stun_auth.specs.Signed.{IsBuilt}
+use Rattle.stun_judging.specs.Signed.{IsBuilt}
 use Rattle.stun_auth.specs.Validation.{ServerSeen}
 use Rattle.stun_proto.specs.Serving.{Reply, NotAMessage, Validated, Refused, Signed, SignRefused}
 use Rattle.stun_proto.specs.Serving.{Done, TooShort}
@@ -25,18 +25,17 @@ use Rattle.stun_proto.specs.Signing.{written_anew}
 use Rattle.stun_proto.specs.declared.replay.call.ServerCall.{ServerCall}
 use Rattle.stun_proto.specs.declared.replay.call.ServerCall.TheVariants as Call
 use Rattle.stun_endpoint.specs.Nonces.{epoch_of, words_of}
-use Rattle.stun_endpoint.specs.Realm.{table_of}
+use Rattle.stun_datagrams.specs.Runs.{recording_server}
 use Rattle.stun_endpoint.specs.Responding.{is_undropped_request}
 use Rattle.stun_endpoint.specs.Lookups.{users_with}
 use Rattle.stun_endpoint.specs.Settings.{Settings}
-use Rattle.stun_datagrams.specs.Events.{ServerEvent, UserAdded, UserRemoved, Arrived}
-use Rattle.stun_datagrams.specs.Events.{Secrets}
+use Rattle.stun_datagrams.specs.Events.{ServerEvent, UserAdded, UserRemoved, Arrived, Secrets}
 
 -- ---- the server
 
 -- a server with these settings and users, which has no record of any address
 abbrev pub server_with : Settings → Secrets → ServerSeen
-server_with s users = with_users (table_of s) (users_with s users)
+server_with s users = with_users (recording_server s) (users_with s users)
 
 -- the calls that make this server from a new server of the realm, as long as it has no users
 abbrev pub algorithm_calls : AlgorithmSet → List ServerCall

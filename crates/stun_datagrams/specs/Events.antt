@@ -9,13 +9,15 @@ use Rattle.std.specs.declared.alloc.Global.{Global}
 use Rattle.std.specs.declared.string.String.{String}
 use Rattle.std.specs.declared.net.socket_addr.SocketAddr.{SocketAddr}
 use Rattle.stun_base.specs.Address.{same_address}
-use Rattle.stun_auth.specs.Registered.{of_password}
+use Rattle.stun_judging.specs.Realm.{RealmSeen, with_registered}
+use Rattle.stun_judging.specs.Registered.{of_password}
 pub use Rattle.stun_proto.specs.DatabaseLoop.{Secrets}
 use Rattle.stun_proto.specs.Serving.{Reply, reply_of_answer}
 use Rattle.stun_endpoint.specs.Judged.{Realm, realm_of_user}
 use Rattle.stun_endpoint.specs.Lookups.{users_with}
+use Rattle.stun_endpoint.specs.Realm.{table_of}
 use Rattle.stun_endpoint.specs.Received.{Outcome, received_by}
-use Rattle.stun_endpoint.specs.Runs.{Arrival, verdict_on}
+use Rattle.stun_datagrams.specs.Runs.{Arrival, verdict_on}
 use Rattle.stun_endpoint.specs.Settings.{Settings}
 
 -- an event: a user is added with a password or gets a new password, the user with a name is
@@ -41,6 +43,10 @@ users_after users (e ∷ later) = users_after (users_after_event users e) later
 -- these users at the realm of a server
 abbrev pub realm_with : Settings → Secrets → Realm
 realm_with s users = realm_of_user s (Some (users_with s users))
+
+-- the table of these users
+abbrev pub table_with : Settings → Secrets → RealmSeen
+table_with s users = with_registered (table_of s) (users_with s users)
 
 -- ---- the outcome of each event: none, if it is not a datagram
 

@@ -8,9 +8,9 @@ use Rattle.std.specs.Global.{Vec}
 use Rattle.std.specs.Option.{option_map}
 use Rattle.std.specs.declared.net.socket_addr.SocketAddr.{SocketAddr}
 use Rattle.stun_base.specs.declared.keys.algorithm.IntegrityAlgorithm.{IntegrityAlgorithm}
-use Rattle.stun_auth.specs.Nonces.{nonce_of}
-use Rattle.stun_auth.specs.Reading.{reading_of}
-use Rattle.stun_auth.specs.Seen.{ClientSeen}
+use Rattle.stun_judging.specs.Nonces.{nonce_of}
+use Rattle.stun_judging.specs.Reading.{reading_of}
+use Rattle.stun_judging.specs.Verdict.{ClientSeen}
 use Rattle.stun_auth.specs.Validation.{ServerSeen, answer_to}
 use Rattle.stun_extra.specs.Unknown.{unknown_types}
 use Rattle.stun_proto.specs.Serving.{Reply, Validated, reply_of_answer}

@@ -4,19 +4,27 @@
 //! functions makes the call that its law is about.
 ghost use Rattle.std.specs.FinMap as fin;
 ghost use Rattle.std.specs.Global.{Vec as TheVec};
-ghost use Rattle.std.specs.Prelude.{◌≡◌, ◌∷◌, ◌++◌, ℕ, List, IfOk, Some, length, slice_get};
+ghost use Rattle.std.specs.Prelude.{◌≡◌, ◌≤◌, ◌∷◌, ◌++◌, ℕ, List, IfOk, Ok, Some, length, slice_get};
+ghost use Rattle.std.specs.Prelude.{map as list_map, true};
 ghost use Rattle.stun_auth.specs.Validation.{new_server};
+ghost use Rattle.stun_auth.specs.declared.server.reason.LongTermServerValidation.TheVariants.{Validated};
+ghost use Rattle.stun_base.specs.Moments.{last_moment};
 ghost use Rattle.stun_datagrams.specs.Calls.{CanBeCalled, IsPlainResponse, calls_for, calls_of};
 ghost use Rattle.stun_datagrams.specs.Calls.{server_with, settings_calls};
-ghost use Rattle.stun_datagrams.specs.Events.{Arrived, ServerEvent, Secrets, outcomes, users_after};
-ghost use Rattle.stun_datagrams.specs.Events.{verdicts};
+ghost use Rattle.stun_datagrams.specs.Events.{Arrived, ServerEvent, Secrets, outcomes, table_with};
+ghost use Rattle.stun_datagrams.specs.Events.{users_after, verdicts};
 ghost use Rattle.stun_datagrams.specs.Example.{SignedRequestsAreAccepted};
 ghost use Rattle.stun_datagrams.specs.Others.{OpenDatagram, ShortTermDatagram, open_outcomes};
 ghost use Rattle.stun_datagrams.specs.Others.{short_term_outcomes};
+ghost use Rattle.stun_datagrams.specs.Runs.{Arrival, after_run, run, recording_server, users_at};
+ghost use Rattle.stun_datagrams.specs.Runs.{verdict_on};
 ghost use Rattle.stun_datagrams.specs.Sentence.{AreIsolated, AreJudgedAlone, HandsOutAccepted};
 ghost use Rattle.stun_datagrams.specs.Sentence.{TellsEachVerdict, ValidatesAcceptedDatagrams};
 ghost use Rattle.stun_endpoint.specs.Outcomes.{outcome_of};
 ghost use Rattle.stun_endpoint.specs.Settings.{Settings};
+ghost use Rattle.stun_endpoint.specs.Judged.{realm_of_user};
+ghost use Rattle.stun_endpoint.specs.Nonces.{uses_features};
+ghost use Rattle.stun_endpoint.specs.Received.{AcceptedRequest, received_by, requested};
 ghost use Rattle.stun_proto.specs.Headline.{ValidatesEachCall};
 ghost use Rattle.stun_proto.specs.Negotiation.{success};
 ghost use Rattle.stun_proto.specs.Replies.{message_read};
@@ -33,7 +41,39 @@ use stun_endpoint::server::Server;
 use stun_endpoint::short_term::{ShortTermReceived, ShortTermServer, ShortTermUsers};
 use stun_endpoint::unix_time::UnixTime;
 use stun_endpoint::users::Users;
+use stun_judging::laws as judging_laws;
 use stun_proto::replay::{ServerCall, ServerReply, Stopped, serve};
+
+/// Compares the verdicts of an `endpoint::Server` on a list of datagrams with the results of a
+/// `LongTermServerAuth`, which stores a record of each address. At the time of each datagram, both
+/// have the same users. Each request that is not dropped becomes four calls of the
+/// `LongTermServerAuth` for each nonce that the `Server` accepts from its source (`run`). They
+/// validate the request with the random numbers from which the nonce is made, sign a response,
+/// validate the request again, and forget the source address.
+///
+/// - `verdicts`: if the settings use a security feature (HMAC-SHA256 or hashed names), these calls
+///   return the verdict of the `Server` on each datagram, because both make the same nonces.
+///   Without a security feature, the clause says nothing: the nonces of the `Server` then begin
+///   with the nonce cookie, as RFC 8489, section 9.2, says, and those of the `LongTermServerAuth`
+///   do not.
+/// - `left`: after the calls, the `LongTermServerAuth` has no record of an address.
+/// - `handed`: if the `Server` returns a request to its caller, the verdict on the request is
+///   `Validated` with the algorithm of the request.
+///
+/// Premise of `verdicts` and `left`: the clock of the `LongTermServerAuth` gives only times that an
+/// `Instant` can have.
+pub fn datagrams_are_a_run_of_calls()
+    ensures verdicts { (s : Settings) (clock : ℕ → ℕ) (datagrams : List Arrival)
+        → uses_features s ≡ true → ((now : ℕ) → clock now ≤ last_moment)
+        → run s clock (recording_server s) datagrams ≡ list_map (verdict_on s) datagrams }
+    ensures left { (s : Settings) (clock : ℕ → ℕ) (datagrams : List Arrival)
+        → ((now : ℕ) → clock now ≤ last_moment)
+        → (after_run s clock (recording_server s) datagrams).places ≡ fin.empty }
+    ensures handed { (s : Settings) (d : Arrival) (request : AcceptedRequest)
+        → received_by s (realm_of_user s (Some (users_at s d))) d.from d.now d.bytes
+        ≡ requested request
+        → verdict_on s d ≡ Some (Ok (Validated request.client.algorithm)) }
+{}
 
 /// States which datagrams a server accepts (RFC 8489, section 9.2.4). The clauses hold for every
 /// list of events. An event is the arrival of a datagram, or a user who is added or removed.
@@ -123,7 +163,7 @@ pub fn served_datagrams_begin()
         → after_calls (new_server s.realm) (settings_calls s) ≡ server_with s fin.empty }
     ensures response { IsPlainResponse (success 7) }
 {
-    auth_laws::built_messages_can_be_signed();
+    judging_laws::built_messages_can_be_signed();
 }
 
 /// States that for each server and each of its users there is a request that the server accepts. It
@@ -136,10 +176,10 @@ pub fn served_datagrams_begin()
 pub fn signed_requests_are_accepted()
     ensures { SignedRequestsAreAccepted }
 {
-    auth_laws::additions_are_read_back();
-    auth_laws::signed_messages_are_read();
-    auth_laws::signing_succeeds_with_room();
-    auth_laws::built_messages_can_be_signed();
+    judging_laws::additions_are_read_back();
+    judging_laws::signed_messages_are_read();
+    judging_laws::signing_succeeds_with_room();
+    judging_laws::built_messages_can_be_signed();
     endpoint_laws::nonces_have_the_bits_of_their_server();
 }
 
@@ -156,7 +196,7 @@ pub fn a_datagram_is_one_of_a_list<'a, A: Allocator + Copy>(
 ) -> Result<Received<'a, A>, AllocError>
     ensures { IfOk result (λ received. (start : Secrets) (before after : List ServerEvent)
         (message : TheVec ℕ) → message.items ≡ bytes.now
-        → users.now ≡ server_with server.now (users_after start before)
+        → users.now ≡ table_with server.now (users_after start before)
         → slice_get (outcomes server.now start (before ++ Arrived from now message ∷ after))
         (length before)
         ≡ Some (Some (outcome_of received))) }

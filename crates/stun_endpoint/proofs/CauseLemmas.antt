@@ -9,17 +9,14 @@ use Rattle.std.proofs.lemmas.Slice.Eq.{bytes_eq-Decides}
 use Rattle.std.specs.declared.net.socket_addr.SocketAddr.{SocketAddr}
 use Rattle.std.specs.declared.result.Result.{Result}
 use Rattle.stun_base.specs.declared.keys.algorithm.IntegrityAlgorithm.{IntegrityAlgorithm}
-use Rattle.stun_auth.specs.declared.server.reason.VerdictRefusal.{VerdictRefusal}
-use Rattle.stun_auth.specs.declared.server.reason.VerdictRefusal.TheVariants as refused
-use Rattle.stun_auth.specs.Epochs.{or_before}
-use Rattle.stun_auth.specs.Nonces.{security_bits}
-use Rattle.stun_auth.specs.Reading.{Reading}
-use Rattle.stun_auth.specs.Seen.{ClientSeen}
-use Rattle.stun_auth.specs.Server.{agreement, bits_differ, client_of, nonce_refusal, their_nonce}
-use Rattle.stun_auth.specs.Server.{verdict, verified_named}
-use Rattle.stun_auth.specs.Validation.{is_complete, is_malformed}
-use Rattle.stun_auth.proofs.Accepting.{accepted_from_verdict, verdict_from_accepted}
-use Rattle.stun_auth.proofs.VerdictLemmas.{by_rows, verdict-rows}
+use Rattle.stun_judging.specs.declared.refusal.VerdictRefusal.{VerdictRefusal}
+use Rattle.stun_judging.specs.declared.refusal.VerdictRefusal.TheVariants as refused
+use Rattle.stun_judging.specs.Verdict.{or_before, ClientSeen, agreement, bits_differ, client_of}
+use Rattle.stun_judging.specs.Verdict.{nonce_refusal, their_nonce, verdict, verified_named}
+use Rattle.stun_judging.specs.Nonces.{security_bits}
+use Rattle.stun_judging.specs.Reading.{Reading, is_complete, is_malformed}
+use Rattle.stun_judging.proofs.Accepting.{accepted_from_verdict, verdict_from_accepted}
+use Rattle.stun_judging.proofs.VerdictLemmas.{by_rows, verdict-rows}
 use Rattle.stun_endpoint.specs.Causes.{credential_cause, has_other_bits, is_agreed, is_current}
 use Rattle.stun_endpoint.specs.Causes.{is_signed_by_user}
 use Rattle.stun_endpoint.specs.Judged.{IsAcceptedBy, IsAcceptedByPrevious, IsAcceptedUnder}

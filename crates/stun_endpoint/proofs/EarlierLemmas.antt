@@ -8,15 +8,12 @@ use Rattle.std.specs.Str.{bytes_eq}
 use Rattle.std.proofs.lemmas.Slice.Eq.{bytes_eq-Decides}
 use Rattle.std.specs.declared.net.socket_addr.SocketAddr.{SocketAddr}
 use Rattle.std.specs.declared.result.Result.{Result}
-use Rattle.stun_auth.specs.Epochs.{or_before}
-use Rattle.stun_auth.specs.Reading.{Reading}
-use Rattle.stun_auth.specs.Seen.{ClientSeen}
-use Rattle.stun_auth.specs.Server.{their_nonce}
-use Rattle.stun_auth.specs.declared.server.reason.VerdictRefusal.{VerdictRefusal}
-use Rattle.stun_auth.specs.declared.server.reason.VerdictRefusal.TheVariants.{Unauthorized}
-use Rattle.stun_auth.specs.declared.server.reason.VerdictRefusal.TheVariants.{BadRequest}
-use Rattle.stun_auth.specs.declared.server.reason.VerdictRefusal.TheVariants.{StaleNonce}
-use Rattle.stun_auth.proofs.Accepting.{accepted_from_verdict, verdict_from_accepted}
+use Rattle.stun_judging.specs.Verdict.{or_before, ClientSeen, their_nonce}
+use Rattle.stun_judging.specs.Reading.{Reading}
+use Rattle.stun_judging.specs.declared.refusal.VerdictRefusal.{VerdictRefusal}
+use Rattle.stun_judging.specs.declared.refusal.VerdictRefusal.TheVariants.{Unauthorized, BadRequest}
+use Rattle.stun_judging.specs.declared.refusal.VerdictRefusal.TheVariants.{StaleNonce}
+use Rattle.stun_judging.proofs.Accepting.{accepted_from_verdict, verdict_from_accepted}
 use Rattle.stun_endpoint.specs.Judged.{IsAcceptedBy, Realm, judged_in, judged_under, or_previous}
 use Rattle.stun_endpoint.specs.Judged.{verdict_under}
 use Rattle.stun_endpoint.specs.Lookups.{accepted_nonces, has_one_of, nonces_of, previous_nonces}

@@ -4,10 +4,9 @@ use Rattle.std.specs.Prelude.{cond, not}
 use Rattle.std.specs.Option.{is_none}
 use Rattle.std.specs.Str.{bytes_eq}
 use Rattle.std.specs.declared.net.socket_addr.SocketAddr.{SocketAddr}
-use Rattle.stun_auth.specs.Nonces.{security_bits}
-use Rattle.stun_auth.specs.Reading.{Reading}
-use Rattle.stun_auth.specs.Server.{bits_differ, their_nonce}
-use Rattle.stun_auth.specs.Validation.{is_complete}
+use Rattle.stun_judging.specs.Nonces.{security_bits}
+use Rattle.stun_judging.specs.Reading.{Reading, is_complete}
+use Rattle.stun_judging.specs.Verdict.{bits_differ, their_nonce}
 use Rattle.stun_endpoint.specs.Causes.{credential_cause, has_other_bits, is_agreed, is_current}
 use Rattle.stun_endpoint.specs.Causes.{is_signed_by_user, is_valid_still}
 use Rattle.stun_endpoint.specs.Judged.{Realm}

@@ -12,20 +12,19 @@ use Rattle.std.proofs.lemmas.Slice.Eq.{bytes_eq-Decides}
 use Rattle.std.specs.declared.net.socket_addr.SocketAddr.{SocketAddr}
 use Rattle.std.specs.declared.result.Result.{Result}
 use Rattle.stun_base.specs.declared.keys.algorithm.IntegrityAlgorithm.{IntegrityAlgorithm}
-use Rattle.stun_auth.specs.Feature.{is_possible}
-use Rattle.stun_auth.specs.Found.{ClaimSeen, claim_of, found_key, found_verdict}
-use Rattle.stun_auth.specs.Judged.{AcceptedSeen, client_judged}
-use Rattle.stun_auth.specs.Reading.{Reading, reading_of}
-use Rattle.stun_auth.specs.Registered.{Registered, RegisteredUser, UserSecret, name_cmp}
-use Rattle.stun_auth.specs.Registered.{user_named, user_with_hash}
-use Rattle.stun_auth.specs.Seen.{ClientSeen}
-use Rattle.stun_auth.specs.Server.{agreement, client_of, named_by, named_user, nonce_refusal}
-use Rattle.stun_auth.specs.Server.{their_nonce, verdict, verified_named}
-use Rattle.stun_auth.specs.declared.server.reason.VerdictRefusal.{VerdictRefusal}
-use Rattle.stun_auth.proofs.Accepting.{accepted_from_verdict}
-use Rattle.stun_auth.proofs.FoundLemmas.{found_judged, found_key_of_user, found_unproven}
-use Rattle.stun_auth.proofs.MeantUser.{has_hash, nobody, with_secret}
-use Rattle.stun_auth.proofs.VerdictLemmas.{verdict-rows}
+use Rattle.stun_judging.specs.Feature.{is_possible}
+use Rattle.stun_judging.specs.Found.{ClaimSeen, claim_of, found_key, found_verdict}
+use Rattle.stun_judging.specs.Judged.{AcceptedSeen, client_judged}
+use Rattle.stun_judging.specs.Reading.{Reading, reading_of}
+use Rattle.stun_judging.specs.Registered.{Registered, RegisteredUser, UserSecret, name_cmp}
+use Rattle.stun_judging.specs.Registered.{user_named, user_with_hash}
+use Rattle.stun_judging.specs.Verdict.{ClientSeen, agreement, client_of, named_by, named_user}
+use Rattle.stun_judging.specs.Verdict.{nonce_refusal, their_nonce, verdict, verified_named}
+use Rattle.stun_judging.specs.declared.refusal.VerdictRefusal.{VerdictRefusal}
+use Rattle.stun_judging.proofs.Accepting.{accepted_from_verdict}
+use Rattle.stun_judging.proofs.FoundLemmas.{found_judged, found_key_of_user, found_unproven}
+use Rattle.stun_judging.proofs.MeantUser.{has_hash, nobody, with_secret}
+use Rattle.stun_judging.proofs.VerdictLemmas.{verdict-rows}
 use Rattle.stun_endpoint.specs.Judged.{IsAcceptedBy, IsAcceptedByPrevious, IsAcceptedUnder, Realm}
 use Rattle.stun_endpoint.specs.Judged.{judged, judged_in, key_of_client}
 use Rattle.stun_endpoint.specs.Lookups.{accepted_nonces, has_one_of, nonces_of, previous_nonces}

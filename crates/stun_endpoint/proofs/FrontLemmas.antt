@@ -2,14 +2,14 @@
 use Rattle.std.proofs.Common.{◌≡◌, ◌++◌, refl}
 use Rattle.base64.proofs.OnLiterals.{base64_on_literals}
 use Rattle.stun_base.specs.declared.keys.algorithm.IntegrityAlgorithm.TheVariants.{Sha256}
-use Rattle.stun_auth.specs.Algorithms.{contains}
-use Rattle.stun_auth.specs.Feature.{is_possible}
-use Rattle.stun_auth.specs.Nonces.{cookie, spelled_bits}
-use Rattle.stun_auth.specs.declared.algorithm_set.AlgorithmSet.{AlgorithmSet}
-use Rattle.stun_auth.specs.declared.algorithm_set.AlgorithmSet.TheVariants.{OnlySha1}
-use Rattle.stun_auth.specs.declared.algorithm_set.AlgorithmSet.TheVariants.{OnlySha256, Both}
-use Rattle.stun_auth.specs.declared.feature.Feature.{Feature}
-use Rattle.stun_auth.specs.declared.feature.Feature.TheVariants.{Auto, Required, Disabled}
+use Rattle.stun_judging.specs.Algorithms.{contains}
+use Rattle.stun_judging.specs.Feature.{is_possible}
+use Rattle.stun_judging.specs.Nonces.{cookie, spelled_bits}
+use Rattle.stun_judging.specs.declared.algorithm_set.AlgorithmSet.{AlgorithmSet}
+use Rattle.stun_judging.specs.declared.algorithm_set.AlgorithmSet.TheVariants.{OnlySha1}
+use Rattle.stun_judging.specs.declared.algorithm_set.AlgorithmSet.TheVariants.{OnlySha256, Both}
+use Rattle.stun_judging.specs.declared.feature.Feature.{Feature}
+use Rattle.stun_judging.specs.declared.feature.Feature.TheVariants.{Auto, Required, Disabled}
 use Rattle.stun_endpoint.specs.Nonces.{front_of}
 use Rattle.stun_endpoint.specs.code.Bits.{bits_text}
 

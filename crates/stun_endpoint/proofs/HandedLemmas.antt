@@ -10,13 +10,10 @@ use Rattle.stun_base.specs.declared.wire.message_type.MessageClass.{MessageClass
 use Rattle.stun_base.specs.declared.wire.message_type.MessageClass.TheVariants.{Request}
 use Rattle.stun_base.specs.declared.wire.message_type.MessageClass.TheVariants.{Indication}
 use Rattle.stun_base.specs.declared.wire.message_type.MessageClass.TheVariants.{Success, Error}
-use Rattle.stun_auth.specs.Datagrams.{told_refusal}
-use Rattle.stun_auth.specs.Reading.{Reading, reading_of}
-use Rattle.stun_auth.specs.Seen.{ClientSeen}
-use Rattle.stun_auth.specs.Server.{their_nonce}
-use Rattle.stun_auth.specs.Validation.{is_malformed}
-use Rattle.stun_auth.specs.declared.server.reason.VerdictRefusal.{VerdictRefusal}
-use Rattle.stun_auth.specs.declared.server.reason.VerdictRefusal.TheVariants as verdict
+use Rattle.stun_judging.specs.Verdict.{told_refusal, ClientSeen, their_nonce}
+use Rattle.stun_judging.specs.Reading.{Reading, reading_of, is_malformed}
+use Rattle.stun_judging.specs.declared.refusal.VerdictRefusal.{VerdictRefusal}
+use Rattle.stun_judging.specs.declared.refusal.VerdictRefusal.TheVariants as verdict
 use Rattle.stun_extra.specs.Unknown.{unknown_types}
 use Rattle.stun_endpoint.specs.Judged.{IsAcceptedAt, Realm, judged, key_of_client}
 use Rattle.stun_endpoint.specs.Nonces.{current_nonce, epoch_of}

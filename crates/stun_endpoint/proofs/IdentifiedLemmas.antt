@@ -11,11 +11,10 @@ use Rattle.stun_base.specs.declared.wire.message_type.MessageClass.{MessageClass
 use Rattle.stun_base.specs.declared.wire.message_type.MessageClass.TheVariants.{Request}
 use Rattle.stun_base.specs.declared.wire.message_type.MessageClass.TheVariants.{Indication}
 use Rattle.stun_base.specs.declared.wire.message_type.MessageClass.TheVariants.{Success, Error}
-use Rattle.stun_auth.specs.Handed.{Named, named_in}
-use Rattle.stun_auth.specs.Reading.{Reading, reading_of}
-use Rattle.stun_auth.specs.Registered.{Registered}
-use Rattle.stun_auth.specs.Server.{agreement, their_nonce}
-use Rattle.stun_auth.specs.Validation.{is_complete}
+use Rattle.stun_judging.specs.Named.{Named, named_in}
+use Rattle.stun_judging.specs.Reading.{Reading, reading_of, is_complete}
+use Rattle.stun_judging.specs.Registered.{Registered}
+use Rattle.stun_judging.specs.Verdict.{agreement, their_nonce}
 use Rattle.stun_endpoint.specs.Judged.{realm_of_user}
 use Rattle.stun_endpoint.specs.Lookups.{Identification, IsOneOf, LookupSeen, WaitsUnderItsNonce}
 use Rattle.stun_endpoint.specs.Lookups.{accepted_nonces, awaited, done, has_one_of, identified_as}

@@ -5,10 +5,10 @@ use Rattle.std.specs.declared.net.socket_addr.SocketAddr.{SocketAddr}
 use Rattle.std.specs.declared.result.Result.{Result}
 use Rattle.stun_base.specs.MessageType.{class_in}
 use Rattle.stun_base.specs.declared.wire.message_type.MessageClass.TheVariants.{Request}
-use Rattle.stun_auth.specs.Judged.{AcceptedSeen, HasVerifyingKey, client_judged}
-use Rattle.stun_auth.specs.Reading.{reading_of}
-use Rattle.stun_auth.specs.Server.{verdict}
-use Rattle.stun_auth.specs.declared.server.reason.VerdictRefusal.{VerdictRefusal}
+use Rattle.stun_judging.specs.Judged.{AcceptedSeen, HasVerifyingKey, client_judged}
+use Rattle.stun_judging.specs.Reading.{reading_of}
+use Rattle.stun_judging.specs.Verdict.{verdict}
+use Rattle.stun_judging.specs.declared.refusal.VerdictRefusal.{VerdictRefusal}
 use Rattle.stun_endpoint.specs.Judged.{Realm, judged, key_of_client, realm_of_user}
 use Rattle.stun_endpoint.specs.Lookups.{waits_for}
 use Rattle.stun_endpoint.specs.Nonces.{current_nonce, epoch_of, nonce_in}

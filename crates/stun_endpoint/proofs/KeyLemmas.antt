@@ -12,7 +12,7 @@ use Rattle.std.specs.BTreeMap.{BTreeMap, UpdatesBy, get_by_text}
 use Rattle.std.specs.Map.{lookup}
 use Rattle.std.proofs.lemmas.Map.Lookups.{exact_bytes}
 use Rattle.std.proofs.lemmas.Map.Text.{btree_map_updates_text, is_eq-slice_cmp}
-use Rattle.stun_auth.specs.Registered.{name_cmp}
+use Rattle.stun_judging.specs.Registered.{name_cmp}
 use Rattle.stun_endpoint.specs.code.Keys.{keys_seen}
 
 module _ {A : Type 0} where

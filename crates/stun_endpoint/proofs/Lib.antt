@@ -24,7 +24,6 @@ pub mod CauseLemmas
 pub mod CausedLemmas
 pub mod ResumeLemmas
 pub mod JudgementLemmas
-pub mod RunLemmas
 -- a response that is ended was refused nothing
 pub mod EndedLemmas
 -- results of a batch, while its answers grow

@@ -3,12 +3,12 @@ use Rattle.std.proofs.Common.{◌≡◌, ◌≤◌, ◌+◌, ℕ, List, ◌++◌
 use Rattle.std.proofs.Common.{true, sym, ◌∙◌}
 use Rattle.std.specs.Prelude.{IsUtf8}
 use Rattle.std.specs.declared.net.socket_addr.SocketAddr.{SocketAddr}
-use Rattle.stun_auth.specs.Feature.{is_possible}
-use Rattle.stun_auth.specs.Nonces.{asks_for_userhash, begins_with_cookie}
-use Rattle.stun_auth.specs.Nonces.{letter, nonce_of, security_bits, security_byte}
-use Rattle.stun_auth.proofs.MarkedNonces.{marked_asks_for_userhash, marked_begins_with_cookie}
-use Rattle.stun_auth.proofs.MarkedNonces.{marked_bits, marked_is_short, marked_is_text}
-use Rattle.stun_auth.proofs.MarkedNonces.{nonce_of-marked}
+use Rattle.stun_judging.specs.Feature.{is_possible}
+use Rattle.stun_judging.specs.Nonces.{asks_for_userhash, begins_with_cookie}
+use Rattle.stun_judging.specs.Nonces.{letter, nonce_of, security_bits, security_byte}
+use Rattle.stun_judging.proofs.MarkedNonces.{marked_asks_for_userhash, marked_begins_with_cookie}
+use Rattle.stun_judging.proofs.MarkedNonces.{marked_bits, marked_is_short, marked_is_text}
+use Rattle.stun_judging.proofs.MarkedNonces.{nonce_of-marked}
 use Rattle.stun_endpoint.specs.Nonces.{front_of, nonce_in, security_bytes, uses_features, words_of}
 use Rattle.stun_endpoint.specs.Settings.{Settings}
 

@@ -7,15 +7,15 @@ use Rattle.std.specs.declared.net.socket_addr.SocketAddr.{SocketAddr}
 use Rattle.stun_base.specs.declared.keys.algorithm.IntegrityAlgorithm.TheVariants.{Sha256}
 use Rattle.stun_base.specs.declared.wire.error.StunWriteError.{StunWriteError}
 use Rattle.stun_types.specs.Attribute.{TypedValue}
-use Rattle.stun_auth.specs.AddedAttribute as added
-use Rattle.stun_auth.specs.Additions.{Addition, Page, added_all, added_one, addition_refusal, after}
-use Rattle.stun_auth.specs.Additions.{UnlessMemory, attribute, growth_of, page_in}
-use Rattle.stun_auth.specs.Additions.{page_unless_refused, with_addition, written_page}
-use Rattle.stun_auth.specs.Algorithms.{algorithms_of, contains}
-use Rattle.stun_auth.specs.Nonces.{asks_for_algorithms, letter}
-use Rattle.stun_auth.specs.Registered.{Registered}
-use Rattle.stun_auth.specs.ServerSigning.{challenge_under}
-use Rattle.stun_auth.proofs.MarkedNonces.{marked_asks_for_algorithms}
+use Rattle.stun_judging.specs.AddedAttribute as added
+use Rattle.stun_judging.specs.Additions.{Addition, Page, added_all, added_one, addition_refusal}
+use Rattle.stun_judging.specs.Additions.{after, UnlessMemory, attribute, growth_of, page_in}
+use Rattle.stun_judging.specs.Additions.{page_unless_refused, with_addition, written_page}
+use Rattle.stun_judging.specs.Algorithms.{algorithms_of, contains}
+use Rattle.stun_judging.specs.Nonces.{asks_for_algorithms, letter}
+use Rattle.stun_judging.specs.Registered.{Registered}
+use Rattle.stun_judging.specs.Challenge.{challenge_under}
+use Rattle.stun_judging.proofs.MarkedNonces.{marked_asks_for_algorithms}
 use Rattle.stun_endpoint.specs.Answers.{offered, with_attributes}
 use Rattle.stun_endpoint.specs.Nonces.{nonce_in, words_of}
 use Rattle.stun_endpoint.specs.Settings.{Settings}

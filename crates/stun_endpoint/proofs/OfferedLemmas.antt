@@ -21,19 +21,19 @@ use Rattle.stun_base.specs.declared.wire.error.StunWriteError.TheVariants.{TooLa
 use Rattle.stun_types.specs.Attribute.{TypedValue, attribute_length}
 use Rattle.stun_types.specs.Limits.{LENGTH_LIMIT, TEXT_LIMIT}
 use Rattle.stun_types.specs.Writing.{attribute_refusal, is_set_apart, with_attribute}
-use Rattle.stun_auth.specs.AddedAttribute as added
-use Rattle.stun_auth.specs.Additions.{Addition, Page, UnlessMemory, added_all, added_one, after}
-use Rattle.stun_auth.specs.Additions.{addition_refusal, attribute, is_text_too_long, page_of}
-use Rattle.stun_auth.specs.Additions.{page_unless_refused, written_page}
-use Rattle.stun_auth.specs.Algorithms.{algorithms_of, contains}
-use Rattle.stun_auth.specs.Nonces.{asks_for_algorithms, letter, spelled_bits}
-use Rattle.stun_auth.specs.Registered.{Registered}
-use Rattle.stun_auth.specs.ServerSigning.{challenge_under}
-use Rattle.stun_auth.specs.declared.algorithm_set.AlgorithmSet.{AlgorithmSet}
-use Rattle.stun_auth.specs.declared.algorithm_set.AlgorithmSet.TheVariants.{OnlySha1}
-use Rattle.stun_auth.specs.declared.algorithm_set.AlgorithmSet.TheVariants.{OnlySha256, Both}
-use Rattle.stun_auth.specs.declared.feature.Feature.{Feature}
-use Rattle.stun_auth.specs.declared.feature.Feature.TheVariants.{Auto, Required, Disabled}
+use Rattle.stun_judging.specs.AddedAttribute as added
+use Rattle.stun_judging.specs.Additions.{Addition, Page, UnlessMemory, added_all, added_one, after}
+use Rattle.stun_judging.specs.Additions.{addition_refusal, attribute, is_text_too_long, page_of}
+use Rattle.stun_judging.specs.Additions.{page_unless_refused, written_page}
+use Rattle.stun_judging.specs.Algorithms.{algorithms_of, contains}
+use Rattle.stun_judging.specs.Nonces.{asks_for_algorithms, letter, spelled_bits}
+use Rattle.stun_judging.specs.Registered.{Registered}
+use Rattle.stun_judging.specs.Challenge.{challenge_under}
+use Rattle.stun_judging.specs.declared.algorithm_set.AlgorithmSet.{AlgorithmSet}
+use Rattle.stun_judging.specs.declared.algorithm_set.AlgorithmSet.TheVariants.{OnlySha1}
+use Rattle.stun_judging.specs.declared.algorithm_set.AlgorithmSet.TheVariants.{OnlySha256, Both}
+use Rattle.stun_judging.specs.declared.feature.Feature.{Feature}
+use Rattle.stun_judging.specs.declared.feature.Feature.TheVariants.{Auto, Required, Disabled}
 use Rattle.stun_extra.specs.AttributeTypes.{SOFTWARE}
 use Rattle.stun_endpoint.specs.Answers.{offered, with_attributes}
 use Rattle.stun_endpoint.specs.Nonces.{front_of, nonce_in, nonce_text, words_of}

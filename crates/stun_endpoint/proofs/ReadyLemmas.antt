@@ -7,14 +7,13 @@ use Rattle.std.specs.Option.{is_some, option_map}
 use Rattle.std.specs.Str.{bytes_eq}
 use Rattle.std.specs.declared.net.socket_addr.SocketAddr.{SocketAddr}
 use Rattle.stun_base.specs.declared.keys.algorithm.IntegrityAlgorithm.{IntegrityAlgorithm}
-use Rattle.stun_auth.specs.Nonces.{front, letter, security_bits, security_byte, spelled_bits}
-use Rattle.stun_auth.specs.declared.server.reason.VerdictRefusal.TheVariants.{StaleNonce}
-use Rattle.stun_auth.specs.Found.{ClaimSeen, claim_by, claim_of}
-use Rattle.stun_auth.specs.Handed.{Named, named_in}
-use Rattle.stun_auth.specs.Reading.{Reading, reading_of}
-use Rattle.stun_auth.specs.Server.{agreement, nonce_refusal, their_nonce}
-use Rattle.stun_auth.specs.Validation.{is_complete}
-use Rattle.stun_auth.proofs.FoundLemmas.{claim_message}
+use Rattle.stun_judging.specs.Nonces.{front, letter, security_bits, security_byte, spelled_bits}
+use Rattle.stun_judging.specs.declared.refusal.VerdictRefusal.TheVariants.{StaleNonce}
+use Rattle.stun_judging.specs.Found.{ClaimSeen, claim_by, claim_of}
+use Rattle.stun_judging.specs.Named.{Named, named_in}
+use Rattle.stun_judging.specs.Reading.{Reading, reading_of, is_complete}
+use Rattle.stun_judging.specs.Verdict.{agreement, nonce_refusal, their_nonce}
+use Rattle.stun_judging.proofs.FoundLemmas.{claim_message}
 use Rattle.stun_endpoint.specs.Lookups.{accepted_nonces, has_one_of, nonces_of}
 use Rattle.stun_endpoint.specs.Lookups.{previous_nonces, waits_for}
 use Rattle.stun_endpoint.specs.Nonces.{nonce_in, words_of}

@@ -13,17 +13,16 @@ use Rattle.stun_base.specs.declared.wire.message_type.MessageClass.{MessageClass
 use Rattle.stun_base.specs.declared.wire.message_type.MessageClass.TheVariants.{Request}
 use Rattle.stun_base.specs.declared.wire.message_type.MessageClass.TheVariants.{Indication}
 use Rattle.stun_base.specs.declared.wire.message_type.MessageClass.TheVariants.{Success, Error}
-use Rattle.stun_auth.specs.declared.algorithm_set.AlgorithmSet.{AlgorithmSet}
-use Rattle.stun_auth.specs.declared.feature.Feature.{Feature}
-use Rattle.stun_auth.specs.declared.server.reason.VerdictRefusal.{VerdictRefusal}
-use Rattle.stun_auth.specs.Epochs.{or_before}
-use Rattle.stun_auth.specs.Feature.{is_possible}
-use Rattle.stun_auth.specs.Handed.{Named, by_hash, just, named_in, only_user, user_of, with_users}
-use Rattle.stun_auth.specs.Reading.{Reading, reading_of}
-use Rattle.stun_auth.specs.Registered.{Registered, RegisteredUser, UserSecret, key_at, key_of}
-use Rattle.stun_auth.specs.Registered.{name_cmp, user_with_hash}
-use Rattle.stun_auth.specs.Seen.{ClientSeen}
-use Rattle.stun_auth.specs.Server.{named_by, verdict}
+use Rattle.stun_judging.specs.declared.algorithm_set.AlgorithmSet.{AlgorithmSet}
+use Rattle.stun_judging.specs.declared.feature.Feature.{Feature}
+use Rattle.stun_judging.specs.declared.refusal.VerdictRefusal.{VerdictRefusal}
+use Rattle.stun_judging.specs.Verdict.{or_before, ClientSeen, named_by, verdict}
+use Rattle.stun_judging.specs.Feature.{is_possible}
+use Rattle.stun_judging.specs.Named.{Named, by_hash, just, named_in, only_user, user_of}
+use Rattle.stun_judging.specs.Realm.{with_registered}
+use Rattle.stun_judging.specs.Reading.{Reading, reading_of}
+use Rattle.stun_judging.specs.Registered.{Registered, RegisteredUser, UserSecret, key_at, key_of}
+use Rattle.stun_judging.specs.Registered.{name_cmp, user_with_hash}
 use Rattle.stun_endpoint.specs.Judged.{IsAcceptedAt, IsAcceptedBy, IsAcceptedByPrevious}
 use Rattle.stun_endpoint.specs.Judged.{IsAcceptedUnder, Realm, judged, judged_under, key_of_client}
 use Rattle.stun_endpoint.specs.Judged.{or_previous, realm_of_table, realm_of_user, verdict_under}
@@ -73,7 +72,7 @@ module _ (s : Settings) (secrets : map.FinMap name_cmp UserSecret) (named : Name
   all = users_with s secrets
 
   abbrev many : Realm
-  many = realm_of_table (with_users (table_of s) all)
+  many = realm_of_table (with_registered (table_of s) all)
 
   abbrev one : Realm
   one = realm_of_user s (Some (just all (user_of all named)))
@@ -153,7 +152,7 @@ module _ (enough : IsEnough) (s : Settings) (secrets : map.FinMap name_cmp UserS
       → (class : MessageClass)
       → let all = users_with s secrets in
       by_class s (realm_of_user s (Some (just all (user_of all named)))) from now bytes class
-      ≡ by_class s (realm_of_table (with_users (table_of s) all)) from now bytes class
+      ≡ by_class s (realm_of_table (with_registered (table_of s) all)) from now bytes class
   same_class from now bytes named names Request =
       same_verdict s secrets named from now (reading_of bytes) enough names bytes
   same_class from now bytes named names Indication = refl
@@ -165,7 +164,7 @@ module _ (enough : IsEnough) (s : Settings) (secrets : map.FinMap name_cmp UserS
       → let all = users_with s secrets in
       received_by s (realm_of_user s (Some (just all (user_of all lookup.user)))) lookup.from
       lookup.arrived lookup.message
-      ≡ received_by s (realm_of_table (with_users (table_of s) all)) from now bytes
+      ≡ received_by s (realm_of_table (with_registered (table_of s) all)) from now bytes
   resumed_is_received from now bytes lookup h =
       let w = waits_under s from now bytes lookup h in
       let all = users_with s secrets in

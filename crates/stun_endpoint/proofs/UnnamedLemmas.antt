@@ -7,20 +7,18 @@ use Rattle.std.specs.Option.{is_some, is_none, option_and_then}
 use Rattle.std.specs.Str.{bytes_eq}
 use Rattle.std.specs.declared.net.socket_addr.SocketAddr.{SocketAddr}
 use Rattle.stun_base.specs.declared.keys.algorithm.IntegrityAlgorithm.{IntegrityAlgorithm}
-use Rattle.stun_auth.specs.declared.feature.Feature.{Feature}
-use Rattle.stun_auth.specs.declared.server.reason.VerdictRefusal.{VerdictRefusal}
-use Rattle.stun_auth.specs.declared.server.reason.VerdictRefusal.TheVariants.{Unauthorized}
-use Rattle.stun_auth.specs.declared.server.reason.VerdictRefusal.TheVariants.{BadRequest}
-use Rattle.stun_auth.specs.declared.server.reason.VerdictRefusal.TheVariants.{StaleNonce}
-use Rattle.stun_auth.specs.Epochs.{or_before}
-use Rattle.stun_auth.specs.Feature.{is_possible}
-use Rattle.stun_auth.specs.Handed.{named_in, by_hash}
-use Rattle.stun_auth.specs.Reading.{Reading}
-use Rattle.stun_auth.specs.Registered.{Registered, RegisteredUser, user_with_hash}
-use Rattle.stun_auth.specs.Seen.{ClientSeen}
-use Rattle.stun_auth.specs.Server.{agreement, client_of, named_by, named_user, nonce_refusal}
-use Rattle.stun_auth.specs.Server.{their_nonce, verdict, verified_for, verified_named}
-use Rattle.stun_auth.proofs.VerdictLemmas.{by_rows, verdict-rows}
+use Rattle.stun_judging.specs.declared.feature.Feature.{Feature}
+use Rattle.stun_judging.specs.declared.refusal.VerdictRefusal.{VerdictRefusal}
+use Rattle.stun_judging.specs.declared.refusal.VerdictRefusal.TheVariants.{Unauthorized, BadRequest}
+use Rattle.stun_judging.specs.declared.refusal.VerdictRefusal.TheVariants.{StaleNonce}
+use Rattle.stun_judging.specs.Verdict.{or_before, ClientSeen, agreement, client_of, named_by}
+use Rattle.stun_judging.specs.Verdict.{named_user, nonce_refusal, their_nonce, verdict}
+use Rattle.stun_judging.specs.Verdict.{verified_for, verified_named}
+use Rattle.stun_judging.specs.Feature.{is_possible}
+use Rattle.stun_judging.specs.Named.{named_in, by_hash}
+use Rattle.stun_judging.specs.Reading.{Reading}
+use Rattle.stun_judging.specs.Registered.{Registered, RegisteredUser, user_with_hash}
+use Rattle.stun_judging.proofs.VerdictLemmas.{by_rows, verdict-rows}
 use Rattle.stun_endpoint.specs.Judged.{judged_in, judged_under, or_previous}
 use Rattle.stun_endpoint.specs.Lookups.{accepted_nonces, has_one_of, is_ready, nonces_of}
 use Rattle.stun_endpoint.specs.Lookups.{previous_nonces, waits_for}

@@ -11,10 +11,9 @@ use Rattle.stun_base.specs.declared.wire.message_type.MessageClass.{MessageClass
 use Rattle.stun_base.specs.declared.wire.message_type.MessageClass.TheVariants.{Request}
 use Rattle.stun_base.specs.declared.wire.message_type.MessageClass.TheVariants.{Indication}
 use Rattle.stun_base.specs.declared.wire.message_type.MessageClass.TheVariants.{Success, Error}
-use Rattle.stun_auth.specs.Nonces.{security_bits}
-use Rattle.stun_auth.specs.Reading.{Reading, reading_of}
-use Rattle.stun_auth.specs.Server.{agreement, bits_differ, their_nonce, verified_named}
-use Rattle.stun_auth.specs.Validation.{is_complete}
+use Rattle.stun_judging.specs.Nonces.{security_bits}
+use Rattle.stun_judging.specs.Reading.{Reading, reading_of, is_complete}
+use Rattle.stun_judging.specs.Verdict.{agreement, bits_differ, their_nonce, verified_named}
 use Rattle.stun_extra.specs.Unknown.{unknown_types}
 use Rattle.stun_endpoint.specs.Judged.{Realm}
 use Rattle.stun_endpoint.specs.Lookups.{accepted_nonces, has_one_of}

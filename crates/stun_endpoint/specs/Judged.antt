@@ -3,15 +3,13 @@
 use Rattle.std.specs.Prelude.{ℕ, zero, suc, List, [], Option, Some, None, ◌⊎◌, unwrap_or}
 use Rattle.std.specs.declared.net.socket_addr.SocketAddr.{SocketAddr}
 use Rattle.std.specs.declared.result.Result.{Result}
-use Rattle.stun_auth.specs.declared.algorithm_set.AlgorithmSet.{AlgorithmSet}
-use Rattle.stun_auth.specs.declared.feature.Feature.{Feature}
-use Rattle.stun_auth.specs.declared.server.reason.VerdictRefusal.{VerdictRefusal}
-use Rattle.stun_auth.specs.Epochs.{or_before}
-use Rattle.stun_auth.specs.Reading.{Reading}
-use Rattle.stun_auth.specs.Registered.{Registered, key_at}
-use Rattle.stun_auth.specs.Seen.{ClientSeen}
-use Rattle.stun_auth.specs.Server.{IsAccepted, verdict}
-use Rattle.stun_auth.specs.Validation.{ServerSeen}
+use Rattle.stun_judging.specs.declared.algorithm_set.AlgorithmSet.{AlgorithmSet}
+use Rattle.stun_judging.specs.declared.feature.Feature.{Feature}
+use Rattle.stun_judging.specs.declared.refusal.VerdictRefusal.{VerdictRefusal}
+use Rattle.stun_judging.specs.Verdict.{or_before, ClientSeen, IsAccepted, verdict}
+use Rattle.stun_judging.specs.Reading.{Reading}
+use Rattle.stun_judging.specs.Registered.{Registered, key_at}
+use Rattle.stun_judging.specs.Realm.{RealmSeen}
 use Rattle.stun_endpoint.specs.Nonces.{epoch_of, nonce_in}
 use Rattle.stun_endpoint.specs.Settings.{Settings, registered_of}
 
@@ -23,7 +21,7 @@ pub record Realm : Type 0 where
   pub offered : AlgorithmSet
 
 -- a table of users
-abbrev pub realm_of_table : ServerSeen → Realm
+abbrev pub realm_of_table : RealmSeen → Realm
 realm_of_table table = record {
   users = table.registered;
   feature = table.feature;

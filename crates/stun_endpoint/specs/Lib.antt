@@ -36,7 +36,5 @@ pub mod ShortTerm
 pub mod Buffered
 -- the outcomes of the datagrams of a batch
 pub mod Batches
--- the same verdicts by the calls of a server that keeps records
-pub mod Runs
 -- definitions that no clause of a public call cites
 pub mod code

@@ -11,11 +11,10 @@ use Rattle.stun_base.specs.declared.wire.message_type.MessageClass.TheVariants.{
 use Rattle.stun_base.specs.declared.wire.message_type.MessageClass.TheVariants.{Indication}
 use Rattle.stun_base.specs.declared.wire.message_type.MessageClass.TheVariants.{Success, Error}
 use Rattle.stun_types.specs.Integrity.{deciding_algorithm}
-use Rattle.stun_auth.specs.Datagrams.{told_refusal}
-use Rattle.stun_auth.specs.Reading.{reading_of}
-use Rattle.stun_auth.specs.Seen.{ClientSeen}
-use Rattle.stun_auth.specs.declared.server.reason.VerdictRefusal.{VerdictRefusal}
-use Rattle.stun_auth.specs.declared.server.reason.VerdictRefusal.TheVariants as verdict
+use Rattle.stun_judging.specs.Verdict.{told_refusal, ClientSeen}
+use Rattle.stun_judging.specs.Reading.{reading_of}
+use Rattle.stun_judging.specs.declared.refusal.VerdictRefusal.{VerdictRefusal}
+use Rattle.stun_judging.specs.declared.refusal.VerdictRefusal.TheVariants as verdict
 use Rattle.stun_extra.specs.Unknown.{unknown_types}
 use Rattle.stun_endpoint.specs.Answers.{Signature, challenge_page, with_end}
 use Rattle.stun_endpoint.specs.Judged.{Realm, judged, key_of_client}

@@ -1,10 +1,10 @@
 -- The settings of a server. They are all that it is made of, and none depends on an address.
 use Rattle.std.specs.Prelude.{ℕ, List, Bool, Option}
 use Rattle.stun_base.specs.declared.wire.attribute_type.AttributeType.{AttributeType}
-use Rattle.stun_auth.specs.declared.feature.Feature.{Feature}
-use Rattle.stun_auth.specs.Registered.{Registered}
+use Rattle.stun_judging.specs.declared.feature.Feature.{Feature}
+use Rattle.stun_judging.specs.Registered.{Registered}
 use Rattle.std.specs.FinMap as map
-use Rattle.stun_auth.specs.declared.algorithm_set.AlgorithmSet.{AlgorithmSet}
+use Rattle.stun_judging.specs.declared.algorithm_set.AlgorithmSet.{AlgorithmSet}
 
 pub record Settings : Type 0 where
   pub realm : List ℕ

@@ -19,8 +19,8 @@ use Rattle.stun_types.specs.Limits.{USERNAME_LIMIT}
 use Rattle.stun_types.specs.Text.{text_of}
 use Rattle.stun_types.specs.Visible.{visible}
 use Rattle.stun_types.specs.Walk.{Member}
-use Rattle.stun_auth.specs.Registered.{name_cmp}
-use Rattle.stun_auth.specs.Seen.{ClientSeen}
+use Rattle.stun_judging.specs.Registered.{name_cmp}
+use Rattle.stun_judging.specs.Verdict.{ClientSeen}
 use Rattle.stun_extra.specs.Unknown.{unknown_types}
 use Rattle.stun_endpoint.specs.Answers.{Signature}
 use Rattle.stun_endpoint.specs.Received.{AcceptedRequest}

@@ -6,15 +6,13 @@ ghost use Rattle.std.specs.Prelude.{◌&&◌, IsUtf8, Some, false, length, map, 
 ghost use Rattle.std.specs.Option.{is_none, option_map};
 ghost use Rattle.std.specs.Str.{bytes_eq};
 ghost use Rattle.std.specs.declared.net.socket_addr.SocketAddr.{SocketAddr};
-ghost use Rattle.stun_auth.specs.declared.server.reason.LongTermServerValidation.TheVariants.{Validated};
-ghost use Rattle.stun_auth.specs.declared.server.reason.VerdictRefusal.{VerdictRefusal};
-ghost use Rattle.stun_auth.specs.Reading.{Reading, reading_of};
-ghost use Rattle.stun_auth.specs.Handed.{just, user_of, with_users};
-ghost use Rattle.stun_auth.specs.Registered.{Registered, UserSecret, name_cmp};
-ghost use Rattle.stun_auth.specs.Seen.{ClientSeen};
-ghost use Rattle.stun_auth.specs.Server.{their_nonce};
-ghost use Rattle.stun_auth.specs.Nonces.{begins_with_cookie, letter, security_bits};
-ghost use Rattle.stun_auth.specs.Validation.{is_complete, is_malformed};
+ghost use Rattle.stun_judging.specs.declared.refusal.VerdictRefusal.{VerdictRefusal};
+ghost use Rattle.stun_judging.specs.Reading.{Reading, reading_of, is_complete, is_malformed};
+ghost use Rattle.stun_judging.specs.Named.{just, user_of};
+ghost use Rattle.stun_judging.specs.Realm.{with_registered};
+ghost use Rattle.stun_judging.specs.Registered.{Registered, UserSecret, name_cmp};
+ghost use Rattle.stun_judging.specs.Verdict.{ClientSeen, their_nonce};
+ghost use Rattle.stun_judging.specs.Nonces.{begins_with_cookie, letter, security_bits};
 ghost use Rattle.stun_endpoint.specs.Batches.{Datagram, picked, received_all};
 ghost use Rattle.stun_endpoint.specs.Causes.{cause_of, code_of_cause, credential_cause};
 ghost use Rattle.stun_endpoint.specs.Causes.{has_other_bits, is_agreed, refused_code};
@@ -23,10 +21,9 @@ ghost use Rattle.stun_endpoint.specs.Judged.{realm_of_table, realm_of_user};
 ghost use Rattle.stun_endpoint.specs.Lookups.{LookupSeen, WaitsUnderItsNonce, done};
 ghost use Rattle.stun_endpoint.specs.Lookups.{identified_by, looked_up, users_with};
 ghost use Rattle.stun_base.specs.MessageType.{class_in};
-ghost use Rattle.stun_base.specs.Moments.{last_moment};
 ghost use Rattle.stun_base.specs.declared.wire.message_type.MessageClass.TheVariants as MessageClass;
 ghost use Rattle.stun_endpoint.specs.Nonces.{current_nonce, front_of, nonce_in};
-ghost use Rattle.stun_endpoint.specs.Nonces.{security_bytes, uses_features};
+ghost use Rattle.stun_endpoint.specs.Nonces.{security_bytes};
 ghost use Rattle.stun_endpoint.specs.Realm.{table_of};
 ghost use Rattle.stun_endpoint.specs.Received.{AcceptedRequest, Answer as TheAnswer, Outcome};
 ghost use Rattle.stun_endpoint.specs.Received.{answered, dropped, indicated, outcome_of_accepted};
@@ -35,7 +32,6 @@ ghost use Rattle.stun_endpoint.specs.Open as openly;
 ghost use Rattle.stun_endpoint.specs.Open.{OpenRequest, received_openly};
 ghost use Rattle.stun_endpoint.specs.Responding.{Responding, drop_reason, is_binding, is_empty};
 ghost use Rattle.stun_endpoint.specs.Responding.{is_undropped_request, own_answer, refusal_by};
-ghost use Rattle.stun_endpoint.specs.Runs.{Arrival, after_run, run, users_at, verdict_on};
 ghost use Rattle.stun_endpoint.specs.Settings.{Settings};
 ghost use Rattle.stun_extra.specs.Fingerprint.{fingerprint_in};
 ghost use Rattle.stun_extra.specs.Unknown.{unknown_types};
@@ -165,9 +161,9 @@ pub fn resume_is_receive_with_all_users()
         → let all = users_with s secrets in
         received_by s (realm_of_user s (Some (just all (user_of all lookup.user)))) lookup.from
         lookup.arrived lookup.message
-        ≡ received_by s (realm_of_table (with_users (table_of s) all)) from now bytes }
+        ≡ received_by s (realm_of_table (with_registered (table_of s) all)) from now bytes }
 {
-    stun_auth::laws::the_named_user_is_enough_to_judge();
+    stun_judging::laws::the_named_user_is_enough_to_judge();
 }
 
 /// If `identify` returns a look-up, the datagram is a signed request with a nonce that the server
@@ -201,36 +197,6 @@ pub fn a_batch_is_its_single_calls()
     ensures order { (s : Settings) (realm : Realm) (now : ℕ) (datagrams : List Datagram)
         (places : List ℕ) → received_all s realm now (picked places datagrams)
         ≡ picked places (received_all s realm now datagrams) }
-{}
-
-/// Compares the verdicts of this server on a list of datagrams with the results of a
-/// `LongTermServerAuth`, which stores a record of each address. At the time of each datagram, both
-/// have the same users. Each request that is not dropped becomes four calls of the
-/// `LongTermServerAuth` for each nonce that this server accepts from its source (`run`). They
-/// validate the request with the random numbers from which the nonce is made, sign a response,
-/// validate the request again, and forget the source address.
-///
-/// - `verdicts`: if the settings use a security feature (HMAC-SHA256 or hashed names), these calls
-///   return this server's verdict on each datagram, because both make the same nonces. Without a
-///   security feature, the clause says nothing: the nonces of this server then begin with the nonce
-///   cookie, as RFC 8489, section 9.2, says, and the nonces of the `LongTermServerAuth` do not.
-/// - `left`: after the calls, the `LongTermServerAuth` has no record of an address.
-/// - `handed`: if this server returns a request to its caller, the verdict on the request is
-///   `Validated` with the algorithm of the request.
-///
-/// Premise of `verdicts` and `left`: the clock of the `LongTermServerAuth` gives only times that an
-/// `Instant` can have.
-pub fn datagrams_are_a_run_of_calls()
-    ensures verdicts { (s : Settings) (clock : ℕ → ℕ) (datagrams : List Arrival)
-        → uses_features s ≡ true → ((now : ℕ) → clock now ≤ last_moment)
-        → run s clock (table_of s) datagrams ≡ map (verdict_on s) datagrams }
-    ensures left { (s : Settings) (clock : ℕ → ℕ) (datagrams : List Arrival)
-        → ((now : ℕ) → clock now ≤ last_moment)
-        → (after_run s clock (table_of s) datagrams).places ≡ fin.empty }
-    ensures handed { (s : Settings) (d : Arrival) (request : AcceptedRequest)
-        → received_by s (realm_of_user s (Some (users_at s d))) d.from d.now d.bytes
-        ≡ requested request
-        → verdict_on s d ≡ Some (Ok (Validated request.client.algorithm)) }
 {}
 
 /// A server with short-term credentials accepts a message as signed by a user if and only if

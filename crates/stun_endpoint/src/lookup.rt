@@ -1,7 +1,7 @@
 //! A request whose user must be looked up.
 
 ghost use Rattle.std.specs.Prelude.{◌≡◌};
-ghost use Rattle.stun_auth.specs.Handed.{named_seen};
+ghost use Rattle.stun_judging.specs.Named.{named_seen};
 ghost use Rattle.stun_base.specs.Header.{transaction_id_field};
 ghost use Rattle.stun_endpoint.specs.Answers.{is_fingerprinted};
 ghost use Rattle.stun_endpoint.specs.code.Waiting.{IsWaiting};
@@ -12,8 +12,8 @@ use crate::unix_time::UnixTime;
 use std::alloc::{Allocator, Global};
 use std::marker::Model;
 use std::net::SocketAddr;
-use stun_auth::auth::NamedUser;
 use stun_extra::canonical_address::canonical;
+use stun_judging::named_user::NamedUser;
 use stun_types::message::{Message, TransactionId};
 
 /// The result of `Server::identify` for a datagram.
@@ -48,7 +48,7 @@ pub struct Lookup<'a> {
 
 impl<'a> Model for Lookup<'a> {
     ghost use Rattle.std.specs.Prelude.{◌≡◌};
-    ghost use Rattle.stun_auth.specs.Handed.{named_seen};
+    ghost use Rattle.stun_judging.specs.Named.{named_seen};
     ghost use Rattle.stun_endpoint.specs.Answers.{is_fingerprinted};
     ghost use Rattle.stun_endpoint.specs.Lookups.{LookupSeen};
     ghost use Rattle.stun_endpoint.specs.code.Waiting.{IsWaiting};

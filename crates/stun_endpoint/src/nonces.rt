@@ -3,21 +3,23 @@
 
 ghost use Rattle.std.specs.Prelude.{◌≡◌, ◌++◌, IfOk, IsOk, length, map, take};
 ghost use Rattle.std.specs.String.{string_bytes};
-ghost use Rattle.stun_auth.specs.Algorithms.{contains};
-ghost use Rattle.stun_auth.specs.Feature.{is_possible};
-ghost use Rattle.stun_auth.specs.Nonces.{letter};
+ghost use Rattle.stun_judging.specs.Algorithms.{contains};
+ghost use Rattle.stun_judging.specs.Feature.{is_possible};
+ghost use Rattle.stun_judging.specs.Nonces.{letter};
 ghost use Rattle.stun_base.specs.declared.keys.algorithm.IntegrityAlgorithm.TheVariants.{Sha256};
 ghost use Rattle.stun_endpoint.specs.Nonces.{algorithms_number, front_of, words_of};
 ghost use Rattle.stun_endpoint.specs.code.Bits.{bits_text};
 
 use std::alloc::{AllocError, Allocator};
 use std::net::SocketAddr;
-use stun_auth::auth::{AlgorithmSet, Feature, LONG_TERM_RFC8489_NONCE_COOKIE};
-use stun_auth::letters::{push_letters, text_with_room};
 use stun_base::algorithm::IntegrityAlgorithm;
 use stun_base::memory::Memory;
 use stun_base::prepared_key::PreparedKey;
 use stun_extra::canonical_address::address_octets;
+use stun_judging::algorithm_set::AlgorithmSet;
+use stun_judging::feature::Feature;
+use stun_judging::letters::{push_letters, text_with_room};
+use stun_judging::nonce::LONG_TERM_RFC8489_NONCE_COOKIE;
 
 /// The number of bytes of a nonce: the cookie, four characters for the security bits, and a letter
 /// for each of sixteen numbers.

@@ -4,10 +4,10 @@
 ghost use Rattle.std.specs.Fmt.{WritesOnOk, WritesStyledOnOk};
 ghost use Rattle.std.specs.Prelude.{◌≡◌, ◌≤◌, Some, IfOk, IsOk, codes, length};
 ghost use Rattle.std.specs.String.{string_bytes};
-ghost use Rattle.stun_auth.specs.Algorithms.{contains};
-ghost use Rattle.stun_auth.specs.Handed.{just};
-ghost use Rattle.stun_auth.specs.Nonces.{asks_for_algorithms};
-ghost use Rattle.stun_auth.specs.Registered.{user_by_keys, user_by_password};
+ghost use Rattle.stun_judging.specs.Algorithms.{contains};
+ghost use Rattle.stun_judging.specs.Named.{just};
+ghost use Rattle.stun_judging.specs.Nonces.{asks_for_algorithms};
+ghost use Rattle.stun_judging.specs.Registered.{user_by_keys, user_by_password};
 ghost use Rattle.stun_base.specs.declared.keys.algorithm.IntegrityAlgorithm.TheVariants.{Sha256};
 ghost use Rattle.stun_endpoint.specs.Nonces.{current_nonce, nonce_in};
 ghost use Rattle.stun_endpoint.specs.Realm.{table_of};
@@ -16,17 +16,18 @@ ghost use Rattle.stun_types.specs.Limits.{TEXT_LIMIT};
 
 use crate::nonces::nonce_of;
 use crate::responder::Responder;
-use crate::server::settings::empty_realm;
 use crate::unix_time::UnixTime;
 use crate::users::Users;
 use std::alloc::{AllocError, Allocator, Global};
 use std::fmt;
 use std::marker::Model;
 use std::net::SocketAddr;
-use stun_auth::auth::{LongTermServerAuth, LongTermServerUser, StoredKeys};
 use stun_base::credentials::LongTermCredentials;
 use stun_base::memory::Memory;
 use stun_base::prepared_key::PreparedKey;
+use stun_judging::realm::Realm;
+use stun_judging::stored_keys::StoredKeys;
+use stun_judging::user::LongTermServerUser;
 
 mod batches;
 mod caused;
@@ -67,7 +68,7 @@ pub use settings::{
 #[derive(Drop)]
 pub struct Server<A: Allocator = Global> {
     alloc: A,
-    auth: LongTermServerAuth<A>,
+    realm: Realm<A>,
     secret: PreparedKey<A>,
     previous: Option<PreparedKey<A>>,
     lifetime: u64,
@@ -77,15 +78,15 @@ pub struct Server<A: Allocator = Global> {
 impl<A: Allocator> Model for Server<A> {
     ghost use Rattle.std.specs.Prelude.{◌≡◌, ◌<◌, ◌≤◌, length};
     ghost use Rattle.stun_types.specs.Limits.{TEXT_LIMIT};
-    ghost use Rattle.stun_endpoint.specs.Realm.{empty_realm};
+    ghost use Rattle.stun_judging.specs.Registered.{empty_realm};
     ghost use Rattle.stun_endpoint.specs.Settings.{Settings};
 
     ghost Value = { Settings };
 
     ghost view = { λ server. record {
-      realm = server.auth.registered.realm;
-      algorithms = server.auth.registered.algorithms;
-      feature = server.auth.feature;
+      realm = server.realm.registered.realm;
+      algorithms = server.realm.registered.algorithms;
+      feature = server.realm.feature;
       secret = server.secret;
       previous = server.previous;
       lifetime = server.lifetime;
@@ -96,9 +97,9 @@ impl<A: Allocator> Model for Server<A> {
     } };
 
     ghost invariant = { λ server. (0 < server.lifetime)
-        × (server.auth.registered
-        ≡ empty_realm server.auth.registered.realm server.auth.registered.algorithms)
-        × (length server.auth.registered.realm ≤ TEXT_LIMIT) };
+        × (server.realm.registered
+        ≡ empty_realm server.realm.registered.realm server.realm.registered.algorithms)
+        × (length server.realm.registered.realm ≤ TEXT_LIMIT) };
 }
 
 impl<A: Allocator> fmt::Debug for Server<A> {
@@ -123,10 +124,10 @@ impl<A: Memory> Server<A> {
         ensures users { IfOk result (λ users. users ≡ table_of self.now) }
         ensures granted { A.grants → IsOk result }
     {
-        let realm = A::text(self.alloc, self.auth.realm())?;
-        let (algorithms, feature) = (self.auth.algorithms(), self.auth.anonymous_username());
-        let auth = empty_realm(self.alloc, realm, algorithms, feature);
-        Ok(Users { auth })
+        let name = A::text(self.alloc, self.realm.name())?;
+        let (algorithms, feature) = (self.realm.algorithms(), self.realm.feature());
+        let realm = Realm::new(self.alloc, name, algorithms, feature);
+        Ok(Users { realm })
     }
 
     /// Derives the keys of a user with a password, for `receive_for`. You may cache the result and
@@ -140,7 +141,7 @@ impl<A: Memory> Server<A> {
             ≡ just (registered_of self.now) (Some (user_by_password credentials))) }
         ensures granted { A.grants → IsOk result }
     {
-        self.auth.prepare_user(credentials)
+        self.realm.prepare_user(credentials)
     }
 
     /// Prepares a user with keys that are stored in place of a password, for `receive_for`. The
@@ -155,7 +156,7 @@ impl<A: Memory> Server<A> {
             ≡ just (registered_of self.now) (Some (user_by_keys (string_bytes name) keys))) }
         ensures granted { A.grants → IsOk result }
     {
-        self.auth.prepare_user_with_keys(name, keys)
+        self.realm.prepare_user_with_keys(name, keys)
     }
 
     /// Returns the nonce that the server sends to an address at a time, in a 401 or a 438. The
@@ -187,7 +188,7 @@ impl<A: Memory> Server<A> {
         ensures short { IfOk result (λ nonce. length (string_bytes nonce) ≤ TEXT_LIMIT) }
         ensures granted { A.grants → IsOk result }
     {
-        let (algorithms, feature) = (self.auth.algorithms(), self.auth.anonymous_username());
+        let (algorithms, feature) = (self.realm.algorithms(), self.realm.feature());
         nonce_of(self.alloc, secret, from, epoch, algorithms, feature)
     }
 }

@@ -3,14 +3,15 @@
 ghost use Rattle.std.specs.Prelude.{◌≡◌, IsOk, Some, OnOk, OnErr, codes};
 ghost use Rattle.std.specs.Fmt.{WritesOnOk, WritesStyledOnOk};
 ghost use Rattle.std.specs.String.{string_bytes};
-ghost use Rattle.stun_auth.specs.Registered.{with_user, with_user_by_keys, without_user};
+ghost use Rattle.stun_judging.specs.Registered.{with_user, with_user_by_keys, without_user};
 
 use std::alloc::{AllocError, Allocator, Global};
 use std::fmt;
 use std::marker::Model;
-use stun_auth::auth::{LongTermServerAuth, StoredKeys};
 use stun_base::credentials::LongTermCredentials;
 use stun_base::memory::Memory;
+use stun_judging::realm::Realm;
+use stun_judging::stored_keys::StoredKeys;
 
 /// The users of a realm, found by name and by hash. `Server::users` makes an empty table, for
 /// servers that have the same realm, algorithms and `user_hashes`. No call detects a table that was
@@ -24,18 +25,18 @@ use stun_base::memory::Memory;
 /// `Debug` shows none of them.
 #[derive(Drop)]
 pub struct Users<A: Allocator = Global> {
-    pub(crate) auth: LongTermServerAuth<A>,
+    pub(crate) realm: Realm<A>,
 }
 
 impl<A: Allocator> Model for Users<A> {
-    ghost use Rattle.stun_auth.specs.Validation.{ServerSeen};
-    ghost use Rattle.stun_auth.specs.code.Validation.{coded_server};
+    ghost use Rattle.stun_judging.specs.Realm.{RealmSeen};
+    ghost use Rattle.stun_judging.specs.code.Realm.{coded_realm};
 
-    ghost Value = { ServerSeen };
+    ghost Value = { RealmSeen };
 
-    ghost coded = { coded_server };
+    ghost coded = { coded_realm };
 
-    ghost view = { λ users. users.auth };
+    ghost view = { λ users. users.realm };
 }
 
 impl<A: Allocator> fmt::Debug for Users<A> {
@@ -65,7 +66,7 @@ impl<A: Memory> Users<A> {
         ensures err { OnErr result (self.new ≡ self.old) }
         ensures granted { A.grants → IsOk result }
     {
-        self.auth.add_user(credentials)
+        self.realm.add_user(credentials)
     }
 
     /// Adds a user with keys that are stored in place of a password (RFC 8489, section 9.2.2). The
@@ -80,7 +81,7 @@ impl<A: Memory> Users<A> {
         ensures err { OnErr result (self.new ≡ self.old) }
         ensures granted { A.grants → IsOk result }
     {
-        self.auth.add_user_with_keys(name, keys)
+        self.realm.add_user_with_keys(name, keys)
     }
 
     /// Removes the user of this name, so that requests that name this user are refused from now on.
@@ -89,6 +90,6 @@ impl<A: Memory> Users<A> {
           registered = without_user self.old.registered name.now;
         } }
     {
-        self.auth.remove_user(name);
+        self.realm.remove_user(name);
     }
 }

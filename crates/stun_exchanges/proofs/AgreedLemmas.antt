@@ -8,18 +8,18 @@ use Rattle.stun_base.specs.Keys.{long_term_key, userhash_of}
 use Rattle.stun_base.specs.declared.keys.algorithm.IntegrityAlgorithm.{IntegrityAlgorithm}
 use Rattle.stun_base.specs.declared.keys.algorithm.IntegrityAlgorithm.TheVariants.{Sha1, Sha256}
 use Rattle.stun_base.specs.declared.wire.message_type.MessageClass.{MessageClass}
-use Rattle.stun_auth.specs.Algorithms.{algorithms_of, contains, is_sha256}
-use Rattle.stun_auth.specs.ClientStep.{naming_of}
-use Rattle.stun_auth.specs.Feature.{is_possible}
-use Rattle.stun_auth.specs.Nonces.{asks_for_userhash}
-use Rattle.stun_auth.specs.Reading.{Reading}
-use Rattle.stun_auth.specs.Registered.{Registered, RegisteredUser, UserSecret, of_password}
-use Rattle.stun_auth.specs.Registered.{user_named, user_with_hash}
-use Rattle.stun_auth.specs.Server.{IsAccepted, choice, named_by}
-use Rattle.stun_auth.specs.Signed.{ReadsAs, hashed_name, only_if, plain_name}
-use Rattle.stun_auth.specs.declared.algorithm_set.AlgorithmSet.{AlgorithmSet}
-use Rattle.stun_auth.specs.declared.algorithm_set.AlgorithmSet.TheVariants.{OnlySha1}
-use Rattle.stun_auth.specs.declared.algorithm_set.AlgorithmSet.TheVariants.{OnlySha256, Both}
+use Rattle.stun_judging.specs.Algorithms.{algorithms_of, contains, is_sha256}
+use Rattle.stun_judging.specs.Naming.{naming_of}
+use Rattle.stun_judging.specs.Feature.{is_possible}
+use Rattle.stun_judging.specs.Nonces.{asks_for_userhash}
+use Rattle.stun_judging.specs.Reading.{Reading}
+use Rattle.stun_judging.specs.Registered.{Registered, RegisteredUser, UserSecret, of_password}
+use Rattle.stun_judging.specs.Registered.{user_named, user_with_hash}
+use Rattle.stun_judging.specs.Verdict.{IsAccepted, choice, named_by}
+use Rattle.stun_judging.specs.Signed.{ReadsAs, hashed_name, only_if, plain_name}
+use Rattle.stun_judging.specs.declared.algorithm_set.AlgorithmSet.{AlgorithmSet}
+use Rattle.stun_judging.specs.declared.algorithm_set.AlgorithmSet.TheVariants.{OnlySha1}
+use Rattle.stun_judging.specs.declared.algorithm_set.AlgorithmSet.TheVariants.{OnlySha256, Both}
 use Rattle.stun_exchanges.specs.Agreement.{AgreeOn, meant_by, offered_by}
 use Rattle.stun_client.specs.Challenge.{added_under, is_listed, list_read}
 use Rattle.stun_client.specs.Downgrade.{IsUpToDate}

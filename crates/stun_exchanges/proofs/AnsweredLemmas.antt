@@ -3,7 +3,7 @@ use Rattle.std.proofs.Common.{◌≡◌, ℕ, List, Option, Some, None, refl, �
 use Rattle.std.specs.Prelude.{◌&&◌, cond}
 use Rattle.std.specs.Option.{option_map}
 use Rattle.stun_base.specs.Credentials.{NameAndPassword}
-use Rattle.stun_auth.specs.ClientStep.{UNAUTHORIZED, is_code}
+use Rattle.stun_judging.specs.Reading.{UNAUTHORIZED, is_code}
 use Rattle.stun_client.specs.Challenge.{Challenge}
 use Rattle.stun_client.specs.Challenges.{Answered, by_rule, challenge_of, is_alike}
 use Rattle.stun_client.specs.Challenging.{code_in}

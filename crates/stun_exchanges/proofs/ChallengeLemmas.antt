@@ -32,18 +32,18 @@ use Rattle.stun_types.specs.Writing.{HasOneMore, IsAddable, IsOpen, is_set_apart
 use Rattle.stun_types.specs.Writing.{with_attribute}
 use Rattle.stun_types.proofs.AddingLemmas.{length-spelled_attribute, raised}
 use Rattle.stun_types.proofs.MessageLemmas.{refusal-none}
-use Rattle.stun_auth.specs.AddedAttribute as added
-use Rattle.stun_auth.specs.Additions.{Addition, Page, added_all, growth, page_of}
-use Rattle.stun_auth.specs.Algorithms.{algorithms_of, contains}
-use Rattle.stun_auth.specs.ClientStep.{STALE_NONCE, UNAUTHORIZED, is_code}
-use Rattle.stun_auth.specs.Joined.{HasAdded, IsTyped, added_members, page_after}
-use Rattle.stun_auth.specs.Signed.{Added, HasRoomFor, IsBuilt, IsSmall, IsUnsigned, IsWithinLimits}
-use Rattle.stun_auth.specs.Signed.{additions_of, error_attribute}
-use Rattle.stun_auth.specs.declared.algorithm_set.AlgorithmSet.{AlgorithmSet}
-use Rattle.stun_auth.specs.declared.algorithm_set.AlgorithmSet.TheVariants.{OnlySha1}
-use Rattle.stun_auth.specs.declared.algorithm_set.AlgorithmSet.TheVariants.{OnlySha256, Both}
-use Rattle.stun_auth.proofs.Growth.{grown_all}
-use Rattle.stun_auth.proofs.SignedReading.{typed-additions}
+use Rattle.stun_judging.specs.AddedAttribute as added
+use Rattle.stun_judging.specs.Additions.{Addition, Page, added_all, growth, page_of}
+use Rattle.stun_judging.specs.Algorithms.{algorithms_of, contains}
+use Rattle.stun_judging.specs.Reading.{STALE_NONCE, UNAUTHORIZED, is_code}
+use Rattle.stun_judging.specs.Joined.{HasAdded, IsTyped, added_members, page_after}
+use Rattle.stun_judging.specs.Signed.{Added, HasRoomFor, IsBuilt, IsSmall, IsUnsigned}
+use Rattle.stun_judging.specs.Signed.{IsWithinLimits, additions_of, error_attribute}
+use Rattle.stun_judging.specs.declared.algorithm_set.AlgorithmSet.{AlgorithmSet}
+use Rattle.stun_judging.specs.declared.algorithm_set.AlgorithmSet.TheVariants.{OnlySha1}
+use Rattle.stun_judging.specs.declared.algorithm_set.AlgorithmSet.TheVariants.{OnlySha256, Both}
+use Rattle.stun_judging.proofs.Growth.{grown_all}
+use Rattle.stun_judging.proofs.SignedReading.{typed-additions}
 use Rattle.stun_extra.specs.AttributeTypes.{SOFTWARE}
 use Rattle.stun_extra.specs.Values.{bytes_of}
 use Rattle.stun_extra.specs.declared.fingerprint.Fingerprint.TheVariants.{Right, Absent}

@@ -13,15 +13,14 @@ use Rattle.stun_types.specs.ErrorCode.{CodeAndReason, IsError}
 use Rattle.stun_types.specs.Integrity.{first_of}
 use Rattle.stun_types.specs.Limits.{TEXT_LIMIT}
 use Rattle.stun_types.specs.Walk.{Member}
-use Rattle.stun_auth.specs.AddedAttribute as added
-use Rattle.stun_auth.specs.Additions.{Page}
-use Rattle.stun_auth.specs.Algorithms.{algorithms_of}
-use Rattle.stun_auth.specs.Joined.{added_members, page_after, protection_in}
-use Rattle.stun_auth.specs.Signed.{Added, IsSmall}
-use Rattle.stun_auth.specs.Signed.{additions_of, only_if}
-use Rattle.stun_auth.specs.declared.algorithm_set.AlgorithmSet.{AlgorithmSet}
-use Rattle.stun_auth.specs.declared.algorithm_set.AlgorithmSet.TheVariants.{OnlySha1}
-use Rattle.stun_auth.specs.declared.algorithm_set.AlgorithmSet.TheVariants.{OnlySha256, Both}
+use Rattle.stun_judging.specs.AddedAttribute as added
+use Rattle.stun_judging.specs.Additions.{Page}
+use Rattle.stun_judging.specs.Algorithms.{algorithms_of}
+use Rattle.stun_judging.specs.Joined.{added_members, page_after, protection_in}
+use Rattle.stun_judging.specs.Signed.{Added, IsSmall, additions_of, only_if}
+use Rattle.stun_judging.specs.declared.algorithm_set.AlgorithmSet.{AlgorithmSet}
+use Rattle.stun_judging.specs.declared.algorithm_set.AlgorithmSet.TheVariants.{OnlySha1}
+use Rattle.stun_judging.specs.declared.algorithm_set.AlgorithmSet.TheVariants.{OnlySha256, Both}
 use Rattle.stun_endpoint.specs.Answers.{with_attributes}
 use Rattle.stun_endpoint.specs.Refusals.{code_of, phrase_of}
 use Rattle.stun_endpoint.specs.declared.received.Refusal.{Refusal}

@@ -1,8 +1,8 @@
 -- Whoever is accepted under a nonce is accepted in its epoch and in the next.
 use Rattle.std.proofs.Common.{inl, inr, ℕ, zero, suc, sym, subst}
 use Rattle.std.specs.declared.net.socket_addr.SocketAddr.{SocketAddr}
-use Rattle.stun_auth.specs.Reading.{Reading}
-use Rattle.stun_auth.specs.Seen.{ClientSeen}
+use Rattle.stun_judging.specs.Reading.{Reading}
+use Rattle.stun_judging.specs.Verdict.{ClientSeen}
 use Rattle.stun_endpoint.specs.Judged.{IsAcceptedAt, IsAcceptedBy, IsAcceptedUnder}
 use Rattle.stun_endpoint.specs.Judged.{Realm}
 use Rattle.stun_endpoint.specs.Nonces.{epoch_of, nonce_in}

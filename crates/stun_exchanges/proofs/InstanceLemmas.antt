@@ -7,11 +7,11 @@ use Rattle.std.specs.Cmp.Lexicographic.{nat_list_cmp_total}
 use Rattle.std.proofs.lemmas.Slice.Eq.{bytes_eq-Decides}
 use Rattle.std.proofs.lemmas.Str.{IsUtf8-from_ascii}
 use Rattle.stun_base.specs.Keys.{userhash_of}
-use Rattle.stun_auth.specs.Registered.{Registered, UserSecret, name_cmp, name_with_hash}
-use Rattle.stun_auth.specs.Registered.{of_password}
-use Rattle.stun_auth.proofs.MeantUser.{has_hash, one}
+use Rattle.stun_judging.specs.Registered.{Registered, UserSecret, name_cmp, name_with_hash}
+use Rattle.stun_judging.specs.Registered.{of_password}
+use Rattle.stun_judging.proofs.MeantUser.{has_hash, one}
 use Rattle.stun_exchanges.proofs.Ascii.{from_small}
-use Rattle.stun_auth.proofs.UserKeys.{same_name}
+use Rattle.stun_judging.proofs.UserKeys.{same_name}
 use Rattle.stun_endpoint.specs.Lookups.{users_with}
 use Rattle.stun_exchanges.specs.Instance.{SidesCanMeet, example_settings, example_user}
 use Rattle.stun_exchanges.specs.Instance.{example_users}

@@ -14,14 +14,13 @@ use Rattle.stun_base.specs.declared.wire.message_type.MessageClass.{MessageClass
 use Rattle.stun_base.specs.declared.wire.message_type.MessageClass.TheVariants.{Request}
 use Rattle.stun_base.specs.declared.wire.message_type.MessageClass.TheVariants.{Indication}
 use Rattle.stun_base.specs.declared.wire.message_type.MessageClass.TheVariants.{Success, Error}
-use Rattle.stun_auth.specs.Epochs.{or_before}
-use Rattle.stun_auth.specs.OtherUsers.{VerifiesUnderNone}
-use Rattle.stun_auth.specs.Reading.{Reading, reading_of, verified_under}
-use Rattle.stun_auth.specs.Registered.{RegisteredUser, UserSecret, key_from, key_of, name_cmp}
-use Rattle.stun_auth.specs.Seen.{ClientSeen}
-use Rattle.stun_auth.specs.declared.server.reason.VerdictRefusal.{VerdictRefusal}
-use Rattle.stun_auth.proofs.NoOracle.{verdict-alike, verdict-unregistered}
-use Rattle.stun_auth.proofs.UserKeys.{tied}
+use Rattle.stun_judging.specs.Verdict.{or_before, ClientSeen}
+use Rattle.stun_judging.specs.OtherUsers.{VerifiesUnderNone}
+use Rattle.stun_judging.specs.Reading.{Reading, reading_of, verified_under}
+use Rattle.stun_judging.specs.Registered.{RegisteredUser, UserSecret, key_from, key_of, name_cmp}
+use Rattle.stun_judging.specs.declared.refusal.VerdictRefusal.{VerdictRefusal}
+use Rattle.stun_judging.proofs.NoOracle.{verdict-alike, verdict-unregistered}
+use Rattle.stun_judging.proofs.UserKeys.{tied}
 use Rattle.stun_endpoint.specs.Judged.{IsAcceptedBy, IsAcceptedByPrevious, IsAcceptedUnder}
 use Rattle.stun_endpoint.specs.Judged.{Realm, judged, judged_under, key_of_client, or_previous}
 use Rattle.stun_endpoint.specs.Judged.{verdict_under}

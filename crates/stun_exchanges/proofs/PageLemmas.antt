@@ -22,7 +22,7 @@ use Rattle.stun_types.specs.Walk.{Member, walk}
 use Rattle.stun_types.specs.Writing.{HasOneMore, IsAddable, IsOpen, length_with, with_attribute}
 use Rattle.stun_types.specs.XorMappedAddress.{XoredAddress, xor_bytes, xor_key}
 use Rattle.stun_types.proofs.AddingLemmas.{length-spelled_attribute, raised}
-use Rattle.stun_auth.specs.ClientStep.{STALE_NONCE, UNAUTHORIZED, is_code}
+use Rattle.stun_judging.specs.Reading.{STALE_NONCE, UNAUTHORIZED, is_code}
 use Rattle.stun_extra.specs.CanonicalAddress.{is_mapped, mapped_address, xored_canonical}
 use Rattle.stun_exchanges.specs.Agreement.{IsSignedAnswer}
 use Rattle.stun_client.specs.Answers.{is_answer_of}

@@ -7,8 +7,8 @@ use Rattle.std.proofs.lemmas.Slice.Eq.{bytes_eq-Decides}
 use Rattle.stun_base.specs.Credentials.{NameAndPassword}
 use Rattle.stun_base.specs.declared.keys.algorithm.IntegrityAlgorithm.{IntegrityAlgorithm}
 use Rattle.stun_types.specs.Integrity.{verified_algorithm}
-use Rattle.stun_auth.specs.ClientStep.{UNAUTHORIZED, is_code}
-use Rattle.stun_auth.specs.Nonces.{asks_for_algorithms, asks_for_userhash}
+use Rattle.stun_judging.specs.Reading.{UNAUTHORIZED, is_code}
+use Rattle.stun_judging.specs.Nonces.{asks_for_algorithms, asks_for_userhash}
 use Rattle.stun_client.specs.Challenges.{Answered, is_alike, is_one, is_same_bit}
 use Rattle.stun_client.specs.Challenging.{code_in, is_challenge}
 use Rattle.stun_client.specs.Judging.{answered_in, anew, believed, by_key, by_signature, dropped}

@@ -25,8 +25,8 @@ use Rattle.stun_types.specs.Writing.{is_set_apart}
 use Rattle.stun_types.specs.Writing.{integrity_kind, length_with, with_attribute, with_integrity}
 use Rattle.stun_types.proofs.AddingLemmas.{length-spelled_attribute, raised}
 use Rattle.stun_types.proofs.MessageLemmas.{refusal-none}
-use Rattle.stun_auth.specs.ClientStep.{STALE_NONCE, UNAUTHORIZED, is_code}
-use Rattle.stun_auth.proofs.Growth.{length-with_integrity}
+use Rattle.stun_judging.specs.Reading.{STALE_NONCE, UNAUTHORIZED, is_code}
+use Rattle.stun_judging.proofs.Growth.{length-with_integrity}
 use Rattle.stun_extra.specs.AttributeTypes.{SOFTWARE}
 use Rattle.stun_extra.specs.Fingerprint.{fingerprint_attribute, fingerprint_if, fingerprint_in}
 use Rattle.stun_extra.specs.declared.fingerprint.Fingerprint.TheVariants.{Right, Absent}

@@ -14,10 +14,10 @@ use Rattle.stun_base.specs.declared.wire.message_type.MessageClass.TheVariants.{
 use Rattle.stun_types.specs.Limits.{TEXT_LIMIT}
 use Rattle.stun_types.specs.Message.{refusal}
 use Rattle.stun_types.specs.Writing.{IsOpen}
-use Rattle.stun_auth.specs.Reading.{reading_of}
-use Rattle.stun_auth.specs.Registered.{UserSecret, name_cmp, name_with_hash, of_password}
-use Rattle.stun_auth.specs.Seen.{ClientSeen}
-use Rattle.stun_auth.specs.Signed.{ReadsAs}
+use Rattle.stun_judging.specs.Reading.{reading_of}
+use Rattle.stun_judging.specs.Registered.{UserSecret, name_cmp, name_with_hash, of_password}
+use Rattle.stun_judging.specs.Verdict.{ClientSeen}
+use Rattle.stun_judging.specs.Signed.{ReadsAs}
 use Rattle.stun_exchanges.specs.Agreement.{AgreeOn, IsSignedAnswer, meant_by, offered_by}
 use Rattle.stun_client.specs.Answers.{is_answer}
 use Rattle.stun_client.specs.Challenge.{Challenge, added_under}

@@ -4,9 +4,9 @@ use Rattle.std.specs.Prelude.{List, [], ℕ, true, false, None, codes}
 use Rattle.std.specs.FinMap as fin
 use Rattle.stun_base.specs.Credentials.{NameAndPassword}
 use Rattle.stun_base.specs.declared.keys.algorithm.IntegrityAlgorithm.TheVariants.{Sha256}
-use Rattle.stun_auth.specs.Registered.{of_password}
-use Rattle.stun_auth.specs.declared.algorithm_set.AlgorithmSet.TheVariants.{Both}
-use Rattle.stun_auth.specs.declared.feature.Feature.TheVariants.{Auto}
+use Rattle.stun_judging.specs.Registered.{of_password}
+use Rattle.stun_judging.specs.declared.algorithm_set.AlgorithmSet.TheVariants.{Both}
+use Rattle.stun_judging.specs.declared.feature.Feature.TheVariants.{Auto}
 use Rattle.stun_exchanges.specs.Agreement.{AgreeOn}
 use Rattle.stun_client.specs.declared.preferences.Preferences.{Preferences}
 use Rattle.stun_endpoint.specs.Settings.{Settings}

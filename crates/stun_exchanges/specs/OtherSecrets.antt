@@ -1,8 +1,8 @@
 -- The same realm with another password of one user: the outcome of a datagram there reveals nothing
 -- of the password (RFC 8489, section 9.2.4).
 use Rattle.std.specs.Prelude.{ℕ, List, Option}
-use Rattle.stun_auth.specs.OtherUsers.{with_secret_for}
-use Rattle.stun_auth.specs.Registered.{UserSecret}
+use Rattle.stun_judging.specs.OtherUsers.{with_secret_for}
+use Rattle.stun_judging.specs.Registered.{UserSecret}
 use Rattle.stun_endpoint.specs.Judged.{Realm}
 
 -- a realm whose user of a name has this password or these keys, or that has no user of this name

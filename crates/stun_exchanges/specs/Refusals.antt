@@ -1,8 +1,8 @@
 -- Which challenges a client regards as a refusal of its request (RFC 8489, section 9.2.5).
 use Rattle.std.specs.Prelude.{◌≡◌, ℕ, Bool, true, List, Option, Some}
 use Rattle.stun_base.specs.Credentials.{NameAndPassword}
-use Rattle.stun_auth.specs.ClientStep.{UNAUTHORIZED, is_code}
-use Rattle.stun_auth.specs.Nonces.{asks_for_algorithms, asks_for_userhash}
+use Rattle.stun_judging.specs.Reading.{UNAUTHORIZED, is_code}
+use Rattle.stun_judging.specs.Nonces.{asks_for_algorithms, asks_for_userhash}
 use Rattle.stun_client.specs.Challenges.{Answered}
 use Rattle.stun_client.specs.Challenging.{code_in}
 use Rattle.stun_client.specs.Judging.{judged, long_term, refused, sent_for}

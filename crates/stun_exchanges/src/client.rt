@@ -3,12 +3,11 @@
 ghost use Rattle.std.specs.Prelude.{◌≡◌, ℕ, Bool, List, Some, true};
 ghost use Rattle.stun_base.specs.Credentials.{NameAndPassword};
 ghost use Rattle.stun_base.specs.declared.keys.algorithm.IntegrityAlgorithm.{IntegrityAlgorithm};
-ghost use Rattle.stun_auth.specs.Algorithms.{contains};
-ghost use Rattle.stun_auth.specs.ClientStep.{is_required};
-ghost use Rattle.stun_auth.specs.Feature.{is_possible};
-ghost use Rattle.stun_auth.specs.Registered.{Registered};
-ghost use Rattle.stun_auth.specs.declared.algorithm_set.AlgorithmSet.{AlgorithmSet};
-ghost use Rattle.stun_auth.specs.declared.feature.Feature.{Feature};
+ghost use Rattle.stun_judging.specs.Algorithms.{contains};
+ghost use Rattle.stun_judging.specs.Feature.{is_required, is_possible};
+ghost use Rattle.stun_judging.specs.Registered.{Registered};
+ghost use Rattle.stun_judging.specs.declared.algorithm_set.AlgorithmSet.{AlgorithmSet};
+ghost use Rattle.stun_judging.specs.declared.feature.Feature.{Feature};
 ghost use Rattle.stun_client.specs.Challenges.{Answered, by_rule};
 ghost use Rattle.stun_client.specs.Downgrade.{IsStrongestOfBoth, IsUpToDate};
 ghost use Rattle.stun_client.specs.Judging.{believed, judged, long_term};

@@ -20,9 +20,9 @@ ghost use Rattle.stun_exchanges.specs.Instance.{SidesCanMeet};
 pub fn challenges_are_read_as_meant()
     ensures { ChallengesAreRead }
 {
-    stun_auth::laws::additions_are_read_back();
-    stun_auth::laws::built_messages_can_be_signed();
-    stun_auth::laws::signing_succeeds_with_room();
+    stun_judging::laws::additions_are_read_back();
+    stun_judging::laws::built_messages_can_be_signed();
+    stun_judging::laws::signing_succeeds_with_room();
     stun_endpoint::laws::nonces_have_the_bits_of_their_server();
     stun_types::laws::writing_adds_one_attribute();
 }

@@ -1,7 +1,7 @@
 -- The stored keys of a user as a caller passes them (RFC 8489, sections 9.2.2 and 18.5.1).
 use Rattle.std.specs.Prelude.{ℕ, List, ◌==◌, if◌then◌else◌, length, Option, Some, None}
 use Rattle.std.specs.Prelude.{Result, Ok, Err}
-use Rattle.stun_auth.specs.declared.server.stored_keys.StoredKeys.{StoredKeys}
+use Rattle.stun_judging.specs.declared.stored_keys.StoredKeys.{StoredKeys}
 use Rattle.stun_numbers.specs.declared.refusal.Refusal.{Refusal}
 use Rattle.stun_numbers.specs.declared.refusal.Refusal.TheVariants.{BadArgument}
 

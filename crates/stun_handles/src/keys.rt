@@ -3,7 +3,7 @@
 ghost use Rattle.std.specs.Prelude.{◌≡◌};
 ghost use Rattle.stun_handles.specs.Keys.{key_given, keys_given};
 
-use stun_auth::auth::StoredKeys;
+use stun_judging::stored_keys::StoredKeys;
 use stun_numbers::refusal::Refusal;
 
 /// Converts a key of `N` bytes that a caller passes. Returns `None` if the caller passes no bytes.

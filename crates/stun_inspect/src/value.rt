@@ -11,8 +11,8 @@ use crate::further_value::{
 use crate::registry::{Form, error_name};
 use std::alloc::{AllocError, Allocator};
 use std::net::SocketAddr;
-use stun_auth::auth::NonceSecurityBits;
 use stun_cli::line::Line;
+use stun_judging::nonce::NonceSecurityBits;
 use stun_types::attribute::{ErrorCode, RawAttribute};
 use stun_types::message::TransactionId;
 use stun_types::prelude::{AttributeFromRaw, AttributeStaticType};

@@ -6,7 +6,7 @@ use Rattle.std.specs.declared.alloc.Global.{Global}
 use Rattle.stun_base.specs.declared.keys.algorithm.IntegrityAlgorithm.{IntegrityAlgorithm}
 use Rattle.stun_types.specs.Message.{refusal}
 use Rattle.stun_base.specs.MessageType.{class_in, is_response}
-use Rattle.stun_auth.specs.Reading.{reading_of}
+use Rattle.stun_judging.specs.Reading.{reading_of}
 use Rattle.stun_auth.specs.Validation.{AcceptedWith, ServerSeen, sight}
 use Rattle.stun_proto.specs.declared.replay.call.ServerCall.{ServerCall}
 use Rattle.stun_proto.specs.declared.replay.call.ServerCall.TheVariants as Call

@@ -4,11 +4,10 @@ use Rattle.std.specs.Prelude.{nat_lt, List, Contains, filter, Option, Some, None
 use Rattle.std.specs.List.{reduce}
 use Rattle.stun_base.specs.Algorithm.{strength}
 use Rattle.stun_base.specs.declared.keys.algorithm.IntegrityAlgorithm.{IntegrityAlgorithm}
-use Rattle.stun_auth.specs.declared.feature.Feature.{Feature}
-use Rattle.stun_auth.specs.declared.feature.Feature.TheVariants.{Required, Disabled}
-use Rattle.stun_auth.specs.Algorithms.{has}
-use Rattle.stun_auth.specs.ClientStep.{is_required}
-use Rattle.stun_auth.specs.Feature.{is_possible}
+use Rattle.stun_judging.specs.declared.feature.Feature.{Feature}
+use Rattle.stun_judging.specs.declared.feature.Feature.TheVariants.{Required, Disabled}
+use Rattle.stun_judging.specs.Algorithms.{has}
+use Rattle.stun_judging.specs.Feature.{is_required, is_possible}
 
 -- the stronger of two algorithms
 abbrev pub stronger : IntegrityAlgorithm → IntegrityAlgorithm → IntegrityAlgorithm

@@ -18,18 +18,17 @@ use Rattle.stun_auth.specs.declared.server.reason.LongTermServerAuthErrorReason.
   Unauthorized,
 }
 use Rattle.stun_auth.specs.declared.server.reason.LongTermServerValidation.TheVariants.{Validated}
-use Rattle.stun_auth.specs.Additions.{Page}
-use Rattle.stun_auth.specs.Algorithms.{algorithms_of}
+use Rattle.stun_judging.specs.Additions.{Page}
+use Rattle.stun_judging.specs.Algorithms.{algorithms_of}
 use Rattle.stun_auth.specs.Client.{Challenge, ClientSettings, authenticated, authenticating}
 use Rattle.stun_auth.specs.Client.{initial}
-use Rattle.stun_auth.specs.ClientStep.{ClientStep, UNAUTHORIZED, client_step}
-use Rattle.stun_auth.specs.Reading.{error_code, reading_of}
+use Rattle.stun_auth.specs.ClientStep.{ClientStep, client_step}
+use Rattle.stun_judging.specs.Reading.{UNAUTHORIZED, error_code, reading_of}
 use Rattle.stun_auth.specs.Seen.{PlaceSeen}
 use Rattle.stun_auth.specs.Server.{Sight}
 use Rattle.stun_auth.specs.ServerSigning.{after_signing, server_signed}
-use Rattle.stun_auth.specs.Signed.{IsUnsigned}
-use Rattle.stun_auth.specs.Validation.{ServerSeen, after_validation, answer}
-use Rattle.stun_auth.specs.Validation.{sight}
+use Rattle.stun_judging.specs.Signed.{IsUnsigned}
+use Rattle.stun_auth.specs.Validation.{ServerSeen, after_validation, answer, sight}
 use Rattle.stun_proto.specs.Best.{best}
 use Rattle.stun_proto.specs.Honest.{HaveOwnHashes}
 use Rattle.stun_proto.specs.Matching.{AreJoined, AreOfOthers, AreTexts, IsRegistered}

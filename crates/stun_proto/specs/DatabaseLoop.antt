@@ -15,13 +15,15 @@ use Rattle.stun_base.specs.MessageType.{class_in, is_response}
 use Rattle.stun_base.specs.declared.wire.error.StunParseError.{StunParseError}
 use Rattle.stun_base.specs.declared.wire.error.StunWriteError.{StunWriteError}
 use Rattle.stun_types.specs.Message.{refusal}
-use Rattle.stun_auth.specs.Additions.{Page}
+use Rattle.stun_judging.specs.Additions.{Page}
 use Rattle.stun_auth.specs.Forgetting.{place_kept}
 use Rattle.stun_auth.specs.ForgettingSteps.{after_step, is_looked_at, next_address}
-use Rattle.stun_auth.specs.Handed.{just, meant_user, with_users}
-use Rattle.stun_auth.specs.Reading.{reading_of}
-use Rattle.stun_auth.specs.Registered.{Registered, RegisteredUser, UserSecret, name_cmp, user_named}
-use Rattle.stun_auth.specs.Seen.{ClientSeen}
+use Rattle.stun_judging.specs.Named.{just}
+use Rattle.stun_auth.specs.Handed.{meant_user, with_users}
+use Rattle.stun_judging.specs.Reading.{reading_of}
+use Rattle.stun_judging.specs.Registered.{Registered, RegisteredUser, UserSecret, name_cmp}
+use Rattle.stun_judging.specs.Registered.{user_named}
+use Rattle.stun_judging.specs.Verdict.{ClientSeen}
 use Rattle.stun_auth.specs.ServerSigning.{after_signing}
 use Rattle.stun_auth.specs.Validation.{ServerSeen, after_validation, answer, client_at, sight}
 use Rattle.stun_proto.specs.Headline.{ValidatesEachCall}

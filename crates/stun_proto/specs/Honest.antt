@@ -13,9 +13,9 @@ use Rattle.stun_types.specs.Limits.{TEXT_LIMIT, USERNAME_LIMIT}
 use Rattle.stun_auth.specs.declared.client.answer.LongTermClientAuthErrorReason.TheVariants.{
   UnsupportedFeature,
 }
-use Rattle.stun_auth.specs.Algorithms.{algorithms_of}
+use Rattle.stun_judging.specs.Algorithms.{algorithms_of}
 use Rattle.stun_auth.specs.Client.{Challenge, authenticated, initial}
-use Rattle.stun_auth.specs.Registered.{Registered}
+use Rattle.stun_judging.specs.Registered.{Registered}
 use Rattle.stun_auth.specs.Seen.{PlaceSeen}
 use Rattle.stun_auth.specs.Validation.{ServerSeen, client_at, sight}
 use Rattle.stun_proto.specs.Best.{best}

@@ -9,7 +9,7 @@ use Rattle.stun_types.specs.Message.{refusal}
 use Rattle.stun_auth.specs.Forgetting.{place_kept}
 use Rattle.stun_auth.specs.Places.{with_client}
 use Rattle.stun_base.specs.MessageType.{class_in, is_response}
-use Rattle.stun_auth.specs.Reading.{reading_of}
+use Rattle.stun_judging.specs.Reading.{reading_of}
 use Rattle.stun_auth.specs.Seen.{PlaceSeen}
 use Rattle.stun_auth.specs.Server.{Sight}
 use Rattle.stun_auth.specs.Validation.{ServerSeen, place_after}

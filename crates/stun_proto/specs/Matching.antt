@@ -6,15 +6,16 @@ use Rattle.std.specs.declared.net.socket_addr.SocketAddr.{SocketAddr}
 use Rattle.stun_base.specs.Credentials.{NameAndPassword}
 use Rattle.stun_base.specs.Keys.{long_term_key}
 use Rattle.stun_base.specs.declared.keys.algorithm.IntegrityAlgorithm.{IntegrityAlgorithm}
-use Rattle.stun_auth.specs.declared.feature.Feature.{Feature}
-use Rattle.stun_auth.specs.Algorithms.{contains, algorithms_of}
+use Rattle.stun_judging.specs.declared.feature.Feature.{Feature}
+use Rattle.stun_judging.specs.Algorithms.{contains, algorithms_of}
 use Rattle.stun_auth.specs.Client.{Challenge}
-use Rattle.stun_auth.specs.ClientStep.{naming_of}
-use Rattle.stun_auth.specs.Nonces.{nonce_of}
-use Rattle.stun_auth.specs.Registered.{Registered, UserSecret, key_from}
+use Rattle.stun_judging.specs.Naming.{naming_of}
+use Rattle.stun_judging.specs.Nonces.{nonce_of}
+use Rattle.stun_judging.specs.Registered.{Registered, UserSecret, key_from}
 use Rattle.stun_auth.specs.Seen.{PlaceSeen}
-use Rattle.stun_auth.specs.Server.{Sight, named_by}
-use Rattle.stun_auth.specs.Signed.{hashed_name, plain_name}
+use Rattle.stun_auth.specs.Server.{Sight}
+use Rattle.stun_judging.specs.Verdict.{named_by}
+use Rattle.stun_judging.specs.Signed.{hashed_name, plain_name}
 use Rattle.stun_proto.specs.Isolation.{concerns}
 use Rattle.stun_proto.specs.declared.replay.call.ServerCall.{ServerCall}
 

@@ -5,16 +5,16 @@ use Rattle.std.specs.declared.net.socket_addr.SocketAddr.{SocketAddr}
 use Rattle.std.specs.declared.result.Result.TheVariants.{Ok}
 use Rattle.stun_base.specs.Credentials.{NameAndPassword}
 use Rattle.stun_base.specs.declared.keys.algorithm.IntegrityAlgorithm.TheVariants.{Sha1, Sha256}
-use Rattle.stun_auth.specs.declared.algorithm_set.AlgorithmSet.TheVariants.{Both}
-use Rattle.stun_auth.specs.declared.feature.Feature.TheVariants.{Required}
+use Rattle.stun_judging.specs.declared.algorithm_set.AlgorithmSet.TheVariants.{Both}
+use Rattle.stun_judging.specs.declared.feature.Feature.TheVariants.{Required}
 use Rattle.stun_auth.specs.declared.server.reason.LongTermServerAuthErrorReason.TheVariants.{
   Unauthorized,
 }
-use Rattle.stun_auth.specs.Additions.{Page}
+use Rattle.stun_judging.specs.Additions.{Page}
 use Rattle.stun_auth.specs.Client.{ClientSettings, initial}
-use Rattle.stun_auth.specs.ClientStep.{UNAUTHORIZED, client_step}
-use Rattle.stun_auth.specs.Reading.{reading_of}
-use Rattle.stun_auth.specs.Registered.{new_registered, with_user}
+use Rattle.stun_judging.specs.Reading.{UNAUTHORIZED, reading_of}
+use Rattle.stun_auth.specs.ClientStep.{client_step}
+use Rattle.stun_judging.specs.Registered.{new_registered, with_user}
 use Rattle.stun_auth.specs.Validation.{ServerSeen, new_server}
 use Rattle.stun_proto.specs.declared.replay.call.ServerCall.TheVariants as Call
 use Rattle.stun_proto.specs.Negotiation.{Meeting, client_request, failure, request}

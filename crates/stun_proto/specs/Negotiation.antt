@@ -17,16 +17,15 @@ use Rattle.stun_auth.specs.declared.client.answer.LongTermClientValidation.TheVa
 use Rattle.stun_auth.specs.declared.server.reason.LongTermServerAuthErrorReason.TheVariants
     as Server
 use Rattle.stun_auth.specs.declared.server.reason.LongTermServerValidation.TheVariants as Served
-use Rattle.stun_auth.specs.Additions.{Page, added_all}
+use Rattle.stun_judging.specs.Additions.{Page, added_all, page_of}
 use Rattle.stun_auth.specs.Client.{ClientSettings, ClientState}
 use Rattle.stun_auth.specs.ClientSigning.{client_additions}
-use Rattle.stun_auth.specs.ClientStep.{ClientAnswer, ClientStep, UNAUTHORIZED, client_step}
-use Rattle.stun_auth.specs.Reading.{Reading, reading_of}
+use Rattle.stun_auth.specs.ClientStep.{ClientAnswer, ClientStep, client_step}
+use Rattle.stun_judging.specs.Reading.{UNAUTHORIZED, Reading, reading_of}
 use Rattle.stun_auth.specs.Server.{Sight}
 use Rattle.stun_auth.specs.ServerSigning.{after_signing, server_signed}
-use Rattle.stun_auth.specs.Signed.{error_attribute}
+use Rattle.stun_judging.specs.Signed.{error_attribute}
 use Rattle.stun_auth.specs.Validation.{Answer, ServerSeen, after_validation, answer, sight}
-use Rattle.stun_auth.specs.Additions.{page_of}
 use Rattle.stun_proto.specs.Serving.{after_calls}
 use Rattle.stun_proto.specs.declared.replay.call.ServerCall.{ServerCall}
 use Rattle.stun_proto.specs.declared.replay.negotiation.Outcome.{Outcome}

@@ -13,16 +13,16 @@ use Rattle.stun_auth.specs.declared.server.reason.LongTermServerAuthErrorReason.
   StaleNonce,
 }
 use Rattle.stun_auth.specs.declared.server.reason.LongTermServerValidation.TheVariants.{Validated}
-use Rattle.stun_auth.specs.Additions.{Page, added_all}
+use Rattle.stun_judging.specs.Additions.{Page, added_all}
 use Rattle.stun_auth.specs.Client.{Challenge, ClientSettings, ClientState, authenticated}
 use Rattle.stun_auth.specs.ClientSigning.{client_additions}
-use Rattle.stun_auth.specs.ClientStep.{STALE_NONCE, client_step}
+use Rattle.stun_judging.specs.Reading.{STALE_NONCE, error_code, reading_of}
+use Rattle.stun_auth.specs.ClientStep.{client_step}
 use Rattle.stun_base.specs.MessageType.{class_in}
-use Rattle.stun_auth.specs.Reading.{error_code, reading_of}
 use Rattle.stun_auth.specs.Seen.{PlaceSeen}
 use Rattle.stun_auth.specs.Server.{Sight, current_place}
 use Rattle.stun_auth.specs.ServerSigning.{after_signing, server_signed}
-use Rattle.stun_auth.specs.Signed.{IsUnsigned}
+use Rattle.stun_judging.specs.Signed.{IsUnsigned}
 use Rattle.stun_auth.specs.Validation.{Answer, ServerSeen, after_validation, answer, sight}
 use Rattle.stun_proto.specs.Matching.{AreJoined, AreTexts}
 use Rattle.stun_proto.specs.Serving.{after_calls}

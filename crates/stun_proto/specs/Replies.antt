@@ -9,10 +9,11 @@ use Rattle.stun_types.specs.Message.{refusal}
 use Rattle.stun_auth.specs.Forgetting.{place_kept}
 use Rattle.stun_auth.specs.Places.{with_client}
 use Rattle.stun_base.specs.MessageType.{is_response}
-use Rattle.stun_auth.specs.Reading.{Reading, reading_of}
-use Rattle.stun_auth.specs.Registered.{RegisteredUser}
+use Rattle.stun_judging.specs.Reading.{Reading, reading_of}
+use Rattle.stun_judging.specs.Registered.{RegisteredUser}
 use Rattle.stun_auth.specs.Seen.{PlaceSeen}
-use Rattle.stun_auth.specs.Server.{Sight, named_user, current_place}
+use Rattle.stun_auth.specs.Server.{Sight, current_place}
+use Rattle.stun_judging.specs.Verdict.{named_user}
 use Rattle.stun_auth.specs.Validation.{needs_nonce}
 use Rattle.stun_proto.specs.declared.replay.call.ServerCall.{ServerCall}
 use Rattle.stun_proto.specs.declared.replay.call.ServerCall.TheVariants as Call

@@ -12,12 +12,12 @@ use Rattle.stun_types.specs.Attribute.{TypedValue}
 use Rattle.stun_types.specs.Message.{refusal}
 use Rattle.stun_types.specs.Walk.{attributes_of, walk}
 use Rattle.stun_types.specs.Writing.{IsOpen}
-use Rattle.stun_auth.specs.Additions.{Page}
-use Rattle.stun_auth.specs.Algorithms.{only, with_algorithm}
+use Rattle.stun_judging.specs.Additions.{Page}
+use Rattle.stun_judging.specs.Algorithms.{only, with_algorithm}
 use Rattle.stun_auth.specs.Forgetting.{after_forgetting, without_place}
 use Rattle.stun_auth.specs.Places.{with_change, with_client}
-use Rattle.stun_auth.specs.Reading.{reading_of}
-use Rattle.stun_auth.specs.Registered.{with_user, without_user}
+use Rattle.stun_judging.specs.Reading.{reading_of}
+use Rattle.stun_judging.specs.Registered.{with_user, without_user}
 use Rattle.stun_auth.specs.Server.{Sight}
 use Rattle.stun_auth.specs.ServerSigning.{after_signing, server_signed}
 use Rattle.stun_auth.specs.Validation.{ServerSeen, after_validation, answer, sight}

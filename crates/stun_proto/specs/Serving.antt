@@ -9,19 +9,19 @@ use Rattle.stun_base.specs.declared.keys.algorithm.IntegrityAlgorithm.{Integrity
 use Rattle.stun_base.specs.declared.wire.error.StunParseError.{StunParseError}
 use Rattle.stun_base.specs.declared.wire.error.StunWriteError.{StunWriteError}
 use Rattle.stun_types.specs.Message.{refusal}
-use Rattle.stun_auth.specs.declared.feature.Feature.{Feature}
+use Rattle.stun_judging.specs.declared.feature.Feature.{Feature}
 use Rattle.stun_auth.specs.declared.server.reason.LongTermServerAuthErrorReason.{
   LongTermServerAuthErrorReason,
 }
 use Rattle.stun_auth.specs.declared.server.reason.LongTermServerValidation.TheVariants as Validation
-use Rattle.stun_auth.specs.Additions.{Page}
-use Rattle.stun_auth.specs.Algorithms.{only, with_algorithm}
+use Rattle.stun_judging.specs.Additions.{Page}
+use Rattle.stun_judging.specs.Algorithms.{only, with_algorithm}
 use Rattle.stun_auth.specs.Forgetting.{places_kept, without_place}
-use Rattle.stun_auth.specs.Nonces.{MINIMUM_EXPIRY}
+use Rattle.stun_auth.specs.Validation.{MINIMUM_EXPIRY}
 use Rattle.stun_auth.specs.Places.{PlacesSeen, with_change, with_client}
 use Rattle.stun_base.specs.MessageType.{class_in, is_response}
-use Rattle.stun_auth.specs.Reading.{reading_of}
-use Rattle.stun_auth.specs.Registered.{Registered, with_user, without_user}
+use Rattle.stun_judging.specs.Reading.{reading_of}
+use Rattle.stun_judging.specs.Registered.{Registered, with_user, without_user}
 use Rattle.stun_auth.specs.ServerSigning.{after_signing}
 use Rattle.stun_auth.specs.Validation.{Answer, ServerSeen, after_validation, answer, sight}
 use Rattle.stun_proto.specs.Signing.{if_signed, signing}

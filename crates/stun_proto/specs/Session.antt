@@ -8,14 +8,14 @@ use Rattle.stun_base.specs.Credentials.{NameAndPassword}
 use Rattle.stun_base.specs.MessageType.{class_in, is_response}
 use Rattle.stun_auth.specs.declared.client.answer.LongTermClientValidation.TheVariants as Read
 use Rattle.stun_auth.specs.declared.server.reason.LongTermServerValidation.TheVariants.{Validated}
-use Rattle.stun_auth.specs.Additions.{Page}
+use Rattle.stun_judging.specs.Additions.{Page}
 use Rattle.stun_auth.specs.Client.{Challenge, ClientSettings, authenticated}
-use Rattle.stun_auth.specs.ClientStep.{STALE_NONCE, client_step, is_code}
-use Rattle.stun_auth.specs.Reading.{error_code, reading_of}
+use Rattle.stun_judging.specs.Reading.{STALE_NONCE, is_code, error_code, reading_of}
+use Rattle.stun_auth.specs.ClientStep.{client_step}
 use Rattle.stun_auth.specs.Seen.{PlaceSeen}
 use Rattle.stun_auth.specs.Server.{Sight}
 use Rattle.stun_auth.specs.ServerSigning.{after_signing, server_signed}
-use Rattle.stun_auth.specs.Signed.{IsUnsigned}
+use Rattle.stun_judging.specs.Signed.{IsUnsigned}
 use Rattle.stun_auth.specs.Validation.{ServerSeen, after_validation, answer, client_at, sight}
 use Rattle.stun_proto.specs.Matching.{AreJoined, AreTexts}
 use Rattle.stun_proto.specs.Renewal.{Arrival, HasRunOut, IsAsked, IsRenewed, IsToldStale}

@@ -8,11 +8,11 @@ use Rattle.stun_base.specs.MessageType.{type_number}
 use Rattle.stun_base.specs.declared.wire.message_type.MessageClass.TheVariants as Class
 use Rattle.stun_types.specs.Grammar.{spelled_message}
 use Rattle.stun_types.specs.Writing.{empty_message}
-use Rattle.stun_auth.specs.Additions.{Page}
+use Rattle.stun_judging.specs.Additions.{Page}
 use Rattle.stun_auth.specs.Client.{Challenge, ClientSettings, authenticated, authenticating, initial}
-use Rattle.stun_auth.specs.ClientStep.{UNAUTHORIZED}
+use Rattle.stun_judging.specs.Reading.{UNAUTHORIZED}
 use Rattle.stun_auth.specs.Seen.{PlaceSeen}
-use Rattle.stun_auth.specs.Signed.{error_attribute}
+use Rattle.stun_judging.specs.Signed.{error_attribute}
 use Rattle.stun_auth.specs.Validation.{ServerSeen, sight}
 use Rattle.stun_proto.specs.Contact.{Contact, IsChallenged, IsGranted, at_challenge, at_success}
 use Rattle.stun_proto.specs.Contact.{challenged}

@@ -7,10 +7,10 @@ use Rattle.std.specs.declared.result.Result.TheVariants.{Ok, Err}
 use Rattle.stun_auth.specs.declared.server.reason.LongTermServerAuthErrorReason.TheVariants.{
   Unauthorized,
 }
-use Rattle.stun_auth.specs.Additions.{Page}
+use Rattle.stun_judging.specs.Additions.{Page}
 use Rattle.stun_auth.specs.Client.{ClientState}
-use Rattle.stun_auth.specs.ClientStep.{IsResend, UNAUTHORIZED, client_step}
-use Rattle.stun_auth.specs.Reading.{reading_of}
+use Rattle.stun_auth.specs.ClientStep.{IsResend, client_step}
+use Rattle.stun_judging.specs.Reading.{UNAUTHORIZED, reading_of}
 use Rattle.stun_auth.specs.ServerSigning.{after_signing}
 use Rattle.stun_auth.specs.Validation.{ServerSeen, after_validation, answer, sight}
 use Rattle.stun_proto.specs.Negotiation.{Meeting, client_request, failure, server_response, success}

@@ -12,7 +12,7 @@ use Rattle.stun_types.specs.Message.{LENGTH_LIMIT}
 use Rattle.stun_types.specs.Visible.{visible}
 use Rattle.stun_types.specs.Walk.{attributes_of}
 use Rattle.stun_types.specs.Writing.{attribute_refusal}
-use Rattle.stun_auth.specs.Additions.{Page, page_of}
+use Rattle.stun_judging.specs.Additions.{Page, page_of}
 use Rattle.stun_auth.specs.Places.{with_offer}
 use Rattle.stun_base.specs.MessageType.{class_in, is_response}
 use Rattle.stun_auth.specs.Seen.{PlaceSeen}

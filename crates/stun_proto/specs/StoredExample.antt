@@ -7,8 +7,8 @@ use Rattle.stun_base.specs.Credentials.{NameAndPassword}
 use Rattle.stun_base.specs.MessageType.{is_response}
 use Rattle.stun_types.specs.Message.{refusal}
 use Rattle.stun_auth.specs.Handed.{meant_user}
-use Rattle.stun_auth.specs.Reading.{reading_of}
-use Rattle.stun_auth.specs.Registered.{new_registered, user_by_password, with_user}
+use Rattle.stun_judging.specs.Reading.{reading_of}
+use Rattle.stun_judging.specs.Registered.{new_registered, user_by_password, with_user}
 use Rattle.stun_auth.specs.Validation.{new_server}
 use Rattle.stun_proto.specs.DatabaseLoop.{AreMadeOf, ForgetWithin, Stored, ValidateOf, whole}
 use Rattle.stun_proto.specs.MeetingExample.{a_user}

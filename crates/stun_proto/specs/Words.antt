@@ -40,9 +40,9 @@ pub use Rattle.stun_types.specs.Message.{with_length}
 pub use Rattle.stun_auth.specs.declared.client.answer.LongTermClientAuthErrorReason.TheVariants.{
   UnsupportedFeature,
 }
-pub use Rattle.stun_auth.specs.Algorithms.{algorithms_of}
+pub use Rattle.stun_judging.specs.Algorithms.{algorithms_of}
 pub use Rattle.stun_auth.specs.Client.{Challenge, ClientState, authenticated, initial}
-pub use Rattle.stun_auth.specs.Reading.{Reading, verified_under}
+pub use Rattle.stun_judging.specs.Reading.{Reading, verified_under}
 pub use Rattle.stun_auth.specs.Seen.{PlaceSeen}
 pub use Rattle.stun_auth.specs.Server.{Sight}
 pub use Rattle.stun_auth.specs.Validation.{AcceptedWith, Answer, ServerSeen, sight}

@@ -11,9 +11,9 @@ ghost use Rattle.stun_types.specs.Message.{IsMessage};
 ghost use Rattle.stun_agent.specs.Agent.{Agent, new_agent};
 ghost use Rattle.stun_agent.specs.Timing.{default_settings};
 ghost use Rattle.stun_agent.specs.Transactions.{IsAscending};
-ghost use Rattle.stun_auth.specs.Additions.{UnlessMemory, written_page};
+ghost use Rattle.stun_judging.specs.Additions.{UnlessMemory, written_page};
 ghost use Rattle.stun_auth.specs.Client.{initial};
-ghost use Rattle.stun_auth.specs.Reading.{Reading};
+ghost use Rattle.stun_judging.specs.Reading.{Reading};
 ghost use Rattle.stun_auth.specs.Reasons.{ServerUnlessMemory};
 ghost use Rattle.stun_auth.specs.Server.{Sight};
 ghost use Rattle.stun_auth.specs.Validation.{answer};
@@ -58,6 +58,7 @@ use stun_auth::laws as auth_laws;
 use stun_base::algorithm::IntegrityAlgorithm;
 use stun_base::error::StunWriteError;
 use stun_base::instant::Instant;
+use stun_judging::laws as judging_laws;
 use stun_types::message::Message;
 use stun_types::prelude::MessageWrite;
 
@@ -274,7 +275,7 @@ pub fn appending_changes_no_reply()
     ensures appended { ContinuedAreAnsweredAlike }
 {
     stun_types::laws::what_follows_integrity_is_hidden();
-    auth_laws::what_follows_integrity_is_not_read();
+    judging_laws::what_follows_integrity_is_not_read();
 }
 
 /// The addresses of clients can be divided among any number of servers that start with the same
@@ -297,9 +298,9 @@ pub fn shards_serve_as_one()
 pub fn strongest_is_agreed()
     ensures { StrongestIsAgreed }
 {
-    auth_laws::nonces_ask_for_what_is_supported();
-    auth_laws::signed_messages_are_read();
-    auth_laws::built_messages_can_be_signed();
+    judging_laws::nonces_ask_for_what_is_supported();
+    judging_laws::signed_messages_are_read();
+    judging_laws::built_messages_can_be_signed();
     auth_laws::sides_add_by_attribute();
 }
 
@@ -321,9 +322,9 @@ pub fn calls_are_a_meeting()
 pub fn short_names_are_signed()
     ensures { ShortNamesAreSigned }
 {
-    auth_laws::nonces_ask_for_what_is_supported();
-    auth_laws::signed_messages_are_read();
-    auth_laws::built_messages_can_be_signed();
+    judging_laws::nonces_ask_for_what_is_supported();
+    judging_laws::signed_messages_are_read();
+    judging_laws::built_messages_can_be_signed();
     auth_laws::sides_add_by_attribute();
     auth_laws::sides_sign_with_room();
 }
@@ -348,8 +349,8 @@ pub fn a_hashed_name_is_validated()
 {
     strongest_is_agreed();
     short_names_are_signed();
-    auth_laws::built_messages_can_be_signed();
-    auth_laws::additions_are_read_back();
+    judging_laws::built_messages_can_be_signed();
+    judging_laws::additions_are_read_back();
     auth_laws::sides_add_by_attribute();
 }
 
@@ -371,9 +372,9 @@ pub fn a_hashed_name_is_validated()
 pub fn nonce_is_renewed()
     ensures { NonceIsRenewed }
 {
-    auth_laws::nonces_ask_for_what_is_supported();
-    auth_laws::signed_messages_are_read();
-    auth_laws::built_messages_can_be_signed();
+    judging_laws::nonces_ask_for_what_is_supported();
+    judging_laws::signed_messages_are_read();
+    judging_laws::built_messages_can_be_signed();
     auth_laws::sides_add_by_attribute();
 }
 
@@ -393,9 +394,9 @@ pub fn sessions_go_on()
     ensures go_on { SessionsGoOn }
     ensures exist { (from : Address) → HasSession from }
 {
-    auth_laws::nonces_ask_for_what_is_supported();
-    auth_laws::signed_messages_are_read();
-    auth_laws::built_messages_can_be_signed();
+    judging_laws::nonces_ask_for_what_is_supported();
+    judging_laws::signed_messages_are_read();
+    judging_laws::built_messages_can_be_signed();
     auth_laws::sides_add_by_attribute();
     auth_laws::sides_sign_with_room();
 }
@@ -422,9 +423,9 @@ pub fn new_clients_are_introduced()
         × AreExchanged ALLOCATE (a_contact from words more) a_user a_server
         × AreExchanged BINDING (a_contact from words more) a_user a_server }
 {
-    auth_laws::nonces_ask_for_what_is_supported();
-    auth_laws::signed_messages_are_read();
-    auth_laws::built_messages_can_be_signed();
+    judging_laws::nonces_ask_for_what_is_supported();
+    judging_laws::signed_messages_are_read();
+    judging_laws::built_messages_can_be_signed();
     auth_laws::sides_add_by_attribute();
     auth_laws::sides_sign_with_room();
 }

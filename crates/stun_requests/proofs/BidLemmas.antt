@@ -4,8 +4,8 @@ use Rattle.std.specs.Option.{IfSome, IsSome, is_some, option_and_then}
 use Rattle.stun_base.specs.declared.keys.algorithm.IntegrityAlgorithm.{IntegrityAlgorithm}
 use Rattle.stun_base.specs.declared.wire.message_type.MessageClass.{MessageClass}
 use Rattle.stun_base.specs.declared.wire.message_type.MessageClass.TheVariants.{Request}
-use Rattle.stun_auth.specs.Reading.{Reading, reading_of, verified_under}
-use Rattle.stun_auth.specs.Signed.{ReadsAs}
+use Rattle.stun_judging.specs.Reading.{Reading, reading_of, verified_under}
+use Rattle.stun_judging.specs.Signed.{ReadsAs}
 use Rattle.stun_client.specs.Challenge.{Challenge, added_under}
 use Rattle.stun_client.specs.Challenges.{Answered}
 use Rattle.stun_client.specs.Downgrade.{IsNowhereBidDown}

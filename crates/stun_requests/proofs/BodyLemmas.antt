@@ -20,8 +20,8 @@ use Rattle.stun_types.specs.Visible.{has_kind, visible}
 use Rattle.stun_types.specs.Walk.{Member, attributes_of, walk}
 use Rattle.stun_types.specs.Writing.{IsOpen, another_refusal, attribute_refusal, empty_message}
 use Rattle.stun_types.specs.Writing.{has_integrity, is_set_apart, size_refusal, with_attribute}
-use Rattle.stun_auth.specs.Additions.{Addition, Page, added_all, page_of}
-use Rattle.stun_auth.specs.Joined.{HasAdded, IsTyped, added_members}
+use Rattle.stun_judging.specs.Additions.{Addition, Page, added_all, page_of}
+use Rattle.stun_judging.specs.Joined.{HasAdded, IsTyped, added_members}
 use Rattle.stun_extra.specs.AttributeTypes.{SOFTWARE}
 use Rattle.stun_extra.specs.Fingerprint.{fingerprint_attribute, fingerprint_refusal}
 use Rattle.stun_extra.specs.Fingerprint.{with_fingerprint}

@@ -34,16 +34,14 @@ use Rattle.stun_types.specs.Writing.{empty_message, has_integrity}
 use Rattle.stun_types.specs.Writing.{integrity_attribute, is_set_apart, length_with, size_refusal}
 use Rattle.stun_types.specs.Writing.{signing_refusal, with_attribute, with_integrity}
 use Rattle.stun_types.specs.XorMappedAddress.{xor_bytes, xor_key, xored_address, xored_value}
-use Rattle.stun_auth.specs.AddedAttribute as attributes
-use Rattle.stun_auth.specs.Additions.{Addition, Page, added_all, added_one, addition_refusal, after}
-use Rattle.stun_auth.specs.Additions.{attribute, growth, growth_of, integrity}
-use Rattle.stun_auth.specs.Additions.{is_text_too_long as is_added_too_long}
-use Rattle.stun_auth.specs.Additions.{page_unless_refused}
-use Rattle.stun_auth.specs.Client.{Naming, hashed, plain}
-use Rattle.stun_auth.specs.ClientSigning.{name_attribute}
-use Rattle.stun_auth.specs.Signed.{added_kinds, hashed_name, kinds_in, plain_name}
-use Rattle.stun_auth.proofs.Growth.{length-with_integrity}
-use Rattle.stun_auth.proofs.SignedRoom.{length-one_more}
+use Rattle.stun_judging.specs.AddedAttribute as attributes
+use Rattle.stun_judging.specs.Additions.{Addition, Page, added_all, added_one, addition_refusal}
+use Rattle.stun_judging.specs.Additions.{after, attribute, growth, growth_of, integrity}
+use Rattle.stun_judging.specs.Additions.{is_text_too_long as is_added_too_long, page_unless_refused}
+use Rattle.stun_judging.specs.Naming.{Naming, hashed, plain, name_attribute}
+use Rattle.stun_judging.specs.Signed.{added_kinds, hashed_name, kinds_in, plain_name}
+use Rattle.stun_judging.proofs.Growth.{length-with_integrity}
+use Rattle.stun_judging.proofs.SignedRoom.{length-one_more}
 use Rattle.stun_extra.specs.AttributeTypes.{SOFTWARE}
 use Rattle.stun_extra.specs.Fingerprint.{with_fingerprint}
 use Rattle.stun_client.specs.Challenge.{Challenge, algorithm_choice, challenge_additions}

@@ -44,16 +44,15 @@ use Rattle.stun_types.specs.Writing.{empty_message, has_integrity, is_set_apart,
 use Rattle.stun_types.specs.Writing.{integrity_attribute, integrity_kind, size_refusal}
 use Rattle.stun_types.specs.Writing.{with_attribute, with_integrity}
 use Rattle.stun_types.proofs.MessageLemmas.{refusal-none}
-use Rattle.stun_auth.specs.Additions.{Addition, Page, added_all, attribute, integrity, page_of}
-use Rattle.stun_auth.specs.Joined.{HasAdded, IsTyped, added_members}
-use Rattle.stun_auth.specs.Reading.{error_code, has_visible_integrity, last, last_of, reading_of}
-use Rattle.stun_auth.specs.Signed.{Added, IsBuilt, IsText, IsUnsigned, ReadsAs, additions_of}
-use Rattle.stun_auth.proofs.JoinedLemmas.{WritingLaws, not_above}
+use Rattle.stun_judging.specs.Additions.{Addition, Page, added_all, attribute, integrity, page_of}
+use Rattle.stun_judging.specs.Joined.{HasAdded, IsTyped, added_members}
+use Rattle.stun_judging.specs.Reading.{error_code, has_visible_integrity, last, last_of, reading_of}
+use Rattle.stun_judging.specs.Signed.{Added, IsBuilt, IsText, IsUnsigned, ReadsAs, additions_of}
+use Rattle.stun_judging.proofs.JoinedLemmas.{WritingLaws, not_above}
 use Rattle.stun_extra.specs.AttributeTypes.{SOFTWARE}
 use Rattle.stun_extra.specs.Fingerprint.{fingerprint_attribute, fingerprint_if, fingerprint_refusal}
 use Rattle.stun_extra.specs.Fingerprint.{with_fingerprint}
-use Rattle.stun_auth.specs.Client.{Naming, hashed, plain}
-use Rattle.stun_auth.specs.ClientSigning.{name_attribute}
+use Rattle.stun_judging.specs.Naming.{Naming, hashed, plain, name_attribute}
 use Rattle.stun_extra.proofs.FingerprintLemmas.{HasOneMore-fingerprint, IsFree}
 use Rattle.stun_extra.proofs.FingerprintLemmas.{fingerprint_in-added, verified_by-fingerprint}
 use Rattle.stun_client.specs.Challenges.{Answered}

@@ -6,10 +6,10 @@ use Rattle.std.specs.Option.{IfSome, is_some}
 use Rattle.sha2.proofs.Facts256.{length-sha256}
 use Rattle.stun_base.specs.Credentials.{NameAndPassword}
 use Rattle.stun_base.specs.declared.keys.algorithm.IntegrityAlgorithm.{IntegrityAlgorithm}
-use Rattle.stun_auth.specs.ClientStep.{naming_of}
-use Rattle.stun_auth.specs.Feature.{is_possible}
-use Rattle.stun_auth.specs.Nonces.{asks_for_userhash}
-use Rattle.stun_auth.specs.Signed.{Added, IsText, hashed_name, plain_name}
+use Rattle.stun_judging.specs.Naming.{naming_of}
+use Rattle.stun_judging.specs.Feature.{is_possible}
+use Rattle.stun_judging.specs.Nonces.{asks_for_userhash}
+use Rattle.stun_judging.specs.Signed.{Added, IsText, hashed_name, plain_name}
 use Rattle.stun_extra.specs.Fingerprint.{fingerprint_in}
 use Rattle.stun_client.specs.Challenge.{added_under}
 use Rattle.stun_client.specs.declared.preferences.Preferences.{Preferences}

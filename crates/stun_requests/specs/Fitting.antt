@@ -10,7 +10,7 @@ use Rattle.std.specs.declared.net.ip_addr.IpAddr.TheVariants.{V4, V6}
 use Rattle.std.specs.declared.net.socket_addr.SocketAddr.{SocketAddr}
 use Rattle.stun_base.specs.Credentials.{NameAndPassword}
 use Rattle.stun_types.specs.Limits.{TEXT_LIMIT, USERNAME_LIMIT}
-use Rattle.stun_auth.specs.Signed.{hashed_name, plain_name}
+use Rattle.stun_judging.specs.Signed.{hashed_name, plain_name}
 use Rattle.stun_client.specs.Challenge.{Challenge}
 use Rattle.stun_client.specs.Challenges.{Answered}
 use Rattle.stun_client.specs.Judging.{long_term}

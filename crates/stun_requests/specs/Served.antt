@@ -3,7 +3,7 @@ use Rattle.std.specs.Prelude.{◌≡◌, ◌<◌, ℕ, Bool, true, List, Some, N
 use Rattle.std.specs.declared.net.socket_addr.SocketAddr.{SocketAddr}
 use Rattle.stun_base.specs.Credentials.{NameAndPassword}
 use Rattle.stun_base.specs.declared.keys.algorithm.IntegrityAlgorithm.{IntegrityAlgorithm}
-use Rattle.stun_auth.specs.Seen.{ClientSeen}
+use Rattle.stun_judging.specs.Verdict.{ClientSeen}
 use Rattle.stun_client.specs.Judging.{long_term}
 use Rattle.stun_client.specs.declared.preferences.Preferences.{Preferences}
 use Rattle.stun_client_endpoint.specs.Bodies.{Body}

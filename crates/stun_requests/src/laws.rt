@@ -26,9 +26,9 @@ pub fn requests_are_read_back()
 {
     stun_types::laws::writing_adds_one_attribute();
     stun_types::laws::signed_message_stands();
-    stun_auth::laws::built_messages_can_be_signed();
-    stun_auth::laws::signed_messages_are_read();
-    stun_auth::laws::additions_are_read_back();
+    stun_judging::laws::built_messages_can_be_signed();
+    stun_judging::laws::signed_messages_are_read();
+    stun_judging::laws::additions_are_read_back();
 }
 
 /// A server whose settings do not change accepts the bytes of a request only with the strongest
@@ -95,7 +95,7 @@ pub fn requests_can_be_written()
 {
     stun_types::laws::writing_adds_one_attribute();
     stun_types::laws::signed_message_stands();
-    stun_auth::laws::built_messages_can_be_signed();
-    stun_auth::laws::signed_messages_are_read();
-    stun_auth::laws::additions_are_read_back();
+    stun_judging::laws::built_messages_can_be_signed();
+    stun_judging::laws::signed_messages_are_read();
+    stun_judging::laws::additions_are_read_back();
 }

@@ -6,7 +6,7 @@ use Rattle.std.specs.Option.{option_map}
 use Rattle.std.specs.declared.net.socket_addr.SocketAddr.{SocketAddr}
 use Rattle.stun_base.specs.declared.keys.algorithm.IntegrityAlgorithm.{IntegrityAlgorithm}
 use Rattle.stun_types.specs.Integrity.{deciding_algorithm}
-use Rattle.stun_auth.specs.Seen.{ClientSeen}
+use Rattle.stun_judging.specs.Verdict.{ClientSeen}
 use Rattle.stun_extra.specs.Unknown.{refusing_answer, unknown_types}
 use Rattle.stun_endpoint.specs.Answers.{Signature, with_end}
 use Rattle.stun_endpoint.specs.Received.{or_handed, outcome_of_accepted, responding_of}

@@ -20,7 +20,7 @@ use Rattle.stun_types.specs.Walk.{Member, walk}
 use Rattle.stun_types.specs.Writing.{HasOneMore, IsAddable, IsOpen, is_set_apart, length_with}
 use Rattle.stun_types.specs.Writing.{with_attribute}
 use Rattle.stun_types.proofs.AddingLemmas.{length-spelled_attribute, raised}
-use Rattle.stun_auth.specs.ClientStep.{STALE_NONCE, UNAUTHORIZED, is_code}
+use Rattle.stun_judging.specs.Reading.{STALE_NONCE, UNAUTHORIZED, is_code}
 use Rattle.stun_extra.specs.Errors.{error_code_attribute}
 use Rattle.stun_extra.proofs.FingerprintLemmas.{first_of-other}
 use Rattle.stun_client.specs.Challenging.{code_in}

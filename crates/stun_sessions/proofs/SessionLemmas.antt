@@ -11,15 +11,14 @@ use Rattle.stun_base.specs.declared.keys.algorithm.IntegrityAlgorithm.{Integrity
 use Rattle.stun_types.specs.Integrity.{deciding, deciding_algorithm, integrity_algorithm, is_digest}
 use Rattle.stun_types.specs.Integrity.{verified_algorithm, verified_at}
 use Rattle.stun_types.specs.Walk.{Member}
-use Rattle.stun_auth.specs.Algorithms.{is_sha256, same_algorithm}
-use Rattle.stun_auth.specs.Client.{Naming}
-use Rattle.stun_auth.specs.Nonces.{asks_for_userhash}
-use Rattle.stun_auth.specs.Reading.{has_visible_integrity, reading_of, verified_under}
-use Rattle.stun_auth.specs.Registered.{RegisteredUser, UserSecret, key_if, key_of}
-use Rattle.stun_auth.specs.Registered.{of_password, user_named}
-use Rattle.stun_auth.specs.Signed.{plain_name}
-use Rattle.stun_auth.specs.ClientStep.{naming_of}
-use Rattle.stun_auth.specs.Feature.{is_possible}
+use Rattle.stun_judging.specs.Algorithms.{is_sha256, same_algorithm}
+use Rattle.stun_judging.specs.Naming.{Naming, naming_of}
+use Rattle.stun_judging.specs.Nonces.{asks_for_userhash}
+use Rattle.stun_judging.specs.Reading.{has_visible_integrity, reading_of, verified_under}
+use Rattle.stun_judging.specs.Registered.{RegisteredUser, UserSecret, key_if, key_of}
+use Rattle.stun_judging.specs.Registered.{of_password, user_named}
+use Rattle.stun_judging.specs.Signed.{plain_name}
+use Rattle.stun_judging.specs.Feature.{is_possible}
 use Rattle.stun_client.specs.Challenges.{Answered, is_one}
 use Rattle.stun_client.specs.Standing.{StandingSeen, after_answer, after_success, confirmed}
 use Rattle.stun_client.specs.Standing.{gives_way, is_ignored, is_standing, is_stronger_than}

@@ -11,18 +11,16 @@ use Rattle.std.proofs.lemmas.Slice.Eq.{bytes_eq-Decides}
 use Rattle.stun_base.specs.MessageType.{class_in}
 use Rattle.stun_base.specs.declared.keys.algorithm.IntegrityAlgorithm.{IntegrityAlgorithm}
 use Rattle.stun_base.specs.declared.wire.message_type.MessageClass.TheVariants.{Request}
-use Rattle.stun_auth.specs.Epochs.{or_before}
-use Rattle.stun_auth.specs.Nonces.{security_bits}
-use Rattle.stun_auth.specs.Reading.{Reading, reading_of}
-use Rattle.stun_auth.specs.Registered.{Registered, RegisteredUser}
-use Rattle.stun_auth.specs.Seen.{ClientSeen}
-use Rattle.stun_auth.specs.Server.{IsAccepted, agreement, bits_differ, client_of, named_by}
-use Rattle.stun_auth.specs.Server.{nonce_refusal, or_refused, refusals, their_nonce}
-use Rattle.stun_auth.specs.declared.feature.Feature.{Feature}
-use Rattle.stun_auth.specs.declared.server.reason.VerdictRefusal.{VerdictRefusal}
-use Rattle.stun_auth.specs.declared.server.reason.VerdictRefusal.TheVariants.{Unauthorized}
-use Rattle.stun_auth.specs.declared.server.reason.VerdictRefusal.TheVariants.{BadRequest}
-use Rattle.stun_auth.specs.declared.server.reason.VerdictRefusal.TheVariants.{StaleNonce}
+use Rattle.stun_judging.specs.Verdict.{or_before, ClientSeen, IsAccepted, agreement, bits_differ}
+use Rattle.stun_judging.specs.Verdict.{client_of, named_by, nonce_refusal, or_refused, refusals}
+use Rattle.stun_judging.specs.Verdict.{their_nonce}
+use Rattle.stun_judging.specs.Nonces.{security_bits}
+use Rattle.stun_judging.specs.Reading.{Reading, reading_of}
+use Rattle.stun_judging.specs.Registered.{Registered, RegisteredUser}
+use Rattle.stun_judging.specs.declared.feature.Feature.{Feature}
+use Rattle.stun_judging.specs.declared.refusal.VerdictRefusal.{VerdictRefusal}
+use Rattle.stun_judging.specs.declared.refusal.VerdictRefusal.TheVariants.{Unauthorized, BadRequest}
+use Rattle.stun_judging.specs.declared.refusal.VerdictRefusal.TheVariants.{StaleNonce}
 use Rattle.stun_endpoint.specs.Judged.{Realm, judged_under, or_previous, verdict_under}
 use Rattle.stun_endpoint.specs.Nonces.{current_nonce, epoch_of, nonce_in, security_bytes}
 use Rattle.stun_endpoint.specs.Received.{answered, by_class, by_verdict, challenge_answer}

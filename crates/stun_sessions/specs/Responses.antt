@@ -13,7 +13,7 @@ use Rattle.stun_types.specs.ErrorCode.{CodeAndReason, IsError}
 use Rattle.stun_types.specs.Integrity.{deciding_algorithm}
 use Rattle.stun_types.specs.Message.{refusal}
 use Rattle.stun_types.specs.Writing.{IsAddable, empty_message, is_set_apart, with_attribute}
-use Rattle.stun_auth.specs.Seen.{ClientSeen}
+use Rattle.stun_judging.specs.Verdict.{ClientSeen}
 use Rattle.stun_extra.specs.Errors.{error_code_attribute}
 use Rattle.stun_extra.specs.Unknown.{refusing_answer}
 use Rattle.stun_endpoint.specs.Answers.{with_end}

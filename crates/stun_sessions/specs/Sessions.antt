@@ -7,10 +7,9 @@ use Rattle.stun_base.specs.Credentials.{NameAndPassword}
 use Rattle.stun_base.specs.MessageType.{class_in}
 use Rattle.stun_base.specs.declared.keys.algorithm.IntegrityAlgorithm.{IntegrityAlgorithm}
 use Rattle.stun_base.specs.declared.wire.message_type.MessageClass.TheVariants.{Request}
-use Rattle.stun_auth.specs.Reading.{reading_of}
-use Rattle.stun_auth.specs.Seen.{ClientSeen}
-use Rattle.stun_auth.specs.Server.{IsAccepted}
-use Rattle.stun_auth.specs.Signed.{ReadsAs}
+use Rattle.stun_judging.specs.Reading.{reading_of}
+use Rattle.stun_judging.specs.Verdict.{ClientSeen, IsAccepted}
+use Rattle.stun_judging.specs.Signed.{ReadsAs}
 use Rattle.stun_client.specs.Challenge.{added_under}
 use Rattle.stun_client.specs.Challenges.{Answered, is_one}
 use Rattle.stun_client.specs.Standing.{StandingSeen, after_answer, after_success, confirmed}

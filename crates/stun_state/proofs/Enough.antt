@@ -16,15 +16,17 @@ use Rattle.stun_types.specs.Visible.{has_kind}
 use Rattle.stun_types.specs.Walk.{walk}
 use Rattle.stun_types.specs.Writing.{attribute_refusal, has_integrity, is_set_apart}
 use Rattle.stun_types.specs.Writing.{length_with, max_length, size_refusal}
-use Rattle.stun_auth.specs.Additions.{Addition, Page, WantsMemory, added_all, added_one, after}
-use Rattle.stun_auth.specs.Additions.{attribute, growth, growth_of, integrity, is_text_too_long}
-use Rattle.stun_auth.specs.Additions.{page_of, addition_refusal, page_unless_refused, with_addition}
+use Rattle.stun_judging.specs.Additions.{Addition, Page, WantsMemory, added_all, added_one, after}
+use Rattle.stun_judging.specs.Additions.{attribute, growth, growth_of, integrity, is_text_too_long}
+use Rattle.stun_judging.specs.Additions.{page_of, addition_refusal, page_unless_refused}
+use Rattle.stun_judging.specs.Additions.{with_addition}
 use Rattle.stun_auth.specs.Client.{ClientState, initial, authenticating, authenticated}
 use Rattle.stun_auth.specs.ClientSigning.{algorithm_choice, client_additions, identity, protection}
 use Rattle.stun_auth.specs.ServerSigning.{server_additions, server_growth}
 use Rattle.stun_auth.specs.Server.{Sight}
-use Rattle.stun_auth.proofs.AdditionLemmas.{growth-append}
-use Rattle.stun_auth.proofs.Growth.{server_wants_short, wants_short}
+use Rattle.stun_judging.proofs.AdditionLemmas.{growth-append}
+use Rattle.stun_auth.proofs.ServerGrowth.{server_wants_short}
+use Rattle.stun_judging.proofs.Growth.{wants_short}
 use Rattle.stun_state.specs.code.Measured.{HoldsSigned}
 
 -- a server's message that the memory has room for

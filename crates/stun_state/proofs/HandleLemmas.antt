@@ -4,7 +4,7 @@ use Rattle.std.proofs.Common.{refl, sym, ap, subst, is_some}
 use Rattle.std.specs.Prelude.{◌≢◌, ⊤, IfNone, IfSome}
 use Rattle.stun_agent.specs.Agent.{Agent}
 use Rattle.stun_auth.specs.Client.{ClientSide}
-use Rattle.stun_auth.specs.Registered.{Registered}
+use Rattle.stun_judging.specs.Registered.{Registered}
 use Rattle.stun_handles.specs.Kinds.{AGENT, CLIENT, SERVER, USER, is_full, missing}
 use Rattle.stun_numbers.specs.Refusals.{refusal_number}
 use Rattle.stun_numbers.specs.declared.refusal.Refusal.TheVariants.{WrongHandle}

@@ -8,10 +8,10 @@ use Rattle.std.specs.Option.{option_map_or}
 use Rattle.std.specs.declared.net.socket_addr.SocketAddr.{SocketAddr}
 use Rattle.stun_agent.specs.Agent.{Agent}
 use Rattle.stun_agent.specs.Transactions.{Transaction, at, with_settings}
-use Rattle.stun_auth.specs.Registered.{Registered, RegisteredUser}
+use Rattle.stun_judging.specs.Registered.{Registered, RegisteredUser}
 use Rattle.stun_auth.specs.Validation.{ServerSeen}
-use Rattle.stun_auth.specs.declared.algorithm_set.AlgorithmSet.{AlgorithmSet}
-use Rattle.stun_auth.specs.declared.feature.Feature.{Feature}
+use Rattle.stun_judging.specs.declared.algorithm_set.AlgorithmSet.{AlgorithmSet}
+use Rattle.stun_judging.specs.declared.feature.Feature.{Feature}
 use Rattle.stun_numbers.specs.Refusals.{refusal_number, refusal_or}
 use Rattle.stun_numbers.specs.declared.refusal.Refusal.{Refusal}
 use Rattle.stun_numbers.specs.declared.refusal.Refusal.TheVariants as r

@@ -24,7 +24,7 @@ use Rattle.stun_base.specs.Header.{transaction_id_field}
 use Rattle.stun_agent.proofs.PeerLemmas.{is_peer-with_peer, same_address-exact}
 use Rattle.stun_auth.specs.Client.{ClientSide}
 use Rattle.stun_auth.specs.ClientStep.{ClientAnswer, IsResend}
-use Rattle.stun_auth.specs.Reading.{reading_of}
+use Rattle.stun_judging.specs.Reading.{reading_of}
 use Rattle.stun_auth.specs.Seen.{PlaceSeen}
 use Rattle.stun_auth.specs.Validation.{ChangesNothing, ServerSeen, after_validation, put_place}
 use Rattle.stun_auth.specs.Validation.{sight}

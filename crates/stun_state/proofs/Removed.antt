@@ -13,7 +13,7 @@ use Rattle.std.specs.declared.net.socket_addr.SocketAddr.{SocketAddr}
 use Rattle.stun_base.specs.Address.{address_cmp}
 use Rattle.stun_base.proofs.Addresses.{address_total}
 use Rattle.stun_auth.specs.Places.{PlacesSeen, at_place, with_client}
-use Rattle.stun_auth.specs.Registered.{UserSecret, name_cmp, user_named, without_user}
+use Rattle.stun_judging.specs.Registered.{UserSecret, name_cmp, user_named, without_user}
 use Rattle.stun_auth.specs.Seen.{PlaceSeen}
 use Rattle.stun_auth.specs.Validation.{ServerSeen, client_at}
 use Rattle.stun_numbers.specs.declared.refusal.Refusal.TheVariants as r

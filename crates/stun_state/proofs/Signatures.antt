@@ -9,17 +9,18 @@ use Rattle.stun_base.specs.MessageType.{class_in, is_request, is_response}
 use Rattle.stun_base.specs.declared.wire.error.StunParseError.{StunParseError}
 use Rattle.stun_base.specs.declared.wire.error.StunWriteError.{StunWriteError}
 use Rattle.stun_types.specs.Message.{refusal}
-use Rattle.stun_auth.specs.Additions.{Page, added_all, growth, page_of}
+use Rattle.stun_judging.specs.Additions.{Page, added_all, growth, page_of}
 use Rattle.stun_auth.specs.Client.{ClientSide, ClientState}
 use Rattle.stun_auth.specs.ClientSigning.{client_additions}
 use Rattle.stun_auth.specs.ClientStep.{ClientAnswer, client_step}
-use Rattle.stun_auth.specs.Handed.{Named, by_hash, by_name, judged_by}
-use Rattle.stun_auth.specs.Reading.{reading_of}
-use Rattle.stun_auth.specs.Registered.{RegisteredUser, of_keys, of_password}
+use Rattle.stun_judging.specs.Named.{Named, by_hash, by_name}
+use Rattle.stun_auth.specs.Handed.{judged_by}
+use Rattle.stun_judging.specs.Reading.{reading_of}
+use Rattle.stun_judging.specs.Registered.{RegisteredUser, of_keys, of_password}
 use Rattle.stun_auth.specs.ServerSigning.{after_signing, server_growth, server_signed}
 use Rattle.stun_auth.specs.Validation.{ServerSeen, sight}
 use Rattle.stun_auth.specs.declared.client.answer.LongTermClientValidation.TheVariants as Reading
-use Rattle.stun_auth.specs.declared.server.stored_keys.StoredKeys.{StoredKeys}
+use Rattle.stun_judging.specs.declared.stored_keys.StoredKeys.{StoredKeys}
 use Rattle.stun_numbers.specs.Algorithms.{algorithm_number}
 use Rattle.stun_numbers.specs.Buffers.{buffer_after, within_room}
 use Rattle.stun_numbers.specs.Messages.{base_refusal}

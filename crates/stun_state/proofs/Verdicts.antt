@@ -8,9 +8,10 @@ use Rattle.stun_base.specs.declared.keys.algorithm.IntegrityAlgorithm.{Integrity
 use Rattle.stun_base.specs.declared.wire.error.StunParseError.{StunParseError}
 use Rattle.stun_base.specs.declared.wire.error.StunParseError.TheVariants as Parse
 use Rattle.stun_types.specs.Message.{refusal}
-use Rattle.stun_auth.specs.Handed.{just, with_just, with_users}
-use Rattle.stun_auth.specs.Reading.{reading_of}
-use Rattle.stun_auth.specs.Registered.{Registered, RegisteredUser}
+use Rattle.stun_judging.specs.Named.{just}
+use Rattle.stun_auth.specs.Handed.{with_just, with_users}
+use Rattle.stun_judging.specs.Reading.{reading_of}
+use Rattle.stun_judging.specs.Registered.{Registered, RegisteredUser}
 use Rattle.stun_auth.specs.Validation.{Answer, ServerSeen, after_validation, answer, sight}
 use Rattle.stun_auth.specs.declared.server.reason.LongTermServerAuthErrorReason.{
   LongTermServerAuthErrorReason,

@@ -5,7 +5,7 @@ use Rattle.std.specs.Prelude.{IfNone, IfSome, Result, IfErr, OnErr, OnOk, MatchR
 use Rattle.stun_base.specs.Header.{BeginsWithHeader}
 use Rattle.stun_types.specs.Limits.{LENGTH_LIMIT}
 use Rattle.stun_agent.specs.Agent.{Agent}
-use Rattle.stun_auth.specs.Registered.{Registered, RegisteredUser}
+use Rattle.stun_judging.specs.Registered.{Registered, RegisteredUser}
 use Rattle.stun_auth.specs.Validation.{ServerSeen}
 use Rattle.stun_numbers.specs.Buffers.{buffer_after, length_of}
 use Rattle.stun_numbers.specs.Refusals.{refusal_number}

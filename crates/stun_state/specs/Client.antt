@@ -2,15 +2,15 @@
 -- authenticator (RFC 8489, section 9.2).
 use Rattle.std.specs.Prelude.{ℕ, List, Option, Some, None, Result, Ok, Err}
 use Rattle.stun_types.specs.Message.{refusal}
-use Rattle.stun_auth.specs.declared.algorithm_set.AlgorithmSet.{AlgorithmSet}
+use Rattle.stun_judging.specs.declared.algorithm_set.AlgorithmSet.{AlgorithmSet}
 use Rattle.stun_auth.specs.declared.client.answer.LongTermClientValidation.{
   LongTermClientValidation,
 }
-use Rattle.stun_auth.specs.declared.feature.Feature.{Feature}
-use Rattle.stun_auth.specs.Algorithms.{algorithms_of}
+use Rattle.stun_judging.specs.declared.feature.Feature.{Feature}
+use Rattle.stun_judging.specs.Algorithms.{algorithms_of}
 use Rattle.stun_auth.specs.Client.{ClientSide}
 use Rattle.stun_auth.specs.ClientStep.{ClientAnswer, ClientStep, client_step}
-use Rattle.stun_auth.specs.Reading.{reading_of}
+use Rattle.stun_judging.specs.Reading.{reading_of}
 use Rattle.stun_numbers.specs.Refusals.{message_refusal, refusal_or}
 use Rattle.stun_numbers.specs.declared.refusal.Refusal.{Refusal}
 use Rattle.stun_state.specs.Answers.{kept_if_refused}

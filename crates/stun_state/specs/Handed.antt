@@ -4,10 +4,12 @@ use Rattle.std.specs.Prelude.{◌≡◌, ℕ, ℤ, List, length, Option, Some, N
 use Rattle.std.specs.declared.net.socket_addr.SocketAddr.{SocketAddr}
 use Rattle.stun_base.specs.declared.keys.algorithm.IntegrityAlgorithm.{IntegrityAlgorithm}
 use Rattle.stun_types.specs.Message.{refusal}
-use Rattle.stun_auth.specs.Handed.{Named, by_hash, by_name, judged_by, just, with_users}
-use Rattle.stun_auth.specs.Reading.{reading_of}
-use Rattle.stun_auth.specs.Registered.{Registered, RegisteredUser, user_by_keys, user_by_password}
-use Rattle.stun_auth.specs.declared.server.stored_keys.StoredKeys.{StoredKeys}
+use Rattle.stun_judging.specs.Named.{Named, by_hash, by_name, just}
+use Rattle.stun_auth.specs.Handed.{judged_by, with_users}
+use Rattle.stun_judging.specs.Reading.{reading_of}
+use Rattle.stun_judging.specs.Registered.{Registered, RegisteredUser, user_by_keys}
+use Rattle.stun_judging.specs.Registered.{user_by_password}
+use Rattle.stun_judging.specs.declared.stored_keys.StoredKeys.{StoredKeys}
 use Rattle.stun_auth.specs.Validation.{ServerSeen, after_validation, answer, sight}
 use Rattle.stun_numbers.specs.Refusals.{message_refusal, refusal_or}
 use Rattle.stun_numbers.specs.Buffers.{buffer_after, within_room}

@@ -2,7 +2,7 @@
 use Rattle.std.specs.Prelude.{ℕ, ◌==◌, if◌then◌else◌, Option, Some, None}
 use Rattle.stun_agent.specs.Agent.{Agent}
 use Rattle.stun_auth.specs.Client.{ClientSide}
-use Rattle.stun_auth.specs.Registered.{Registered}
+use Rattle.stun_judging.specs.Registered.{Registered}
 use Rattle.stun_handles.specs.Kinds.{AGENT, CLIENT, SERVER, USER}
 use Rattle.stun_state.specs.declared.handle.state.Kept.{Kept}
 use Rattle.stun_state.specs.declared.handle.state.Kept.TheVariants as kind

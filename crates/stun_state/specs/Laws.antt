@@ -16,10 +16,10 @@ use Rattle.stun_handles.specs.Addresses.{caller_address, socket_address}
 use Rattle.stun_handles.specs.declared.address.Address.{Address}
 use Rattle.stun_state.specs.declared.agent.Timeouts.{Timeouts}
 use Rattle.stun_auth.specs.ClientStep.{ClientAnswer}
-use Rattle.stun_auth.specs.Handed.{Named, by_hash, by_name}
-use Rattle.stun_auth.specs.Seen.{ClientSeen}
-use Rattle.stun_auth.specs.declared.feature.Feature.{Feature}
-use Rattle.stun_auth.specs.declared.feature.Feature.TheVariants.{Auto, Required, Disabled}
+use Rattle.stun_judging.specs.Named.{Named, by_hash, by_name}
+use Rattle.stun_judging.specs.Verdict.{ClientSeen}
+use Rattle.stun_judging.specs.declared.feature.Feature.{Feature}
+use Rattle.stun_judging.specs.declared.feature.Feature.TheVariants.{Auto, Required, Disabled}
 use Rattle.stun_auth.specs.declared.client.answer.LongTermClientValidation.TheVariants.{
   ResendRequest,
   Validated,

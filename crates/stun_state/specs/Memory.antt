@@ -8,7 +8,7 @@ use Rattle.stun_agent.specs.Peers.{is_peer}
 use Rattle.stun_types.specs.Message.{refusal}
 use Rattle.stun_auth.specs.Client.{ClientSide}
 use Rattle.stun_auth.specs.ClientStep.{IsResend}
-use Rattle.stun_auth.specs.Reading.{reading_of}
+use Rattle.stun_judging.specs.Reading.{reading_of}
 use Rattle.stun_auth.specs.Validation.{ChangesNothing, sight}
 use Rattle.stun_handles.specs.Answers.{at_address}
 use Rattle.stun_state.specs.Agent.{request_answer}

@@ -5,7 +5,7 @@ use Rattle.std.specs.declared.net.socket_addr.SocketAddr.{SocketAddr}
 use Rattle.stun_base.specs.Header.{HEADER_LENGTH}
 use Rattle.stun_base.specs.declared.wire.error.StunWriteError.{StunWriteError}
 use Rattle.stun_types.specs.Limits.{max_length}
-use Rattle.stun_auth.specs.Additions.{Page, added_all, growth, page_of}
+use Rattle.stun_judging.specs.Additions.{Page, added_all, growth, page_of}
 use Rattle.stun_auth.specs.Client.{ClientState}
 use Rattle.stun_auth.specs.ClientSigning.{client_additions}
 use Rattle.stun_base.specs.MessageType.{class_in, is_request, is_response}

@@ -3,7 +3,7 @@
 
 ghost use Rattle.std.specs.Prelude.{◌≡◌, ◌≤◌, ◌+◌, ◌-◌, true, length, take, Ok, Err};
 ghost use Rattle.std.specs.Prelude.{IfErr, IfOk, OnErr, OnOk};
-ghost use Rattle.stun_auth.specs.Additions.{WantsMemory, added_all, growth, page_of};
+ghost use Rattle.stun_judging.specs.Additions.{WantsMemory, added_all, growth, page_of};
 ghost use Rattle.stun_auth.specs.Client.{new_client};
 ghost use Rattle.stun_auth.specs.ClientSigning.{client_additions, signing_algorithm};
 ghost use Rattle.stun_auth.specs.ClientStep.{IsResend};

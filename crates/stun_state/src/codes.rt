@@ -3,8 +3,8 @@
 
 ghost use Rattle.std.specs.Prelude.{◌≡◌, IfOk, IfErr, Some, None};
 ghost use Rattle.std.specs.Option.{option_map_or};
-ghost use Rattle.stun_auth.specs.Algorithms.{only};
-ghost use Rattle.stun_auth.specs.declared.algorithm_set.AlgorithmSet.TheVariants.{Both};
+ghost use Rattle.stun_judging.specs.Algorithms.{only};
+ghost use Rattle.stun_judging.specs.declared.algorithm_set.AlgorithmSet.TheVariants.{Both};
 ghost use Rattle.stun_state.specs.Codes.{algorithms_numbered, feature_numbered};
 ghost use Rattle.stun_state.specs.Codes.{refusal_of_client, refusal_of_server};
 

@@ -103,11 +103,15 @@ pub(crate) fn prepare(
             let password = text(password)?;
             let name = copied(alloc, name)?;
             let credentials = LongTermCredentials::new(name, copied(alloc, password)?);
-            Ok(server.prepare_user(credentials)?)
+            Ok(server.as_realm().prepare_user(credentials)?)
         }
         Given::Keys(sha1, sha256) => {
             let keys = keys_of(sha1, sha256)?;
-            Ok(server.prepare_user_with_keys(copied(alloc, name)?, keys)?)
+            Ok(
+                server
+                    .as_realm()
+                    .prepare_user_with_keys(copied(alloc, name)?, keys)?,
+            )
         }
     }
 }

@@ -14,29 +14,29 @@ ghost use Rattle.stun_agent.specs.Peers.{is_peer};
 ghost use Rattle.stun_agent.specs.Statistics as counts;
 ghost use Rattle.stun_agent.specs.Transactions.{Transaction, at, with_change_at, with_settings};
 ghost use Rattle.stun_agent.specs.declared.agent.StunAgentPollRet.{StunAgentPollRet};
-ghost use Rattle.stun_auth.specs.Algorithms.{algorithms_of, contains};
-ghost use Rattle.stun_auth.specs.Additions.{Page, added_all, page_of};
+ghost use Rattle.stun_judging.specs.Algorithms.{algorithms_of, contains};
+ghost use Rattle.stun_judging.specs.Additions.{Page, added_all, page_of};
 ghost use Rattle.stun_auth.specs.Client.{ClientSide, ClientState};
 ghost use Rattle.stun_auth.specs.ClientSigning.{client_additions, signing_algorithm};
 ghost use Rattle.stun_auth.specs.ClientStep.{client_step};
 ghost use Rattle.stun_auth.specs.Forgetting.{without_place};
 ghost use Rattle.stun_auth.specs.ForgettingSteps.{after_step, next_address};
 ghost use Rattle.stun_auth.specs.Handed.{judged_by, with_just, with_users};
-ghost use Rattle.stun_auth.specs.Reading.{reading_of};
-ghost use Rattle.stun_auth.specs.Registered.{Registered, RegisteredUser, of_keys, of_password};
-ghost use Rattle.stun_auth.specs.Registered.{user_named};
+ghost use Rattle.stun_judging.specs.Reading.{reading_of};
+ghost use Rattle.stun_judging.specs.Registered.{Registered, RegisteredUser, of_keys, of_password};
+ghost use Rattle.stun_judging.specs.Registered.{user_named};
 ghost use Rattle.stun_auth.specs.ServerSigning.{after_signing, server_signed};
 ghost use Rattle.stun_auth.specs.Validation.{ServerSeen, after_validation, answer, client_at};
 ghost use Rattle.stun_auth.specs.Validation.{sight};
-ghost use Rattle.stun_auth.specs.declared.algorithm_set.AlgorithmSet.{AlgorithmSet};
-ghost use Rattle.stun_auth.specs.declared.feature.Feature.{Feature};
+ghost use Rattle.stun_judging.specs.declared.algorithm_set.AlgorithmSet.{AlgorithmSet};
+ghost use Rattle.stun_judging.specs.declared.feature.Feature.{Feature};
 ghost use Rattle.stun_auth.specs.declared.server.reason.LongTermServerAuthErrorReason.{
   LongTermServerAuthErrorReason,
 };
 ghost use Rattle.stun_auth.specs.declared.server.reason.LongTermServerValidation.TheVariants.{
   Validated,
 };
-ghost use Rattle.stun_auth.specs.declared.server.stored_keys.StoredKeys.{StoredKeys};
+ghost use Rattle.stun_judging.specs.declared.stored_keys.StoredKeys.{StoredKeys};
 ghost use Rattle.stun_base.specs.MessageType.{class_in, is_request, is_response};
 ghost use Rattle.stun_types.specs.Message.{refusal};
 ghost use Rattle.stun_numbers.specs.Algorithms.{algorithm_number};

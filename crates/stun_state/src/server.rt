@@ -6,7 +6,7 @@ ghost use Rattle.std.specs.Prelude.{IfOk, IfErr, OnErr, OnOk};
 ghost use Rattle.stun_auth.specs.Forgetting.{after_forgetting, without_place};
 ghost use Rattle.stun_auth.specs.ForgettingSteps.{after_step, next_address};
 ghost use Rattle.stun_base.specs.MessageType.{class_in, is_response};
-ghost use Rattle.stun_auth.specs.Registered.{with_user};
+ghost use Rattle.stun_judging.specs.Registered.{with_user};
 ghost use Rattle.stun_auth.specs.ServerSigning.{server_growth};
 ghost use Rattle.stun_types.specs.Limits.{LENGTH_LIMIT as length_limit};
 ghost use Rattle.stun_auth.specs.Validation.{client_at, new_server, sight};

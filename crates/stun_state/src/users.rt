@@ -3,12 +3,12 @@
 
 ghost use Rattle.std.specs.Prelude.{◌≡◌, ◌≤◌, ◌+◌, ◌-◌, ⊤, length, take, Ok, Err};
 ghost use Rattle.std.specs.Prelude.{IfOk, IfErr, OnErr, OnOk};
-ghost use Rattle.stun_auth.specs.Additions.{UnlessMemory, WantsMemory, page_in, page_of};
-ghost use Rattle.stun_auth.specs.Additions.{written_page};
+ghost use Rattle.stun_judging.specs.Additions.{UnlessMemory, WantsMemory, page_in, page_of};
+ghost use Rattle.stun_judging.specs.Additions.{written_page};
 ghost use Rattle.stun_auth.specs.Handed.{with_users};
 ghost use Rattle.stun_auth.specs.ServerSigning.{after_signing, server_additions};
 ghost use Rattle.stun_auth.specs.ServerSigning.{server_growth, server_signed};
-ghost use Rattle.stun_auth.specs.Reading.{reading_of};
+ghost use Rattle.stun_judging.specs.Reading.{reading_of};
 ghost use Rattle.stun_auth.specs.Reasons.{ServerUnlessMemory};
 ghost use Rattle.stun_auth.specs.Validation.{ChangesNothing, ServerSeen, after_validation};
 ghost use Rattle.stun_auth.specs.Validation.{answer, sight};

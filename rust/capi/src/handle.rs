@@ -44,9 +44,8 @@ pub mod state {
     use super::kind::{AGENT, CLIENT, EMPTY, SERVER, USER};
     use crate::calls::stun_numbers::refusal::Refusal;
     use crate::exported::stun_agent::agent::StunAgent;
-    use crate::exported::stun_auth::auth::{
-        LongTermClientAuth, LongTermServerAuth, LongTermServerUser,
-    };
+    use crate::exported::stun_auth::auth::{LongTermClientAuth, LongTermServerAuth};
+    use crate::exported::stun_judging::user::LongTermServerUser;
     use crate::kit::alloc::Global;
     use crate::kit::prelude::Box;
     use alloc::boxed;

@@ -6,13 +6,15 @@ use super::{BuildError, Cause, DEFAULT_NONCE_LIFETIME, DropReason, Refusal, Unix
 use crate::copies::{copy, granted, text};
 use crate::credentials::{LongTermCredentials, long_term_key};
 use crate::exported::stun_attributes as further;
-use crate::exported::stun_auth::auth::{
-    AlgorithmSet, LongTermServerAuth, LongTermServerUser, NamedUser, StoredKeys,
-};
 use crate::exported::stun_base::attribute_type::AttributeType;
 use crate::exported::stun_buffer::writer::BufferWriter;
 use crate::exported::stun_endpoint::{buffered, lookup, open, received, reply, server, users};
 use crate::exported::stun_extra::canonical_address::canonical;
+use crate::exported::stun_judging::algorithm_set::AlgorithmSet;
+use crate::exported::stun_judging::named_user::NamedUser;
+use crate::exported::stun_judging::realm::Realm;
+use crate::exported::stun_judging::stored_keys::StoredKeys;
+use crate::exported::stun_judging::user::LongTermServerUser;
 use crate::exported::stun_types::attribute::{
     Attribute, ErrorCode, RawAttribute, XorMappedAddress,
 };
@@ -1427,17 +1429,11 @@ impl fmt::Debug for Users {
 
 impl Clone for Users {
     fn clone(&self) -> Users {
-        let settings = &self.core.auth;
-        let mut auth = LongTermServerAuth::new(Global, text_of(settings.realm()));
-        for (index, algorithm) in settings.supported_integrity().iter().enumerate() {
-            match index {
-                0 => auth.set_supported_integrity(*algorithm),
-                _ => auth.add_supported_integrity(*algorithm),
-            }
-        }
-        granted(auth.set_anonymous_username(settings.anonymous_username()));
+        let settings = &self.core.realm;
+        let (name, algorithms) = (text_of(settings.name()), settings.algorithms());
+        let realm = Realm::new(Global, name, algorithms, settings.feature());
         let mut copy = Users {
-            core: users::Users { auth },
+            core: users::Users { realm },
             keys: Given::new(),
         };
         for (name, keys) in self.keys.iter() {
@@ -1465,11 +1461,11 @@ impl Users {
 
     /// Derives the keys of a user in the same way as the core.
     fn keys_of(&self, user: &LongTermCredentials) -> StoredKeys {
-        let auth = &self.core.auth;
+        let realm = &self.core.realm;
         let mut keys = StoredKeys::new();
-        for algorithm in auth.supported_integrity() {
+        for algorithm in realm.algorithms().as_slice() {
             let (name, password) = (user.username(), user.password());
-            let key = long_term_key(*algorithm, name, auth.realm(), password);
+            let key = long_term_key(*algorithm, name, realm.name(), password);
             match algorithm {
                 IntegrityAlgorithm::Sha1 => keys.sha1 = key.as_bytes().try_into().ok(),
                 IntegrityAlgorithm::Sha256 => keys.sha256 = key.as_bytes().try_into().ok(),
@@ -1569,13 +1565,13 @@ impl Users {
     /// ```
     #[must_use]
     pub fn find(&self, user: NamedUser<'_>) -> Option<User> {
-        let auth = &self.core.auth;
+        let realm = &self.core.realm;
         let name = match user {
             NamedUser::ByName(name) => name,
-            NamedUser::ByHash(hash) => auth.name_with_hash(&hash)?,
+            NamedUser::ByHash(hash) => realm.name_with_hash(&hash)?,
         };
         let keys = self.keys.get(name)?;
-        let user = granted(auth.prepare_user_with_keys(text_of(name), *keys));
+        let user = granted(realm.prepare_user_with_keys(text_of(name), *keys));
         Some(User(Arc::new(user)))
     }
 
@@ -1586,7 +1582,7 @@ impl Users {
 
     /// Returns the realm.
     pub fn realm(&self) -> &str {
-        self.core.auth.realm()
+        self.core.realm.name()
     }
 }
 

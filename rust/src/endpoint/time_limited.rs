@@ -3,7 +3,7 @@
 use super::UnixTime;
 use crate::copies::granted;
 use crate::credentials::LongTermCredentials;
-use crate::exported::stun_auth::auth::NamedUser;
+use crate::exported::stun_judging::named_user::NamedUser;
 use crate::exported::stun_types::message::hmac_sha1;
 use crate::kit::alloc::Global;
 use crate::kit::base64::STANDARD;

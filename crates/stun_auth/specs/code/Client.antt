@@ -5,11 +5,12 @@ use Rattle.std.specs.Coded.{Coded, code_by, coded×, coded⊎, coded_ℕ}
 use Rattle.std.specs.Coded.{coded_bool, coded_list, coded_option}
 use Rattle.stun_base.specs.Credentials.{NameAndPassword}
 use Rattle.stun_base.specs.declared.keys.algorithm.IntegrityAlgorithm.{IntegrityAlgorithm}
-use Rattle.stun_auth.specs.code.Algorithms.{coded_algorithm}
-use Rattle.stun_auth.specs.code.Feature.{coded_feature}
-use Rattle.stun_auth.specs.declared.feature.Feature.{Feature}
-use Rattle.stun_auth.specs.Client.{Challenge, ClientSettings, ClientSide, ClientState, Naming}
-use Rattle.stun_auth.specs.Client.{authenticated, authenticating, hashed, initial, plain}
+use Rattle.stun_judging.specs.code.Algorithms.{coded_algorithm}
+use Rattle.stun_judging.specs.code.Feature.{coded_feature}
+use Rattle.stun_judging.specs.declared.feature.Feature.{Feature}
+use Rattle.stun_auth.specs.Client.{Challenge, ClientSettings, ClientSide, ClientState}
+use Rattle.stun_judging.specs.Naming.{Naming, hashed, plain}
+use Rattle.stun_auth.specs.Client.{authenticated, authenticating, initial}
 
 -- ---- a client as data
 abbrev pub naming_parts : Naming → List ℕ ⊎ List ℕ

@@ -3,16 +3,15 @@ use Rattle.std.specs.Prelude.{◌≤◌, length, map, Result, Ok, Err, string_by
 use Rattle.std.specs.Option.{IfSome, option_map}
 use Rattle.stun_types.specs.Limits.{TEXT_LIMIT}
 use Rattle.stun_types.specs.PasswordAlgorithms.{integrity_of}
-use Rattle.stun_auth.specs.Client.{Challenge, ClientState}
-use Rattle.stun_auth.specs.Client.{initial, authenticating, authenticated}
+use Rattle.stun_auth.specs.Client.{Challenge, ClientState, initial, authenticating, authenticated}
 use Rattle.stun_auth.specs.ClientSigning.{kept_challenge}
 use Rattle.stun_auth.specs.ClientStep.{new_challenge}
-use Rattle.stun_auth.specs.Parts.{naming_seen}
+use Rattle.stun_judging.specs.Parts.{naming_seen}
 use Rattle.stun_auth.specs.declared.client.challenge.ChallengeRefusal.{ChallengeRefusal}
 use Rattle.stun_auth.specs.declared.client.challenge.KeptChallenge.{KeptChallenge}
 use Rattle.stun_auth.specs.declared.client.challenge.Offer.{Offer}
 use Rattle.stun_auth.specs.declared.client.State.{State}
-use Rattle.stun_auth.specs.declared.feature.Feature.{Feature}
+use Rattle.stun_judging.specs.declared.feature.Feature.{Feature}
 
 abbrev pub challenge_seen : {A : Type 0} → KeptChallenge A → Challenge
 challenge_seen c = record {

@@ -1,35 +1,27 @@
 -- How the code judges a message that needs a nonce: the record, the verdict, the client, and the
 -- record after it.
-use Rattle.std.specs.Prelude.{◌≡◌, ℕ, List, [], if◌then◌else◌, Option, Some, None}
+use Rattle.std.specs.Prelude.{[]}
+use Rattle.std.specs.Prelude.{◌≡◌, ℕ, List, if◌then◌else◌, Option, Some, None}
 use Rattle.std.specs.FinMap as map
 use Rattle.std.specs.String.{string_bytes}
 use Rattle.std.specs.declared.net.socket_addr.SocketAddr.{SocketAddr}
 use Rattle.std.specs.declared.result.Result.TheVariants.{Ok, Err}
-use Rattle.stun_auth.specs.declared.feature.Feature.{Feature}
+use Rattle.stun_judging.specs.declared.feature.Feature.{Feature}
 use Rattle.stun_auth.specs.declared.server.reason.LongTermServerValidation.TheVariants.{Validated}
 use Rattle.stun_auth.specs.declared.server.validation.Judgement.{Judgement}
 use Rattle.stun_auth.specs.declared.server.validation.Judgement.TheVariants.{Refused, Known, New}
 use Rattle.stun_auth.specs.declared.server.validation.Renewal.{Renewal}
 use Rattle.stun_auth.specs.code.Places.{client_seen}
-use Rattle.stun_auth.specs.Feature.{is_possible}
 use Rattle.stun_auth.specs.Places.{PlacesSeen, with_change}
-use Rattle.stun_auth.specs.Reading.{Reading}
+use Rattle.stun_judging.specs.Reading.{Reading}
 use Rattle.stun_auth.specs.Reasons.{server_reason}
-use Rattle.stun_auth.specs.Registered.{Registered, name_with_hash}
-use Rattle.stun_auth.specs.Seen.{ClientSeen, PlaceSeen, renewed_place}
-use Rattle.stun_auth.specs.Nonces.{nonce_of}
-use Rattle.stun_auth.specs.Server.{has_current_nonce, verdict}
+use Rattle.stun_judging.specs.Registered.{Registered}
+use Rattle.stun_judging.specs.Verdict.{ClientSeen, verdict}
+use Rattle.stun_auth.specs.Seen.{PlaceSeen, renewed_place}
+use Rattle.stun_judging.specs.Nonces.{nonce_of}
+use Rattle.stun_auth.specs.Server.{has_current_nonce}
 use Rattle.stun_auth.specs.Validation.{Answer, ServerSeen, answer_to, with_accepted}
 use Rattle.stun_base.specs.Moments.{moment_after}
-
--- the name in a message, whether that user is registered or not
-abbrev pub name_by : Option (List ℕ) → Option (List ℕ) → Registered → Feature → Option (List ℕ)
-name_by (Some hash) username users feature =
-    if is_possible feature then name_with_hash users hash else None
-name_by None username users feature = username
-
-abbrev pub name_in : Registered → Feature → Reading → Option (List ℕ)
-name_in users feature r = name_by r.userhash r.username users feature
 
 -- a new nonce and when it expires
 abbrev pub renewal_seen : {A : Type 0} → Renewal A → List ℕ × ℕ

@@ -11,10 +11,12 @@ use Rattle.std.specs.declared.net.socket_addr.SocketAddr.{SocketAddr}
 use Rattle.stun_base.specs.Address.{address_cmp}
 use Rattle.stun_auth.specs.declared.server.places.ValidatedUser.{ValidatedUser}
 use Rattle.stun_auth.specs.declared.server.places.Place.{Place}
-use Rattle.stun_auth.specs.Seen.{ClientSeen, PlaceSeen, renewed_place}
+use Rattle.stun_judging.specs.Verdict.{ClientSeen}
+use Rattle.stun_auth.specs.Seen.{PlaceSeen, renewed_place}
 use Rattle.stun_auth.specs.Places.{PlacesSeen, with_client}
 use Rattle.stun_auth.specs.code.AddressCode.{coded_address}
-use Rattle.stun_auth.specs.code.Seen.{coded_client, coded_place}
+use Rattle.stun_judging.specs.code.Judged.{coded_client}
+use Rattle.stun_auth.specs.code.Seen.{coded_place}
 
 abbrev pub client_seen : {A : Type 0} → ValidatedUser A → ClientSeen
 client_seen c = record { name = string_bytes c.name; algorithm = c.algorithm }

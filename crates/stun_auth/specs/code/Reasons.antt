@@ -1,5 +1,5 @@
 -- The reasons of a server as the code groups them.
-use Rattle.stun_auth.specs.declared.server.reason.VerdictRefusal.TheVariants as Refused
+use Rattle.stun_judging.specs.declared.refusal.VerdictRefusal.TheVariants as Refused
 use Rattle.stun_auth.specs.Reasons.{ServerRefusal}
 
 abbrev pub unauthorized : ServerRefusal

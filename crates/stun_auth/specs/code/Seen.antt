@@ -1,15 +1,11 @@
 -- Clients and records as data, for Models.
 use Rattle.std.specs.Prelude.{ℕ, List, Option, refl}
 use Rattle.std.specs.Coded.{Coded, code_by, coded×, coded_ℕ, coded_list, coded_option}
-use Rattle.stun_base.specs.declared.keys.algorithm.IntegrityAlgorithm.{IntegrityAlgorithm}
-use Rattle.stun_auth.specs.declared.algorithm_set.AlgorithmSet.{AlgorithmSet}
-use Rattle.stun_auth.specs.code.Algorithms.{coded_algorithm, coded_set}
-use Rattle.stun_auth.specs.Seen.{ClientSeen, PlaceSeen}
-
-abbrev pub coded_client : Coded ClientSeen
-coded_client =
-    code_by (List ℕ × IntegrityAlgorithm) (coded× (coded_list coded_ℕ) coded_algorithm)
-    (λ c. (c.name, c.algorithm)) (λ p. record { name = p.0; algorithm = p.1 }) (λ _. refl)
+use Rattle.stun_judging.specs.declared.algorithm_set.AlgorithmSet.{AlgorithmSet}
+use Rattle.stun_judging.specs.code.Algorithms.{coded_set}
+use Rattle.stun_judging.specs.Verdict.{ClientSeen}
+use Rattle.stun_auth.specs.Seen.{PlaceSeen}
+use Rattle.stun_judging.specs.code.Judged.{coded_client}
 
 abbrev pub coded_place : Coded PlaceSeen
 coded_place = code_by (List ℕ × (ℕ × (Option AlgorithmSet × Option ClientSeen)))

@@ -3,11 +3,11 @@ use Rattle.std.specs.Prelude.{ℕ, refl}
 use Rattle.std.specs.FinMap as map
 use Rattle.std.specs.Coded.{Coded, code_by, coded×, coded_ℕ}
 use Rattle.stun_base.specs.Address.{address_cmp}
-use Rattle.stun_auth.specs.declared.feature.Feature.{Feature}
+use Rattle.stun_judging.specs.declared.feature.Feature.{Feature}
 use Rattle.stun_auth.specs.code.AddressCode.{coded_address}
-use Rattle.stun_auth.specs.code.Feature.{coded_feature}
-use Rattle.stun_auth.specs.Registered.{Registered}
-use Rattle.stun_auth.specs.code.Registered.{coded_registered}
+use Rattle.stun_judging.specs.code.Feature.{coded_feature}
+use Rattle.stun_judging.specs.Registered.{Registered}
+use Rattle.stun_judging.specs.code.Registered.{coded_registered}
 use Rattle.stun_auth.specs.Seen.{PlaceSeen}
 use Rattle.stun_auth.specs.code.Seen.{coded_place}
 use Rattle.stun_auth.specs.Validation.{ServerSeen}

@@ -4,18 +4,17 @@ ghost use Rattle.std.specs.Option.{option_map};
 ghost use Rattle.stun_types.specs.Limits.{TEXT_LIMIT};
 ghost use Rattle.stun_types.specs.PasswordAlgorithms.{integrity_of};
 ghost use Rattle.stun_auth.specs.ClientStep.{choose, choose_by_list, choose_without_bits};
-ghost use Rattle.stun_auth.specs.ClientStep.{first_supported, list_or_none};
-ghost use Rattle.stun_auth.specs.ClientStep.{unless_missing};
+ghost use Rattle.stun_auth.specs.ClientStep.{first_supported, list_or_none, unless_missing};
 ghost use Rattle.stun_auth.specs.code.Supported.{in_order};
 
-use crate::feature::Feature;
-use crate::limited_text::LimitedText;
-use crate::message::nonce::{NonceSecurityBits, asks_for_userhash};
-use crate::naming::UserNaming;
 use crate::supported::Supported;
 use std::alloc::{AllocError, Allocator};
 use stun_base::key::long_term_key;
 use stun_base::memory::Memory;
+use stun_judging::feature::Feature;
+use stun_judging::limited_text::LimitedText;
+use stun_judging::naming::UserNaming;
+use stun_judging::nonce::{NonceSecurityBits, asks_for_userhash};
 use stun_types::attribute::{PasswordAlgorithmValue, PasswordAlgorithms};
 use stun_types::message::{IntegrityAlgorithm, PreparedKey};
 

@@ -4,9 +4,9 @@ ghost use Rattle.std.specs.Prelude.{Bool, ⊤, true, false, IfOk, IsOk, Ok};
 ghost use Rattle.std.specs.Option.{option_map};
 ghost use Rattle.stun_base.specs.Header.{BeginsWithHeader};
 ghost use Rattle.stun_base.specs.MessageType.{class_in, is_request};
-ghost use Rattle.stun_auth.specs.Additions.{UnlessMemory, WantsMemory};
-ghost use Rattle.stun_auth.specs.Additions.{added_all, growth, page_in, written_page};
-ghost use Rattle.stun_auth.specs.Outcome.{IsAdded, IsOutcome};
+ghost use Rattle.stun_judging.specs.Additions.{UnlessMemory, WantsMemory};
+ghost use Rattle.stun_judging.specs.Additions.{added_all, growth, page_in, written_page};
+ghost use Rattle.stun_judging.specs.Outcome.{IsAdded, IsOutcome};
 ghost use Rattle.stun_auth.specs.code.ClientKept.{KeepsShortTexts, challenge_seen, state_seen};
 ghost use Rattle.stun_auth.specs.ClientSigning.{algorithm_choice, challenge_additions};
 ghost use Rattle.stun_auth.specs.ClientSigning.{client_additions, identity, kept_challenge};
@@ -16,10 +16,10 @@ ghost use Rattle.stun_auth.specs.Signed.{IsSignableAtClient, added_by_client};
 use crate::client::challenge::KeptChallenge;
 use crate::client::{LongTermClientAuth, State};
 use crate::laws::sides_sign_what_is_signable;
-use crate::message::addition::{
+use std::alloc::{AllocError, Allocator};
+use stun_judging::addition::{
     AddedAttribute, add, add_integrity, attribute_bytes, integrity_bytes,
 };
-use std::alloc::{AllocError, Allocator};
 use stun_types::message::{IntegrityAlgorithm, MessageClass, StunWriteError};
 use stun_types::prelude::*;
 

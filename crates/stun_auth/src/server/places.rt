@@ -11,8 +11,6 @@ ghost use Rattle.stun_auth.specs.ForgettingSteps.{places_kept_where, start_of};
 ghost use Rattle.stun_auth.specs.Places.{with_change, with_client, with_offer};
 ghost use Rattle.stun_auth.specs.code.Places.{IsFirstFrom, client_seen, place_seen, renewed_with};
 
-use crate::algorithm_set::AlgorithmSet;
-use crate::limited_text::LimitedText;
 use std::alloc::{AllocError, Allocator};
 use std::collections::BTreeMap;
 use std::marker::Model;
@@ -21,6 +19,8 @@ use std::ops::Bound;
 use stun_base::algorithm::IntegrityAlgorithm;
 use stun_base::instant::Instant;
 use stun_base::memory::Memory;
+use stun_judging::algorithm_set::AlgorithmSet;
+use stun_judging::limited_text::LimitedText;
 
 /// The user who was validated last at an address.
 #[derive(Drop)]

@@ -1,11 +1,11 @@
 //! The results of a server for a message, and its reasons to refuse one.
 
 ghost use Rattle.std.specs.Prelude.{◌≡◌, Result};
-ghost use Rattle.stun_auth.specs.Reasons.{server_reason};
 
 use crate::auth_error::LongTermAuthError;
 use stun_base::algorithm::IntegrityAlgorithm;
 use stun_base::error::ValidateError;
+use stun_judging::refusal::VerdictRefusal;
 use thiserror::Error;
 
 /// The result of a server for a message that it accepts.
@@ -68,28 +68,16 @@ impl From<ValidateError> for LongTermServerAuthErrorReason {
 /// Contracts: the value is the reason.
 pub type LongTermServerAuthError = LongTermAuthError<LongTermServerAuthErrorReason>;
 
-/// Why a server refuses a message under a given nonce (RFC 8489, section 9.2.4). It has no variant
-/// for a failed allocation, because judging under a given nonce does not allocate.
-#[derive(Clone, Copy, Debug, PartialEq, Eq, Error)]
-pub enum VerdictRefusal {
-    /// Answer 401, for one of the causes of `LongTermServerAuthErrorReason::Unauthorized`.
-    #[error("The message is not sufficiently authenticated")]
-    Unauthorized,
-    /// Answer 400, or 438 if the message does not have the given nonce. REALM, NONCE or the user
-    /// name is missing, or the algorithms disagree with those that the server supports.
-    #[error("The request message is not well-formed")]
-    BadRequest,
-    /// Answer 438. The message does not have the given nonce.
-    #[error("The request presented with an out of date nonce.")]
-    StaleNonce,
-}
+/// Converts the refusal of a message under a nonce to the reason with which
+/// `validate_incoming_message` fails for it.
+impl From<VerdictRefusal> for LongTermServerAuthErrorReason {
+    ghost use Rattle.std.specs.Prelude.{◌≡◌};
+    ghost use Rattle.stun_auth.specs.Reasons.{server_reason};
 
-impl VerdictRefusal {
-    /// Returns the reason with which `validate_incoming_message` fails for this refusal.
-    pub fn reason(self) -> LongTermServerAuthErrorReason
-        ensures { result ≡ server_reason self }
-    {
-        match self {
+    ghost from_gives = { λ refusal reason. reason ≡ server_reason refusal };
+
+    fn from(refusal: VerdictRefusal) -> LongTermServerAuthErrorReason {
+        match refusal {
             VerdictRefusal::Unauthorized => LongTermServerAuthErrorReason::Unauthorized,
             VerdictRefusal::BadRequest => LongTermServerAuthErrorReason::BadRequest,
             VerdictRefusal::StaleNonce => LongTermServerAuthErrorReason::StaleNonce,

@@ -6,28 +6,28 @@ ghost use Rattle.std.specs.Option.{IfSome, option_copied, option_map};
 ghost use Rattle.stun_base.specs.Header.{BeginsWithHeader};
 ghost use Rattle.stun_base.specs.MessageType.{class_in, is_response as is_response_class};
 ghost use Rattle.stun_types.specs.Limits.{TEXT_LIMIT};
-ghost use Rattle.stun_auth.specs.Additions.{UnlessMemory, WantsMemory, growth, page_in};
-ghost use Rattle.stun_auth.specs.Additions.{written_page};
-ghost use Rattle.stun_auth.specs.Outcome.{IsAdded, outcome_of};
+ghost use Rattle.stun_judging.specs.Additions.{UnlessMemory, WantsMemory, growth, page_in};
+ghost use Rattle.stun_judging.specs.Additions.{written_page};
+ghost use Rattle.stun_judging.specs.Outcome.{IsAdded, outcome_of};
 ghost use Rattle.stun_auth.specs.code.Places.{client_seen, place_seen};
 ghost use Rattle.stun_auth.specs.ServerSigning.{additions_at, after_signing, algorithms_for};
-ghost use Rattle.stun_auth.specs.ServerSigning.{attributes_for, challenge, digest_for, growth_at};
-ghost use Rattle.stun_auth.specs.ServerSigning.{named_algorithm, offer, protected_for};
+ghost use Rattle.stun_auth.specs.ServerSigning.{attributes_for, digest_for, growth_at};
+ghost use Rattle.stun_judging.specs.Challenge.{challenge, offer};
+ghost use Rattle.stun_auth.specs.ServerSigning.{named_algorithm, protected_for};
 ghost use Rattle.stun_auth.specs.ServerSigning.{protection_growth, server_additions};
 ghost use Rattle.stun_auth.specs.ServerSigning.{server_growth, server_signed, signed_at};
 ghost use Rattle.stun_auth.specs.Seen.{PlaceSeen};
 ghost use Rattle.stun_auth.specs.Signed.{IsSignableAtServer};
 ghost use Rattle.stun_auth.specs.Validation.{sight};
 
-use crate::algorithm_set::AlgorithmSet;
 use crate::laws::sides_sign_what_is_signable;
-use crate::message::addition::{
-    AddedAttribute, add, add_integrity, attribute_bytes, integrity_bytes,
-};
 use crate::server::LongTermServerAuth;
 use crate::server::places::{Place, ValidatedUser};
 use std::alloc::{AllocError, Allocator};
 use std::net::SocketAddr;
+use stun_judging::addition::{
+    AddedAttribute, add, add_integrity, attribute_bytes, integrity_bytes,
+};
 use stun_types::message::{IntegrityAlgorithm, StunWriteError};
 use stun_types::prelude::*;
 
@@ -124,8 +124,7 @@ impl<A: Allocator + Copy> LongTermServerAuth<A> {
         let is_response = is_response(&writer);
         self.add_signature(&mut writer, to, is_response)?;
         if is_response {
-            let supported = self.registry.supported();
-            self.places.offer(to, supported);
+            self.places.offer(to, self.realm.algorithms());
         }
         Ok(writer)
     }
@@ -232,7 +231,8 @@ impl<A: Allocator + Copy> LongTermServerAuth<A> {
         ensures granted { W.grants → UnlessMemory result ⊤ ⊥ }
     {
         if is_response {
-            self.add_nonce_and_realm(writer, place.nonce.as_str())?;
+            self.realm
+                .add_nonce_and_realm(writer, place.nonce.as_str())?;
             self.add_algorithms(writer, place.client(), true)
         } else {
             self.add_algorithms(writer, place.client(), false)
@@ -259,42 +259,12 @@ impl<A: Allocator + Copy> LongTermServerAuth<A> {
             Some(client) => add_named_algorithm(writer, client.algorithm),
             None => {
                 if is_response {
-                    self.add_offer(writer)
+                    self.realm.add_offer(writer)
                 } else {
                     Ok(())
                 }
             }
         }
-    }
-
-    /// Adds NONCE and REALM.
-    pub(crate) fn add_nonce_and_realm<W: MessageWrite>(
-        &self,
-        writer: &mut W,
-        nonce: &str,
-    ) -> Result<(), StunWriteError>
-        requires { 20 ≤ length (W.bytes writer.old) }
-        ensures header { 20 ≤ length (W.bytes writer.new) }
-        ensures added { IsAdded (challenge true self.now.registered nonce.now)
-            (page_in W.bytes W.room writer.old) (W.reserved writer.old) result
-            (page_in W.bytes W.room writer.new) (W.reserved writer.new) }
-        ensures granted { W.grants → UnlessMemory result ⊤ ⊥ }
-    {
-        add(writer, AddedAttribute::Nonce(nonce))?;
-        add(writer, AddedAttribute::Realm(self.registry.realm()))
-    }
-
-    /// Adds PASSWORD-ALGORITHMS with the supported algorithms.
-    pub(crate) fn add_offer<W: MessageWrite>(&self, writer: &mut W) -> Result<(), StunWriteError>
-        requires { 20 ≤ length (W.bytes writer.old) }
-        ensures header { 20 ≤ length (W.bytes writer.new) }
-        ensures added { IsAdded (offer true self.now.registered)
-            (page_in W.bytes W.room writer.old) (W.reserved writer.old) result
-            (page_in W.bytes W.room writer.new) (W.reserved writer.new) }
-        ensures granted { W.grants → UnlessMemory result ⊤ ⊥ }
-    {
-        let offered = self.registry.supported().password_algorithms();
-        add(writer, AddedAttribute::PasswordAlgorithms(offered))
     }
 
     /// Adds the integrity attribute with the signature under the key that the client's user has
@@ -312,7 +282,7 @@ impl<A: Allocator + Copy> LongTermServerAuth<A> {
             (page_in W.bytes W.room writer.old) (W.reserved writer.old)) }
         ensures granted { W.grants → UnlessMemory result ⊤ ⊥ }
     {
-        match self.registry.key(client.name.as_str(), client.algorithm) {
+        match self.realm.key(client.name.as_str(), client.algorithm) {
             Some(key) => add_integrity(writer, key, client.algorithm),
             None => Err(StunWriteError::IntegrityFailed),
         }
@@ -338,7 +308,7 @@ impl<A: Allocator + Copy> LongTermServerAuth<A> {
         if !is_response {
             return 0;
         }
-        attribute_bytes(nonce.len()).saturating_add(attribute_bytes(self.registry.realm().len()))
+        attribute_bytes(nonce.len()).saturating_add(attribute_bytes(self.realm.name().len()))
     }
 
     /// Returns the number of bytes that `add_algorithms` adds.
@@ -348,18 +318,13 @@ impl<A: Allocator + Copy> LongTermServerAuth<A> {
     {
         match client {
             Some(client) => named_algorithm_bytes(client.algorithm),
-            None => { if is_response { self.offer_bytes() } else { 0 } }
-        }
-    }
-
-    /// Returns the number of bytes that `add_offer` adds.
-    fn offer_bytes(&self) -> usize
-        ensures { result ≡ growth (offer true self.now.registered) }
-    {
-        match self.registry.supported() {
-            AlgorithmSet::OnlySha1 => 8,
-            AlgorithmSet::OnlySha256 => 8,
-            AlgorithmSet::Both => 12,
+            None => {
+                if is_response {
+                    self.realm.offer_bytes()
+                } else {
+                    0
+                }
+            }
         }
     }
 }

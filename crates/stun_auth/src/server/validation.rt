@@ -5,8 +5,8 @@ ghost use Rattle.std.specs.Prelude.{IsOk, IfNone, Ok, if◌then◌else◌, optio
 ghost use Rattle.std.specs.FinMap as map;
 ghost use Rattle.std.specs.Option.{option_copied, option_map};
 ghost use Rattle.stun_base.specs.Words.{next_words, after_words};
-ghost use Rattle.stun_auth.specs.Reading.{reading_of, verified_under};
-ghost use Rattle.stun_auth.specs.Registered.{key_at};
+ghost use Rattle.stun_judging.specs.Reading.{reading_of, verified_under};
+ghost use Rattle.stun_judging.specs.Registered.{key_at};
 ghost use Rattle.stun_auth.specs.Seen.{PlaceSeen};
 ghost use Rattle.stun_auth.specs.code.Places.{client_seen, place_seen};
 ghost use Rattle.stun_auth.specs.Reasons.{ServerUnlessMemory};
@@ -15,31 +15,26 @@ ghost use Rattle.stun_auth.specs.Validation.{ChangesNothing, ValidatesAccepted};
 ghost use Rattle.stun_auth.specs.Validation.{after_validation, answer, client_verified};
 ghost use Rattle.stun_auth.specs.Validation.{draws, sight, validated_or_failed};
 ghost use Rattle.stun_auth.specs.code.Judging.{ChangesNoPlace, IsJudged, judgement_answer};
-ghost use Rattle.stun_auth.specs.code.Judging.{new_nonce};
-ghost use Rattle.stun_auth.specs.code.Judging.{place_with, places_left, renewal_seen};
-ghost use Rattle.stun_auth.specs.code.ReadingSeen.{reading_seen};
+ghost use Rattle.stun_auth.specs.code.Judging.{new_nonce, place_with, places_left, renewal_seen};
 
-use crate::algorithm_set::AlgorithmSet;
-use crate::feature::Feature;
-use crate::limited_text::LimitedText;
-use crate::message::nonce::make_nonce;
-use crate::message::reading::MessageReading;
 use crate::server::LongTermServerAuth;
-use crate::server::accepted::Accepted;
-use crate::server::claim::JudgeableMessage;
+use crate::server::drawn::make_nonce;
 use crate::server::places::{Place, Places, ValidatedUser};
 use crate::server::reason::{
-    LongTermServerAuthError, LongTermServerAuthErrorReason, LongTermServerValidation,
-    VerdictRefusal, refused,
+    LongTermServerAuthError, LongTermServerAuthErrorReason, LongTermServerValidation, refused,
 };
-use crate::server::registry::Registry;
-use crate::server::verdict::verdict;
 use rand_core::Rng;
 use std::alloc::{AllocError, Allocator};
 use std::net::SocketAddr;
 use stun_base::algorithm::IntegrityAlgorithm;
 use stun_base::instant::Instant;
 use stun_base::memory::Memory;
+use stun_judging::accepted::Accepted;
+use stun_judging::algorithm_set::AlgorithmSet;
+use stun_judging::limited_text::LimitedText;
+use stun_judging::read_message::ReadMessage;
+use stun_judging::realm::Realm;
+use stun_judging::refusal::VerdictRefusal;
 use stun_types::message::Message;
 
 /// A nonce that was made for an address, and its expiry time.
@@ -69,7 +64,7 @@ impl<A: Allocator> Judgement<A> {
         ensures { result ≡ judgement_answer self.now }
     {
         match self {
-            Judgement::Refused(refusal) => Err(refusal.reason()),
+            Judgement::Refused(refusal) => Err(LongTermServerAuthErrorReason::from(*refusal)),
             Judgement::Known(algorithm) => Ok(LongTermServerValidation::Validated(*algorithm)),
             Judgement::New(client) => Ok(LongTermServerValidation::Validated(client.algorithm)),
         }
@@ -161,8 +156,8 @@ impl<A: Memory> LongTermServerAuth<A> {
         ensures { result ≡ option_and_then (verified_under (reading_of message.now))
             (key_at self.now.registered name.now algorithm) }
     {
-        match self.registry.key(name, algorithm) {
-            Some(key) => MessageReading::of(message).verified_under(key),
+        match self.realm.key(name, algorithm) {
+            Some(key) => ReadMessage::of(message).verified_under(key),
             None => None,
         }
     }
@@ -259,18 +254,18 @@ impl<A: Memory> LongTermServerAuth<A> {
             (reading_of message.now) }
         ensures granted { A.grants → ServerUnlessMemory result ⊤ ⊥ }
     {
-        let reading = MessageReading::of(message);
-        if reading.is_response() {
-            return self.check_response(&reading, from);
+        let read = ReadMessage::of(message);
+        if read.is_response() {
+            return self.check_response(&read, from);
         }
-        let Some(message) = JudgeableMessage::of(&reading) else {
+        if read.is_malformed() {
             return Err(LongTermServerAuthErrorReason::BadRequest);
-        };
+        }
         let place = self.places.get(from);
         let Ok(renewal) = self.renewal(place, now, rng) else {
             return Err(LongTermServerAuthErrorReason::OutOfMemory);
         };
-        let Ok(judged) = self.judge_at(&message, from, &renewal) else {
+        let Ok(judged) = self.judge_at(&read, from, &renewal) else {
             return Err(LongTermServerAuthErrorReason::OutOfMemory);
         };
         self.commit(from, renewal, judged)
@@ -280,11 +275,11 @@ impl<A: Memory> LongTermServerAuth<A> {
     /// fails with `IntegrityFailed` otherwise.
     fn check_response(
         &self,
-        reading: &MessageReading<'_, '_>,
+        read: &ReadMessage<'_, '_>,
         from: SocketAddr,
     ) -> Result<LongTermServerValidation, LongTermServerAuthErrorReason>
         ensures { result ≡ validated_or_failed
-            (client_verified self.now.registered (reading_seen reading.now)
+            (client_verified self.now.registered (reading_of read.now)
             (map.get self.now.places from)) }
     {
         let Some(place) = self.places.get(from) else {
@@ -293,10 +288,10 @@ impl<A: Memory> LongTermServerAuth<A> {
         let Some(client) = place.client() else {
             return Err(LongTermServerAuthErrorReason::IntegrityFailed);
         };
-        let Some(key) = self.registry.key(client.name.as_str(), client.algorithm) else {
+        let Some(key) = self.realm.key(client.name.as_str(), client.algorithm) else {
             return Err(LongTermServerAuthErrorReason::IntegrityFailed);
         };
-        match reading.verified_under(key) {
+        match read.verified_under(key) {
             Some(algorithm) => Ok(LongTermServerValidation::Validated(algorithm)),
             None => Err(LongTermServerAuthErrorReason::IntegrityFailed),
         }
@@ -325,7 +320,7 @@ impl<A: Memory> LongTermServerAuth<A> {
         if nonce_stands(place, now) {
             return Ok(None);
         }
-        let nonce = make_nonce(self.alloc, self.registry.supported(), self.feature, rng)?;
+        let nonce = make_nonce(&self.realm, rng)?;
         Ok(Some(Renewal {
             nonce,
             expires: now + self.expiry,
@@ -337,31 +332,22 @@ impl<A: Memory> LongTermServerAuth<A> {
     /// record before.
     fn judge_at(
         &mut self,
-        message: &JudgeableMessage<'_, '_, '_>,
+        read: &ReadMessage<'_, '_>,
         from: SocketAddr,
         renewal: &Option<Renewal<A>>,
     ) -> Result<Judgement<A>, AllocError>
         ensures judged { IfOk result (IsJudged self.old.registered self.old.feature
-            (reading_seen message.now.reading.now)
+            (reading_of read.now)
             (place_with (map.get self.old.places from) (option_map renewal_seen renewal.now))) }
         ensures state { self.new ≡ self.old }
         ensures needless { ChangesNoPlace self.old.registered self.old.feature
-            (reading_seen message.now.reading.now)
+            (reading_of read.now)
             (place_with (map.get self.old.places from) (option_map renewal_seen renewal.now))
             → IsOk result }
         ensures granted { A.grants → IsOk result }
     {
         let alloc = self.alloc;
-        let feature = self.feature;
-        judge_by(
-            &self.registry,
-            &mut self.places,
-            alloc,
-            feature,
-            message,
-            from,
-            renewal,
-        )
+        judge_by(&self.realm, &mut self.places, alloc, read, from, renewal)
     }
 
     /// Stores the new nonce if one was made, and the new client if there is one, and returns the
@@ -406,20 +392,19 @@ impl<A: Memory> LongTermServerAuth<A> {
 
 /// Judges a message with these users and records, as `judge_at` does.
 fn judge_by<A: Memory>(
-    registry: &Registry<A>,
+    realm: &Realm<A>,
     places: &mut Places<A>,
     alloc: A,
-    feature: Feature,
-    message: &JudgeableMessage<'_, '_, '_>,
+    read: &ReadMessage<'_, '_>,
     from: SocketAddr,
     renewal: &Option<Renewal<A>>,
 ) -> Result<Judgement<A>, AllocError>
-    ensures judged { IfOk result (IsJudged registry.now feature
-        (reading_seen message.now.reading.now)
+    ensures judged { IfOk result (IsJudged realm.now.registered realm.now.feature
+        (reading_of read.now)
         (place_with (map.get places.old.seen from) (option_map renewal_seen renewal.now))) }
     ensures state { places.new.seen ≡ places.old.seen }
-    ensures needless { ChangesNoPlace registry.now feature
-        (reading_seen message.now.reading.now)
+    ensures needless { ChangesNoPlace realm.now.registered realm.now.feature
+        (reading_of read.now)
         (place_with (map.get places.old.seen from) (option_map renewal_seen renewal.now))
         → IsOk result }
     ensures granted { A.grants → IsOk result }
@@ -427,7 +412,7 @@ fn judge_by<A: Memory>(
     let place = places.get(from);
     let nonce = nonce_at(place, renewal);
     let offered = offered_at(place);
-    match verdict(registry, feature, message, nonce, offered) {
+    match realm.judge_offered(read, nonce, offered) {
         Err(refusal) => Ok(Judgement::Refused(refusal)),
         Ok(accepted) => {
             if is_known(place, &accepted) {

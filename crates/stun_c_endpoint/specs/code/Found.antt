@@ -1,8 +1,9 @@
 -- The user who was found, as the code reads it, and what judges with that user.
 use Rattle.std.specs.Prelude.{ℕ, List, Bool, if◌then◌else◌, Some, Result, Ok, Err}
-use Rattle.stun_auth.specs.Handed.{just}
-use Rattle.stun_auth.specs.Registered.{RegisteredUser, of_password, user_by_keys, user_by_password}
-use Rattle.stun_auth.specs.declared.server.stored_keys.StoredKeys.{StoredKeys}
+use Rattle.stun_judging.specs.Named.{just}
+use Rattle.stun_judging.specs.Registered.{RegisteredUser, of_password, user_by_keys}
+use Rattle.stun_judging.specs.Registered.{user_by_password}
+use Rattle.stun_judging.specs.declared.stored_keys.StoredKeys.{StoredKeys}
 use Rattle.stun_endpoint.specs.Realm.{table_of}
 use Rattle.stun_endpoint.specs.Settings.{Settings, registered_of}
 use Rattle.stun_handles.specs.Answers.{text_refusal, texts_refusal}

@@ -18,7 +18,7 @@ ghost use Rattle.stun_c_endpoint.specs.Users.{removing, table_for};
 ghost use Rattle.stun_c_endpoint.specs.declared.handle.endpoint.Kept.{Kept};
 ghost use Rattle.stun_c_endpoint.specs.declared.handle.endpoint.Kept.TheVariants as kind;
 ghost use Rattle.stun_c_endpoint.specs.declared.ice.told.IceReceived.{IceReceived};
-ghost use Rattle.stun_auth.specs.Validation.{ServerSeen};
+ghost use Rattle.stun_judging.specs.Realm.{RealmSeen};
 ghost use Rattle.stun_endpoint.specs.Responding.{Responding};
 ghost use Rattle.stun_endpoint.specs.Settings.{Settings};
 ghost use Rattle.stun_endpoint.specs.ShortTerm.{Keys};
@@ -35,13 +35,13 @@ pub fn other_handles_are_refused()
     ensures client { (handle : Option Kept) → Takes kind.Client handle (client_in handle) }
     ensures server { (handle : Option Kept) → Takes kind.Server handle (long_term_in handle) }
     ensures added { (name password : List ℕ) (k : Kept)
-        → ((u : ServerSeen) → k ≢ kind.Users u) → ((u : Keys) → k ≢ kind.ShortTermUsers u)
+        → ((u : RealmSeen) → k ≢ kind.Users u) → ((u : Keys) → k ≢ kind.ShortTermUsers u)
         → adding name password k ≡ Err WrongHandle }
     ensures removed { (name : List ℕ) (k : Kept)
-        → ((u : ServerSeen) → k ≢ kind.Users u) → ((u : Keys) → k ≢ kind.ShortTermUsers u)
+        → ((u : RealmSeen) → k ≢ kind.Users u) → ((u : Keys) → k ≢ kind.ShortTermUsers u)
         → removing name k ≡ Err WrongHandle }
     ensures stored { (name sha1 sha256 : List ℕ) (k : Kept)
-        → ((u : ServerSeen) → k ≢ kind.Users u)
+        → ((u : RealmSeen) → k ≢ kind.Users u)
         → adding_keys name sha1 sha256 k ≡ Err WrongHandle }
     ensures table { (k : Kept) → ((s : Settings) → k ≢ kind.Server s)
         → ((s : Responding) → k ≢ kind.ShortTerm s) → table_for k ≡ Err WrongHandle }

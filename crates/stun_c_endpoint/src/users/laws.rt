@@ -3,10 +3,10 @@
 ghost use Rattle.std.specs.Prelude.{◌≡◌, ◌≢◌, ℕ, pos, List, Option, Some, None, Ok, Err, true, false};
 ghost use Rattle.std.specs.Prelude.{length, if◌then◌else◌};
 ghost use Rattle.std.specs.FinMap as map;
-ghost use Rattle.stun_auth.specs.Algorithms.{contains};
-ghost use Rattle.stun_auth.specs.Registered.{key_at, stored_key};
-ghost use Rattle.stun_auth.specs.Validation.{ServerSeen};
-ghost use Rattle.stun_auth.specs.declared.server.stored_keys.StoredKeys.{StoredKeys};
+ghost use Rattle.stun_judging.specs.Algorithms.{contains};
+ghost use Rattle.stun_judging.specs.Registered.{key_at, stored_key};
+ghost use Rattle.stun_judging.specs.Realm.{RealmSeen};
+ghost use Rattle.stun_judging.specs.declared.stored_keys.StoredKeys.{StoredKeys};
 ghost use Rattle.stun_base.specs.Keys.{long_term_key};
 ghost use Rattle.stun_endpoint.specs.Responding.{Responding};
 ghost use Rattle.stun_endpoint.specs.Settings.{Settings};
@@ -29,14 +29,14 @@ use stun_base::algorithm::IntegrityAlgorithm;
 /// short-term credentials, the key is the password itself (`short_term`). All other users have the
 /// keys that they had before.
 pub fn users_have_the_keys_that_were_passed()
-    ensures password { (u : ServerSeen) (name password : List ℕ) (before now : Option Kept)
+    ensures password { (u : RealmSeen) (name password : List ℕ) (before now : Option Kept)
         → LeavesTableOr (adding name password (kind.Users u)) (pos 0) before now
-        → (t : ServerSeen) × (now ≡ Some (kind.Users t)) × IsName name × (length password ≢ 0)
+        → (t : RealmSeen) × (now ≡ Some (kind.Users t)) × IsName name × (length password ≢ 0)
         × HasUser u.registered t.registered name
         (λ a. Some (long_term_key a name u.registered.realm password)) }
-    ensures keys { (u : ServerSeen) (name sha1 sha256 : List ℕ) (before now : Option Kept)
+    ensures keys { (u : RealmSeen) (name sha1 sha256 : List ℕ) (before now : Option Kept)
         → LeavesTableOr (adding_keys name sha1 sha256 (kind.Users u)) (pos 0) before now
-        → (t : ServerSeen) × (keys : StoredKeys) × (now ≡ Some (kind.Users t)) × IsName name
+        → (t : RealmSeen) × (keys : StoredKeys) × (now ≡ Some (kind.Users t)) × IsName name
         × IsKeyPassed 16 sha1 keys.sha1 × IsKeyPassed 32 sha256 keys.sha256
         × HasUser u.registered t.registered name (stored_key keys) }
     ensures short_term { (u : Keys) (name password : List ℕ) (before now : Option Kept)
@@ -49,9 +49,9 @@ pub fn users_have_the_keys_that_were_passed()
 /// the keys of all other users. This holds for the tables of servers with long-term credentials
 /// (`realm`) and with short-term credentials (`short_term`).
 pub fn users_who_are_removed_have_no_key()
-    ensures realm { (u : ServerSeen) (name : List ℕ) (before now : Option Kept)
+    ensures realm { (u : RealmSeen) (name : List ℕ) (before now : Option Kept)
         → LeavesTable (removing name (kind.Users u)) (pos 0) before now
-        → (t : ServerSeen) × (now ≡ Some (kind.Users t))
+        → (t : RealmSeen) × (now ≡ Some (kind.Users t))
         × HasUser u.registered t.registered name (λ a. None) }
     ensures short_term { (u : Keys) (name : List ℕ) (before now : Option Kept)
         → LeavesTable (removing name (kind.ShortTermUsers u)) (pos 0) before now
@@ -63,7 +63,7 @@ pub fn users_who_are_removed_have_no_key()
 /// (`short_term`). No table can be created for a server without credentials (`open`).
 pub fn new_tables_are_empty()
     ensures realm { (s : Settings) (k : Kept) → table_for (kind.Server s) ≡ Ok k
-        → (t : ServerSeen) × (k ≡ kind.Users t) × (t.registered.realm ≡ s.realm)
+        → (t : RealmSeen) × (k ≡ kind.Users t) × (t.registered.realm ≡ s.realm)
         × (t.registered.algorithms ≡ s.algorithms)
         × ((name : List ℕ) (a : IntegrityAlgorithm) → key_at t.registered name a ≡ None) }
     ensures short_term { (s : Responding) (k : Kept) → table_for (kind.ShortTerm s) ≡ Ok k

@@ -1,6 +1,6 @@
 -- The parts of a challenge as contracts see them.
 use Rattle.std.specs.Prelude.{string_bytes}
-use Rattle.stun_auth.specs.Parts.{naming_seen}
+use Rattle.stun_judging.specs.Parts.{naming_seen}
 use Rattle.stun_client.specs.Challenge.{Challenge}
 use Rattle.stun_client.specs.declared.challenge.kept.KeptChallenge.{KeptChallenge}
 

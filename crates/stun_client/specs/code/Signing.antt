@@ -1,7 +1,7 @@
 -- What short-term credentials add, by the fields that they have.
 use Rattle.std.specs.Prelude.{List, [], ◌∷◌, string_bytes}
-use Rattle.stun_auth.specs.AddedAttribute.{username}
-use Rattle.stun_auth.specs.Additions.{Addition, attribute, integrity}
+use Rattle.stun_judging.specs.AddedAttribute.{username}
+use Rattle.stun_judging.specs.Additions.{Addition, attribute, integrity}
 use Rattle.stun_client.specs.declared.credentials.ShortTerm.{ShortTerm}
 
 -- USERNAME and the digest under the password

@@ -2,8 +2,9 @@
 ghost use Rattle.std.specs.Prelude.{◌≡◌, IfOk, IsOk};
 
 use std::alloc::{AllocError, Allocator};
-use stun_auth::answering::{LimitedText, UserNaming};
 use stun_base::memory::Memory;
+use stun_judging::limited_text::LimitedText;
+use stun_judging::naming::UserNaming;
 use stun_types::message::{IntegrityAlgorithm, PreparedKey};
 
 /// The parts of a server's challenge that a client stores, and the key that the client made for the

@@ -5,7 +5,7 @@ ghost use Rattle.stun_client.specs.Rule.{chosen, is_hashed, lacks_userhash};
 
 use crate::challenge::offer::first_supported;
 use crate::preferences::Preferences;
-use stun_auth::auth::{asks_for_algorithms, asks_for_userhash};
+use stun_judging::nonce::{asks_for_algorithms, asks_for_userhash};
 use stun_types::message::IntegrityAlgorithm;
 
 /// Returns whether two nonces have the same security bits.

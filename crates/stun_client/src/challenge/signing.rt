@@ -1,12 +1,12 @@
 //! Signs the requests that a client sends for a challenge (RFC 8489, section 9.2.5).
 ghost use Rattle.std.specs.Prelude.{◌≡◌, ◌≤◌, ◌+◌, ◌∷◌, [], ⊤, length, true, false, IfOk, None};
 ghost use Rattle.stun_base.specs.MessageType.{class_in};
-ghost use Rattle.stun_auth.specs.Additions.{UnlessMemory, WantsMemory};
-ghost use Rattle.stun_auth.specs.Additions.{added_all, attribute, growth, page_in, written_page};
-ghost use Rattle.stun_auth.specs.ClientStep.{is_required};
-ghost use Rattle.stun_auth.specs.Outcome.{IsAdded, IsOutcome};
-ghost use Rattle.stun_auth.specs.Reading.{error_code, reading_of};
-ghost use Rattle.stun_auth.specs.Signed.{IsText, IsUnsigned, ReadsAs};
+ghost use Rattle.stun_judging.specs.Additions.{UnlessMemory, WantsMemory};
+ghost use Rattle.stun_judging.specs.Additions.{added_all, attribute, growth, page_in, written_page};
+ghost use Rattle.stun_judging.specs.Feature.{is_required};
+ghost use Rattle.stun_judging.specs.Outcome.{IsAdded, IsOutcome};
+ghost use Rattle.stun_judging.specs.Reading.{error_code, reading_of};
+ghost use Rattle.stun_judging.specs.Signed.{IsText, IsUnsigned, ReadsAs};
 ghost use Rattle.stun_client.specs.Challenge.{added_under, algorithm_choice};
 ghost use Rattle.stun_client.specs.Challenge.{challenge_additions, identity, repeated_list};
 ghost use Rattle.stun_client.specs.Downgrade.{IsNowhereBidDown};
@@ -17,7 +17,7 @@ use crate::challenge::kept::KeptChallenge;
 use crate::challenge::offer::Offer;
 use crate::laws::signed_requests_are_not_bid_down;
 use std::alloc::Allocator;
-use stun_auth::answering::{AddedAttribute, add, add_integrity, add_made};
+use stun_judging::addition::{AddedAttribute, add, add_integrity, add_made};
 use stun_types::message::{IntegrityAlgorithm, StunWriteError};
 use stun_types::prelude::*;
 

@@ -7,7 +7,7 @@ ghost use Rattle.std.specs.Ordering.{nat_cmp};
 ghost use Rattle.std.specs.Prelude.{◌≡◌, ◌⊎◌, ◌&&◌, ⊤, Err, IfErr, IfOk, IsOk, None, Ok, Some};
 ghost use Rattle.std.specs.Prelude.{if◌then◌else◌, length, true};
 ghost use Rattle.stun_agent.specs.Transactions.{IsRequestOf};
-ghost use Rattle.stun_auth.specs.Additions.{UnlessMemory as UnlessRefused};
+ghost use Rattle.stun_judging.specs.Additions.{UnlessMemory as UnlessRefused};
 ghost use Rattle.stun_base.specs.MessageType.{class_in};
 ghost use Rattle.stun_client_calls.specs.Clients.{with_requests};
 ghost use Rattle.stun_client_calls.specs.Deciding.{answered, unauthorized};

@@ -2,8 +2,8 @@
 use Rattle.std.specs.Prelude.{ℕ, zero, suc, List, [], ◌∷◌, ◌++◌, if◌then◌else◌}
 use Rattle.std.specs.Prelude.{Option, Some, None}
 use Rattle.std.specs.declared.net.socket_addr.SocketAddr.{SocketAddr}
-use Rattle.stun_auth.specs.Reading.{Reading}
-use Rattle.stun_auth.specs.Server.{their_nonce}
+use Rattle.stun_judging.specs.Reading.{Reading}
+use Rattle.stun_judging.specs.Verdict.{their_nonce}
 use Rattle.stun_endpoint.specs.Lookups.{has_one_of, previous_nonces}
 use Rattle.stun_endpoint.specs.Nonces.{nonce_in}
 use Rattle.stun_endpoint.specs.Settings.{Settings}

@@ -2,12 +2,12 @@
 use Rattle.std.specs.Prelude.{◌≡◌, ℕ, List, if◌then◌else◌, Option, Some, None}
 use Rattle.std.specs.declared.net.socket_addr.SocketAddr.{SocketAddr}
 use Rattle.std.specs.declared.result.Result.TheVariants.{Ok, Err}
-use Rattle.stun_auth.specs.declared.server.reason.VerdictRefusal.{VerdictRefusal}
-use Rattle.stun_auth.specs.Found.{ClaimSeen, claim_of}
-use Rattle.stun_auth.specs.Handed.{just}
-use Rattle.stun_auth.specs.Reading.{Reading, reading_of}
-use Rattle.stun_auth.specs.Registered.{RegisteredUser, key_at}
-use Rattle.stun_auth.specs.Server.{verdict}
+use Rattle.stun_judging.specs.declared.refusal.VerdictRefusal.{VerdictRefusal}
+use Rattle.stun_judging.specs.Found.{ClaimSeen, claim_of}
+use Rattle.stun_judging.specs.Named.{just}
+use Rattle.stun_judging.specs.Reading.{Reading, reading_of}
+use Rattle.stun_judging.specs.Registered.{RegisteredUser, key_at}
+use Rattle.stun_judging.specs.Verdict.{verdict}
 use Rattle.stun_base.specs.declared.keys.algorithm.IntegrityAlgorithm.{IntegrityAlgorithm}
 use Rattle.stun_endpoint.specs.Judged.{Realm, judged_in, realm_of_user}
 use Rattle.stun_endpoint.specs.Lookups.{accepted_nonces, has_one_of}

@@ -5,13 +5,10 @@ use Rattle.std.specs.Prelude.{None}
 use Rattle.std.specs.Str.{bytes_eq}
 use Rattle.std.specs.declared.result.Result.{Result}
 use Rattle.std.specs.declared.result.Result.TheVariants.{Ok, Err}
-use Rattle.stun_auth.specs.Datagrams.{told_refusal}
-use Rattle.stun_auth.specs.Reading.{Reading}
-use Rattle.stun_auth.specs.Seen.{ClientSeen}
-use Rattle.stun_auth.specs.Server.{their_nonce, verdict}
-use Rattle.stun_auth.specs.Validation.{is_malformed}
-use Rattle.stun_auth.specs.declared.server.reason.VerdictRefusal.{VerdictRefusal}
-use Rattle.stun_auth.specs.declared.server.reason.VerdictRefusal.TheVariants as refused
+use Rattle.stun_judging.specs.Verdict.{told_refusal, ClientSeen, their_nonce, verdict}
+use Rattle.stun_judging.specs.Reading.{Reading, is_malformed}
+use Rattle.stun_judging.specs.declared.refusal.VerdictRefusal.{VerdictRefusal}
+use Rattle.stun_judging.specs.declared.refusal.VerdictRefusal.TheVariants as refused
 use Rattle.stun_endpoint.specs.Received.{Outcome, answered, dropped, indicated}
 use Rattle.stun_endpoint.specs.Received.{requested, responded}
 use Rattle.stun_endpoint.specs.Settings.{Settings, registered_of}

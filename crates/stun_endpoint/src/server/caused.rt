@@ -2,9 +2,9 @@
 
 ghost use Rattle.std.specs.Option.{option_copied};
 ghost use Rattle.std.specs.Prelude.{◌≡◌, ◌≤◌, IfOk, IsOk, Some, false, length};
-ghost use Rattle.stun_auth.specs.Algorithms.{contains};
-ghost use Rattle.stun_auth.specs.Nonces.{asks_for_algorithms};
-ghost use Rattle.stun_auth.specs.Reading.{reading_of};
+ghost use Rattle.stun_judging.specs.Algorithms.{contains};
+ghost use Rattle.stun_judging.specs.Nonces.{asks_for_algorithms};
+ghost use Rattle.stun_judging.specs.Reading.{reading_of};
 ghost use Rattle.stun_base.specs.MessageType.{class_in};
 ghost use Rattle.stun_base.specs.declared.keys.algorithm.IntegrityAlgorithm.TheVariants.{Sha256};
 ghost use Rattle.stun_endpoint.specs.Answers.{is_fingerprinted};
@@ -27,8 +27,11 @@ use crate::unix_time::UnixTime;
 use crate::users::Users;
 use std::alloc::{AllocError, Allocator};
 use std::net::SocketAddr;
-use stun_auth::auth::{Accepted, LongTermServerUser, ReadMessage, VerdictRefusal};
 use stun_base::memory::Memory;
+use stun_judging::accepted::Accepted;
+use stun_judging::read_message::ReadMessage;
+use stun_judging::refusal::VerdictRefusal;
+use stun_judging::user::LongTermServerUser;
 use stun_types::message::MessageClass;
 
 impl<A: Memory> Server<A> {
@@ -55,7 +58,7 @@ impl<A: Memory> Server<A> {
             ≡ false → IsOk result }
         ensures granted { A.grants → IsOk result }
     {
-        self.received_with_cause(bytes, from, now, &Judges::Table(&users.auth))
+        self.received_with_cause(bytes, from, now, &Judges::Table(&users.realm))
     }
 
     /// Judges a datagram like `receive_for`, and also returns why it is refused, as `cause_for`

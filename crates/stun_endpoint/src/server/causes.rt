@@ -3,7 +3,7 @@
 
 ghost use Rattle.std.specs.Option.{option_copied};
 ghost use Rattle.std.specs.Prelude.{◌≡◌, IfOk, IsOk, None, Some, false, if◌then◌else◌};
-ghost use Rattle.stun_auth.specs.Reading.{reading_of};
+ghost use Rattle.stun_judging.specs.Reading.{reading_of};
 ghost use Rattle.stun_endpoint.specs.Causes.{cause_of, code_of_cause, credential_cause};
 ghost use Rattle.stun_endpoint.specs.Causes.{or_unknown};
 ghost use Rattle.stun_endpoint.specs.Judged.{realm_of_table, realm_of_user};
@@ -20,8 +20,11 @@ use crate::unix_time::UnixTime;
 use crate::users::Users;
 use std::alloc::AllocError;
 use std::net::SocketAddr;
-use stun_auth::auth::{LongTermServerUser, ReadMessage, VerdictRefusal, has_nonce, told_refusal};
 use stun_base::memory::Memory;
+use stun_judging::read_message::ReadMessage;
+use stun_judging::refusal::VerdictRefusal;
+use stun_judging::told::{has_nonce, told_refusal};
+use stun_judging::user::LongTermServerUser;
 use stun_types::message::Message;
 
 /// Why a server with long-term credentials refuses a request: the first check that the request
@@ -103,7 +106,7 @@ impl<A: Memory> Server<A> {
             ≡ false → IsOk result }
         ensures granted { A.grants → IsOk result }
     {
-        self.cause_by(bytes, from, now, &Judges::Table(&users.auth))
+        self.cause_by(bytes, from, now, &Judges::Table(&users.realm))
     }
 
     /// Returns why `receive_for` refuses a datagram, or `None` if `receive_for` does not refuse it.

@@ -3,10 +3,10 @@
 
 ghost use Rattle.std.specs.Option.{is_some, option_copied, option_map};
 ghost use Rattle.std.specs.Prelude.{◌≡◌, ◌&&◌, [], IfOk, IsOk, None, OnErr, Some, false, not};
-ghost use Rattle.stun_auth.specs.Handed.{named_seen};
-ghost use Rattle.stun_auth.specs.Judged.{client_judged};
-ghost use Rattle.stun_auth.specs.Reading.{reading_of};
-ghost use Rattle.stun_auth.specs.Server.{verdict};
+ghost use Rattle.stun_judging.specs.Named.{named_seen};
+ghost use Rattle.stun_judging.specs.Judged.{client_judged};
+ghost use Rattle.stun_judging.specs.Reading.{reading_of};
+ghost use Rattle.stun_judging.specs.Verdict.{verdict};
 ghost use Rattle.stun_endpoint.specs.Answers.{is_fingerprinted};
 ghost use Rattle.stun_endpoint.specs.Buffered.{LeavesNothing, outcome_in};
 ghost use Rattle.stun_endpoint.specs.Buffered.{LeavesNothingKnown, identification_in};
@@ -32,10 +32,13 @@ use crate::unix_time::UnixTime;
 use crate::users::Users;
 use std::alloc::AllocError;
 use std::net::SocketAddr;
-use stun_auth::auth::{
-    Accepted, LongTermServerUser, NamedUser, ReadMessage, UserClaim, VerdictRefusal,
-};
 use stun_base::memory::Memory;
+use stun_judging::accepted::Accepted;
+use stun_judging::found::UserClaim;
+use stun_judging::named_user::NamedUser;
+use stun_judging::read_message::ReadMessage;
+use stun_judging::refusal::VerdictRefusal;
+use stun_judging::user::LongTermServerUser;
 
 mod found;
 
@@ -172,7 +175,7 @@ impl<A: Memory> Server<A> {
         ensures granted { A.grants → IsOk result }
     {
         let mut buffer = Vec::new(self.alloc);
-        self.resumed(lookup, &Judges::Table(&users.auth), &mut buffer)
+        self.resumed(lookup, &Judges::Table(&users.realm), &mut buffer)
     }
 
     /// Judges the request of a look-up like `resume`, and writes the response into a buffer,
@@ -278,7 +281,7 @@ impl<A: Memory> Server<A> {
             ≡ waiting_claim self.now from epoch read.now) }
         ensures granted { A.grants → IsOk result }
     {
-        let Some(claim) = self.auth.claim_in(read) else {
+        let Some(claim) = self.realm.claim_in(read) else {
             return Ok(None);
         };
         if !self.has_accepted_nonce(read, from, epoch, nonce)? {
@@ -297,7 +300,7 @@ impl<A: Memory> Server<A> {
             ≡ verdict (registered_of self.now) self.now.feature nonce.now
             (Some self.now.algorithms) (reading_of read.now) }
     {
-        self.auth.judge_read(read, nonce)
+        self.realm.judge(read, nonce)
     }
 
     /// Returns the outcome of the request of a look-up. A response takes over the memory of the

@@ -2,24 +2,26 @@
 
 ghost use Rattle.std.specs.Option.{option_copied};
 ghost use Rattle.std.specs.Prelude.{◌≡◌, IfOk};
-ghost use Rattle.stun_auth.specs.Judged.{HasVerifyingKey, client_judged};
-ghost use Rattle.stun_auth.specs.Reading.{reading_of};
+ghost use Rattle.stun_judging.specs.Judged.{HasVerifyingKey, client_judged};
+ghost use Rattle.stun_judging.specs.Reading.{reading_of};
 ghost use Rattle.stun_endpoint.specs.Judged.{realm_of_user, verdict_under};
 ghost use Rattle.stun_endpoint.specs.code.Judges.{realm_of};
 
 use crate::server::Server;
 use std::alloc::Allocator;
-use stun_auth::auth::{
-    Accepted, LongTermServerAuth, LongTermServerUser, ReadMessage, VerdictRefusal,
-};
+use stun_judging::accepted::Accepted;
+use stun_judging::read_message::ReadMessage;
+use stun_judging::realm::Realm;
+use stun_judging::refusal::VerdictRefusal;
+use stun_judging::user::LongTermServerUser;
 
 /// The users whose signatures a server accepts when it judges a request.
 #[derive(Drop)]
 pub(crate) enum Judges<'a, A: Allocator> {
     /// A table of users.
-    Table(&'a LongTermServerAuth<A>),
+    Table(&'a Realm<A>),
     /// One user at a realm.
-    User(&'a LongTermServerAuth<A>, &'a LongTermServerUser<A>),
+    User(&'a Realm<A>, &'a LongTermServerUser<A>),
 }
 
 impl<'a, A: Allocator + Copy> Judges<'a, A> {
@@ -35,8 +37,8 @@ impl<'a, A: Allocator + Copy> Judges<'a, A> {
             (HasVerifyingKey (realm_of self.now).users (reading_of read.now)) }
     {
         match self {
-            Judges::Table(table) => table.judge_read(read, nonce),
-            Judges::User(realm, user) => realm.judge_read_of(read, nonce, user),
+            Judges::Table(table) => table.judge(read, nonce),
+            Judges::User(realm, user) => realm.judge_of(read, nonce, user),
         }
     }
 }
@@ -48,8 +50,8 @@ impl<A: Allocator + Copy> Server<A> {
         ensures { realm_of result ≡ realm_of_user self.now (option_copied user.entry) }
     {
         match user {
-            Some(user) => Judges::User(&self.auth, user),
-            None => Judges::Table(&self.auth),
+            Some(user) => Judges::User(&self.realm, user),
+            None => Judges::Table(&self.realm),
         }
     }
 }

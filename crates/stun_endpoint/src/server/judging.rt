@@ -3,8 +3,8 @@
 ghost use Rattle.std.specs.Option.{option_map};
 ghost use Rattle.std.specs.Prelude.{◌≡◌, IfOk, IsOk};
 ghost use Rattle.std.specs.String.{string_bytes};
-ghost use Rattle.stun_auth.specs.Judged.{HasVerifyingKey, client_judged};
-ghost use Rattle.stun_auth.specs.Reading.{reading_of};
+ghost use Rattle.stun_judging.specs.Judged.{HasVerifyingKey, client_judged};
+ghost use Rattle.stun_judging.specs.Reading.{reading_of};
 ghost use Rattle.stun_endpoint.specs.Judged.{judged_in};
 ghost use Rattle.stun_endpoint.specs.Lookups.{accepted_nonces, has_one_of, nonces_of};
 ghost use Rattle.stun_endpoint.specs.Nonces.{nonce_in};
@@ -16,9 +16,12 @@ use crate::server::Server;
 use crate::server::judges::Judges;
 use std::alloc::AllocError;
 use std::net::SocketAddr;
-use stun_auth::auth::{Accepted, ReadMessage, VerdictRefusal, has_nonce};
 use stun_base::memory::Memory;
 use stun_base::prepared_key::PreparedKey;
+use stun_judging::accepted::Accepted;
+use stun_judging::read_message::ReadMessage;
+use stun_judging::refusal::VerdictRefusal;
+use stun_judging::told::has_nonce;
 
 impl<A: Memory> Server<A> {
     /// Judges a request that arrived from the address `from` in this epoch. `nonce` is the current

@@ -3,9 +3,9 @@
 ghost use Rattle.std.specs.Option.{option_copied};
 ghost use Rattle.std.specs.Prelude.{◌≡◌, ◌≤◌, [], IfOk, IsOk, OnErr, false};
 ghost use Rattle.std.specs.Prelude.{if◌then◌else◌, length};
-ghost use Rattle.stun_auth.specs.Algorithms.{contains};
-ghost use Rattle.stun_auth.specs.Nonces.{asks_for_algorithms};
-ghost use Rattle.stun_auth.specs.Reading.{reading_of};
+ghost use Rattle.stun_judging.specs.Algorithms.{contains};
+ghost use Rattle.stun_judging.specs.Nonces.{asks_for_algorithms};
+ghost use Rattle.stun_judging.specs.Reading.{reading_of};
 ghost use Rattle.stun_base.specs.MessageType.{class_in};
 ghost use Rattle.stun_base.specs.declared.keys.algorithm.IntegrityAlgorithm.TheVariants.{Sha256};
 ghost use Rattle.stun_endpoint.specs.Answers.{is_fingerprinted};
@@ -35,10 +35,13 @@ use crate::unix_time::UnixTime;
 use crate::users::Users;
 use std::alloc::AllocError;
 use std::net::SocketAddr;
-use stun_auth::auth::{Accepted, LongTermServerUser, ReadMessage, VerdictRefusal};
 use stun_base::algorithm::IntegrityAlgorithm;
 use stun_base::memory::Memory;
 use stun_base::prepared_key::PreparedKey;
+use stun_judging::accepted::Accepted;
+use stun_judging::read_message::ReadMessage;
+use stun_judging::refusal::VerdictRefusal;
+use stun_judging::user::LongTermServerUser;
 use stun_types::message::{Message, MessageClass};
 
 impl<A: Memory> Server<A> {
@@ -81,7 +84,7 @@ impl<A: Memory> Server<A> {
         ensures granted { A.grants → IsOk result }
     {
         let mut buffer = Vec::new(self.alloc);
-        self.received(bytes, from, now, &Judges::Table(&users.auth), &mut buffer)
+        self.received(bytes, from, now, &Judges::Table(&users.realm), &mut buffer)
     }
 
     /// Judges a datagram like `receive`, with the one user that you looked up, or with no user if
@@ -131,7 +134,7 @@ impl<A: Memory> Server<A> {
         ensures granted { A.grants → IsOk result }
         ensures err { OnErr result (buffer.new.items ≡ []) }
     {
-        self.received_into(bytes, from, now, &Judges::Table(&users.auth), buffer)
+        self.received_into(bytes, from, now, &Judges::Table(&users.realm), buffer)
     }
 
     /// Judges a datagram like `receive_for`, and writes the response into a buffer, replacing its

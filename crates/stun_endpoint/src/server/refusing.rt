@@ -1,9 +1,9 @@
 //! The responses to a refused request (RFC 8489, sections 9.2.4 and 14.8).
 
 ghost use Rattle.std.specs.Prelude.{◌≡◌, ◌≤◌, ◌∷◌, IfOk, IsOk, length};
-ghost use Rattle.stun_auth.specs.AddedAttribute as added;
-ghost use Rattle.stun_auth.specs.Algorithms.{contains};
-ghost use Rattle.stun_auth.specs.Nonces.{asks_for_algorithms};
+ghost use Rattle.stun_judging.specs.AddedAttribute as added;
+ghost use Rattle.stun_judging.specs.Algorithms.{contains};
+ghost use Rattle.stun_judging.specs.Nonces.{asks_for_algorithms};
 ghost use Rattle.stun_base.specs.declared.keys.algorithm.IntegrityAlgorithm.TheVariants.{Sha256};
 ghost use Rattle.stun_endpoint.specs.Answers.{challenge_page, is_fingerprinted, offered};
 ghost use Rattle.stun_endpoint.specs.Answers.{with_attributes};
@@ -20,9 +20,12 @@ use crate::received::{Answer, Received, Refusal};
 use crate::server::Server;
 use std::alloc::AllocError;
 use std::net::SocketAddr;
-use stun_auth::auth::{AlgorithmSet, ReadMessage, VerdictRefusal, told_refusal};
 use stun_base::memory::Memory;
 use stun_buffer::writer::BufferWriter;
+use stun_judging::algorithm_set::AlgorithmSet;
+use stun_judging::read_message::ReadMessage;
+use stun_judging::refusal::VerdictRefusal;
+use stun_judging::told::told_refusal;
 use stun_types::attribute::attribute_length;
 use stun_types::message::{Message, StunWriteError};
 
@@ -139,13 +142,13 @@ impl<A: Memory> Server<A> {
         requires { length nonce.now ≤ TEXT_LIMIT }
         ensures { result ≤ 5000 }
     {
-        let algorithms = match self.auth.algorithms() {
+        let algorithms = match self.realm.algorithms() {
             AlgorithmSet::Both => attribute_length(2 * ALGORITHM_LENGTH),
             AlgorithmSet::OnlySha256 => attribute_length(ALGORITHM_LENGTH),
             AlgorithmSet::OnlySha1 => 0,
         };
         attribute_length(nonce.len())
-            .saturating_add(attribute_length(self.auth.realm().len()))
+            .saturating_add(attribute_length(self.realm.name().len()))
             .saturating_add(algorithms)
             .saturating_add(self.responder.end_length(&None, has_fingerprint))
     }
@@ -193,6 +196,6 @@ impl<A: Memory> Server<A> {
         ensures room { IfOk result (λ challenged. IsEndable challenged.bytes) }
         ensures granted { A.grants → IsOk result }
     {
-        self.auth.add_challenge(page, nonce)
+        self.realm.add_challenge(page, nonce)
     }
 }

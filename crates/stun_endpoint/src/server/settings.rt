@@ -1,23 +1,25 @@
 //! The settings of a server, which are checked when it is built.
 
-ghost use Rattle.std.specs.FinMap as map;
 ghost use Rattle.std.specs.Option.{option_map};
 ghost use Rattle.std.specs.Prelude.{◌≡◌, ◌<◌, ◌≤◌, ◌++◌, [], None, IfOk, IsOk, IsOkUnless, MatchOption, Err};
 ghost use Rattle.std.specs.Prelude.{true, false, length, unwrap_or};
 ghost use Rattle.std.specs.String.{string_bytes};
 ghost use Rattle.stun_endpoint.specs.Built.{build_refusal};
-ghost use Rattle.stun_endpoint.specs.Realm.{empty_realm, feature_for};
+ghost use Rattle.stun_endpoint.specs.Realm.{feature_for};
+ghost use Rattle.stun_judging.specs.Registered.{empty_realm};
 ghost use Rattle.stun_endpoint.specs.Settings.{registered_of};
 ghost use Rattle.stun_types.specs.Limits.{TEXT_LIMIT};
 
 use crate::responder::{Responder, text_length, with_stun_attributes};
 use crate::server::Server;
 use std::alloc::{AllocError, Allocator, Global};
-use stun_auth::auth::{AlgorithmSet, Feature, LongTermServerAuth};
 use stun_base::attribute_type::AttributeType;
 use stun_base::key::IntegrityKey;
 use stun_base::memory::Memory;
 use stun_base::prepared_key::PreparedKey;
+use stun_judging::algorithm_set::AlgorithmSet;
+use stun_judging::feature::Feature;
+use stun_judging::realm::Realm;
 use stun_types::limits::TEXT_LIMIT;
 use stun_types::message::IntegrityAlgorithm;
 use thiserror::Error;
@@ -156,26 +158,6 @@ fn feature_for(user_hashes: bool) -> Feature
     }
 }
 
-/// Returns an empty table of users for a realm, these algorithms and this use of hashed names.
-pub(super) fn empty_realm<A: Allocator + Copy>(
-    alloc: A,
-    realm: String<A>,
-    algorithms: AlgorithmSet,
-    feature: Feature,
-) -> LongTermServerAuth<A>
-    ensures { result ≡ record {
-      registered = empty_realm (string_bytes realm) algorithms;
-      feature = feature;
-      expiry = 3600000000000;
-      places = map.empty;
-    } }
-{
-    let mut auth = LongTermServerAuth::new(alloc, realm);
-    auth.set_algorithms(algorithms);
-    let _ = auth.set_anonymous_username(feature);
-    auth
-}
-
 /// Returns a secret, prepared for HMAC-SHA1.
 fn prepared<A: Allocator + Copy>(alloc: A, secret: &[u8; 32]) -> PreparedKey<A>
     ensures { result ≡ secret.now }
@@ -265,15 +247,10 @@ impl<A: Memory> Server<A> {
             settings.answers_binding,
             settings.requires_fingerprint,
         );
-        let auth = empty_realm(
-            alloc,
-            settings.realm,
-            settings.algorithms,
-            feature_for(settings.user_hashes),
-        );
+        let feature = feature_for(settings.user_hashes);
         Ok(Server {
             alloc,
-            auth,
+            realm: Realm::new(alloc, settings.realm, settings.algorithms, feature),
             secret: prepared(alloc, &settings.secret),
             previous: prepared_if(alloc, &settings.previous_secret),
             lifetime: settings.nonce_lifetime,

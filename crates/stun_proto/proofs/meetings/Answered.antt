@@ -7,13 +7,13 @@ use Rattle.stun_auth.specs.declared.server.reason.LongTermServerAuthErrorReason.
   Unauthorized,
 }
 use Rattle.stun_base.specs.MessageType.{is_response}
-use Rattle.stun_auth.specs.Reading.{Reading}
+use Rattle.stun_judging.specs.Reading.{Reading, is_complete, is_malformed}
 use Rattle.stun_auth.specs.Reasons.{ServerRefusal}
 use Rattle.stun_auth.specs.code.Reasons.{unauthorized}
-use Rattle.stun_auth.specs.Seen.{ClientSeen, PlaceSeen}
+use Rattle.stun_judging.specs.Verdict.{ClientSeen}
+use Rattle.stun_auth.specs.Seen.{PlaceSeen}
 use Rattle.stun_auth.specs.Server.{Sight, current_place}
-use Rattle.stun_auth.specs.Validation.{answer, answer_to, client_verified}
-use Rattle.stun_auth.specs.Validation.{is_complete, is_malformed, place_after}
+use Rattle.stun_auth.specs.Validation.{answer, answer_to, client_verified, place_after}
 use Rattle.stun_auth.specs.Validation.{validated_or_failed, verdict_at, with_accepted}
 use Rattle.stun_proto.proofs.meetings.Refusals.{bare_verdict}
 

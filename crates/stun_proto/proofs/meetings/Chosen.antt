@@ -5,16 +5,15 @@ use Rattle.std.specs.Prelude.{cond, not, ◌&&◌, ◌||◌}
 use Rattle.std.specs.declared.result.Result.{Result}
 use Rattle.stun_base.specs.declared.keys.algorithm.IntegrityAlgorithm.{IntegrityAlgorithm}
 use Rattle.stun_base.specs.declared.keys.algorithm.IntegrityAlgorithm.TheVariants.{Sha1, Sha256}
-use Rattle.stun_auth.specs.declared.algorithm_set.AlgorithmSet.{AlgorithmSet}
-use Rattle.stun_auth.specs.declared.algorithm_set.AlgorithmSet.TheVariants.{OnlySha1}
-use Rattle.stun_auth.specs.declared.algorithm_set.AlgorithmSet.TheVariants.{OnlySha256, Both}
-use Rattle.stun_auth.specs.declared.feature.Feature.{Feature}
-use Rattle.stun_auth.specs.Algorithms.{contains, has, algorithms_of}
-use Rattle.stun_auth.specs.ClientStep.{choose, choose_by_list, is_required, or_unsupported}
-use Rattle.stun_auth.specs.ClientStep.{unless_missing}
+use Rattle.stun_judging.specs.declared.algorithm_set.AlgorithmSet.{AlgorithmSet}
+use Rattle.stun_judging.specs.declared.algorithm_set.AlgorithmSet.TheVariants.{OnlySha1}
+use Rattle.stun_judging.specs.declared.algorithm_set.AlgorithmSet.TheVariants.{OnlySha256, Both}
+use Rattle.stun_judging.specs.declared.feature.Feature.{Feature}
+use Rattle.stun_judging.specs.Algorithms.{contains, has, algorithms_of}
+use Rattle.stun_auth.specs.ClientStep.{choose, choose_by_list, or_unsupported, unless_missing}
+use Rattle.stun_judging.specs.Feature.{is_required, is_possible}
 use Rattle.stun_auth.specs.code.ClientStep.{ClientRefusal, unsupported_feature}
-use Rattle.stun_auth.specs.Feature.{is_possible}
-use Rattle.stun_auth.specs.Nonces.{asks_for_algorithms, asks_for_userhash, nonce_of}
+use Rattle.stun_judging.specs.Nonces.{asks_for_algorithms, asks_for_userhash, nonce_of}
 use Rattle.stun_proto.specs.Best.{best}
 use Rattle.stun_proto.proofs.meetings.Signed.{NoncesAsk}
 use Rattle.stun_proto.proofs.meetings.Strongest.{best-by_cases, best_is, common, has_from_Contains}

@@ -10,16 +10,19 @@ use Rattle.stun_base.specs.Address.{address_cmp}
 use Rattle.stun_base.specs.Credentials.{NameAndPassword}
 use Rattle.stun_base.specs.Moments.{moment_after}
 use Rattle.stun_base.specs.declared.keys.algorithm.IntegrityAlgorithm.TheVariants.{Sha256}
-use Rattle.stun_auth.specs.Additions.{Page}
+use Rattle.stun_judging.specs.Additions.{Page}
 use Rattle.stun_auth.specs.Client.{ClientState}
 use Rattle.stun_auth.specs.Client.{Challenge, ClientSettings, authenticated, authenticating, initial}
-use Rattle.stun_auth.specs.ClientStep.{ClientStep, UNAUTHORIZED}
-use Rattle.stun_auth.specs.Nonces.{nonce_of}
-use Rattle.stun_auth.specs.Registered.{Registered, key_at, of_password}
-use Rattle.stun_auth.specs.Seen.{ClientSeen, PlaceSeen, renewed_place}
+use Rattle.stun_auth.specs.ClientStep.{ClientStep}
+use Rattle.stun_judging.specs.Reading.{UNAUTHORIZED}
+use Rattle.stun_judging.specs.Nonces.{nonce_of}
+use Rattle.stun_judging.specs.Registered.{Registered, key_at, of_password}
+use Rattle.stun_judging.specs.Verdict.{ClientSeen}
+use Rattle.stun_auth.specs.Seen.{PlaceSeen, renewed_place}
 use Rattle.stun_auth.specs.Server.{Sight, current_place}
 use Rattle.stun_auth.specs.ServerSigning.{after_signing}
-use Rattle.stun_auth.specs.Signed.{IsSmall, added_by_server}
+use Rattle.stun_judging.specs.Signed.{IsSmall}
+use Rattle.stun_auth.specs.Signed.{added_by_server}
 use Rattle.stun_auth.specs.Signed.{added_under, added_under_key, added_without_client}
 use Rattle.stun_auth.specs.Validation.{ServerSeen, sight}
 use Rattle.stun_proto.specs.Contact.{Contact, IsChallenged, IsNewClient, at_challenge, at_success}

@@ -10,18 +10,19 @@ use Rattle.stun_base.specs.declared.keys.algorithm.IntegrityAlgorithm.{Integrity
 use Rattle.stun_auth.specs.declared.server.reason.LongTermServerAuthErrorReason.TheVariants
     as Server
 use Rattle.stun_auth.specs.declared.server.reason.LongTermServerValidation.TheVariants as Served
-use Rattle.stun_auth.specs.Additions.{Page}
-use Rattle.stun_auth.specs.Algorithms.{contains, algorithms_of}
+use Rattle.stun_judging.specs.Additions.{Page}
+use Rattle.stun_judging.specs.Algorithms.{contains, algorithms_of}
 use Rattle.stun_auth.specs.declared.client.answer.LongTermClientValidation.TheVariants as Read
 use Rattle.stun_auth.specs.Client.{Challenge, authenticated, authenticating, initial}
 use Rattle.stun_auth.specs.ClientStep.{after_challenge, client_step, new_challenge_if}
 use Rattle.stun_auth.specs.ClientStep.{or_unsupported}
-use Rattle.stun_auth.specs.Feature.{is_possible}
-use Rattle.stun_auth.specs.Nonces.{asks_for_userhash}
+use Rattle.stun_judging.specs.Feature.{is_possible}
+use Rattle.stun_judging.specs.Nonces.{asks_for_userhash}
 use Rattle.stun_auth.specs.Places.{with_offer}
-use Rattle.stun_auth.specs.Reading.{Reading, reading_of}
-use Rattle.stun_auth.specs.Registered.{Registered}
-use Rattle.stun_auth.specs.Seen.{ClientSeen, PlaceSeen}
+use Rattle.stun_judging.specs.Reading.{Reading, reading_of}
+use Rattle.stun_judging.specs.Registered.{Registered}
+use Rattle.stun_judging.specs.Verdict.{ClientSeen}
+use Rattle.stun_auth.specs.Seen.{PlaceSeen}
 use Rattle.stun_auth.specs.Server.{Sight}
 use Rattle.stun_auth.specs.ServerSigning.{after_signing}
 use Rattle.stun_auth.specs.Validation.{ServerSeen, answer, place_after, sight}

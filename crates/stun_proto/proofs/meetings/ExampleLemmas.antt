@@ -15,9 +15,10 @@ use Rattle.std.specs.declared.net.socket_addr.SocketAddr.{SocketAddr}
 use Rattle.stun_base.specs.Address.{address_cmp}
 use Rattle.stun_base.specs.Credentials.{NameAndPassword}
 use Rattle.stun_base.specs.declared.keys.algorithm.IntegrityAlgorithm.TheVariants.{Sha256}
-use Rattle.stun_auth.specs.declared.algorithm_set.AlgorithmSet.TheVariants.{Both}
+use Rattle.stun_judging.specs.declared.algorithm_set.AlgorithmSet.TheVariants.{Both}
 use Rattle.stun_auth.specs.Client.{initial}
-use Rattle.stun_auth.specs.Registered.{Registered, name_cmp, new_registered, of_password, with_user}
+use Rattle.stun_judging.specs.Registered.{Registered, name_cmp, new_registered, of_password}
+use Rattle.stun_judging.specs.Registered.{with_user}
 use Rattle.stun_proto.specs.Headline.{IsReadyClient}
 use Rattle.stun_proto.specs.Honest.{AgreesOn, HaveOwnHashes, IsReady}
 use Rattle.stun_proto.specs.Honest.{ShortNamesAreSigned, StrongestIsAgreed}

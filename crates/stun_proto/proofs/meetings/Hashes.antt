@@ -10,8 +10,8 @@ use Rattle.std.specs.FinMap.{contains_key-keys}
 use Rattle.std.proofs.lemmas.Map.Text.{is_eq-slice_cmp}
 use Rattle.std.proofs.lemmas.Slice.Eq.{bytes_eq-Decides}
 use Rattle.stun_base.specs.Keys.{userhash_of}
-use Rattle.stun_auth.specs.Registered.{Registered, UserSecret, name_cmp}
-use Rattle.stun_auth.specs.Registered.{name_with_hash, user_named, user_with_hash}
+use Rattle.stun_judging.specs.Registered.{Registered, UserSecret, name_cmp}
+use Rattle.stun_judging.specs.Registered.{name_with_hash, user_named, user_with_hash}
 use Rattle.stun_proto.specs.Honest.{HaveOwnHashes}
 
 abbrev same : List ℕ → List ℕ → Bool

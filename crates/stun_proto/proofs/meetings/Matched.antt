@@ -8,21 +8,21 @@ use Rattle.std.proofs.lemmas.Slice.Eq.{bytes_eq-Decides}
 use Rattle.stun_base.specs.Credentials.{NameAndPassword}
 use Rattle.stun_base.specs.declared.keys.algorithm.IntegrityAlgorithm.{IntegrityAlgorithm}
 use Rattle.stun_base.specs.declared.keys.algorithm.IntegrityAlgorithm.TheVariants.{Sha1, Sha256}
-use Rattle.stun_auth.specs.declared.algorithm_set.AlgorithmSet.{AlgorithmSet}
-use Rattle.stun_auth.specs.declared.algorithm_set.AlgorithmSet.TheVariants.{OnlySha1}
-use Rattle.stun_auth.specs.declared.algorithm_set.AlgorithmSet.TheVariants.{OnlySha256, Both}
-use Rattle.stun_auth.specs.declared.feature.Feature.{Feature}
-use Rattle.stun_auth.specs.Algorithms.{contains, algorithms_of, offered_list}
-use Rattle.stun_auth.specs.Client.{Challenge, Naming, plain, hashed}
-use Rattle.stun_auth.specs.Nonces.{asks_for_algorithms}
-use Rattle.stun_auth.specs.Reading.{Reading, verified_under}
-use Rattle.stun_auth.specs.Registered.{Registered, RegisteredUser, key_at, key_if, key_of}
-use Rattle.stun_auth.specs.Seen.{ClientSeen, PlaceSeen}
-use Rattle.stun_auth.specs.Signed.{hashed_name, plain_name}
-use Rattle.stun_auth.specs.Server.{agreement, choice, client_of, named_user, named_by}
-use Rattle.stun_auth.specs.Server.{nonce_refusal}
-use Rattle.stun_auth.specs.Server.{or_refused, verified_named, verified_for, their_nonce, verdict}
-use Rattle.stun_auth.specs.Validation.{is_complete}
+use Rattle.stun_judging.specs.declared.algorithm_set.AlgorithmSet.{AlgorithmSet}
+use Rattle.stun_judging.specs.declared.algorithm_set.AlgorithmSet.TheVariants.{OnlySha1}
+use Rattle.stun_judging.specs.declared.algorithm_set.AlgorithmSet.TheVariants.{OnlySha256, Both}
+use Rattle.stun_judging.specs.declared.feature.Feature.{Feature}
+use Rattle.stun_judging.specs.Algorithms.{contains, algorithms_of, offered_list}
+use Rattle.stun_auth.specs.Client.{Challenge}
+use Rattle.stun_judging.specs.Naming.{Naming, plain, hashed}
+use Rattle.stun_judging.specs.Nonces.{asks_for_algorithms}
+use Rattle.stun_judging.specs.Reading.{Reading, verified_under, is_complete}
+use Rattle.stun_judging.specs.Registered.{Registered, RegisteredUser, key_at, key_if, key_of}
+use Rattle.stun_judging.specs.Verdict.{ClientSeen, agreement, choice, client_of, named_user}
+use Rattle.stun_judging.specs.Verdict.{named_by, nonce_refusal, or_refused, verified_named}
+use Rattle.stun_judging.specs.Verdict.{verified_for, their_nonce, verdict}
+use Rattle.stun_auth.specs.Seen.{PlaceSeen}
+use Rattle.stun_judging.specs.Signed.{hashed_name, plain_name}
 use Rattle.stun_proto.specs.Matching.{Matches}
 use Rattle.stun_proto.proofs.meetings.Hashes.{own_user}
 use Rattle.stun_proto.proofs.meetings.Refusals.{fifth_holds, none_holds, some_there}

@@ -12,26 +12,29 @@ use Rattle.stun_base.specs.Moments.{moment_after}
 use Rattle.stun_base.specs.declared.keys.algorithm.IntegrityAlgorithm.{IntegrityAlgorithm}
 use Rattle.stun_base.specs.declared.wire.error.StunWriteError.{StunWriteError}
 use Rattle.stun_auth.specs.declared.client.answer.LongTermClientValidation.TheVariants as Read
-use Rattle.stun_auth.specs.declared.feature.Feature.{Feature}
+use Rattle.stun_judging.specs.declared.feature.Feature.{Feature}
 use Rattle.stun_auth.specs.declared.server.reason.LongTermServerAuthErrorReason.TheVariants
     as Server
 use Rattle.stun_auth.specs.declared.server.reason.LongTermServerValidation.TheVariants as Served
-use Rattle.stun_auth.specs.Algorithms.{contains, algorithms_of}
+use Rattle.stun_judging.specs.Algorithms.{contains, algorithms_of}
 use Rattle.stun_auth.specs.Client.{Challenge, ClientSettings}
 use Rattle.stun_auth.specs.Client.{authenticated, authenticating, initial}
-use Rattle.stun_auth.specs.ClientStep.{UNAUTHORIZED, STALE_NONCE, after_challenge}
-use Rattle.stun_auth.specs.ClientStep.{after_digest, after_stale, choose, client_step, is_code}
-use Rattle.stun_auth.specs.ClientStep.{new_challenge, new_challenge_if, naming_of, or_unsupported}
+use Rattle.stun_judging.specs.Reading.{UNAUTHORIZED, STALE_NONCE, is_code, Reading, reading_of}
+use Rattle.stun_judging.specs.Reading.{verified_under}
+use Rattle.stun_auth.specs.ClientStep.{after_challenge, after_digest, after_stale, choose}
+use Rattle.stun_auth.specs.ClientStep.{client_step, new_challenge, new_challenge_if, or_unsupported}
 use Rattle.stun_auth.specs.ClientStep.{taken_up}
-use Rattle.stun_auth.specs.Feature.{is_possible}
-use Rattle.stun_auth.specs.Nonces.{asks_for_userhash, nonce_of}
+use Rattle.stun_judging.specs.Naming.{naming_of}
+use Rattle.stun_judging.specs.Feature.{is_possible}
+use Rattle.stun_judging.specs.Nonces.{asks_for_userhash, nonce_of}
 use Rattle.stun_auth.specs.Places.{with_offer}
 use Rattle.stun_base.specs.MessageType.{is_success}
-use Rattle.stun_auth.specs.Reading.{Reading, reading_of, verified_under}
-use Rattle.stun_auth.specs.Registered.{Registered, user_with_hash}
+use Rattle.stun_judging.specs.Registered.{Registered, user_with_hash}
 use Rattle.stun_auth.specs.Seen.{PlaceSeen, renewed_place}
-use Rattle.stun_auth.specs.Signed.{added_under_key, added_without_client, hashed_name, plain_name}
-use Rattle.stun_auth.specs.Server.{Sight, named_by, current_place, current_place_of}
+use Rattle.stun_auth.specs.Signed.{added_under_key, added_without_client}
+use Rattle.stun_judging.specs.Signed.{hashed_name, plain_name}
+use Rattle.stun_auth.specs.Server.{Sight, current_place, current_place_of}
+use Rattle.stun_judging.specs.Verdict.{named_by}
 use Rattle.stun_auth.specs.ServerSigning.{after_signing}
 use Rattle.stun_auth.specs.Validation.{ServerSeen, after_validation, answer, place_after, sight}
 use Rattle.stun_proto.specs.Best.{best}

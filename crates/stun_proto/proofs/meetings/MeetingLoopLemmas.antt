@@ -8,10 +8,10 @@ use Rattle.stun_auth.specs.declared.client.answer.LongTermClientValidation.TheVa
 use Rattle.stun_auth.specs.declared.server.reason.LongTermServerAuthErrorReason.TheVariants
     as Server
 use Rattle.stun_auth.specs.declared.server.reason.LongTermServerValidation.TheVariants as Served
-use Rattle.stun_auth.specs.Additions.{Page}
+use Rattle.stun_judging.specs.Additions.{Page}
 use Rattle.stun_auth.specs.Client.{ClientState, initial}
 use Rattle.stun_auth.specs.ClientStep.{ClientAnswer, client_step}
-use Rattle.stun_auth.specs.Reading.{reading_of}
+use Rattle.stun_judging.specs.Reading.{reading_of}
 use Rattle.stun_auth.specs.ServerSigning.{after_signing}
 use Rattle.stun_auth.specs.Validation.{Answer, ServerSeen}
 use Rattle.stun_proto.specs.Honest.{ComesTo, StrongestIsAgreed, strongest}

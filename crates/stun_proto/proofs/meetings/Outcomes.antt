@@ -13,9 +13,10 @@ use Rattle.stun_base.specs.declared.wire.error.StunWriteError.{StunWriteError}
 use Rattle.stun_auth.specs.declared.client.answer.LongTermClientAuthErrorReason.TheVariants.{
   UnsupportedFeature,
 }
-use Rattle.stun_auth.specs.Algorithms.{algorithms_of}
+use Rattle.stun_judging.specs.Algorithms.{algorithms_of}
 use Rattle.stun_auth.specs.Client.{ClientState, initial}
-use Rattle.stun_auth.specs.Seen.{ClientSeen, PlaceSeen}
+use Rattle.stun_judging.specs.Verdict.{ClientSeen}
+use Rattle.stun_auth.specs.Seen.{PlaceSeen}
 use Rattle.stun_auth.specs.Validation.{ServerSeen, client_at}
 use Rattle.stun_proto.specs.Headline.{EndsAtStrongest, EndsWith, KnowEachOther}
 use Rattle.stun_proto.specs.Honest.{AgreesOn, ComesTo, strongest}

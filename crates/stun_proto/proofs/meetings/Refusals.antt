@@ -5,14 +5,14 @@ use Rattle.std.specs.Prelude.{not, ◌&&◌, ◌||◌}
 use Rattle.std.specs.List.{find}
 use Rattle.std.specs.Option.{is_some, is_none, option_map_or}
 use Rattle.std.specs.Str.{bytes_eq}
-use Rattle.stun_auth.specs.declared.algorithm_set.AlgorithmSet.{AlgorithmSet}
-use Rattle.stun_auth.specs.declared.feature.Feature.{Feature}
-use Rattle.stun_auth.specs.Reading.{Reading}
+use Rattle.stun_judging.specs.declared.algorithm_set.AlgorithmSet.{AlgorithmSet}
+use Rattle.stun_judging.specs.declared.feature.Feature.{Feature}
+use Rattle.stun_judging.specs.Reading.{Reading}
 use Rattle.stun_auth.specs.Reasons.{ServerRefusal}
 use Rattle.stun_auth.specs.code.Reasons.{bad_request, unauthorized}
-use Rattle.stun_auth.specs.Registered.{Registered}
-use Rattle.stun_auth.specs.Server.{agreement, client_of, nonce_refusal}
-use Rattle.stun_auth.specs.Server.{or_refused, verified_named, their_nonce, verdict}
+use Rattle.stun_judging.specs.Registered.{Registered}
+use Rattle.stun_judging.specs.Verdict.{agreement, client_of, nonce_refusal}
+use Rattle.stun_judging.specs.Verdict.{or_refused, verified_named, their_nonce, verdict}
 
 -- the first refusal that holds
 abbrev pub refused_by : Bool → Bool → Bool → Bool → Bool → Bool → ServerRefusal

@@ -10,29 +10,30 @@ use Rattle.std.proofs.lemmas.Slice.Eq.{bytes_eq-Decides}
 use Rattle.stun_base.specs.Credentials.{NameAndPassword}
 use Rattle.stun_base.specs.Keys.{long_term_key}
 use Rattle.stun_base.specs.declared.keys.algorithm.IntegrityAlgorithm.{IntegrityAlgorithm}
-use Rattle.stun_auth.specs.declared.algorithm_set.AlgorithmSet.{AlgorithmSet}
+use Rattle.stun_judging.specs.declared.algorithm_set.AlgorithmSet.{AlgorithmSet}
 use Rattle.stun_auth.specs.declared.client.answer.LongTermClientValidation.TheVariants as Read
-use Rattle.stun_auth.specs.declared.feature.Feature.{Feature}
+use Rattle.stun_judging.specs.declared.feature.Feature.{Feature}
 use Rattle.stun_auth.specs.declared.server.reason.LongTermServerAuthErrorReason.TheVariants.{
   StaleNonce,
 }
 use Rattle.stun_auth.specs.declared.server.reason.LongTermServerValidation.TheVariants.{Validated}
-use Rattle.stun_auth.specs.Additions.{Page}
-use Rattle.stun_auth.specs.Algorithms.{contains}
+use Rattle.stun_judging.specs.Additions.{Page}
+use Rattle.stun_judging.specs.Algorithms.{contains}
 use Rattle.stun_auth.specs.Client.{Challenge, ClientSettings, authenticated}
-use Rattle.stun_auth.specs.ClientStep.{ClientStep, STALE_NONCE, UNAUTHORIZED, after_challenge}
-use Rattle.stun_auth.specs.ClientStep.{after_digest, after_stale, client_step, is_code, taken_up}
-use Rattle.stun_auth.specs.Nonces.{nonce_of, security_bits}
+use Rattle.stun_auth.specs.ClientStep.{ClientStep, after_challenge}
+use Rattle.stun_judging.specs.Reading.{STALE_NONCE, UNAUTHORIZED, is_code, Reading, reading_of}
+use Rattle.stun_judging.specs.Reading.{verified_under}
+use Rattle.stun_auth.specs.ClientStep.{after_digest, after_stale, client_step, taken_up}
+use Rattle.stun_judging.specs.Nonces.{nonce_of, security_bits}
 use Rattle.stun_base.specs.MessageType.{is_success}
-use Rattle.stun_auth.specs.Reading.{Reading, reading_of, verified_under}
 use Rattle.stun_auth.specs.Reasons.{ServerRefusal}
 use Rattle.stun_auth.specs.code.Reasons.{stale_nonce, unauthorized}
-use Rattle.stun_auth.specs.Registered.{Registered}
-use Rattle.stun_auth.specs.Seen.{ClientSeen, PlaceSeen}
-use Rattle.stun_auth.specs.Server.{Sight, bits_differ, named_by, nonce_refusal, current_place}
-use Rattle.stun_auth.specs.Server.{verdict}
+use Rattle.stun_judging.specs.Registered.{Registered}
+use Rattle.stun_judging.specs.Verdict.{ClientSeen, bits_differ, named_by, nonce_refusal, verdict}
+use Rattle.stun_auth.specs.Seen.{PlaceSeen}
+use Rattle.stun_auth.specs.Server.{Sight, current_place}
 use Rattle.stun_auth.specs.ServerSigning.{after_signing}
-use Rattle.stun_auth.specs.Signed.{hashed_name, plain_name}
+use Rattle.stun_judging.specs.Signed.{hashed_name, plain_name}
 use Rattle.stun_auth.specs.Validation.{ServerSeen, answer, answer_to}
 use Rattle.stun_auth.specs.Validation.{place_after, sight, with_accepted}
 use Rattle.stun_proto.specs.Matching.{AreJoined, AreTexts, Matches}

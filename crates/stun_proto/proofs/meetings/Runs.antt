@@ -17,7 +17,7 @@ use Rattle.stun_auth.specs.declared.server.reason.LongTermServerAuthErrorReason.
 }
 use Rattle.stun_auth.specs.declared.server.reason.LongTermServerAuthErrorReason.TheVariants
     as Server
-use Rattle.stun_auth.specs.Additions.{Page, UnlessMemory}
+use Rattle.stun_judging.specs.Additions.{Page, UnlessMemory}
 use Rattle.stun_auth.specs.Client.{ClientState}
 use Rattle.stun_auth.specs.ClientStep.{ClientAnswer, IsResend}
 use Rattle.stun_auth.specs.Validation.{ServerSeen}

@@ -10,14 +10,15 @@ use Rattle.stun_base.specs.MessageType.{is_success}
 use Rattle.stun_base.specs.declared.keys.algorithm.IntegrityAlgorithm.{IntegrityAlgorithm}
 use Rattle.stun_auth.specs.declared.client.answer.LongTermClientValidation.TheVariants as Read
 use Rattle.stun_auth.specs.declared.server.reason.LongTermServerValidation.TheVariants as Served
-use Rattle.stun_auth.specs.Additions.{Page}
+use Rattle.stun_judging.specs.Additions.{Page}
 use Rattle.stun_auth.specs.Client.{Challenge, ClientSettings, authenticated}
-use Rattle.stun_auth.specs.ClientStep.{STALE_NONCE, UNAUTHORIZED, after_challenge}
-use Rattle.stun_auth.specs.ClientStep.{after_confirmation, after_digest, after_stale, client_step}
-use Rattle.stun_auth.specs.ClientStep.{is_code, taken_up}
-use Rattle.stun_auth.specs.Reading.{Reading, reading_of, verified_under}
-use Rattle.stun_auth.specs.Registered.{Registered}
-use Rattle.stun_auth.specs.Seen.{ClientSeen, PlaceSeen}
+use Rattle.stun_judging.specs.Reading.{STALE_NONCE, UNAUTHORIZED, is_code, Reading, reading_of}
+use Rattle.stun_judging.specs.Reading.{verified_under}
+use Rattle.stun_auth.specs.ClientStep.{after_challenge, after_confirmation, after_digest}
+use Rattle.stun_auth.specs.ClientStep.{after_stale, client_step, taken_up}
+use Rattle.stun_judging.specs.Registered.{Registered}
+use Rattle.stun_judging.specs.Verdict.{ClientSeen}
+use Rattle.stun_auth.specs.Seen.{PlaceSeen}
 use Rattle.stun_auth.specs.Server.{Sight}
 use Rattle.stun_auth.specs.Validation.{ServerSeen, answer, place_after, sight}
 use Rattle.stun_proto.specs.Matching.{AreJoined, AreTexts, Matches}

@@ -10,13 +10,14 @@ use Rattle.stun_base.specs.declared.wire.error.StunWriteError.{StunWriteError}
 use Rattle.stun_base.specs.declared.wire.message_type.MessageClass.TheVariants as Class
 use Rattle.stun_types.specs.ErrorCode.{IsError}
 use Rattle.stun_types.specs.Writing.{empty_message}
-use Rattle.stun_auth.specs.Additions.{Page, added_all, page_of}
+use Rattle.stun_judging.specs.Additions.{Page, added_all, page_of}
 use Rattle.stun_auth.specs.Client.{ClientState}
 use Rattle.stun_auth.specs.ClientSigning.{client_additions}
-use Rattle.stun_auth.specs.ClientStep.{STALE_NONCE, UNAUTHORIZED, is_code}
+use Rattle.stun_judging.specs.Reading.{STALE_NONCE, UNAUTHORIZED, is_code}
 use Rattle.stun_auth.specs.Server.{Sight}
 use Rattle.stun_auth.specs.ServerSigning.{server_signed}
-use Rattle.stun_auth.specs.Signed.{Added, IsBuilt, IsSmall, added_by_client, added_by_server}
+use Rattle.stun_judging.specs.Signed.{Added, IsBuilt, IsSmall}
+use Rattle.stun_auth.specs.Signed.{added_by_client, added_by_server}
 use Rattle.stun_proto.specs.Contact.{IsChallenged, IsGranted}
 use Rattle.stun_proto.specs.Negotiation.{error}
 use Rattle.stun_proto.specs.Renewal.{IsAsked}

@@ -4,21 +4,24 @@ use Rattle.std.specs.Prelude.{◌||◌, IsOk, IsUtf8}
 use Rattle.std.specs.Option.{is_some}
 use Rattle.stun_base.specs.declared.keys.algorithm.IntegrityAlgorithm.{IntegrityAlgorithm}
 use Rattle.stun_base.specs.declared.keys.algorithm.IntegrityAlgorithm.TheVariants.{Sha256}
-use Rattle.stun_auth.specs.declared.algorithm_set.AlgorithmSet.{AlgorithmSet}
-use Rattle.stun_auth.specs.declared.feature.Feature.{Feature}
-use Rattle.stun_auth.specs.Additions.{Page}
-use Rattle.stun_auth.specs.Algorithms.{contains, algorithms_of}
+use Rattle.stun_judging.specs.declared.algorithm_set.AlgorithmSet.{AlgorithmSet}
+use Rattle.stun_judging.specs.declared.feature.Feature.{Feature}
+use Rattle.stun_judging.specs.Additions.{Page}
+use Rattle.stun_judging.specs.Algorithms.{contains, algorithms_of}
 use Rattle.stun_auth.specs.Client.{Challenge, ClientState, initial}
 use Rattle.stun_auth.specs.ClientSigning.{kept_challenge}
-use Rattle.stun_auth.specs.ClientStep.{UNAUTHORIZED, STALE_NONCE, is_code, naming_of}
-use Rattle.stun_auth.specs.Feature.{is_possible}
-use Rattle.stun_auth.specs.Nonces.{asks_for_algorithms, asks_for_userhash, nonce_of, security_bits}
+use Rattle.stun_judging.specs.Reading.{UNAUTHORIZED, STALE_NONCE, is_code}
+use Rattle.stun_judging.specs.Naming.{naming_of}
+use Rattle.stun_judging.specs.Feature.{is_possible}
+use Rattle.stun_judging.specs.Nonces.{asks_for_algorithms, asks_for_userhash, nonce_of}
+use Rattle.stun_judging.specs.Nonces.{security_bits}
 use Rattle.stun_base.specs.MessageType.{is_response, is_success}
-use Rattle.stun_auth.specs.Reading.{Reading, reading_of, verified_under}
-use Rattle.stun_auth.specs.Registered.{key_at}
-use Rattle.stun_auth.specs.Seen.{ClientSeen, PlaceSeen}
-use Rattle.stun_auth.specs.Signed.{Added, IsSmall, added_by_client}
-use Rattle.stun_auth.specs.Signed.{added_by_server, hashed_name, plain_name}
+use Rattle.stun_judging.specs.Reading.{Reading, reading_of, verified_under}
+use Rattle.stun_judging.specs.Registered.{key_at}
+use Rattle.stun_judging.specs.Verdict.{ClientSeen}
+use Rattle.stun_auth.specs.Seen.{PlaceSeen}
+use Rattle.stun_judging.specs.Signed.{Added, IsSmall, hashed_name, plain_name}
+use Rattle.stun_auth.specs.Signed.{added_by_client, added_by_server}
 use Rattle.stun_auth.specs.Server.{Sight}
 use Rattle.stun_proto.specs.Negotiation.{client_request, failure, server_response, success}
 use Rattle.stun_proto.specs.Renewal.{IsAsked, IsTold}

@@ -14,29 +14,31 @@ use Rattle.stun_base.specs.declared.wire.message_type.MessageClass.TheVariants a
 use Rattle.stun_base.specs.Attributes.{ERROR_CODE}
 use Rattle.stun_types.specs.ErrorCode.{CodeAndReason, IsError, error_of}
 use Rattle.stun_types.specs.Grammar.{spelled_message}
-use Rattle.stun_auth.specs.Additions.{Page, added_all}
-use Rattle.stun_auth.specs.declared.algorithm_set.AlgorithmSet.{AlgorithmSet}
-use Rattle.stun_auth.specs.declared.algorithm_set.AlgorithmSet.TheVariants.{OnlySha1}
-use Rattle.stun_auth.specs.declared.algorithm_set.AlgorithmSet.TheVariants.{OnlySha256, Both}
-use Rattle.stun_auth.specs.declared.feature.Feature.{Feature}
-use Rattle.stun_auth.specs.Algorithms.{is_sha256, algorithms_of}
-use Rattle.stun_auth.specs.Client.{Challenge, ClientState, Naming, initial}
+use Rattle.stun_judging.specs.Additions.{Page, added_all, page_of}
+use Rattle.stun_judging.specs.declared.algorithm_set.AlgorithmSet.{AlgorithmSet}
+use Rattle.stun_judging.specs.declared.algorithm_set.AlgorithmSet.TheVariants.{OnlySha1}
+use Rattle.stun_judging.specs.declared.algorithm_set.AlgorithmSet.TheVariants.{OnlySha256, Both}
+use Rattle.stun_judging.specs.declared.feature.Feature.{Feature}
+use Rattle.stun_judging.specs.Algorithms.{is_sha256, algorithms_of}
+use Rattle.stun_auth.specs.Client.{Challenge, ClientState, initial}
+use Rattle.stun_judging.specs.Naming.{Naming, naming_of}
 use Rattle.stun_auth.specs.ClientSigning.{client_additions, kept_challenge}
-use Rattle.stun_auth.specs.ClientStep.{STALE_NONCE, UNAUTHORIZED, is_code, naming_of}
-use Rattle.stun_auth.specs.Nonces.{nonce_of}
-use Rattle.stun_auth.specs.Reading.{error_code, last, reading_of}
-use Rattle.stun_auth.specs.Registered.{key_at}
-use Rattle.stun_auth.specs.Seen.{ClientSeen, PlaceSeen}
+use Rattle.stun_judging.specs.Reading.{STALE_NONCE, UNAUTHORIZED, is_code}
+use Rattle.stun_judging.specs.Nonces.{nonce_of}
+use Rattle.stun_judging.specs.Reading.{error_code, last, reading_of}
+use Rattle.stun_judging.specs.Registered.{key_at}
+use Rattle.stun_judging.specs.Verdict.{ClientSeen}
+use Rattle.stun_auth.specs.Seen.{PlaceSeen}
 use Rattle.stun_auth.specs.Server.{Sight}
 use Rattle.stun_auth.specs.ServerSigning.{server_signed}
-use Rattle.stun_auth.specs.Signed.{Added, IsBuilt, IsSmall, IsText, IsUnsigned, ReadsAs}
+use Rattle.stun_judging.specs.Signed.{Added, IsBuilt, IsSmall, IsText, IsUnsigned, ReadsAs}
 use Rattle.stun_auth.specs.Signed.{added_at, added_by_client, added_by_server, added_for}
 use Rattle.stun_auth.specs.Signed.{added_if_kept, added_under, added_under_key}
-use Rattle.stun_auth.specs.Signed.{added_without_client, additions_of, error_attribute}
-use Rattle.stun_auth.specs.Signed.{is_listed, nothing, only_if, plain_name, hashed_name}
+use Rattle.stun_auth.specs.Signed.{added_without_client}
+use Rattle.stun_judging.specs.Signed.{additions_of, error_attribute}
+use Rattle.stun_judging.specs.Signed.{is_listed, nothing, only_if, plain_name, hashed_name}
 use Rattle.stun_proto.specs.Negotiation.{client_request, error, failure, request, server_response}
 use Rattle.stun_proto.specs.Negotiation.{success}
-use Rattle.stun_auth.specs.Additions.{page_of}
 use Rattle.stun_proto.specs.Renewal.{IsAsked, IsTold}
 use Rattle.stun_proto.specs.Contact.{IsChallenged, IsGranted}
 use Rattle.stun_proto.specs.Session.{IsAnswered}

@@ -25,7 +25,7 @@ use Rattle.stun_types.specs.Visible.{visible}
 use Rattle.stun_types.specs.Walk.{Member, attributes_of}
 use Rattle.stun_types.specs.WriteVec.{Written}
 use Rattle.stun_types.specs.Writing.{RefusedBy, SpellsOneMore}
-use Rattle.stun_auth.specs.Additions.{Page, UnlessMemory}
+use Rattle.stun_judging.specs.Additions.{Page, UnlessMemory}
 use Rattle.stun_auth.specs.Server.{Sight}
 use Rattle.stun_auth.specs.ServerSigning.{after_signing}
 use Rattle.stun_auth.specs.Validation.{ServerSeen}

@@ -3,15 +3,15 @@ use Rattle.std.proofs.Common.{◌≡◌, ℕ, ◌≤◌, List, length, Bool, tru
 use Rattle.std.specs.Option.{IfSome}
 use Rattle.sha2.proofs.Facts256.{length-sha256}
 use Rattle.stun_base.specs.declared.keys.algorithm.IntegrityAlgorithm.{IntegrityAlgorithm}
-use Rattle.stun_auth.specs.declared.algorithm_set.AlgorithmSet.{AlgorithmSet}
-use Rattle.stun_auth.specs.declared.algorithm_set.AlgorithmSet.TheVariants.{OnlySha1}
-use Rattle.stun_auth.specs.declared.algorithm_set.AlgorithmSet.TheVariants.{OnlySha256, Both}
-use Rattle.stun_auth.specs.Algorithms.{algorithms_of}
+use Rattle.stun_judging.specs.declared.algorithm_set.AlgorithmSet.{AlgorithmSet}
+use Rattle.stun_judging.specs.declared.algorithm_set.AlgorithmSet.TheVariants.{OnlySha1}
+use Rattle.stun_judging.specs.declared.algorithm_set.AlgorithmSet.TheVariants.{OnlySha256, Both}
+use Rattle.stun_judging.specs.Algorithms.{algorithms_of}
 use Rattle.stun_auth.specs.Client.{Challenge}
-use Rattle.stun_auth.specs.ClientStep.{naming_of}
-use Rattle.stun_auth.specs.Registered.{Registered}
-use Rattle.stun_auth.specs.Signed.{IsSmall, added_under, added_under_key, added_without_client}
-use Rattle.stun_auth.specs.Signed.{hashed_name, is_listed, nothing, only_if, plain_name}
+use Rattle.stun_judging.specs.Naming.{naming_of}
+use Rattle.stun_judging.specs.Registered.{Registered}
+use Rattle.stun_judging.specs.Signed.{IsSmall, hashed_name, is_listed, nothing, only_if, plain_name}
+use Rattle.stun_auth.specs.Signed.{added_under, added_under_key, added_without_client}
 
 listed_small : (set : AlgorithmSet) → length (algorithms_of set) ≤ 2
 listed_small OnlySha1 = omega arith

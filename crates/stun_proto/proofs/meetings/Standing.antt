@@ -10,16 +10,17 @@ use Rattle.stun_base.specs.Moments.{moment_after}
 use Rattle.stun_base.specs.declared.wire.error.StunParseError.{StunParseError}
 use Rattle.stun_base.specs.declared.wire.error.StunWriteError.{StunWriteError}
 use Rattle.stun_types.specs.Message.{refusal}
-use Rattle.stun_auth.specs.declared.feature.Feature.{Feature}
-use Rattle.stun_auth.specs.Additions.{Page}
+use Rattle.stun_judging.specs.declared.feature.Feature.{Feature}
+use Rattle.stun_judging.specs.Additions.{Page}
 use Rattle.stun_auth.specs.Forgetting.{place_kept}
-use Rattle.stun_auth.specs.Nonces.{nonce_of}
+use Rattle.stun_judging.specs.Nonces.{nonce_of}
 use Rattle.stun_auth.specs.Places.{with_offer}
 use Rattle.stun_base.specs.MessageType.{class_in, is_response}
-use Rattle.stun_auth.specs.Reading.{Reading, reading_of}
+use Rattle.stun_judging.specs.Reading.{Reading, reading_of}
 use Rattle.stun_auth.specs.Reasons.{ServerRefusal}
-use Rattle.stun_auth.specs.Registered.{Registered}
-use Rattle.stun_auth.specs.Seen.{ClientSeen, PlaceSeen, renewed_place}
+use Rattle.stun_judging.specs.Registered.{Registered}
+use Rattle.stun_judging.specs.Verdict.{ClientSeen}
+use Rattle.stun_auth.specs.Seen.{PlaceSeen, renewed_place}
 use Rattle.stun_auth.specs.Server.{Sight, current_place}
 use Rattle.stun_auth.specs.ServerSigning.{after_signing}
 use Rattle.stun_auth.specs.Validation.{ServerSeen, needs_nonce, place_after}

@@ -9,11 +9,10 @@ use Rattle.std.proofs.lemmas.Map.Views.{Contains-from_any, any-filter_same, list
 use Rattle.stun_base.specs.Algorithm.{strength}
 use Rattle.stun_base.specs.declared.keys.algorithm.IntegrityAlgorithm.{IntegrityAlgorithm}
 use Rattle.stun_base.specs.declared.keys.algorithm.IntegrityAlgorithm.TheVariants.{Sha1, Sha256}
-use Rattle.stun_auth.specs.declared.feature.Feature.{Feature}
-use Rattle.stun_auth.specs.declared.feature.Feature.TheVariants.{Auto, Required, Disabled}
-use Rattle.stun_auth.specs.Algorithms.{has, same_algorithm}
-use Rattle.stun_auth.specs.ClientStep.{is_required}
-use Rattle.stun_auth.specs.Feature.{is_possible}
+use Rattle.stun_judging.specs.declared.feature.Feature.{Feature}
+use Rattle.stun_judging.specs.declared.feature.Feature.TheVariants.{Auto, Required, Disabled}
+use Rattle.stun_judging.specs.Algorithms.{has, same_algorithm}
+use Rattle.stun_judging.specs.Feature.{is_required, is_possible}
 use Rattle.stun_proto.specs.Best.{HashIsRefused, IsBest, IsShared}
 use Rattle.stun_proto.specs.Best.{IsStrongestShared, best, stronger}
 use Rattle.stun_proto.proofs.Tests.{both}

@@ -24,18 +24,17 @@ use Rattle.stun_types.specs.Visible.{has_kind}
 use Rattle.stun_types.specs.Walk.{Member, walk}
 use Rattle.stun_types.specs.WriteVec.{Written}
 use Rattle.stun_types.specs.Writing.{IsOpen, attribute_refusal, size_refusal}
-use Rattle.stun_auth.specs.AddedAttribute as attributes
-use Rattle.stun_auth.specs.Additions.{Addition, Page, UnlessMemory, added_all}
-use Rattle.stun_auth.specs.Additions.{attribute, integrity, written_page}
+use Rattle.stun_judging.specs.AddedAttribute as attributes
+use Rattle.stun_judging.specs.Additions.{Addition, Page, UnlessMemory, added_all, attribute}
+use Rattle.stun_judging.specs.Additions.{integrity, written_page, page_of}
 use Rattle.stun_auth.specs.Client.{ClientState}
 use Rattle.stun_auth.specs.ClientSigning.{client_additions}
-use Rattle.stun_auth.specs.Joined.{HasAdded, IsTyped, Protection}
+use Rattle.stun_judging.specs.Joined.{HasAdded, IsTyped, Protection}
 use Rattle.stun_auth.specs.Server.{Sight}
 use Rattle.stun_auth.specs.ServerSigning.{server_signed}
-use Rattle.stun_auth.specs.Signed.{Added, added_by_client, added_by_server}
-use Rattle.stun_auth.specs.Signed.{additions_of, error_attribute, if_there}
+use Rattle.stun_judging.specs.Signed.{Added, additions_of, error_attribute, if_there}
+use Rattle.stun_auth.specs.Signed.{added_by_client, added_by_server}
 use Rattle.stun_proto.specs.Negotiation.{client_request, error, failure, request, success}
-use Rattle.stun_auth.specs.Additions.{page_of}
 use Rattle.stun_proto.specs.code.Signed.{signed_page}
 
 -- ---- the types of additions

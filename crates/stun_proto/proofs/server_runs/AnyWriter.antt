@@ -22,45 +22,18 @@ use Rattle.stun_types.specs.Visible.{has_kind}
 use Rattle.stun_types.specs.Walk.{walk}
 use Rattle.stun_types.specs.Writing.{attribute_refusal, has_integrity, is_set_apart, length_with}
 use Rattle.stun_types.specs.Writing.{signing_refusal, size_refusal}
-use Rattle.stun_auth.specs.Additions.{Addition, Page, added_all, added_one, addition_refusal, after}
-use Rattle.stun_auth.specs.Additions.{attribute, growth_of, integrity, is_text_too_long, page_of}
-use Rattle.stun_auth.specs.Additions.{page_unless_refused, with_addition}
-use Rattle.stun_auth.specs.Registered.{Registered, key_at}
-use Rattle.stun_auth.specs.Seen.{ClientSeen, PlaceSeen}
+use Rattle.stun_judging.specs.Additions.{Addition, Page, added_all, added_one, addition_refusal}
+use Rattle.stun_judging.specs.Additions.{after, attribute, growth_of, integrity, is_text_too_long}
+use Rattle.stun_judging.specs.Additions.{page_of, page_unless_refused, with_addition}
+use Rattle.stun_judging.specs.Registered.{Registered, key_at}
+use Rattle.stun_judging.specs.Verdict.{ClientSeen}
+use Rattle.stun_auth.specs.Seen.{PlaceSeen}
 use Rattle.stun_auth.specs.Server.{Sight}
 use Rattle.stun_auth.specs.ServerSigning.{attributes_for, protected_for, server_signed, signed_at}
 use Rattle.stun_auth.specs.ServerSigning.{signed_under_key}
 use Rattle.stun_auth.specs.Validation.{ServerSeen}
-use Rattle.stun_auth.proofs.Growth.{length-with_integrity}
+use Rattle.stun_judging.proofs.Growth.{length-with_addition}
 use Rattle.stun_proto.specs.ServerLoop.{IsSignedInSome, signed_or_refused}
-
--- ---- lengths
-length-with_length : (bytes : List ℕ) (n : ℕ) → 20 ≤ length bytes
-    → length (with_length bytes n) ≡ length bytes
-length-with_length [] n long = absurd (omega (arith, long))
-length-with_length (x ∷ []) n long = absurd (omega (arith, long))
-length-with_length (x ∷ y ∷ []) n long = absurd (omega (arith, long))
-length-with_length (x ∷ y ∷ z ∷ []) n long = absurd (omega (arith, long))
-length-with_length (x ∷ y ∷ z ∷ w ∷ bytes) n long = refl
-
-length-spelled_attribute : (a : TypedValue)
-    → length (spelled_attribute a) ≡ attribute_length (length a.value)
-length-spelled_attribute a = simp (length-append, length-replicate) (omega arith)
-
-length-with_attribute : (message : List ℕ) (a : TypedValue) (n : ℕ) → 20 ≤ length message
-    → length (with_length message n ++ spelled_attribute a)
-    ≡ length message + attribute_length (length a.value)
-length-with_attribute message a n long =
-    let front = length-with_length message n long in
-    let back = length-spelled_attribute a in
-    let both = length-append (with_length message n) (spelled_attribute a) in
-    both ∙ (rw (front, back) refl)
-
-length-with_addition : (x : Addition) (message : List ℕ) → 20 ≤ length message
-    → length (with_addition x message) ≡ length message + growth_of x
-length-with_addition (attribute a) message long = length-with_attribute message a _ long
-length-with_addition (integrity algorithm key) message long =
-    length-with_integrity message algorithm key long
 
 -- ---- refusals
 -- the same refusal, or none in both, unless there is too little room

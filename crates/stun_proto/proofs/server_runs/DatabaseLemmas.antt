@@ -16,21 +16,22 @@ use Rattle.stun_base.specs.declared.wire.error.StunParseError.{StunParseError}
 use Rattle.stun_base.specs.declared.wire.error.StunWriteError.{StunWriteError}
 use Rattle.stun_base.proofs.Addresses.{address_exact, address_total}
 use Rattle.stun_types.specs.Message.{refusal}
-use Rattle.stun_auth.specs.Additions.{Page, added_all, after}
+use Rattle.stun_judging.specs.Additions.{Page, added_all, after}
 use Rattle.stun_auth.specs.Forgetting.{place_kept}
-use Rattle.stun_auth.specs.ForgettingSteps.{is_looked_at, next_address}
-use Rattle.stun_auth.specs.ForgettingSteps.{places_kept_where}
-use Rattle.stun_auth.specs.Handed.{just, meant_user, with_users}
+use Rattle.stun_auth.specs.ForgettingSteps.{is_looked_at, next_address, places_kept_where}
+use Rattle.stun_judging.specs.Named.{just}
+use Rattle.stun_auth.specs.Handed.{meant_user, with_users}
 use Rattle.stun_auth.specs.Places.{PlacesSeen}
-use Rattle.stun_auth.specs.Reading.{Reading, reading_of}
-use Rattle.stun_auth.specs.Registered.{Registered, RegisteredUser, key_at, key_of, user_named}
-use Rattle.stun_auth.specs.Seen.{ClientSeen, PlaceSeen}
+use Rattle.stun_judging.specs.Reading.{Reading, reading_of}
+use Rattle.stun_judging.specs.Registered.{Registered, RegisteredUser, key_at, key_of, user_named}
+use Rattle.stun_judging.specs.Verdict.{ClientSeen}
+use Rattle.stun_auth.specs.Seen.{PlaceSeen}
 use Rattle.stun_auth.specs.Server.{Sight}
 use Rattle.stun_auth.specs.ServerSigning.{after_signing, attributes_for, protected_for}
 use Rattle.stun_auth.specs.ServerSigning.{server_signed, signed_at, signed_under_key}
 use Rattle.stun_auth.specs.Validation.{ServerSeen, after_validation, answer, client_at, sight}
 use Rattle.stun_auth.specs.Validation as validation
-use Rattle.stun_auth.proofs.MeantUser.{named_alone}
+use Rattle.stun_judging.proofs.MeantUser.{named_alone}
 use Rattle.stun_proto.specs.DatabaseLoop.{AreMadeOf, IsMadeOf, IfAMessage, Made, Stored, StoredCall}
 use Rattle.stun_proto.specs.DatabaseLoop.{Changed, ForgetWithin, LooksAtNoUser, Other, SignOf}
 use Rattle.stun_proto.specs.DatabaseLoop.{ValidateOf, all_users, client_user, forgotten, whole}

@@ -15,7 +15,7 @@ use Rattle.stun_types.specs.Integrity.{is_digest, is_integrity, verified_algorit
 use Rattle.stun_types.specs.Message.{refusal}
 use Rattle.stun_types.specs.Visible.{visible}
 use Rattle.stun_types.specs.Walk.{Member}
-use Rattle.stun_auth.specs.Reading.{Reading, has_visible_integrity, reading_of, verified_under}
+use Rattle.stun_judging.specs.Reading.{Reading, has_visible_integrity, reading_of, verified_under}
 use Rattle.stun_proto.specs.Headline.{HoldsDigest}
 use Rattle.stun_proto.specs.Replies.{message_read}
 use Rattle.stun_proto.proofs.server_runs.RepliesLemmas.{reads_as}

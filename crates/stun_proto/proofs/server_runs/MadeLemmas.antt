@@ -20,8 +20,8 @@ use Rattle.stun_auth.specs.declared.server.reason.LongTermServerAuthErrorReason.
 }
 use Rattle.stun_auth.specs.declared.server.reason.LongTermServerAuthErrorReason.TheVariants
     as Server
-use Rattle.stun_auth.specs.Additions.{Page, UnlessMemory, page_in, written_page}
-use Rattle.stun_auth.specs.Reading.{reading_of}
+use Rattle.stun_judging.specs.Additions.{Page, UnlessMemory, page_in, written_page}
+use Rattle.stun_judging.specs.Reading.{reading_of}
 use Rattle.stun_auth.specs.Reasons.{ServerUnlessMemory}
 use Rattle.stun_auth.specs.ServerSigning.{after_signing, server_signed}
 use Rattle.stun_auth.specs.Validation.{Answer, ServerSeen, after_validation, answer, sight}

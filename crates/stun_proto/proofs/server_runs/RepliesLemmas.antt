@@ -9,15 +9,15 @@ use Rattle.stun_base.specs.declared.keys.algorithm.IntegrityAlgorithm.{Integrity
 use Rattle.stun_base.specs.declared.wire.error.StunParseError.{StunParseError}
 use Rattle.stun_base.specs.declared.wire.error.StunWriteError.{StunWriteError}
 use Rattle.stun_types.specs.Message.{refusal}
-use Rattle.stun_auth.specs.Additions.{Page}
+use Rattle.stun_judging.specs.Additions.{Page}
 use Rattle.stun_base.specs.MessageType.{class_in, is_response}
-use Rattle.stun_auth.specs.Reading.{Reading, reading_of}
-use Rattle.stun_auth.specs.Seen.{ClientSeen, PlaceSeen}
-use Rattle.stun_auth.specs.Server.{Sight, client_of, named_user, or_refused, current_place, verdict}
-use Rattle.stun_auth.specs.Server.{verdict_refusal as auth_refusal}
-use Rattle.stun_auth.specs.Validation.{AcceptedWith, ServerSeen, answer, answer_to}
-use Rattle.stun_auth.specs.Validation.{client_verified, is_malformed, place_after}
-use Rattle.stun_auth.specs.Validation.{sight, validated_or_failed, with_accepted}
+use Rattle.stun_judging.specs.Reading.{Reading, reading_of, is_malformed}
+use Rattle.stun_judging.specs.Verdict.{ClientSeen, client_of, named_user, or_refused, verdict}
+use Rattle.stun_judging.specs.Verdict.{verdict_refusal as auth_refusal}
+use Rattle.stun_auth.specs.Seen.{PlaceSeen}
+use Rattle.stun_auth.specs.Server.{Sight, current_place}
+use Rattle.stun_auth.specs.Validation.{AcceptedWith, ServerSeen, answer, answer_to, client_verified}
+use Rattle.stun_auth.specs.Validation.{place_after, sight, validated_or_failed, with_accepted}
 use Rattle.stun_proto.specs.Accepting.{ValidatesEachAccepted}
 use Rattle.stun_proto.specs.Isolation.{concerns, own_calls, own_place_after, place_unless}
 use Rattle.stun_proto.specs.Isolation.{sight_over}

@@ -16,16 +16,16 @@ use Rattle.stun_types.proofs.MessageLemmas.{refusal-none}
 use Rattle.stun_auth.specs.declared.server.reason.LongTermServerAuthErrorReason.TheVariants
     as Server
 use Rattle.stun_auth.specs.declared.server.reason.LongTermServerValidation.TheVariants as Served
-use Rattle.stun_auth.specs.Additions.{Addition, Page, added_all, page_of}
+use Rattle.stun_judging.specs.Additions.{Addition, Page, added_all, page_of}
 use Rattle.stun_auth.specs.Client.{ClientState, initial}
 use Rattle.stun_auth.specs.ClientSigning.{client_additions}
-use Rattle.stun_auth.specs.ClientStep.{UNAUTHORIZED}
-use Rattle.stun_auth.specs.Joined.{HasAdded, IsTyped}
-use Rattle.stun_auth.specs.Reading.{reading_of}
+use Rattle.stun_judging.specs.Reading.{UNAUTHORIZED, reading_of}
+use Rattle.stun_judging.specs.Joined.{HasAdded, IsTyped}
 use Rattle.stun_auth.specs.ServerSigning.{after_signing}
-use Rattle.stun_auth.specs.Signed.{IsBuilt, added_by_client, additions_of}
+use Rattle.stun_judging.specs.Signed.{IsBuilt, additions_of}
+use Rattle.stun_auth.specs.Signed.{added_by_client}
 use Rattle.stun_auth.specs.Validation.{after_validation}
-use Rattle.stun_auth.proofs.SignedReading.{typed-additions}
+use Rattle.stun_judging.proofs.SignedReading.{typed-additions}
 use Rattle.stun_proto.specs.Honest.{ShortNamesAreSigned, StrongestIsAgreed}
 use Rattle.stun_proto.specs.MeetingExample.{IsServed, a_meeting, a_server}
 use Rattle.stun_proto.specs.Negotiation.{client_request, failure, request, server_response}

@@ -15,8 +15,8 @@ use Rattle.stun_types.specs.Message.{data_refusal, either_refusal, refusal}
 use Rattle.stun_types.specs.Visible.{visible}
 use Rattle.stun_types.specs.Walk.{attributes_of}
 use Rattle.stun_types.proofs.AddingLemmas.{visible-open}
-use Rattle.stun_auth.specs.Additions.{Page, page_of}
-use Rattle.stun_auth.specs.Reading.{Reading, reading_of}
+use Rattle.stun_judging.specs.Additions.{Page, page_of}
+use Rattle.stun_judging.specs.Reading.{Reading, reading_of}
 use Rattle.stun_auth.specs.Server.{Sight}
 use Rattle.stun_auth.specs.ServerSigning.{after_signing, server_signed}
 use Rattle.stun_auth.specs.Validation.{ServerSeen, after_validation, answer, sight}

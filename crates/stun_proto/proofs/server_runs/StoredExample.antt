@@ -11,11 +11,11 @@ use Rattle.std.specs.declared.net.socket_addr.SocketAddr.{SocketAddr}
 use Rattle.stun_base.specs.declared.wire.error.StunParseError.{StunParseError}
 use Rattle.stun_types.specs.Message.{refusal}
 use Rattle.stun_auth.specs.ForgettingSteps.{after_step}
-use Rattle.stun_auth.specs.Handed.{by_name, judged_by, meant_user, named_at, named_in, user_of}
-use Rattle.stun_auth.specs.Handed.{with_users}
-use Rattle.stun_auth.specs.Reading.{Reading, reading_of}
-use Rattle.stun_auth.specs.Registered.{Registered, new_registered, of_password, user_by_password}
-use Rattle.stun_auth.specs.Registered.{with_user}
+use Rattle.stun_judging.specs.Named.{by_name, named_in, user_of}
+use Rattle.stun_auth.specs.Handed.{judged_by, meant_user, named_at, with_users}
+use Rattle.stun_judging.specs.Reading.{Reading, reading_of}
+use Rattle.stun_judging.specs.Registered.{Registered, new_registered, of_password, user_by_password}
+use Rattle.stun_judging.specs.Registered.{with_user}
 use Rattle.stun_auth.specs.Server.{Sight}
 use Rattle.stun_auth.specs.Validation.{ServerSeen, after_validation, answer, sight}
 use Rattle.stun_proto.specs.DatabaseLoop.{IfAMessage, Made, Stored, forgotten, whole, with_passed}

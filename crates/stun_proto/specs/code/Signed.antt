@@ -2,8 +2,7 @@
 use Rattle.std.specs.Prelude.{ℕ, List, Result, Ok, Err}
 use Rattle.stun_base.specs.declared.wire.error.StunWriteError.{StunWriteError}
 use Rattle.stun_types.specs.WriteVec.{Written}
-use Rattle.stun_auth.specs.Additions.{Page}
-use Rattle.stun_auth.specs.Additions.{page_of}
+use Rattle.stun_judging.specs.Additions.{Page, page_of}
 
 -- the message in a writer, if there is one
 abbrev pub written_message : Result Written StunWriteError → Result (List ℕ) StunWriteError

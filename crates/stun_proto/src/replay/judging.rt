@@ -1,7 +1,7 @@
 //! Validates one message at a server. The random numbers for a nonce are an argument.
 
 ghost use Rattle.std.specs.Prelude.{◌≡◌, IfOk, IsOk, OnOk, OnErr, IsErr, Ok, Err};
-ghost use Rattle.stun_auth.specs.Reading.{reading_of};
+ghost use Rattle.stun_judging.specs.Reading.{reading_of};
 ghost use Rattle.stun_auth.specs.Reasons.{ForServerReason};
 ghost use Rattle.stun_auth.specs.Validation.{after_validation, answer, sight};
 ghost use Rattle.stun_proto.specs.code.FirstAnswers.{answer_of};

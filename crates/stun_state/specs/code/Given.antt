@@ -1,6 +1,6 @@
 -- The user that a caller passes, as the calls that judge and sign pass it on.
 use Rattle.std.specs.Prelude.{ℕ, List, Result}
-use Rattle.stun_auth.specs.Registered.{RegisteredUser}
+use Rattle.stun_judging.specs.Registered.{RegisteredUser}
 use Rattle.stun_numbers.specs.declared.refusal.Refusal.{Refusal}
 use Rattle.stun_state.specs.Handed.{user_of_keys, user_of_password}
 use Rattle.stun_state.specs.declared.handed.Given.{Given}

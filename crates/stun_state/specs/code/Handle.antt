@@ -9,9 +9,9 @@ use Rattle.std_heap.specs.contracts.GlobalAllocator.TheImpl.{ghosts}
 use Rattle.stun_agent.specs.Agent.{Agent}
 use Rattle.stun_agent.specs.contracts.agent.StunAgent as agent
 use Rattle.stun_auth.specs.Client.{ClientSide}
-use Rattle.stun_auth.specs.Registered.{Registered}
+use Rattle.stun_judging.specs.Registered.{Registered}
 use Rattle.stun_auth.specs.contracts.client.LongTermClientAuth as client
-use Rattle.stun_auth.specs.contracts.server.user.LongTermServerUser as user
+use Rattle.stun_judging.specs.contracts.user.LongTermServerUser as user
 use Rattle.stun_state.specs.Kept.{kind_of}
 use Rattle.stun_state.specs.contracts.handle.state.Kept as kept
 use Rattle.stun_state.specs.contracts.handle.state.Server as server

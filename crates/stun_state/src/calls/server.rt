@@ -10,7 +10,7 @@ ghost use Rattle.std.specs.Prelude.{◌≡◌, ◌-◌, length, pos, MatchOption
 ghost use Rattle.std.specs.Prelude.{IfSome};
 ghost use Rattle.stun_auth.specs.Forgetting.{after_forgetting, without_place};
 ghost use Rattle.stun_auth.specs.ForgettingSteps.{after_step, next_address};
-ghost use Rattle.stun_auth.specs.Registered.{with_user};
+ghost use Rattle.stun_judging.specs.Registered.{with_user};
 ghost use Rattle.stun_auth.specs.Validation.{client_at, new_server};
 ghost use Rattle.stun_numbers.specs.Refusals.{refusal_or, refusal_number};
 ghost use Rattle.stun_numbers.specs.Buffers.{buffer_after, length_of};

@@ -153,7 +153,7 @@ pub extern "C" fn stunp_server_validate_user(
     };
     let at = kept.server();
     let client = one.user();
-    let answer = if client.belongs_to(&at.server) {
+    let answer = if client.belongs_to(at.server.as_realm()) {
         let verdict = prepared::validate(at, message, from, now, words, client);
         answers::algorithm(verdict)
     } else {
@@ -211,7 +211,7 @@ pub extern "C" fn stunp_server_sign_user(
     };
     let at = kept.server();
     let client = one.user();
-    let answer = if client.belongs_to(&at.server) {
+    let answer = if client.belongs_to(at.server.as_realm()) {
         let signed = sign_with(&mut at.server, buffer, length, to, client);
         answers::length(signed)
     } else {

@@ -6,11 +6,10 @@ use crate::api::array_writer::ArrayWriter;
 use crate::api::run;
 use crate::api::shown::{are_silent, shown};
 use crate::api::support::{ONES, plain_server, signed_by};
-use crate::exported::stun_auth::auth::{
-    Feature, LongTermClientAuth, LongTermServerAuth, ShortTermAuth,
-};
+use crate::exported::stun_auth::auth::{LongTermClientAuth, LongTermServerAuth, ShortTermAuth};
 use crate::exported::stun_base::instant::Instant;
 use crate::exported::stun_base::words::WordSource;
+use crate::exported::stun_judging::feature::Feature;
 use crate::exported::stun_types::data::OwnedBytes;
 use crate::exported::stun_types::message::{
     IntegrityAlgorithm, Message, MessageClass, ShortTermCredentials,

@@ -1,10 +1,11 @@
 //! Tests of a server as one value whose users are looked up between two calls.
 
-use crate::exported::stun_auth::auth::{LongTermClientAuth, NamedUser};
+use crate::exported::stun_auth::auth::LongTermClientAuth;
 use crate::exported::stun_endpoint::lookup::Identified;
 use crate::exported::stun_endpoint::received::{Answer, DropReason, Received};
 use crate::exported::stun_endpoint::server::{LongTerm, Server};
 use crate::exported::stun_endpoint::unix_time::UnixTime;
+use crate::exported::stun_judging::named_user::NamedUser;
 use crate::exported::stun_types::attribute::ErrorCode;
 use crate::exported::stun_types::message::{
     BINDING, IntegrityAlgorithm, LongTermCredentials, Message, MessageClass, MessageType,

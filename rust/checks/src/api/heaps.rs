@@ -2,8 +2,9 @@
 //! values that they return take none. Each text stays on the heap on which it was allocated.
 
 use crate::exported::stun_agent::agent::{StunAgent, StunAgentPollRet};
-use crate::exported::stun_auth::auth::{Feature, LongTermClientAuth, LongTermServerAuth};
+use crate::exported::stun_auth::auth::{LongTermClientAuth, LongTermServerAuth};
 use crate::exported::stun_base::transport::TransportType;
+use crate::exported::stun_judging::feature::Feature;
 use crate::exported::stun_types::message::{IntegrityAlgorithm, MessageClass};
 use crate::host::Abort;
 use crate::host::Fail;

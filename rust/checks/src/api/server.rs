@@ -7,8 +7,9 @@ use crate::api::run;
 use crate::api::shown::{are_silent, shown};
 use crate::api::support::plain_server;
 use crate::exported::stun_auth::auth::{
-    Feature, LongTermClientAuthErrorReason, LongTermServerAuth, LongTermServerAuthErrorReason,
+    LongTermClientAuthErrorReason, LongTermServerAuth, LongTermServerAuthErrorReason,
 };
+use crate::exported::stun_judging::feature::Feature;
 use crate::exported::stun_types::data::OwnedBytes;
 use crate::exported::stun_types::message::MessageClass;
 use crate::exported::stun_types::prelude::*;

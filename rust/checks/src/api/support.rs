@@ -1,5 +1,6 @@
 //! Functions that these tests share, in addition to those in `test_support`.
-use crate::exported::stun_auth::auth::{Feature, LongTermClientAuth, LongTermServerAuth};
+use crate::exported::stun_auth::auth::{LongTermClientAuth, LongTermServerAuth};
+use crate::exported::stun_judging::feature::Feature;
 use crate::exported::stun_types::message::{MessageHeader, StunWriteError};
 use crate::exported::stun_types::prelude::*;
 use crate::host::Fail;

@@ -4,8 +4,9 @@ use crate::api::run;
 use crate::api::shown::{are_silent, shown};
 use crate::exported::stun_agent::stats::StunAgentStats;
 use crate::exported::stun_auth::auth::{
-    Feature, LongTermClientAuth, LongTermServerAuth, LongTermServerAuthErrorReason,
+    LongTermClientAuth, LongTermServerAuth, LongTermServerAuthErrorReason,
 };
+use crate::exported::stun_judging::feature::Feature;
 use crate::exported::stun_proto::replay::{
     NegotiateError, Outcome, ServerCall, ServerReply, Stopped, WordSource, negotiate, serve,
 };

@@ -1,10 +1,10 @@
 //! Plays the calls on security bits of nonces (RFC 8489, section 9.2): `nonce NAME WORD ..`.
 
+use crate::exported::stun_judging::nonce::{LONG_TERM_RFC8489_NONCE_COOKIE, NonceSecurityBits};
 use super::stage::Stage;
 use super::values::phrase;
 use super::words::{hex, unhex};
 use super::{Answer, OUT_OF_MEMORY};
-use crate::exported::stun_auth::auth::{LONG_TERM_RFC8489_NONCE_COOKIE, NonceSecurityBits};
 
 /// Plays `nonce NAME WORD ..`.
 pub fn call(stage: &mut Stage<'_>, words: &[&str]) -> Answer {

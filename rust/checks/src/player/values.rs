@@ -1,9 +1,9 @@
 //! Parses words that are values of the library. The result is `None` if a word is not understood.
 
 use super::words::{id, number, span, text};
-use crate::exported::stun_auth::auth::Feature;
 use crate::exported::stun_base::instant::Instant;
 use crate::exported::stun_base::transport::TransportType;
+use crate::exported::stun_judging::feature::Feature;
 use crate::exported::stun_types::attribute::AttributeType;
 use crate::exported::stun_types::message::{IntegrityAlgorithm, MessageClass, TransactionId};
 

@@ -1,8 +1,9 @@
 //! Functions that the tests of the client share.
 
 use crate::exported::stun_auth::auth::{
-    Feature, LongTermClientAuth, LongTermClientAuthErrorReason, LongTermClientValidation,
+    LongTermClientAuth, LongTermClientAuthErrorReason, LongTermClientValidation,
 };
+use crate::exported::stun_judging::feature::Feature;
 use crate::exported::stun_types::message::{IntegrityAlgorithm, Message, StunParseError};
 use crate::kit::alloc::{AllocError, Allocator};
 use crate::test_support::server::user;

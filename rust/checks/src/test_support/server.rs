@@ -1,10 +1,11 @@
 //! Functions that the tests of the server share.
 
 use crate::exported::stun_auth::auth::{
-    Feature, LongTermServerAuth, LongTermServerAuthErrorReason, LongTermServerValidation,
+    LongTermServerAuth, LongTermServerAuthErrorReason, LongTermServerValidation,
 };
 use crate::exported::stun_base::instant::Instant;
 use crate::exported::stun_base::words::WordSource;
+use crate::exported::stun_judging::feature::Feature;
 use crate::exported::stun_types::attribute::PasswordAlgorithmValue;
 use crate::exported::stun_types::message::{
     IntegrityAlgorithm, LongTermCredentials, Message, MessageClass, MessageHeader, MessageWriteVec,

@@ -1,5 +1,5 @@
 -- Acceptance is proved of the table of answers.
-use Rattle.stun_auth.proofs.Accepting.{answer-accepted}
+use Rattle.stun_auth.proofs.AcceptedAnswers.{answer-accepted}
 use Rattle.stun_auth.proofs.laws.accepted_messages_are_validated.Goals as goal
 
 pub returns : goal.returns

@@ -1,8 +1,8 @@
 -- A client adds attribute by attribute, so its message is read as what was added.
 use Rattle.std.proofs.Common.{◌∙◌, ap, sym}
-use Rattle.stun_auth.proofs.SignedReading.{reads_built}
+use Rattle.stun_judging.proofs.SignedReading.{reads_built}
 use Rattle.stun_auth.proofs.laws.client_messages_are_read.Goals as goal
-use Rattle.stun_auth.specs.Additions.{added_all}
+use Rattle.stun_judging.specs.Additions.{added_all}
 use Rattle.stun_auth.specs.Signed.{added_by_client}
 
 pub returns : goal.returns

@@ -1,6 +1,6 @@
 -- A server adds attribute by attribute, so its message is read as what was added.
 use Rattle.std.proofs.Common.{◌∙◌, sym}
-use Rattle.stun_auth.proofs.SignedReading.{reads_built}
+use Rattle.stun_judging.proofs.SignedReading.{reads_built}
 use Rattle.stun_auth.proofs.laws.server_messages_are_read.Goals as goal
 
 pub returns : goal.returns

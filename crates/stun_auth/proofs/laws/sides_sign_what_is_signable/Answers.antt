@@ -2,8 +2,9 @@
 use Rattle.std.proofs.Common.{◌≡◌, None, Some, Option, refl, ◌∙◌, ap}
 use Rattle.std.specs.Option.{IsSomeAnd}
 use Rattle.std.specs.Result.{is_ok}
-use Rattle.stun_auth.specs.Additions.{Page, added_all}
-use Rattle.stun_auth.specs.Signed.{IsSignable, added_by_client, added_by_server}
+use Rattle.stun_judging.specs.Additions.{Page, added_all}
+use Rattle.stun_judging.specs.Signed.{IsSignable}
+use Rattle.stun_auth.specs.Signed.{added_by_client, added_by_server}
 use Rattle.stun_auth.proofs.laws.sides_sign_what_is_signable.Goals as goal
 
 -- what holds of what is there

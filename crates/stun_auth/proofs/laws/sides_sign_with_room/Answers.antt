@@ -1,7 +1,7 @@
 -- A built message with short texts and enough room is signable.
 use Rattle.std.proofs.Common.{◌∙◌, ap}
 use Rattle.std.specs.Result.{is_ok}
-use Rattle.stun_auth.specs.Additions.{added_all}
+use Rattle.stun_judging.specs.Additions.{added_all}
 use Rattle.stun_auth.specs.Signed.{added_by_client}
 use Rattle.stun_auth.proofs.laws.sides_sign_with_room.Goals as goal
 

@@ -1,10 +1,10 @@
 -- Both users have the same name and the same keys.
 use Rattle.std.proofs.Common.{Some, refl}
-use Rattle.stun_auth.specs.Handed.{only_user}
-use Rattle.stun_auth.specs.Registered.{user_by_keys, user_by_password}
+use Rattle.stun_judging.specs.Named.{only_user}
+use Rattle.stun_judging.specs.Registered.{user_by_keys, user_by_password}
 use Rattle.stun_auth.proofs.SameKeys.{answer-same, message-same, server_additions-same}
 use Rattle.stun_auth.proofs.SameKeys.{server_signed-same, signing-same}
-use Rattle.stun_auth.proofs.UserKeys.{same_keys, same_names}
+use Rattle.stun_judging.proofs.UserKeys.{same_keys, same_names}
 use Rattle.stun_auth.proofs.laws.stored_keys_are_as_their_password.Goals as goal
 
 pub returns-clause-answer : goal.returns-clause-answer

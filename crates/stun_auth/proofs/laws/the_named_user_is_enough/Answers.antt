@@ -1,6 +1,6 @@
 -- The verdict looks at the users for nothing but the one who is named.
 use Rattle.std.proofs.Common.{refl}
-use Rattle.stun_auth.proofs.MeantUser.{answer-meant_user, after_validation-meant_user}
+use Rattle.stun_auth.proofs.MeantClients.{answer-meant_user, after_validation-meant_user}
 use Rattle.stun_auth.proofs.laws.the_named_user_is_enough.Goals as goal
 
 pub returns-clause-answer : goal.returns-clause-answer

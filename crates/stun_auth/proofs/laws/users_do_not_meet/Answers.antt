@@ -1,11 +1,8 @@
 -- Only the user who is named is looked at.
 use Rattle.std.proofs.Common.{refl}
-use Rattle.stun_auth.proofs.UsersApart.{after_validation-another, answer-another}
-use Rattle.stun_auth.proofs.UsersApart.{server_signed-another, verdict-another}
+use Rattle.stun_auth.proofs.ServersApart.{after_validation-another, answer-another}
+use Rattle.stun_auth.proofs.ServersApart.{server_signed-another}
 use Rattle.stun_auth.proofs.laws.users_do_not_meet.Goals as goal
-
-pub returns-clause-judged : goal.returns-clause-judged
-returns-clause-judged c = verdict-another
 
 pub returns-clause-answer : goal.returns-clause-answer
 returns-clause-answer c = answer-another

@@ -3,10 +3,10 @@ use Rattle.std.proofs.Common.{◌≡◌, None, Some, Option, Ok, Err, refl, subs
 use Rattle.std.specs.Prelude.{IsOk, Result}
 use Rattle.std.specs.Option.{IsSome, IsSomeAnd}
 use Rattle.stun_base.specs.declared.wire.error.StunWriteError.{StunWriteError}
-use Rattle.stun_auth.specs.Additions.{Page, added_all}
-use Rattle.stun_auth.specs.Signed.{IsSignableByServer, added_by_client}
-use Rattle.stun_auth.specs.Signed.{added_by_server, additions_of}
-use Rattle.stun_auth.proofs.JoinedLemmas.{WritingLaws}
+use Rattle.stun_judging.specs.Additions.{Page, added_all}
+use Rattle.stun_auth.specs.Signed.{IsSignableByServer, added_by_client, added_by_server}
+use Rattle.stun_judging.specs.Signed.{additions_of}
+use Rattle.stun_judging.proofs.JoinedLemmas.{WritingLaws}
 use Rattle.stun_auth.proofs.SignedBefore.{was_signable}
 use Rattle.stun_auth.proofs.SignedLimits.{by_client, by_server}
 use Rattle.stun_auth.proofs.laws.what_was_signed_may_be_signed.Goals as goal

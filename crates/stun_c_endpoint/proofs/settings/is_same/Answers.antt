@@ -1,5 +1,5 @@
 -- The bytes of the secrets are compared.
-use Rattle.stun_auth.proofs.VerdictLemmas.{bytes_eq-tested}
+use Rattle.stun_judging.proofs.VerdictLemmas.{bytes_eq-tested}
 use Rattle.stun_c_endpoint.proofs.settings.is_same.Goals as goal
 
 pub returns : goal.returns

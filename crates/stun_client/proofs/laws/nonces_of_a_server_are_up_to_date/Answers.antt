@@ -1,6 +1,6 @@
 -- A nonce asks for what its server supports.
 use Rattle.std.proofs.Common.{inr, refl}
-use Rattle.stun_auth.proofs.MarkedNonces.{marked_asks_for_algorithms, marked_asks_for_userhash}
+use Rattle.stun_judging.proofs.MarkedNonces.{marked_asks_for_algorithms, marked_asks_for_userhash}
 use Rattle.stun_client.proofs.laws.nonces_of_a_server_are_up_to_date.Goals as goal
 
 pub returns-clause-made : goal.returns-clause-made

@@ -7,8 +7,8 @@ use Rattle.stun_base.specs.Header.{transaction_id_field}
 use Rattle.stun_base.specs.declared.keys.algorithm.IntegrityAlgorithm.{IntegrityAlgorithm}
 use Rattle.stun_base.specs.declared.wire.message_type.MessageClass.TheVariants.{Request}
 use Rattle.stun_types.specs.Limits.{TEXT_LIMIT}
-use Rattle.stun_auth.specs.Nonces.{letter}
-use Rattle.stun_auth.specs.Reading.{reading_of}
+use Rattle.stun_judging.specs.Nonces.{letter}
+use Rattle.stun_judging.specs.Reading.{reading_of}
 use Rattle.stun_extra.specs.CanonicalAddress.{is_same_address}
 use Rattle.stun_client.specs.Challenges.{Answered, is_one}
 use Rattle.stun_client.specs.Ids.{id_of}

@@ -8,9 +8,9 @@ use Rattle.std.proofs.lemmas.Str.{IsUtf8-from_ascii}
 use Rattle.sha1.specs.Sha1.{compress, digest_bytes, first_words, hash_after, rounds, schedule, sha1}
 use Rattle.stun_base.specs.Hmac.{hmac}
 use Rattle.stun_base.specs.declared.keys.algorithm.IntegrityAlgorithm.TheVariants.{Sha256}
-use Rattle.stun_auth.specs.ClientStep.{naming_of}
-use Rattle.stun_auth.specs.Nonces.{asks_for_userhash, letter}
-use Rattle.stun_auth.specs.Signed.{plain_name}
+use Rattle.stun_judging.specs.Naming.{naming_of}
+use Rattle.stun_judging.specs.Nonces.{asks_for_userhash, letter}
+use Rattle.stun_judging.specs.Signed.{plain_name}
 use Rattle.stun_client.specs.Ids.{id_of}
 use Rattle.stun_client.specs.Judging.{long_term}
 use Rattle.stun_client_calls.specs.Clients.{started}

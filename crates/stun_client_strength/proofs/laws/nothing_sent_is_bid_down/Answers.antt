@@ -4,7 +4,7 @@ use Rattle.std.proofs.Common.{Ok, ap, arith, refl, sym}
 use Rattle.std.specs.Bool.{⊤}
 use Rattle.std.specs.Prelude.{IsUtf8}
 use Rattle.std.specs.Option.{IfSome}
-use Rattle.stun_auth.specs.Signed.{IsText}
+use Rattle.stun_judging.specs.Signed.{IsText}
 use Rattle.stun_client.specs.Challenges.{Answered}
 use Rattle.stun_client.specs.Standing.{confirming}
 use Rattle.stun_client.specs.Judging.{Identity, long_term, unsigned as unsigned_identity}

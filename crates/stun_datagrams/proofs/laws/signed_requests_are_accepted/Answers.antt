@@ -1,6 +1,6 @@
 -- What signing adds is read back, and is what an accepted request has.
-use Rattle.stun_auth.specs.Joined.{page_after}
-use Rattle.stun_auth.specs.Signed.{additions_of}
+use Rattle.stun_judging.specs.Joined.{page_after}
+use Rattle.stun_judging.specs.Signed.{additions_of}
 use Rattle.stun_datagrams.proofs.ExampleLemmas.{signed_are_accepted}
 use Rattle.stun_datagrams.proofs.laws.signed_requests_are_accepted.Goals as goal
 

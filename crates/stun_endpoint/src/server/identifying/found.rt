@@ -2,9 +2,9 @@
 //! (RFC 8489, section 9.2.4).
 
 ghost use Rattle.std.specs.Prelude.{◌≡◌, IfOk, IsOk, Some, false};
-ghost use Rattle.stun_auth.specs.Found.{found_key};
-ghost use Rattle.stun_auth.specs.Handed.{just};
-ghost use Rattle.stun_auth.specs.Reading.{reading_of};
+ghost use Rattle.stun_judging.specs.Found.{found_key};
+ghost use Rattle.stun_judging.specs.Named.{just};
+ghost use Rattle.stun_judging.specs.Reading.{reading_of};
 ghost use Rattle.stun_base.specs.MessageType.{class_in};
 ghost use Rattle.stun_endpoint.specs.Answers.{is_fingerprinted};
 ghost use Rattle.stun_endpoint.specs.Judged.{judged, realm_of_user};
@@ -21,10 +21,11 @@ use crate::server::Server;
 use crate::unix_time::UnixTime;
 use std::alloc::AllocError;
 use std::net::SocketAddr;
-use stun_auth::auth::{FoundUser, ReadMessage, UserClaim};
 use stun_base::algorithm::IntegrityAlgorithm;
 use stun_base::memory::Memory;
 use stun_base::prepared_key::PreparedKey;
+use stun_judging::found::{FoundUser, UserClaim};
+use stun_judging::read_message::ReadMessage;
 use stun_types::message::MessageClass;
 
 impl<A: Memory> Server<A> {
@@ -138,6 +139,6 @@ impl<A: Memory> Server<A> {
     ) -> Option<(IntegrityAlgorithm, PreparedKey<A>)>
         ensures { result ≡ found_key (registered_of self.now) claim.now user.now }
     {
-        self.auth.verify_found(claim, user)
+        self.realm.verify_found(claim, user)
     }
 }

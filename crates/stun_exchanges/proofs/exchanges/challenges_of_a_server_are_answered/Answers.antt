@@ -1,6 +1,6 @@
 -- A challenge is read as the server means it, and answered by the rule.
 use Rattle.std.proofs.Common.{◌∙◌, map}
-use Rattle.stun_auth.specs.Nonces.{letter}
+use Rattle.stun_judging.specs.Nonces.{letter}
 use Rattle.stun_exchanges.specs.Agreement.{meant_by, offered_by}
 use Rattle.stun_endpoint.specs.Nonces.{nonce_in, words_of}
 use Rattle.stun_endpoint.specs.Received.{challenge_answer}

@@ -1,7 +1,7 @@
 -- What reads as signed for a challenge has what an accepted request has.
 use Rattle.std.proofs.Common.{map}
-use Rattle.stun_auth.specs.Nonces.{letter}
-use Rattle.stun_auth.specs.Reading.{reading_of}
+use Rattle.stun_judging.specs.Nonces.{letter}
+use Rattle.stun_judging.specs.Reading.{reading_of}
 use Rattle.stun_endpoint.specs.Lookups.{users_with}
 use Rattle.stun_endpoint.specs.Nonces.{current_nonce, epoch_of, words_of}
 use Rattle.stun_exchanges.specs.Exchange.{realm_knowing}

@@ -1,5 +1,5 @@
 -- The nonce of the epoch and that of the epoch before are both looked at.
-use Rattle.stun_auth.specs.Reading.{reading_of}
+use Rattle.stun_judging.specs.Reading.{reading_of}
 use Rattle.stun_exchanges.proofs.InTimeLemmas.{accepted_within}
 use Rattle.stun_exchanges.proofs.server.clients_are_accepted_while_their_nonce_lasts.Goals as goal
 

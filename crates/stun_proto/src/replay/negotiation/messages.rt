@@ -5,10 +5,9 @@ ghost use Rattle.stun_base.specs.Header.{transaction_id_field, type_field};
 ghost use Rattle.stun_base.specs.MessageType.{method_of, class_in, is_response};
 ghost use Rattle.stun_types.specs.Message.{IsMessage};
 ghost use Rattle.stun_types.specs.Writing.{IsOpen};
-ghost use Rattle.stun_auth.specs.Additions.{UnlessMemory};
-ghost use Rattle.stun_auth.specs.ClientStep.{ForClientReason};
-ghost use Rattle.stun_auth.specs.ClientStep.{IsResend, UNAUTHORIZED, client_step};
-ghost use Rattle.stun_auth.specs.Reading.{reading_of};
+ghost use Rattle.stun_judging.specs.Additions.{UnlessMemory};
+ghost use Rattle.stun_auth.specs.ClientStep.{ForClientReason, IsResend, client_step};
+ghost use Rattle.stun_judging.specs.Reading.{UNAUTHORIZED, reading_of};
 ghost use Rattle.stun_auth.specs.ServerSigning.{after_signing};
 ghost use Rattle.stun_auth.specs.Validation.{sight};
 ghost use Rattle.stun_proto.specs.Negotiation.{BINDING as BINDING_METHOD, client_request};
@@ -20,10 +19,11 @@ use std::net::SocketAddr;
 use stun_auth::auth::{
     LongTermClientAuth, LongTermClientAuthErrorReason, LongTermClientValidation, LongTermServerAuth,
 };
-use stun_auth::laws;
+use stun_auth::laws as auth_laws;
 use stun_base::error::StunWriteError;
 use stun_base::memory::Memory;
 use stun_base::transaction_id::TransactionId;
+use stun_judging::laws as judging_laws;
 use stun_types::attribute::ErrorCode;
 use stun_types::message::{BINDING, Message, MessageWriteVec};
 use stun_types::prelude::*;
@@ -42,8 +42,8 @@ pub(crate) fn request<A: Memory>(
     ensures stays { client.new ≡ client.old }
     ensures granted { A.grants → UnlessMemory result ⊤ ⊥ }
 {
-    laws::additions_are_read_back();
-    laws::sides_add_by_attribute();
+    judging_laws::additions_are_read_back();
+    auth_laws::sides_add_by_attribute();
     let writer = Message::builder_request(BINDING, id, MessageWriteVec::new(alloc))?;
     client.sign_outgoing_message(writer)
 }
@@ -119,8 +119,8 @@ fn sign<A: Memory>(
     ensures refused { OnErr result (server.new ≡ server.old) }
     ensures granted { A.grants → UnlessMemory result ⊤ ⊥ }
 {
-    laws::additions_are_read_back();
-    laws::sides_add_by_attribute();
+    judging_laws::additions_are_read_back();
+    auth_laws::sides_add_by_attribute();
     server.sign_outgoing_message(writer, to)
 }
 

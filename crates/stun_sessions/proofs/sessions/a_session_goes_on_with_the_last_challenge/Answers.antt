@@ -1,6 +1,6 @@
 -- The nonces of a server have the same bits, so its challenges are as strong as each other.
 use Rattle.std.proofs.Common.{map}
-use Rattle.stun_auth.specs.Nonces.{letter}
+use Rattle.stun_judging.specs.Nonces.{letter}
 use Rattle.stun_endpoint.specs.Settings.{registered_of}
 use Rattle.stun_endpoint.specs.Nonces.{words_of}
 use Rattle.stun_sessions.proofs.SessionLemmas.{alike_stay, answered_last, is_heeded, stays_current}

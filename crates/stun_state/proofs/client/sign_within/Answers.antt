@@ -2,7 +2,7 @@
 use Rattle.std.proofs.Common.{◌-◌, length, subst, sym, take}
 use Rattle.std.proofs.lemmas.List.{length-replicate}
 use Rattle.stun_base.specs.MessageType.{class_in, is_request}
-use Rattle.stun_auth.specs.Additions.{WantsMemory, page_of}
+use Rattle.stun_judging.specs.Additions.{WantsMemory, page_of}
 use Rattle.stun_auth.specs.ClientSigning.{client_additions}
 use Rattle.stun_state.proofs.Enough.{client_within}
 use Rattle.stun_state.proofs.client.sign_within.Goals as goal

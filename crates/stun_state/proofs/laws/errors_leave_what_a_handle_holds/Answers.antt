@@ -1,7 +1,7 @@
 -- What is changed is changed only where there is no error.
 use Rattle.std.proofs.Common.{◌≡◌, Ok, ap, if◌then◌else◌}
 use Rattle.stun_auth.specs.Forgetting.{without_place}
-use Rattle.stun_auth.specs.Registered.{without_user}
+use Rattle.stun_judging.specs.Registered.{without_user}
 use Rattle.stun_numbers.specs.Buffers.{buffer_after}
 use Rattle.stun_numbers.specs.Refusals.{refusal_or}
 use Rattle.stun_agent.specs.Agent.{without_validated}

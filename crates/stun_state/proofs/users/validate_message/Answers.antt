@@ -1,7 +1,7 @@
 -- The words that the authenticator draws are those that were handed in, and its reason has its
 -- refusal.
 use Rattle.std.proofs.Common.{◌≡◌, ℕ, List, ◌∙◌, ap, subst, sym, Ok, Err}
-use Rattle.stun_auth.specs.Reading.{reading_of}
+use Rattle.stun_judging.specs.Reading.{reading_of}
 use Rattle.stun_auth.specs.Validation.{Answer, ChangesNothing, ServerSeen, after_validation}
 use Rattle.stun_auth.specs.Validation.{answer, sight}
 use Rattle.stun_base.proofs.DrawnWords.{next_words-source}

@@ -1,7 +1,7 @@
 //! Plays the settings of a server, one by one.
 
-use crate::exported::stun_auth::auth::AlgorithmSet;
 use crate::exported::stun_endpoint::server::LongTerm;
+use crate::exported::stun_judging::algorithm_set::AlgorithmSet;
 use crate::exported::stun_types::attribute::AttributeType;
 use crate::kit::alloc::Global;
 use crate::kit::prelude::{String as HeapString, Vec as HeapVec};

@@ -1,10 +1,10 @@
 -- What is signed is longer by what all additions take, and what may be signed is signed without
 -- memory.
 use Rattle.std.proofs.Common.{refl}
-use Rattle.stun_auth.specs.Additions.{written_page}
-use Rattle.stun_auth.proofs.Growth.{grown_answer, succeeds_reserved, wants_short}
+use Rattle.stun_judging.specs.Additions.{written_page}
+use Rattle.stun_judging.proofs.Growth.{grown_answer, succeeds_reserved, wants_short}
 use Rattle.stun_auth.proofs.SignedLimits.{client_signable}
-use Rattle.stun_auth.proofs.Wanting.{signable_answer}
+use Rattle.stun_judging.proofs.Wanting.{signable_answer}
 use Rattle.stun_auth.proofs.client.LongTermClientAuth.sign_outgoing_message.Goals as goal
 
 pub returns-clause-grows : goal.returns-clause-grows

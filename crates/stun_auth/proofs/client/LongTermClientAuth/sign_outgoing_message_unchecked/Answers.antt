@@ -1,6 +1,6 @@
 -- What may be signed is refused for lack of memory alone.
 use Rattle.std.specs.Prelude.{⊤, Err, IsOk}
-use Rattle.stun_auth.proofs.Wanting.{where_granted}
+use Rattle.stun_judging.proofs.Wanting.{where_granted}
 use Rattle.stun_auth.proofs.client.LongTermClientAuth.sign_outgoing_message_unchecked.Goals as goal
 
 pub returns-in-Err-clause-granted : goal.returns-in-Err-clause-granted

@@ -3,9 +3,9 @@ use Rattle.std.proofs.Common.{◌≡◌, Bool, true, false, Some, ◌∙◌, ap,
 use Rattle.std.specs.Prelude.{find, map}
 use Rattle.stun_types.specs.PasswordAlgorithms.{integrity_of}
 use Rattle.stun_base.specs.declared.keys.algorithm.IntegrityAlgorithm.{IntegrityAlgorithm}
-use Rattle.stun_auth.specs.Algorithms.{has}
+use Rattle.stun_judging.specs.Algorithms.{has}
 use Rattle.stun_auth.specs.code.Supported.{in_order}
-use Rattle.stun_auth.proofs.ListSteps.{drop-past, find-at, find-past}
+use Rattle.stun_judging.proofs.ListSteps.{drop-past, find-at, find-past}
 use Rattle.stun_auth.proofs.client.challenge.first_supported.Goals as goal
 use Rattle.stun_auth.proofs.client.challenge.first_supported.Goals.{in-Some+else-contains}
 use Rattle.stun_auth.proofs.client.challenge.first_supported.Goals.{in_default}

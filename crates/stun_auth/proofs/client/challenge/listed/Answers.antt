@@ -1,6 +1,6 @@
 -- The algorithm of the index is copied after those before it.
 use Rattle.std.proofs.Common.{[], ◌∷◌, ◌++◌, ◌∙◌, ap, sym}
-use Rattle.stun_auth.proofs.ListSteps.{take-at, take-past}
+use Rattle.stun_judging.proofs.ListSteps.{take-at, take-past}
 use Rattle.stun_auth.proofs.client.challenge.listed.Goals as goal
 use Rattle.stun_auth.proofs.client.challenge.listed.Goals.{in-Some+in_ok-push, in_default}
 

@@ -4,7 +4,7 @@ use Rattle.std.proofs.lemmas.Result.{err_from_is_err_and}
 use Rattle.std.specs.String.{string_bytes}
 use Rattle.stun_auth.specs.ServerSigning.{attributes_for, digest_for, protected_for}
 use Rattle.stun_auth.specs.code.Places.{place_seen}
-use Rattle.stun_auth.proofs.Wanting.{followed_as, refused_before}
+use Rattle.stun_judging.proofs.Wanting.{followed_as, refused_before}
 use Rattle.stun_auth.proofs.server.LongTermServerAuth.sign_at.Goals as goal
 
 pub returns-in_err-add_attributes-clause-outcome : goal.returns-in_err-add_attributes-clause-outcome

@@ -4,13 +4,14 @@ use Rattle.std.specs.Prelude.{⊤, IsOk}
 use Rattle.std.specs.Result.{is_ok}
 use Rattle.std.proofs.lemmas.Result.{err_from_is_err_and}
 use Rattle.stun_base.specs.declared.wire.error.StunWriteError.{StunWriteError}
-use Rattle.stun_auth.specs.Additions.{Page, UnlessMemory, page_in}
-use Rattle.stun_auth.specs.Outcome.{outcome_of}
+use Rattle.stun_judging.specs.Additions.{Page, UnlessMemory, page_in}
+use Rattle.stun_judging.specs.Outcome.{outcome_of}
 use Rattle.stun_auth.specs.ServerSigning.{server_growth, server_signed}
 use Rattle.stun_auth.specs.Validation.{sight}
-use Rattle.stun_auth.proofs.Growth.{grown_by_server, server_wants_short, succeeds_reserved}
+use Rattle.stun_auth.proofs.ServerGrowth.{grown_by_server, server_wants_short}
+use Rattle.stun_judging.proofs.Growth.{succeeds_reserved}
 use Rattle.stun_auth.proofs.SignedLimits.{server_signable}
-use Rattle.stun_auth.proofs.Wanting.{signable_refused}
+use Rattle.stun_judging.proofs.Wanting.{signable_refused}
 use Rattle.stun_auth.proofs.server.LongTermServerAuth.sign_outgoing_message.Goals as goal
 
 pub returns-in_err-add_signature-clause-succeeds : goal.returns-in_err-add_signature-clause-succeeds

@@ -2,10 +2,10 @@
 use Rattle.std.proofs.Common.{sym, subst}
 use Rattle.std.specs.Prelude.{⊤}
 use Rattle.stun_base.specs.Words.{next_words}
-use Rattle.stun_auth.specs.Reading.{reading_of}
+use Rattle.stun_judging.specs.Reading.{reading_of}
 use Rattle.stun_auth.specs.Reasons.{ServerUnlessMemory}
 use Rattle.stun_auth.specs.Validation.{Answer, ValidatesAccepted, sight}
-use Rattle.stun_auth.proofs.Accepting.{answer-accepted}
+use Rattle.stun_auth.proofs.AcceptedAnswers.{answer-accepted}
 use Rattle.stun_auth.proofs.Unchanged.{or_memory_map}
 use Rattle.stun_auth.proofs.server.LongTermServerAuth.validate_incoming_message.Goals as goal
 

@@ -2,7 +2,7 @@
 use Rattle.std.proofs.Common.{subst}
 use Rattle.std.specs.Prelude.{⊤}
 use Rattle.stun_base.specs.Words.{next_words}
-use Rattle.stun_auth.specs.Reading.{reading_of}
+use Rattle.stun_judging.specs.Reading.{reading_of}
 use Rattle.stun_auth.specs.Reasons.{ServerUnlessMemory}
 use Rattle.stun_auth.specs.Validation.{ServerSeen, ValidatesAccepted, sight}
 use Rattle.stun_auth.proofs.server.LongTermServerAuth.validate_incoming_message_of.Goals as goal

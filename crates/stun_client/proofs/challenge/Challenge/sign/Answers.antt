@@ -2,12 +2,12 @@
 use Rattle.std.proofs.Common.{◌≡◌, ◌+◌, ◌∙◌, None, true, length, subst}
 use Rattle.std.specs.Prelude.{IfOk}
 use Rattle.stun_base.specs.MessageType.{class_in}
-use Rattle.stun_auth.specs.Additions.{WantsMemory, growth, page_in}
-use Rattle.stun_auth.specs.ClientStep.{is_required}
-use Rattle.stun_auth.specs.Reading.{error_code, reading_of}
-use Rattle.stun_auth.specs.Signed.{IsUnsigned, ReadsAs}
-use Rattle.stun_auth.proofs.Growth.{grown_answer}
-use Rattle.stun_auth.proofs.JoinedLemmas.{WritingLaws}
+use Rattle.stun_judging.specs.Additions.{WantsMemory, growth, page_in}
+use Rattle.stun_judging.specs.Feature.{is_required}
+use Rattle.stun_judging.specs.Reading.{error_code, reading_of}
+use Rattle.stun_judging.specs.Signed.{IsUnsigned, ReadsAs}
+use Rattle.stun_judging.proofs.Growth.{grown_answer}
+use Rattle.stun_judging.proofs.JoinedLemmas.{WritingLaws}
 use Rattle.stun_client.specs.Challenge.{added_under, challenge_additions}
 use Rattle.stun_client.specs.Challenges.{Answered}
 use Rattle.stun_client.specs.Downgrade.{IsNowhereBidDown}

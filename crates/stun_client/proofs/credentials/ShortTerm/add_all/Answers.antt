@@ -2,9 +2,9 @@
 use Rattle.std.proofs.Common.{List, [], ◌∷◌, Err, ap, ◌∙◌, refl}
 use Rattle.std.proofs.lemmas.Result.{err_from_is_err_and}
 use Rattle.std.specs.Prelude.{string_bytes}
-use Rattle.stun_auth.specs.AddedAttribute.{username}
-use Rattle.stun_auth.specs.Additions.{Addition, attribute, integrity}
-use Rattle.stun_auth.proofs.Wanting.{refused_outcome, then_outcome}
+use Rattle.stun_judging.specs.AddedAttribute.{username}
+use Rattle.stun_judging.specs.Additions.{Addition, attribute, integrity}
+use Rattle.stun_judging.proofs.Wanting.{refused_outcome, then_outcome}
 use Rattle.stun_client.proofs.credentials.ShortTerm.add_all.Goals as goal
 
 pub returns-in_err-add-clause-outcome : goal.returns-in_err-add-clause-outcome

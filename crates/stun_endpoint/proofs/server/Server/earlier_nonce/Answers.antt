@@ -1,7 +1,7 @@
 -- The nonce of the current secret comes before those of the previous one.
 use Rattle.std.proofs.Common.{rules, ◌≡◌, Some, None, sym, ◌∙◌, ap}
 use Rattle.std.specs.String.{string_bytes}
-use Rattle.stun_auth.specs.Reading.{reading_of}
+use Rattle.stun_judging.specs.Reading.{reading_of}
 use Rattle.stun_endpoint.specs.Lookups.{previous_nonces}
 use Rattle.stun_endpoint.specs.code.Earlier.{nonces_before, their_nonce_among}
 use Rattle.stun_endpoint.proofs.EarlierLemmas.{earlier_has, earlier_other}

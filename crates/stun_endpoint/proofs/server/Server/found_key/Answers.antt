@@ -1,8 +1,8 @@
 -- The key that verifies is the user's, and the request has a nonce that is accepted.
 use Rattle.std.proofs.Common.{rules, arith, ◌≡◌, ℕ, List, Some, subst, sym}
 use Rattle.stun_base.specs.declared.keys.algorithm.IntegrityAlgorithm.{IntegrityAlgorithm}
-use Rattle.stun_auth.specs.Found.{found_key}
-use Rattle.stun_auth.specs.Reading.{reading_of}
+use Rattle.stun_judging.specs.Found.{found_key}
+use Rattle.stun_judging.specs.Reading.{reading_of}
 use Rattle.stun_endpoint.specs.Settings.{registered_of}
 use Rattle.stun_endpoint.specs.code.Found.{IsAcceptedByKey, waiting_claim}
 use Rattle.stun_endpoint.proofs.FoundLemmas.{found_accepted}

@@ -1,9 +1,9 @@
 -- What the code finds decides: the key of the user, or the refusal that the current nonce tells.
 use Rattle.std.proofs.Common.{rules, arith, ◌≡◌, None, Some, subst, sym, ◌∙◌, ap}
 use Rattle.std.specs.Prelude.{IfOk}
-use Rattle.stun_auth.specs.Judged.{client_judged}
-use Rattle.stun_auth.specs.Reading.{reading_of}
-use Rattle.stun_auth.specs.Server.{verdict}
+use Rattle.stun_judging.specs.Judged.{client_judged}
+use Rattle.stun_judging.specs.Reading.{reading_of}
+use Rattle.stun_judging.specs.Verdict.{verdict}
 use Rattle.stun_endpoint.specs.Nonces.{epoch_of, nonce_in}
 use Rattle.stun_endpoint.specs.Outcomes.{outcome_of}
 use Rattle.stun_endpoint.specs.Received.{outcome_of_accepted}

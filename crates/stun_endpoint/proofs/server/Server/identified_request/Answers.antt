@@ -1,6 +1,6 @@
 -- A request that waits for nobody comes to what the current nonce tells.
 use Rattle.std.proofs.Common.{rules, arith, ◌≡◌, None, sym, ◌∙◌, ap}
-use Rattle.stun_auth.specs.Reading.{reading_of}
+use Rattle.stun_judging.specs.Reading.{reading_of}
 use Rattle.stun_endpoint.specs.Lookups.{done, identified_as, waits_for}
 use Rattle.stun_endpoint.specs.Nonces.{epoch_of, nonce_in}
 use Rattle.stun_endpoint.specs.code.Judgements.{by_judgement}

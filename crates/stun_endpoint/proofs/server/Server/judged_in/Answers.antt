@@ -1,8 +1,8 @@
 -- A request whose nonce is stale is accepted under the earlier nonce that it has, or is stale.
 use Rattle.std.proofs.Common.{rules, ◌≡◌, Some, Ok, Err, sym}
 use Rattle.std.specs.String.{string_bytes}
-use Rattle.stun_auth.specs.Reading.{reading_of}
-use Rattle.stun_auth.specs.declared.server.reason.VerdictRefusal.TheVariants.{StaleNonce}
+use Rattle.stun_judging.specs.Reading.{reading_of}
+use Rattle.stun_judging.specs.declared.refusal.VerdictRefusal.TheVariants.{StaleNonce}
 use Rattle.stun_endpoint.specs.Judged.{verdict_under}
 use Rattle.stun_endpoint.specs.Nonces.{nonce_in}
 use Rattle.stun_endpoint.specs.code.Earlier.{earlier_nonces, their_nonce_among}

@@ -1,6 +1,6 @@
 -- The cause by the verdict of the code is the one of the definitions.
 use Rattle.std.proofs.Common.{rules, arith, ◌≡◌, ◌∙◌, ap, sym, None, Some, Ok, Err}
-use Rattle.stun_auth.specs.Reading.{reading_of}
+use Rattle.stun_judging.specs.Reading.{reading_of}
 use Rattle.stun_endpoint.specs.Causes.{or_unknown}
 use Rattle.stun_endpoint.specs.Judged.{judged}
 use Rattle.stun_endpoint.specs.Nonces.{current_nonce}

@@ -1,8 +1,8 @@
 -- The verdict of the code is the one of the definitions.
 use Rattle.std.specs.Prelude.{IfOk}
 use Rattle.std.proofs.Common.{rules, arith, ◌≡◌, sym}
-use Rattle.stun_auth.specs.Judged.{HasVerifyingKey, client_judged}
-use Rattle.stun_auth.specs.Reading.{reading_of}
+use Rattle.stun_judging.specs.Judged.{HasVerifyingKey, client_judged}
+use Rattle.stun_judging.specs.Reading.{reading_of}
 use Rattle.stun_endpoint.specs.Judged.{judged}
 use Rattle.stun_endpoint.specs.Nonces.{current_nonce}
 use Rattle.stun_endpoint.specs.code.Judges.{realm_of}

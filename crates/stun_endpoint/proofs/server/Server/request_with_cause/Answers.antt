@@ -1,7 +1,7 @@
 -- The verdict of the code is the one of the definitions, and so is the cause.
 use Rattle.std.proofs.Common.{rules, arith, ◌≡◌, ◌∙◌, ap, sym, Some, Ok, Err}
-use Rattle.stun_auth.specs.Judged.{HasVerifyingKey}
-use Rattle.stun_auth.specs.Reading.{reading_of}
+use Rattle.stun_judging.specs.Judged.{HasVerifyingKey}
+use Rattle.stun_judging.specs.Reading.{reading_of}
 use Rattle.stun_endpoint.specs.Causes.{or_unknown}
 use Rattle.stun_endpoint.specs.Judged.{judged}
 use Rattle.stun_endpoint.specs.Nonces.{current_nonce}

@@ -1,6 +1,6 @@
 -- The table of users is judged by as it is seen.
 use Rattle.std.proofs.Common.{◌≡◌, IfOk, subst}
-use Rattle.stun_auth.specs.Validation.{ServerSeen}
+use Rattle.stun_judging.specs.Realm.{RealmSeen}
 use Rattle.stun_endpoint.specs.Judged.{realm_of_table}
 use Rattle.stun_endpoint.specs.Outcomes.{outcome_of}
 use Rattle.stun_endpoint.specs.Received.{received_by}
@@ -8,6 +8,6 @@ use Rattle.stun_endpoint.proofs.server.Server.resume_among.Goals as goal
 
 pub returns-clause-received : goal.returns-clause-received
 returns-clause-received g c =
-    subst (λ (table : ServerSeen). IfOk c.resumed.result (λ received. outcome_of received
+    subst (λ (table : RealmSeen). IfOk c.resumed.result (λ received. outcome_of received
     ≡ received_by c.args.self.now (realm_of_table table) c.args.lookup.from c.args.lookup.arrived
     c.args.lookup.message)) c.users.view_is c.resumed.ensures.received

@@ -1,7 +1,7 @@
 -- The answer is that of the server under the words that were drawn.
 use Rattle.std.proofs.Common.{◌≡◌, ◌∙◌, ap, subst, Ok, Err}
 use Rattle.std.specs.Prelude.{IsErr}
-use Rattle.stun_auth.specs.Reading.{reading_of}
+use Rattle.stun_judging.specs.Reading.{reading_of}
 use Rattle.stun_auth.specs.Reasons.{ForServerReason}
 use Rattle.stun_auth.specs.Validation.{Answer, after_validation, answer, sight}
 use Rattle.stun_auth.specs.declared.server.reason.LongTermServerAuthErrorReason.{

@@ -1,6 +1,6 @@
 -- The bytes are read, signed, and the reply is of what was signed.
 use Rattle.std.proofs.Common.{◌≡◌, List, ℕ, subst, OnOk}
-use Rattle.stun_auth.specs.Additions.{UnlessMemory}
+use Rattle.stun_judging.specs.Additions.{UnlessMemory}
 use Rattle.stun_base.specs.MessageType.{class_in, is_response}
 use Rattle.stun_auth.specs.ServerSigning.{after_signing}
 use Rattle.stun_auth.specs.Validation.{sight}

@@ -4,7 +4,7 @@ use Rattle.std.proofs.lemmas.Grind.{common_steps}
 use Rattle.stun_base.specs.Header.{type_field}
 use Rattle.stun_types.specs.Grammar.{spelled_message}
 use Rattle.stun_types.specs.WriteVec.{Written}
-use Rattle.stun_auth.specs.Additions.{UnlessMemory}
+use Rattle.stun_judging.specs.Additions.{UnlessMemory}
 use Rattle.stun_proto.specs.Signing.{written_anew}
 use Rattle.stun_proto.specs.code.Signed.{written_message}
 use Rattle.stun_proto.proofs.meetings.SigningLemmas.{IsWritingAnew, begins_anew, ends_anew}

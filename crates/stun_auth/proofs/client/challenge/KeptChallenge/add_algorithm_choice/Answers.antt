@@ -1,9 +1,10 @@
 -- The list is added, or refused, and then the choice from it.
 use Rattle.std.proofs.Common.{List, [], ◌∷◌, Err, ap, ◌∙◌}
 use Rattle.std.proofs.lemmas.Result.{err_from_is_err_and}
-use Rattle.stun_auth.specs.AddedAttribute.{password_algorithm}
-use Rattle.stun_auth.specs.Additions.{Addition, attribute}
-use Rattle.stun_auth.proofs.Wanting.{choice_of_list, refused_at_first, then_added}
+use Rattle.stun_judging.specs.AddedAttribute.{password_algorithm}
+use Rattle.stun_judging.specs.Additions.{Addition, attribute}
+use Rattle.stun_auth.proofs.ChoiceWanting.{choice_of_list}
+use Rattle.stun_judging.proofs.Wanting.{refused_at_first, then_added}
 use Rattle.stun_auth.proofs.client.challenge.KeptChallenge.add_algorithm_choice.Goals as goal
 
 pub returns-in_err-add-in_default-clause-added : goal.returns-in_err-add-in_default-clause-added

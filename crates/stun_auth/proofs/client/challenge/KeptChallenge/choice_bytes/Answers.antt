@@ -1,6 +1,6 @@
 -- A list takes four bytes an algorithm and its header, the choice from it eight.
 use Rattle.std.proofs.Common.{◌≤◌, length, ap, arith}
-use Rattle.stun_auth.proofs.AdditionLemmas.{growth-choice}
+use Rattle.stun_auth.proofs.ChoiceGrowth.{growth-choice}
 use Rattle.stun_auth.proofs.client.challenge.KeptChallenge.choice_bytes.Goals as goal
 
 pub returns-in_default : goal.returns-in_default

@@ -3,7 +3,7 @@ use Rattle.std.proofs.Common.{false, Err, ap, ◌∙◌}
 use Rattle.std.proofs.lemmas.Result.{err_from_is_err_and}
 use Rattle.stun_auth.specs.ClientSigning.{challenge_additions, identity}
 use Rattle.stun_auth.specs.code.ClientKept.{challenge_seen}
-use Rattle.stun_auth.proofs.Wanting.{refused_outcome, then_outcome}
+use Rattle.stun_judging.proofs.Wanting.{refused_outcome, then_outcome}
 use Rattle.stun_auth.proofs.client.challenge.KeptChallenge.sign.Goals as goal
 
 pub returns-in_err-add_identity-clause-outcome : goal.returns-in_err-add_identity-clause-outcome

@@ -1,10 +1,10 @@
 -- The three parts grow the message one after the other.
 use Rattle.std.proofs.Common.{◌≡◌, ◌+◌, ◌++◌, true, ap, ◌∙◌, arith}
-use Rattle.stun_auth.specs.Additions.{growth}
+use Rattle.stun_judging.specs.Additions.{growth}
 use Rattle.stun_auth.specs.code.ClientKept.{challenge_seen}
 use Rattle.stun_auth.specs.ClientSigning.{algorithm_choice, challenge_additions}
 use Rattle.stun_auth.specs.ClientSigning.{identity, protection}
-use Rattle.stun_auth.proofs.AdditionLemmas.{growth-append}
+use Rattle.stun_judging.proofs.AdditionLemmas.{growth-append}
 use Rattle.stun_auth.proofs.client.challenge.KeptChallenge.signature_bytes.Goals as goal
 
 pub returns : goal.returns

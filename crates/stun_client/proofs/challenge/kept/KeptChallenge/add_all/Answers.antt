@@ -2,7 +2,7 @@
 use Rattle.std.proofs.Common.{false, Err, ap, ◌∙◌, refl}
 use Rattle.std.proofs.lemmas.Result.{err_from_is_err_and}
 use Rattle.stun_client.specs.Challenge.{challenge_additions, identity}
-use Rattle.stun_auth.proofs.Wanting.{refused_outcome, then_outcome}
+use Rattle.stun_judging.proofs.Wanting.{refused_outcome, then_outcome}
 use Rattle.stun_client.specs.code.Kept.{challenge_seen}
 use Rattle.stun_client.proofs.challenge.kept.KeptChallenge.add_all.Goals as goal
 

@@ -3,7 +3,7 @@ use Rattle.std.proofs.Common.{Err, ap, ◌∙◌, refl}
 use Rattle.std.proofs.lemmas.Result.{err_from_is_err_and}
 use Rattle.stun_client.specs.Challenge.{algorithm_choice, protection}
 use Rattle.stun_client.specs.code.Kept.{challenge_seen}
-use Rattle.stun_auth.proofs.Wanting.{refused_outcome, then_outcome}
+use Rattle.stun_judging.proofs.Wanting.{refused_outcome, then_outcome}
 use Rattle.stun_client.proofs.challenge.kept.KeptChallenge.add_protection.Goals as goal
 
 pub returns-in_err-add_algorithm_choice-clause-outcome :

@@ -2,9 +2,9 @@
 use Rattle.std.proofs.Common.{◌≡◌, inl, inr, sym, ◌∙◌, ap, subst, Ok, Err}
 use Rattle.stun_types.specs.Message.{IsMessage}
 use Rattle.stun_types.specs.WriteVec.{Written}
-use Rattle.stun_auth.specs.Additions.{UnlessMemory, page_of}
+use Rattle.stun_judging.specs.Additions.{UnlessMemory, page_of}
 use Rattle.stun_auth.specs.ClientStep.{IsResend, client_step}
-use Rattle.stun_auth.specs.Reading.{reading_of}
+use Rattle.stun_judging.specs.Reading.{reading_of}
 use Rattle.stun_auth.specs.Validation.{sight}
 use Rattle.stun_proto.specs.code.Meetings.{meeting_of}
 use Rattle.stun_proto.specs.Negotiation.{ending_with, outcome_of_success, server_response}

@@ -7,9 +7,9 @@ use Rattle.stun_base.specs.Header.{transaction_id_field, type_field}
 use Rattle.stun_base.specs.MessageType.{method_of}
 use Rattle.stun_types.specs.Message.{IsMessage}
 use Rattle.stun_auth.specs.declared.server.reason.LongTermServerValidation.TheVariants.{Validated}
-use Rattle.stun_auth.specs.Additions.{page_of}
+use Rattle.stun_judging.specs.Additions.{page_of}
 use Rattle.stun_auth.specs.Client.{ClientSide}
-use Rattle.stun_auth.specs.Reading.{reading_of}
+use Rattle.stun_judging.specs.Reading.{reading_of}
 use Rattle.stun_auth.specs.Validation.{ServerSeen, after_validation, answer, sight}
 use Rattle.stun_proto.specs.code.FirstAnswers.{answer_of}
 use Rattle.stun_proto.specs.code.Meetings.{meeting_of}

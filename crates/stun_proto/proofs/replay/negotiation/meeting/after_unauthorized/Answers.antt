@@ -3,10 +3,10 @@ use Rattle.std.proofs.Common.{◌≡◌, inl, inr, length, take, true, arith, sy
 use Rattle.std.proofs.lemmas.List.{take_all}
 use Rattle.stun_types.specs.Message.{IsMessage}
 use Rattle.stun_types.specs.WriteVec.{Written}
-use Rattle.stun_auth.specs.Additions.{UnlessMemory, page_of}
+use Rattle.stun_judging.specs.Additions.{UnlessMemory, page_of}
 use Rattle.stun_auth.specs.Client.{ClientSide}
-use Rattle.stun_auth.specs.ClientStep.{IsResend, UNAUTHORIZED, client_step}
-use Rattle.stun_auth.specs.Reading.{reading_of}
+use Rattle.stun_auth.specs.ClientStep.{IsResend, client_step}
+use Rattle.stun_judging.specs.Reading.{UNAUTHORIZED, reading_of}
 use Rattle.stun_auth.specs.ServerSigning.{after_signing}
 use Rattle.stun_auth.specs.Validation.{ServerSeen, sight}
 use Rattle.stun_proto.specs.code.Meetings.{meeting_of}

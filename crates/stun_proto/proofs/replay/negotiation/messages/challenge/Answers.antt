@@ -4,8 +4,8 @@ use Rattle.std.specs.declared.result.Result.{Result}
 use Rattle.stun_base.specs.Header.{transaction_id_field}
 use Rattle.stun_base.specs.declared.wire.error.StunWriteError.{StunWriteError}
 use Rattle.stun_types.specs.WriteVec.{Written}
-use Rattle.stun_auth.specs.Additions.{UnlessMemory}
-use Rattle.stun_auth.specs.ClientStep.{UNAUTHORIZED}
+use Rattle.stun_judging.specs.Additions.{UnlessMemory}
+use Rattle.stun_judging.specs.Reading.{UNAUTHORIZED}
 use Rattle.stun_auth.specs.Validation.{sight}
 use Rattle.stun_proto.specs.Negotiation.{failure, server_response}
 use Rattle.stun_proto.specs.code.Signed.{signed_page}

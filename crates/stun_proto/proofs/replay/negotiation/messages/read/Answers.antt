@@ -2,7 +2,7 @@
 use Rattle.std.proofs.Common.{◌≡◌, ◌∙◌, ap, subst, Ok, Err, List, ℕ}
 use Rattle.std.specs.Prelude.{IsErr}
 use Rattle.stun_auth.specs.ClientStep.{ClientAnswer, ForClientReason, IsResend, client_step}
-use Rattle.stun_auth.specs.Reading.{reading_of}
+use Rattle.stun_judging.specs.Reading.{reading_of}
 use Rattle.stun_auth.specs.declared.client.answer.LongTermClientAuthErrorReason.{
   LongTermClientAuthErrorReason,
 }

@@ -4,7 +4,7 @@ use Rattle.stun_base.specs.Header.{transaction_id_field}
 use Rattle.stun_base.specs.MessageType.{type_number}
 use Rattle.stun_base.specs.declared.wire.message_type.MessageClass.TheVariants as Class
 use Rattle.stun_types.specs.Grammar.{spelled_message}
-use Rattle.stun_auth.specs.Additions.{UnlessMemory}
+use Rattle.stun_judging.specs.Additions.{UnlessMemory}
 use Rattle.stun_auth.specs.Validation.{sight}
 use Rattle.stun_proto.specs.Negotiation.{server_response, success}
 use Rattle.stun_proto.specs.code.Signed.{signed_page}

@@ -9,8 +9,8 @@ use Rattle.stun_base.specs.declared.wire.message_type.MessageClass.TheVariants a
 use Rattle.stun_types.specs.ErrorCode.{CodeAndReason, error_refusal, error_value}
 use Rattle.stun_types.specs.Grammar.{spelled_message}
 use Rattle.stun_types.specs.WriteVec.{Written}
-use Rattle.stun_auth.specs.Additions.{UnlessMemory}
-use Rattle.stun_auth.specs.ClientStep.{UNAUTHORIZED}
+use Rattle.stun_judging.specs.Additions.{UnlessMemory}
+use Rattle.stun_judging.specs.Reading.{UNAUTHORIZED}
 use Rattle.stun_proto.specs.Negotiation.{failure}
 use Rattle.stun_proto.specs.code.Signed.{written_message}
 use Rattle.stun_proto.proofs.meetings.Typed.{by_reason, not_refused, only_memory}

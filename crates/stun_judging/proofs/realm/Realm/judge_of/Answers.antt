@@ -1,0 +1,16 @@
+-- The verdict is an acceptance if and only if the conjunction holds.
+use Rattle.std.proofs.Common.{rules, ◌≡◌, Some}
+use Rattle.stun_judging.specs.Judged.{client_judged}
+use Rattle.stun_judging.specs.Reading.{reading_of}
+use Rattle.stun_judging.specs.Verdict.{verdict}
+use Rattle.stun_judging.proofs.Accepting.{judged-accepted}
+use Rattle.stun_judging.proofs.realm.Realm.judge_of.Goals as goal
+
+pub returns-clause-accepted : goal.returns-clause-accepted
+returns-clause-accepted g c =
+    let s = c.args.self.now in
+    let same : client_judged c.judge_by.result
+    ≡ verdict c.args.user.now s.feature c.args.nonce.now (Some s.registered.algorithms)
+    (reading_of c.args.read.now) = search rules in
+    judged-accepted c.args.user.now s.feature c.args.nonce.now s.registered.algorithms
+    (reading_of c.args.read.now) c.judge_by.result same

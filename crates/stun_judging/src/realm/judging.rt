@@ -1,0 +1,133 @@
+//! Judges a message under a nonce that the caller passes (RFC 8489, section 9.2.4).
+//!
+//! ```text
+//! let read = ReadMessage::of(&message);
+//! match realm.judge(&read, &nonce) {
+//!     Ok(accepted) => .. sign the response under accepted.key() ..,
+//!     Err(refusal) => .. an error response with realm.add_challenge(response, &nonce)? ..,
+//! }
+//! ```
+
+ghost use Rattle.std.specs.Option.{option_map};
+ghost use Rattle.std.specs.Prelude.{◌≡◌, Some, IfOk};
+ghost use Rattle.stun_judging.specs.Judged.{HasVerifyingKey, JudgesAccepted, client_judged};
+ghost use Rattle.stun_judging.specs.Named.{named_in, named_seen};
+ghost use Rattle.stun_judging.specs.Reading.{reading_of};
+ghost use Rattle.stun_judging.specs.Verdict.{verdict};
+
+use crate::accepted::Accepted;
+use crate::algorithm_set::AlgorithmSet;
+use crate::claim::{JudgeableMessage, named_in};
+use crate::named_user::NamedUser;
+use crate::read_message::ReadMessage;
+use crate::realm::Realm;
+use crate::refusal::VerdictRefusal;
+use crate::registry::Registry;
+use crate::user::LongTermServerUser;
+use crate::verdict::verdict;
+use stun_base::memory::Memory;
+
+impl<A: Memory> Realm<A> {
+    /// Returns the user whom a request or an indication names. If the message has a visible
+    /// USERHASH, this is the user with the hash in the last one. Otherwise it is the user with the
+    /// name in the last visible USERNAME.
+    ///
+    /// Returns `None` if the message has neither, or if it has a USERHASH while the realm does not
+    /// accept hashes, even if it also has a USERNAME. The call checks neither the signature nor
+    /// whether the user is registered, so an attacker can name any user. It does not allocate.
+    pub fn named_in<'a>(&self, read: &ReadMessage<'a, '_>) -> Option<NamedUser<'a>>
+        ensures { option_map named_seen result ≡ named_in (reading_of read.now).userhash
+            (reading_of read.now).username self.now.feature }
+    {
+        named_in(&read.reading, self.feature)
+    }
+
+    /// Judges a request or an indication under a nonce, with all supported algorithms as the offer,
+    /// and returns the user who is accepted. It does not allocate.
+    ///
+    /// Check the class of the message first, because a response is judged like a request. Pass a
+    /// nonce that `nonce_of_words` made, because a message under a nonce without the security bit
+    /// *Password algorithms* is judged with HMAC-SHA1 even if the realm supports HMAC-SHA256.
+    ///
+    /// If the message is not accepted, the call fails with the first of these refusals that applies:
+    ///
+    /// - `Unauthorized`: there is no well-formed integrity attribute.
+    /// - `BadRequest`: REALM, NONCE or the user name is missing.
+    /// - `BadRequest`: the algorithms disagree with those that the realm supports. Answer 438 in
+    ///   place of 400 if the message does not have this nonce (`told_refusal`), because a client
+    ///   that repeats an old offer could not continue after a 400, which is unsigned.
+    /// - `Unauthorized`: the message has a different nonce, whose security bits differ too.
+    /// - `StaleNonce`: the message has a different nonce.
+    /// - `Unauthorized`: the user is unknown or has no key for the algorithm, or the signature is
+    ///   invalid.
+    pub fn judge<'a>(
+        &'a self,
+        read: &ReadMessage<'a, '_>,
+        nonce: &str,
+    ) -> Result<Accepted<'a, A>, VerdictRefusal>
+        ensures verdict { client_judged result
+            ≡ verdict self.now.registered self.now.feature nonce.now
+            (Some self.now.registered.algorithms) (reading_of read.now) }
+        ensures accepted { JudgesAccepted self.now.registered self.now.feature nonce.now
+            self.now.registered.algorithms (reading_of read.now) result }
+        ensures key { IfOk result (HasVerifyingKey self.now.registered (reading_of read.now)) }
+    {
+        self.judge_offered(read, nonce, Some(self.algorithms()))
+    }
+
+    /// Judges a message like `judge`, in a realm whose only user is `user`. The users of this realm
+    /// are ignored. The algorithms on offer are those that this realm supports, and the keys are
+    /// those that the user has.
+    ///
+    /// Pass the user whom `named_in` returned: the verdict is then the same as in a realm that has
+    /// all users (law `the_named_user_is_enough_to_judge`). If your database has no such user, call
+    /// `judge` on a realm without users.
+    pub fn judge_of<'a>(
+        &self,
+        read: &ReadMessage<'a, '_>,
+        nonce: &str,
+        user: &'a LongTermServerUser<A>,
+    ) -> Result<Accepted<'a, A>, VerdictRefusal>
+        ensures verdict { client_judged result
+            ≡ verdict user.now self.now.feature nonce.now
+            (Some self.now.registered.algorithms) (reading_of read.now) }
+        ensures accepted { JudgesAccepted user.now self.now.feature nonce.now
+            self.now.registered.algorithms (reading_of read.now) result }
+        ensures key { IfOk result (HasVerifyingKey user.now (reading_of read.now)) }
+    {
+        self.judge_by(&user.registry, read, nonce, Some(self.algorithms()))
+    }
+
+    /// Judges a message like `judge`, with `offered` as the algorithms that its sender was offered,
+    /// or `None` if there was no offer.
+    pub fn judge_offered<'a>(
+        &'a self,
+        read: &ReadMessage<'a, '_>,
+        nonce: &str,
+        offered: Option<AlgorithmSet>,
+    ) -> Result<Accepted<'a, A>, VerdictRefusal>
+        ensures verdict { client_judged result ≡ verdict self.now.registered self.now.feature
+            nonce.now offered (reading_of read.now) }
+        ensures key { IfOk result (HasVerifyingKey self.now.registered (reading_of read.now)) }
+    {
+        self.judge_by(&self.registry, read, nonce, offered)
+    }
+
+    /// Judges a message against `users`.
+    fn judge_by<'a>(
+        &self,
+        users: &'a Registry<A>,
+        read: &ReadMessage<'a, '_>,
+        nonce: &str,
+        offered: Option<AlgorithmSet>,
+    ) -> Result<Accepted<'a, A>, VerdictRefusal>
+        ensures verdict { client_judged result
+            ≡ verdict users.now self.now.feature nonce.now offered (reading_of read.now) }
+        ensures key { IfOk result (HasVerifyingKey users.now (reading_of read.now)) }
+    {
+        let Some(message) = JudgeableMessage::of(&read.reading) else {
+            return Err(VerdictRefusal::BadRequest);
+        };
+        verdict(users, self.feature, &message, nonce, offered)
+    }
+}

@@ -1,0 +1,166 @@
+//! The verdict of a server on a message: the user who is accepted, or the reason to refuse the
+//! message (RFC 8489, section 9.2.4).
+
+ghost use Rattle.std.specs.Prelude.{◌≡◌, Option, None, Some, IfOk, map};
+ghost use Rattle.std.specs.Option.{option_copied};
+ghost use Rattle.std.specs.Str.{bytes_eq};
+ghost use Rattle.stun_judging.specs.Algorithms.{has as is_among, offered_list, same_list};
+ghost use Rattle.stun_judging.specs.Judged.{HasVerifyingKey, client_judged};
+ghost use Rattle.stun_judging.specs.Nonces.{security_bits};
+ghost use Rattle.stun_judging.specs.Verdict.{agreement, bits_differ, nonce_refusal, verdict};
+ghost use Rattle.stun_judging.specs.code.Claims.{name_of};
+ghost use Rattle.stun_judging.specs.code.ReadingSeen.{reading_seen};
+ghost use Rattle.stun_types.specs.PasswordAlgorithms.{integrity_of};
+
+use crate::accepted::Accepted;
+use crate::algorithm_set::AlgorithmSet;
+use crate::claim::JudgeableMessage;
+use crate::feature::Feature;
+use crate::named_user::NamedUser;
+use crate::nonce::{NonceSecurityBits, asks_for_algorithms};
+use crate::reading::MessageReading;
+use crate::refusal::VerdictRefusal;
+use crate::registry::Registry;
+use std::alloc::Allocator;
+use stun_base::algorithm::IntegrityAlgorithm;
+use stun_base::compare::is_same_text;
+use stun_types::attribute::{PasswordAlgorithmValue, PasswordAlgorithms};
+
+/// Returns the password algorithms that were offered, the strongest first.
+fn offered_values(offered: Option<AlgorithmSet>) -> &'static [PasswordAlgorithmValue]
+    ensures { map integrity_of result.now ≡ offered_list offered }
+{
+    match offered {
+        None => &[],
+        Some(set) => set.password_algorithms(),
+    }
+}
+
+/// Returns whether a list is the list that was offered.
+fn is_offered_list(list: &PasswordAlgorithms<'_>, offered: Option<AlgorithmSet>) -> bool
+    ensures { result ≡ same_list (map integrity_of list.now) (offered_list offered) }
+{
+    list.equals(offered_values(offered))
+}
+
+/// Returns whether an algorithm was offered.
+fn is_offered(algorithm: IntegrityAlgorithm, offered: Option<AlgorithmSet>) -> bool
+    ensures { result ≡ is_among algorithm (offered_list offered) }
+{
+    match offered {
+        Some(set) => set.contains(algorithm),
+        None => false,
+    }
+}
+
+/// Returns the algorithm that both sides agree on, or `None` if the message's algorithms disagree
+/// with the offer.
+pub(crate) fn agreed(
+    reading: &MessageReading<'_, '_>,
+    nonce: &str,
+    offered: Option<AlgorithmSet>,
+) -> Option<IntegrityAlgorithm>
+    ensures { result ≡ agreement (reading_seen reading.now) nonce.now offered }
+{
+    if !asks_for_algorithms(nonce) {
+        return Some(IntegrityAlgorithm::Sha1);
+    }
+    match (&reading.algorithms, reading.algorithm) {
+        (None, None) => Some(IntegrityAlgorithm::Sha1),
+        (Some(list), Some(algorithm))
+            if is_offered_list(list, offered) && is_offered(algorithm, offered) => {
+            Some(algorithm)
+        }
+        _ => None,
+    }
+}
+
+/// Returns whether both nonces have security bits, and the bits differ.
+fn bits_differ(ours: &str, theirs: &str) -> bool
+    ensures { result ≡ bits_differ (security_bits ours.now) (security_bits theirs.now) }
+{
+    let Some(ours) = NonceSecurityBits::from_nonce(ours) else {
+        return false;
+    };
+    let Some(theirs) = NonceSecurityBits::from_nonce(theirs) else {
+        return false;
+    };
+    ours.bytes() != theirs.bytes()
+}
+
+/// Returns the reason to refuse a message whose nonce is not the current one.
+fn nonce_refusal(ours: &str, theirs: &str) -> VerdictRefusal
+    ensures { result ≡ nonce_refusal ours.now theirs.now }
+{
+    if bits_differ(ours, theirs) {
+        VerdictRefusal::Unauthorized
+    } else {
+        VerdictRefusal::StaleNonce
+    }
+}
+
+/// Returns the name of the user whom a message names. A hash is looked up in the registry. Returns
+/// `None` if no registered name has the hash, or if `feature` does not allow hashes.
+fn name_of<'a, A: Allocator + Copy>(
+    registry: &'a Registry<A>,
+    feature: Feature,
+    user: NamedUser<'a>,
+) -> Option<&'a str>
+    ensures { option_copied result ≡ name_of registry.now feature user.entry }
+{
+    match user {
+        NamedUser::ByHash(hash) => {
+            if feature.is_possible() {
+                registry.name_with_hash(&hash)
+            } else {
+                None
+            }
+        }
+        NamedUser::ByName(name) => Some(name),
+    }
+}
+
+/// Returns whether a nonce is equal to the current one. It compares all bytes, even after a
+/// difference.
+pub(crate) fn is_same_nonce(theirs: &str, ours: &str) -> bool
+    ensures { result ≡ bytes_eq theirs.now ours.now }
+{
+    is_same_text(theirs.as_bytes(), ours.as_bytes())
+}
+
+/// Returns the user who is accepted under this nonce and these offered algorithms, or the first
+/// refusal that applies.
+///
+/// It does not allocate and derives no key.
+pub(crate) fn verdict<'a, A: Allocator + Copy>(
+    registry: &'a Registry<A>,
+    feature: Feature,
+    message: &JudgeableMessage<'a, '_, '_>,
+    nonce: &str,
+    offered: Option<AlgorithmSet>,
+) -> Result<Accepted<'a, A>, VerdictRefusal>
+    ensures verdict { client_judged result ≡ verdict registry.now feature nonce.now offered
+        (reading_seen message.now.reading.now) }
+    ensures key { IfOk result
+        (HasVerifyingKey registry.now (reading_seen message.now.reading.now)) }
+{
+    let Some(claim) = &message.claim else {
+        return Err(VerdictRefusal::Unauthorized);
+    };
+    let Some(algorithm) = agreed(message.reading, claim.nonce, offered) else {
+        return Err(VerdictRefusal::BadRequest);
+    };
+    if !is_same_nonce(claim.nonce, nonce) {
+        return Err(nonce_refusal(nonce, claim.nonce));
+    }
+    let Some(name) = name_of(registry, feature, claim.user) else {
+        return Err(VerdictRefusal::Unauthorized);
+    };
+    let Some(key) = registry.key(name, algorithm) else {
+        return Err(VerdictRefusal::Unauthorized);
+    };
+    match message.reading.verified_under(key) {
+        Some(_) => Ok(Accepted::new(name, algorithm, key)),
+        None => Err(VerdictRefusal::Unauthorized),
+    }
+}

@@ -11,7 +11,6 @@ use Rattle.stun_types.specs.Limits.{TEXT_LIMIT, USERNAME_LIMIT}
 use Rattle.stun_types.specs.Visible.{has_kind}
 use Rattle.stun_types.specs.Walk.{walk}
 use Rattle.stun_types.specs.Writing.{IsOpen}
-use Rattle.stun_judging.specs.Additions.{integrity}
 use Rattle.stun_judging.specs.Algorithms.{is_sha256, algorithms_of}
 use Rattle.stun_auth.specs.Client.{Challenge, ClientState}
 use Rattle.stun_auth.specs.ClientSigning.{kept_challenge}

@@ -1,6 +1,6 @@
 -- A user who was found is judged as the only user of a server: the message names that user or nobody,
 -- and the key is that of the agreed algorithm.
-use Rattle.std.proofs.Common.{◌≡◌, ℕ, List, [], ◌∷◌, map, Option, Some, None}
+use Rattle.std.proofs.Common.{◌≡◌, ℕ, List, [], map, Option, Some, None}
 use Rattle.std.proofs.Common.{Bool, true, false, true≢false, refl, sym, ◌∙◌, ap, Ok, Err}
 use Rattle.std.specs.Prelude.{◌≢◌, cond, not, ◌||◌, ◌&&◌}
 use Rattle.std.specs.Option.{is_none, is_some, option_and_then, option_map, option_map_or, unwrap_or}

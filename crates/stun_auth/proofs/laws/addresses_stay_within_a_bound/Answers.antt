@@ -1,5 +1,4 @@
 -- A message adds its own address at most, and only where it has no record.
-use Rattle.std.specs.FinMap as fin
 use Rattle.stun_auth.specs.Places.{with_client, with_offer}
 use Rattle.stun_auth.specs.Validation.{place_after, sight}
 use Rattle.stun_auth.proofs.BoundedAddresses.{changed_in_place, grown_by_one}

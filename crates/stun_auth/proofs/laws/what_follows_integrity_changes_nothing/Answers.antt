@@ -2,7 +2,6 @@
 use Rattle.std.proofs.Common.{ap}
 use Rattle.stun_auth.specs.ClientStep.{client_step}
 use Rattle.stun_auth.specs.Validation.{after_validation, answer, sight}
-use Rattle.stun_judging.proofs.TailReading.{ReadAlike}
 use Rattle.stun_auth.proofs.TailAnswers.{short_term-alike}
 use Rattle.stun_auth.proofs.laws.what_follows_integrity_changes_nothing.Goals as goal
 

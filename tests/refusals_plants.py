@@ -9,17 +9,17 @@ import tempfile
 from pathlib import Path
 
 TOOL = Path(__file__).resolve().parent.parent / "tools/refusals.py"
-REQUEST = ("stun_endpoint/src/server/receiving.rt", "        let epoch = self.epoch(now);\n"
-           "        let nonce = self.nonce_in(&self.secret, from, epoch)?;\n")
+REQUEST = ("stun_endpoint/src/server/receiving.rt", "        let epoch = self.compute_epoch(now);\n"
+           "        let nonce = self.make_nonce(&self.secret, from, epoch)?;\n")
 TURN = ("stun_client_calls/src/endpoint/acting.rt",
-        "        let Some(spot) = self.spot(number, place) else {\n"
+        "        let Some(spot) = self.find_spot(number, place) else {\n"
         "            return self.drop_for(number, DropReason::OutOfMemory, message);\n")
 ANSWERED = ("stun_client_calls/src/endpoint/acting.rt",
             "        let end = End {\n"
             "            end: RequestEnd::Answered(Outcome::of(message, &self.understood), by),\n")
-SEND = ("stun_agent/src/calls/send.rt", "        let id = self.id_to_ask(bytes, to)?;\n")
+SEND = ("stun_agent/src/calls/send.rt", "        let id = self.read_id_to_ask(bytes, to)?;\n")
 BEGIN = ("stun_client_calls/src/endpoint/requesting.rt",
-         "        let bytes = self.first_message(method, free.id, &body, options)?;\n")
+         "        let bytes = self.write_first_message(method, free.id, &body, options)?;\n")
 FORGO = "        return self.drop_for(number, DropReason::OutOfMemory, message);\n"
 ADD = ("stun_client_endpoint/src/body.rt", "        if !self.has_room(value.len()) {\n")
 KEY = ("stun_base/src/keys/credentials.rt",
@@ -38,9 +38,9 @@ PLANTS = {
     "a text is not a match": (*SEND, "        match bytes.len() {\n            20 => {}\n"
                               "            _ => return Err(StunError::OutOfMemory),\n        }\n"),
     "an error of another kind": (
-        *SEND, "        match self.id_to_ask(bytes, to) {\n            Ok(_) => {}\n"
+        *SEND, "        match self.read_id_to_ask(bytes, to) {\n            Ok(_) => {}\n"
         "            Err(_) => return Err(StunError::OutOfMemory),\n        }\n"),
-    "no value": (*BEGIN, "        let free = self.chosen().ok_or(RequestError::OutOfMemory)?;\n"),
+    "no value": (*BEGIN, "        let free = self.choose_id().ok_or(RequestError::OutOfMemory)?;\n"),
     "a mapped error": (*BEGIN, "        self.look().map_err(|_| RequestError::OutOfMemory)?;\n"),
     "a converted value": (*BEGIN, "        return Err(RequestError::from(AllocError));\n"),
     "its variant by a glob": (

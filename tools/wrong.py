@@ -21,8 +21,9 @@ the record that stay are too. What is random is drawn by the sums of the edits, 
 and the seed is printed.
 
 An item that was added to what decides, and is no impl of a trait, makes no wrong body right: neither
-the body nor anything that it names has changed. So --grown takes over those edits that the record
-of the commit has, and whose sum has changed since for added items alone.
+the body nor anything that it names has changed. Nor does another name of a function, wherever it is
+called. So --grown takes over those edits that the record of the commit has, and whose sum has
+changed since for added items and for other names of functions alone.
 
 An edit is a line `file: src/..`, and then pairs of lines `old: TEXT` and `new: TEXT`; further lines
 `file:` begin the pairs of other files. It is made in a copy of the crate: first the function or the
@@ -360,13 +361,68 @@ def try_for_gate():
     return try_changed(found, at_random(found)[0], OF_GATE)
 
 
-def has_grown(before, now, count):
+def functions_in(top):
+    """The names of the functions of each source file below a folder, in their order."""
+    return {path.relative_to(top): re.findall(r"\bfn (\w+)", path.read_text())
+            for path in (top / "crates").glob("*/src/**/*.rt")}
+
+
+def plainly(renamed):
+    """A function that writes a text in one way: without spaces, without the commas that a layout
+    adds, and with the names in `renamed` replaced by one name for all names of a function."""
+    @functools.lru_cache(None)
+    def written(text):
+        text = re.sub(r"\w+", lambda word: renamed.get(word[0], word[0]), text)
+        return re.sub(r",(?=[)}\]])", "", "".join(text.split()))
+    return written
+
+
+def renamed_since(before):
+    """The names of functions that have another name than in the tree `before`, in files that have as
+    many functions as before: each with one of its names."""
+    old, one = functions_in(before), {}
+    for path, now in functions_in(crates.TOP).items():
+        was = old.get(path, [])
+        for name, other in zip(was, now) if len(was) == len(now) else ():
+            if name != other:
+                same = {one.get(name, name), one.get(other, other)}
+                least = min(same)
+                one |= {name: least, other: least}
+                one |= {known: least for known, by in one.items() if by in same}
+    return one
+
+
+@functools.lru_cache(None)
+def items_of(crate, is_own, written):
+    """All items that a crate shows, and its definitions, as `shown` has them, written in one way."""
+    items = {piece[1] for _, pieces in shown.sources(crate, is_own).values() for piece in pieces}
+    specs = crates.TOP / "crates" / crate / "specs"
+    for path in specs.rglob("*.antt"):
+        module = str(path.relative_to(specs).with_suffix("")).replace("/", ".")
+        items |= {f"{crate}.{module}\n{piece[1]}"
+                  for piece in shown.definitions(crate, module)[0]}
+    return frozenset(written(shown.unseen(item)) for item in items)
+
+
+def has_grown(before, now, count, known, written):
     """Whether parts of an edit, of which `count` files are changed by it, differ from those before by
-    items alone that were added, none of which is an impl of a trait."""
-    added = collections.Counter(now[2]) - collections.Counter(before[2])
-    gone = collections.Counter(before[2]) - collections.Counter(now[2])
-    return (before[:2] == now[:2] and before[2][:count] == now[2][:count] and not gone
-            and not any(map(shown.OF_TRAIT.match, added)))
+    items alone that were added, none of which is an impl of a trait, or that stand in the tree still
+    but are no longer named, where `written` makes names alike that are names of one function."""
+    old, new = ([written(item) for item in parts[2]] for parts in (before, now))
+    gone = collections.Counter(old) - collections.Counter(new)
+    fresh = collections.Counter(new) - collections.Counter(old)
+    added = [item for item, one in zip(now[2], new) if one in fresh]
+    return (written(before[0]) == written(now[0]) and before[1] == now[1]
+            and old[:count] == new[:count]
+            and not set(gone) - known and not any(map(shown.OF_TRAIT.match, added)))
+
+
+def known_to(edit, written):
+    """All items that the crate of an edit and those below it have, written in one way."""
+    crate, law = edit.parent.name, LAW.match(edit.read_text())
+    below = {*crates.below(crate), *(crates.below(law[1]) if law else ())} - {crate}
+    return items_of(crate, True, written).union(*(items_of(name, False, written)
+                                                  for name in below))
 
 
 def take_over(commit):
@@ -380,14 +436,14 @@ def take_over(commit):
         told = subprocess.run([sys.executable, f"{room}/tools/wrong.py", "--parts"], check=True,
                               stdout=subprocess.PIPE, text=True).stdout
         tried = Path(room, "tests/wrong/RECORD").read_text().splitlines()
+        written = plainly(renamed_since(Path(room)))
     before = {name: parts for name, line, parts in json.loads(told) if line in tried}
-    now = {name_of(edit): [json.loads(json.dumps(parts)), count] for edit in changed()
+    now = {edit: [json.loads(json.dumps(parts)), count] for edit in changed()
            for parts, count in [parts_of(edit)]}
-    taken = {name for name, (parts, count) in now.items()
-             if name in before and has_grown(before[name], parts, count)}
+    taken = {edit for edit, (parts, count) in now.items() if name_of(edit) in before
+             and has_grown(before[name_of(edit)], parts, count, known_to(edit, written), written)}
     lines = {line_of(edit) for edit in every_edit()}
-    kept = [line for line in known_lines() if line in lines]
-    kept += [line_of(edit) for edit in every_edit() if name_of(edit) in taken]
+    kept = [line for line in known_lines() if line in lines] + list(map(line_of, taken))
     kits = [line for line in known_lines() if line.startswith("kit: ")]
     RECORD.write_text(HEAD + "".join(line + "\n" for line in [*kits, *sorted(kept)]))
     print(f"wrong: {len(taken)} edits taken over from {commit}, {len(now) - len(taken)} to try")

@@ -260,8 +260,9 @@ def rewrite_signatures(text):
     # A proof needs the number from a call. Here the constant says it.
     text = in_code(text, r"^( *)(fn static_type\(\) -> AttributeType)\s*;",
                    "\\1#[must_use]\n\\1\\2 { Self::TYPE }")
-    # A later version may have more reasons, algorithms or transports.
-    text = in_code(text, r"(?<!#\[non_exhaustive\]\n)^(pub enum \w+(?:Error|Reason)\b|"
+    # A later version may have more reasons, outcomes, algorithms or transports. In Rattle a match on
+    # them has an arm for each, so that none is forgotten.
+    text = in_code(text, r"^(pub enum \w*(?:Error|Reason|Cause)\b|pub enum (?:Judged|Refusal)\b|"
                    r"pub enum (?:IntegrityAlgorithm|PasswordAlgorithmValue|TransportType)\b|"
                    r"pub struct StoredKeys\b)",
                    "#[non_exhaustive]\n" r"\1")

@@ -46,7 +46,7 @@ impl Address {
     }
 
     /// Returns the socket address, with the flow information and the scope set to 0.
-    fn socket(&self) -> SocketAddr
+    fn to_socket(&self) -> SocketAddr
         ensures ip { socket_ip result ≡ self.now.ip }
         ensures port { IsPlainSocket result self.now.port }
     {
@@ -54,7 +54,7 @@ impl Address {
     }
 
     /// Returns the number of bytes of the value.
-    fn length(&self) -> usize
+    fn count_bytes(&self) -> usize
         ensures value { result ≡ length (address_value self.now) }
         ensures whole { IsAddress self.now }
     {
@@ -100,7 +100,7 @@ impl<const KIND: u16> PlainAddress<KIND> {
         ensures ip { socket_ip result ≡ self.now.ip }
         ensures port { IsPlainSocket result self.now.port }
     {
-        self.address.socket()
+        self.address.to_socket()
     }
 }
 
@@ -128,7 +128,7 @@ impl<const KIND: u16> Attribute for PlainAddress<KIND> {
     }
 
     fn length(&self) -> usize {
-        self.address.length()
+        self.address.count_bytes()
     }
 
     fn write_into<W: MessageWrite>(&self, writer: &mut W) {

@@ -218,12 +218,12 @@ fn append_padding<W: MessageWrite>(writer: &mut W, value_length: usize)
         ≡ W.reserved writer.old }
 {
     let zeros = [0; 3];
-    writer.append(&zeros[..padding_length(value_length)]);
+    writer.append(&zeros[..count_padding(value_length)]);
 }
 
 /// Returns the number of zero bytes that pad a value of `value_length` bytes to a multiple of 4
 /// bytes.
-fn padding_length(value_length: usize) -> usize
+fn count_padding(value_length: usize) -> usize
     ensures { result ≡ padded_length value_length - value_length }
 {
     (4 - value_length % 4) % 4

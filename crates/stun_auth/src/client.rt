@@ -284,7 +284,7 @@ impl<A: Allocator> LongTermClientAuth<A> {
 
     /// Returns the algorithm of a message's signature if the signature is valid under the stored
     /// key, and `None` otherwise.
-    fn verified_under_kept(&self, read: &ReadMessage<'_, '_>) -> Option<IntegrityAlgorithm>
+    fn verify_under_kept(&self, read: &ReadMessage<'_, '_>) -> Option<IntegrityAlgorithm>
         ensures { result ≡ verified_under_kept self.now.state (reading_of read.now) }
     {
         match &self.state {
@@ -309,7 +309,10 @@ impl<A: Allocator> LongTermClientAuth<A> {
     }
 
     /// Returns the challenge in a message, or the reason to refuse it.
-    fn offer<'a, 'm>(&'a self, read: ReadMessage<'m, '_>) -> Result<Offer<'a, 'm>, ChallengeRefusal>
+    fn read_offer<'a, 'm>(
+        &'a self,
+        read: ReadMessage<'m, '_>,
+    ) -> Result<Offer<'a, 'm>, ChallengeRefusal>
         ensures { let r = reading_of read.entry in
             offer_seen self.now.settings.feature result
             ≡ taken_up self.now.settings self.now.state self.now.settings.credentials r.realm
@@ -424,7 +427,7 @@ impl<A: Memory> LongTermClientAuth<A> {
         ensures granted { A.grants → ClientUnlessMemory result ⊤ ⊥ }
     {
         let read = ReadMessage::of(message);
-        let digest = self.verified_under_kept(&read);
+        let digest = self.verify_under_kept(&read);
         if is_code(ErrorCode::UNAUTHORIZED, read.error_code()) && !self.is_authenticated() {
             return self.take_up(read, digest);
         }
@@ -455,9 +458,9 @@ impl<A: Memory> LongTermClientAuth<A> {
         ensures refused { OnErr result (self.new ≡ self.old) }
         ensures granted { A.grants → ClientUnlessMemory result ⊤ ⊥ }
     {
-        let kept = match self.offer(read) {
-            Err(refusal) => return Err(refused(refusal)),
-            Ok(offer) => offer.kept(self.alloc, self.feature),
+        let kept = match self.read_offer(read) {
+            Err(refusal) => return Err(to_error(refusal)),
+            Ok(offer) => offer.to_kept_challenge(self.alloc, self.feature),
         };
         match kept {
             Err(_) => Err(LongTermClientAuthError::new(LongTermClientAuthErrorReason::OutOfMemory)),
@@ -503,7 +506,7 @@ impl<A: Memory> LongTermClientAuth<A> {
 }
 
 /// Returns the error with which the client refuses a challenge.
-fn refused(refusal: ChallengeRefusal) -> LongTermClientAuthError
+fn to_error(refusal: ChallengeRefusal) -> LongTermClientAuthError
     ensures { result ≡ client_reason refusal }
 {
     match refusal {

@@ -86,7 +86,7 @@ fn is_address(octets: &[u8], port: u32) -> bool
 
 /// Returns the transaction ID of the message in the first `count` bytes of the buffer. Fails with
 /// the error of `base_message` if no attribute may be added to this message.
-fn base_id(buffer: &[u8], count: usize) -> Result<TransactionId, Refusal>
+fn read_base_id(buffer: &[u8], count: usize) -> Result<TransactionId, Refusal>
     ensures ok { IfOk result (λ id. id ≡ transaction_id_field (take count buffer.now)) }
     ensures err { IfErr result (λ refusal. base_refusal buffer.now count ≡ Some refusal) }
 {
@@ -101,7 +101,7 @@ fn add_hidden(buffer: &mut [u8], count: usize, kind: AttributeType, octets: &[u8
     ensures { Writes (added_attribute buffer.old count kind.0 (hidden_value octets.now port
         (transaction_id_field (take count buffer.old)))) buffer.old result buffer.new }
 {
-    match base_id(buffer, count) {
+    match read_base_id(buffer, count) {
         Ok(id) => {
             let mut longest = [0; 20];
             let value = &mut longest[..4 + octets.len()];

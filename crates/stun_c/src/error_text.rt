@@ -5,7 +5,7 @@ ghost use Rattle.stun_c.specs.Codes.{error_text, refusal_text};
 
 /// Returns the text for the error with the code `-number`, with a terminating zero.
 #[tactic(auto, unfolding(crate::specs::Codes::refusal_text))]
-fn refusal_text(number: u64) -> &'static [u8]
+fn describe_refusal(number: u64) -> &'static [u8]
     ensures { result.now ≡ refusal_text number }
 {
     match number {
@@ -47,7 +47,7 @@ pub fn error_text(answer: i64) -> &'static [u8]
     ensures { result.now ≡ error_text answer }
 {
     if answer < 0 {
-        return refusal_text(answer.unsigned_abs());
+        return describe_refusal(answer.unsigned_abs());
     }
     b"no error\0"
 }

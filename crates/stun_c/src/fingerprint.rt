@@ -20,7 +20,7 @@ use stun_types::message::Message;
 const FINGERPRINT_XOR: u32 = 0x5354_554E;
 
 /// Returns the `stunp_fingerprint` for the result of a check of FINGERPRINT.
-fn fingerprint_number(fingerprint: Fingerprint) -> i64
+fn to_fingerprint_number(fingerprint: Fingerprint) -> i64
     ensures { result ≡ pos (fingerprint_number fingerprint) }
 {
     match fingerprint {
@@ -36,7 +36,7 @@ pub fn check(message: &[u8]) -> i64
     ensures { result ≡ fingerprint_answer message.now }
 {
     match Message::from_bytes(message) {
-        Ok(message) => fingerprint_number(check_fingerprint(&message)),
+        Ok(message) => to_fingerprint_number(check_fingerprint(&message)),
         Err(error) => Refusal::from(error).code(),
     }
 }
@@ -51,7 +51,7 @@ pub fn check(message: &[u8]) -> i64
 /// - The errors of `Message::from_bytes`.
 /// - `AttributeExists`: the message has FINGERPRINT.
 /// - `MessageTooLong` or `BufferTooSmall`: FINGERPRINT does not fit (`fits`).
-fn endable(buffer: &[u8], count: usize) -> Result<(), Refusal>
+fn check_ending(buffer: &[u8], count: usize) -> Result<(), Refusal>
     ensures ok { OnOk result (ending_refusal buffer.now count ≡ None) }
     ensures room { OnOk result (HasRoom count 4 (length buffer.now)) }
     ensures err { IfErr result (λ refusal. ending_refusal buffer.now count ≡ Some refusal) }
@@ -68,7 +68,7 @@ fn endable(buffer: &[u8], count: usize) -> Result<(), Refusal>
 
 /// Returns the value of a FINGERPRINT that follows these bytes of a message.
 #[tactic(auto, unfolding(crate::specs::code::Ended::fingerprint_value))]
-fn value_after(bytes: &[u8]) -> [u8; 4]
+fn compute_value(bytes: &[u8]) -> [u8; 4]
     ensures { result ≡ fingerprint_value bytes.now }
 {
     (crc32(bytes) ^ FINGERPRINT_XOR).to_be_bytes()
@@ -80,7 +80,7 @@ fn spell_after(bytes: &[u8], buffer: &mut [u8])
     requires { 8 ≤ length buffer.old }
     ensures { buffer.new ≡ fingerprint_after bytes.now ++ drop 8 buffer.old }
 {
-    let value = value_after(bytes);
+    let value = compute_value(bytes);
     spell(buffer, AttributeType::FINGERPRINT, &value);
 }
 
@@ -105,7 +105,7 @@ fn append(buffer: &mut [u8], count: usize) -> i64
 pub fn add(buffer: &mut [u8], count: usize) -> i64
     ensures { Writes (fingerprinted_message buffer.old count) buffer.old result buffer.new }
 {
-    match endable(buffer, count) {
+    match check_ending(buffer, count) {
         Ok(()) => append(buffer, count),
         Err(refusal) => refusal.code(),
     }

@@ -17,14 +17,14 @@ pub fn is_stun_packet(packet: &[u8]) -> i64
 }
 
 /// States for the proofs that bytes are below 256.
-fn bytes_fit(bytes: &[u8])
+fn prove_bytes_fit(bytes: &[u8])
     ensures { (i : ℕ) → slice_index bytes.now i < 2 ^ 8 }
 {}
 
 /// Returns the number for a frame: its whole length if this is known, and otherwise the number of
 /// bytes that are needed to determine its length. `there` is the number of bytes that have arrived.
 /// Returns the code of `NotStun` if these bytes are not STUN.
-fn wanted_number(there: usize, frame: Frame) -> i64
+fn count_wanted(there: usize, frame: Frame) -> i64
     requires { wanted_bytes there frame < 2 ^ 63 }
     ensures { result ≡ wanted_number there frame }
 {
@@ -41,8 +41,8 @@ fn wanted_number(there: usize, frame: Frame) -> i64
 pub fn next_frame(bytes: &[u8]) -> i64
     ensures { result ≡ wanted_number (length bytes.now) (frame_of bytes.now) }
 {
-    bytes_fit(bytes);
-    wanted_number(bytes.len(), stun_extra::framing::next_frame(bytes))
+    prove_bytes_fit(bytes);
+    count_wanted(bytes.len(), stun_extra::framing::next_frame(bytes))
 }
 
 /// Returns the length of the packet at the front of the bytes, including the 2 bytes before the
@@ -51,8 +51,8 @@ pub fn next_frame(bytes: &[u8]) -> i64
 pub fn next_packet_frame(bytes: &[u8]) -> i64
     ensures { result ≡ wanted_number (length bytes.now) (packet_frame_of bytes.now) }
 {
-    bytes_fit(bytes);
-    wanted_number(bytes.len(), stun_extra::framing::next_packet_frame(bytes))
+    prove_bytes_fit(bytes);
+    count_wanted(bytes.len(), stun_extra::framing::next_packet_frame(bytes))
 }
 
 /// Returns the length of the STUN message or ChannelData message at the front of the bytes,
@@ -63,6 +63,6 @@ pub fn next_packet_frame(bytes: &[u8]) -> i64
 pub fn next_turn_frame(bytes: &[u8]) -> i64
     ensures { result ≡ wanted_number (length bytes.now) (turn_frame_of bytes.now) }
 {
-    bytes_fit(bytes);
-    wanted_number(bytes.len(), stun_extra::framing::next_turn_frame(bytes))
+    prove_bytes_fit(bytes);
+    count_wanted(bytes.len(), stun_extra::framing::next_turn_frame(bytes))
 }

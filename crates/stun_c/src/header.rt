@@ -37,7 +37,7 @@ pub fn class_number(class: MessageClass) -> u32
 }
 
 /// Returns the fields of the message header at the front of `bytes`.
-fn fields_of(bytes: &[u8]) -> Result<Header, StunParseError>
+fn read_fields(bytes: &[u8]) -> Result<Header, StunParseError>
     ensures ok { IfOk result (λ header. header ≡ header_in bytes.now) }
     ensures accepted { OnOk result (header_refusal bytes.now ≡ None) }
     ensures err { IfErr result (λ error. header_refusal bytes.now ≡ Some error) }
@@ -60,7 +60,7 @@ pub fn read_header(bytes: &[u8], out: &mut Header) -> i64
     ensures answer { result ≡ header_answer bytes.now }
     ensures written { out.new ≡ header_after (header_refusal bytes.now) bytes.now out.old }
 {
-    match fields_of(bytes) {
+    match read_fields(bytes) {
         Ok(header) => {
             *out = header;
             0

@@ -39,7 +39,7 @@ fn has_size(size: usize, number: u64) -> bool
 }
 
 /// Converts a number below 256 to one byte.
-fn one_byte(number: u64) -> [u8; 1]
+fn to_byte(number: u64) -> [u8; 1]
     requires { number < 256 }
     ensures { result ≡ big_bytes 1 number }
 {
@@ -55,7 +55,7 @@ pub fn add_number(buffer: &mut [u8], count: usize, kind: u32, number: u64, size:
         return Refusal::BadArgument.code();
     }
     match size {
-        1 => add_numbered(buffer, count, kind, &one_byte(number)),
+        1 => add_numbered(buffer, count, kind, &to_byte(number)),
         2 => add_numbered(buffer, count, kind, &(number as u16).to_be_bytes()),
         4 => add_numbered(buffer, count, kind, &(number as u32).to_be_bytes()),
         _ => add_numbered(buffer, count, kind, &number.to_be_bytes()),
@@ -65,7 +65,7 @@ pub fn add_number(buffer: &mut [u8], count: usize, kind: u32, number: u64, size:
 /// Returns the value of the attribute at the offset `place` of a message. Fails with `BadArgument`
 /// if there is no attribute, and with `MalformedAttribute` if its value does not have 1, 2, 4 or 8
 /// bytes.
-fn sized_at(message: &[u8], place: usize) -> Result<&[u8], Refusal>
+fn read_sized_at(message: &[u8], place: usize) -> Result<&[u8], Refusal>
     ensures ok { IfOk result (λ value. sized_at message.now place ≡ Ok value.now) }
     ensures size { IfOk result (λ value. is_size (length value.now) ≡ true) }
     ensures err { IfErr result (λ refusal. sized_at message.now place ≡ Err refusal) }
@@ -84,7 +84,7 @@ fn sized_at(message: &[u8], place: usize) -> Result<&[u8], Refusal>
 }
 
 /// Returns the number that these bytes encode.
-fn number_of(value: &[u8]) -> u64
+fn decode_number(value: &[u8]) -> u64
     requires { is_size (length value.now) ≡ true }
     ensures { result ≡ big_number (length value.now) value.now }
 {
@@ -102,9 +102,9 @@ pub fn number_at(message: &[u8], place: usize, number: &mut u64) -> i64
     ensures answer { result ≡ written_number (sized_at message.now place) }
     ensures number { number.new ≡ sized_after (sized_at message.now place) number.old }
 {
-    match sized_at(message, place) {
+    match read_sized_at(message, place) {
         Ok(value) => {
-            *number = number_of(value);
+            *number = decode_number(value);
             value.len() as i64
         }
         Err(refusal) => refusal.code(),

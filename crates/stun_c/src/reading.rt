@@ -52,7 +52,7 @@ pub fn method(message: &[u8]) -> i64
 }
 
 /// Returns the bytes of a message's transaction ID.
-fn id_bytes(message: &[u8]) -> Result<&[u8], Refusal>
+fn read_id_bytes(message: &[u8]) -> Result<&[u8], Refusal>
     ensures ok { IfOk result (λ id. id_of_message message.now ≡ Ok id.now) }
     ensures err { IfErr result (λ refusal. id_of_message message.now ≡ Err refusal) }
 {
@@ -65,14 +65,14 @@ fn id_bytes(message: &[u8]) -> Result<&[u8], Refusal>
 pub fn id(message: &[u8], out: &mut [u8]) -> i64
     ensures { WritesWithin (id_of_message message.now) out.old result out.new }
 {
-    match id_bytes(message) {
+    match read_id_bytes(message) {
         Ok(id) => write(out, id),
         Err(refusal) => refusal.code(),
     }
 }
 
 /// Returns the first visible attribute whose offset is greater than `place`, with its offset.
-fn member_after<'a>(message: &Message<'a>, place: usize) -> Option<(usize, RawAttribute<'a>)>
+fn find_after<'a>(message: &Message<'a>, place: usize) -> Option<(usize, RawAttribute<'a>)>
     ensures first { result ≡ next_member place message.now }
     ensures within { IfSome result (λ m. m.0 + 4 ≤ length message.now) }
 {
@@ -91,7 +91,7 @@ pub fn next(message: &[u8], place: usize, kind: &mut u16, value_length: &mut usi
         (next_member place message.now) value_length.old }
 {
     match Message::from_bytes(message) {
-        Ok(message) => match member_after(&message, place) {
+        Ok(message) => match find_after(&message, place) {
             Some((place, attribute)) => {
                 *kind = attribute.get_type().value();
                 *value_length = attribute.length();
@@ -104,7 +104,7 @@ pub fn next(message: &[u8], place: usize, kind: &mut u16, value_length: &mut usi
 }
 
 /// Returns the first visible ERROR-CODE of a message.
-fn error_in<'a>(message: &Message<'a>) -> Result<ErrorCode<'a>, StunParseError>
+fn find_error<'a>(message: &Message<'a>) -> Result<ErrorCode<'a>, StunParseError>
     ensures { result ≡ error_in message.now }
 {
     message.attribute::<ErrorCode<'a>>()
@@ -116,7 +116,7 @@ pub fn error_code(message: &[u8]) -> i64
     ensures { result ≡ error_answer message.now }
 {
     match Message::from_bytes(message) {
-        Ok(message) => match error_in(&message) {
+        Ok(message) => match find_error(&message) {
             Ok(error) => i64::from(error.code()),
             Err(error) => Refusal::from(error).code(),
         },
@@ -137,7 +137,7 @@ fn has_octets(family: u8, count: usize) -> bool
 }
 
 /// Returns the first visible attribute of a type, with its offset.
-fn first_of<'a>(message: &Message<'a>, kind: AttributeType) -> Option<(usize, RawAttribute<'a>)>
+fn find_first<'a>(message: &Message<'a>, kind: AttributeType) -> Option<(usize, RawAttribute<'a>)>
     ensures first { result ≡ first_member_of kind.0 (visible message.now) }
     ensures within { IfSome result (λ m. m.0 + 4 ≤ length message.now) }
 {
@@ -159,7 +159,7 @@ pub fn find(message: &[u8], kind: u32, value_length: &mut usize) -> i64
         return Refusal::BadArgument.code();
     }
     match Message::from_bytes(message) {
-        Ok(message) => match first_of(&message, AttributeType::new(kind as u16)) {
+        Ok(message) => match find_first(&message, AttributeType::new(kind as u16)) {
             Some((place, attribute)) => {
                 *value_length = attribute.length();
                 (place + ATTRIBUTE_HEADER_LENGTH) as i64
@@ -172,7 +172,7 @@ pub fn find(message: &[u8], kind: u32, value_length: &mut usize) -> i64
 
 /// Returns the port and the octets of an XOR-MAPPED-ADDRESS, both still XORed, or `None` if the
 /// attribute is malformed.
-fn hidden_parts<'a>(attribute: &RawAttribute<'a>) -> Option<(u16, &'a [u8])>
+fn read_hidden_parts<'a>(attribute: &RawAttribute<'a>) -> Option<(u16, &'a [u8])>
     ensures none { IfNone result (xored_of attribute.now ≡ None) }
     ensures some { IfSome result (λ parts. xored_of attribute.now ≡ Some (record {
       family = slice_index attribute.now.value 1;
@@ -193,7 +193,7 @@ fn hidden_parts<'a>(attribute: &RawAttribute<'a>) -> Option<(u16, &'a [u8])>
 
 /// Returns the port and the octets in the first visible XOR-MAPPED-ADDRESS of a message, both still
 /// XORed.
-fn address_in<'a>(message: &Message<'a>) -> Result<(u16, &'a [u8]), Refusal>
+fn find_hidden<'a>(message: &Message<'a>) -> Result<(u16, &'a [u8]), Refusal>
     ensures ok { IfOk result (λ parts. (id : ℕ)
         → shown_octets (address_in message.now) id ≡ Ok (xor_bytes parts.1.now (xor_key id))) }
     ensures port { IfOk result (λ parts. IsOkAnd (address_in message.now) (λ a. a.port ≡ parts.0)) }
@@ -201,10 +201,10 @@ fn address_in<'a>(message: &Message<'a>) -> Result<(u16, &'a [u8]), Refusal>
     ensures err { IfErr result (λ refusal. (id : ℕ)
         → shown_octets (address_in message.now) id ≡ Err refusal) }
 {
-    let Some((_, attribute)) = first_of(message, AttributeType::XOR_MAPPED_ADDRESS) else {
+    let Some((_, attribute)) = find_first(message, AttributeType::XOR_MAPPED_ADDRESS) else {
         return Err(Refusal::MissingAttribute);
     };
-    match hidden_parts(&attribute) {
+    match read_hidden_parts(&attribute) {
         Some(parts) => Ok(parts),
         None => Err(Refusal::MalformedAttribute),
     }
@@ -212,7 +212,7 @@ fn address_in<'a>(message: &Message<'a>) -> Result<(u16, &'a [u8]), Refusal>
 
 /// Returns the port and the octets in the first visible XOR-MAPPED-ADDRESS of a message, without
 /// the XOR. The octets are written to the front of `place`, which has 16 bytes.
-fn shown_in<'a>(message: &Message<'_>, place: &'a mut [u8]) -> Result<(u16, &'a [u8]), Refusal>
+fn find_shown<'a>(message: &Message<'_>, place: &'a mut [u8]) -> Result<(u16, &'a [u8]), Refusal>
     requires { length place.old ≡ 16 }
     ensures ok { IfOk result (λ parts. shown_octets (address_in message.now)
         (transaction_id_field message.now) ≡ Ok parts.1.now) }
@@ -221,15 +221,15 @@ fn shown_in<'a>(message: &Message<'_>, place: &'a mut [u8]) -> Result<(u16, &'a 
     ensures err { IfErr result (λ refusal. shown_octets (address_in message.now)
         (transaction_id_field message.now) ≡ Err refusal) }
 {
-    let (port, octets) = address_in(message)?;
+    let (port, octets) = find_hidden(message)?;
     let shown = &mut place[..octets.len()];
     shown.copy_from_slice(octets);
     xor_with(shown, &xor_key(message.transaction_id()));
     Ok((port ^ PORT_KEY, shown))
 }
 
-/// Like `shown_in`, but for the bytes of a message.
-fn shown_address<'a>(message: &[u8], place: &'a mut [u8]) -> Result<(u16, &'a [u8]), Refusal>
+/// Like `find_shown`, but for the bytes of a message.
+fn read_mapped_address<'a>(message: &[u8], place: &'a mut [u8]) -> Result<(u16, &'a [u8]), Refusal>
     requires { length place.old ≡ 16 }
     ensures ok { IfOk result (λ parts. octets_of_message message.now ≡ Ok parts.1.now) }
     ensures port { IfOk result (λ parts. IsOkAnd (address_in message.now)
@@ -237,7 +237,7 @@ fn shown_address<'a>(message: &[u8], place: &'a mut [u8]) -> Result<(u16, &'a [u
     ensures err { IfErr result (λ refusal. octets_of_message message.now ≡ Err refusal) }
 {
     let message = Message::from_bytes(message)?;
-    shown_in(&message, place)
+    find_shown(&message, place)
 }
 
 /// Copies the octets in the first visible XOR-MAPPED-ADDRESS of a message to the front of `out`,
@@ -250,7 +250,7 @@ pub fn mapped_address(message: &[u8], out: &mut [u8], port: &mut u16) -> i64
         (address_in message.now) port.old }
 {
     let mut place = [0; 16];
-    match shown_address(message, &mut place) {
+    match read_mapped_address(message, &mut place) {
         Ok((shown, octets)) => {
             if out.len() < octets.len() {
                 return Refusal::BufferTooSmall.code();
@@ -265,7 +265,7 @@ pub fn mapped_address(message: &[u8], out: &mut [u8], port: &mut u16) -> i64
 /// Returns the port and the octets that the message has in the address attribute at the offset
 /// `place`. In an XORed address attribute, both are still XORed.
 #[tactic(auto, using(crate::proofs::Members::header_before))]
-fn hidden_at(message: &[u8], place: usize) -> Result<(u16, &[u8]), Refusal>
+fn read_hidden_at(message: &[u8], place: usize) -> Result<(u16, &[u8]), Refusal>
     ensures ok { IfOk result (λ parts. octets_at message.now place
         ≡ Ok (xor_bytes parts.1.now (xor_key (transaction_id_field message.now)))) }
     ensures plain { IfOk result (λ parts. plain_octets (address_at message.now place)
@@ -285,14 +285,14 @@ fn hidden_at(message: &[u8], place: usize) -> Result<(u16, &[u8]), Refusal>
         return Err(Refusal::BadArgument);
     };
     let attribute = RawAttribute::new(AttributeType::XOR_MAPPED_ADDRESS, attribute.value());
-    match hidden_parts(&attribute) {
+    match read_hidden_parts(&attribute) {
         Some(parts) => Ok(parts),
         None => Err(Refusal::MalformedAttribute),
     }
 }
 
 /// Returns the transaction ID in the header of a message.
-fn id_in(message: &[u8]) -> TransactionId
+fn read_id(message: &[u8]) -> TransactionId
     requires { 20 ≤ length message.now }
     ensures { result ≡ transaction_id_field message.now }
 {
@@ -300,17 +300,17 @@ fn id_in(message: &[u8]) -> TransactionId
 }
 
 /// Returns the key with which the addresses in a message are XORed.
-fn key_in(message: &[u8]) -> [u8; 16]
+fn read_xor_key(message: &[u8]) -> [u8; 16]
     requires { 20 ≤ length message.now }
     ensures { result ≡ xor_key (transaction_id_field message.now) }
 {
-    let id = id_in(message);
+    let id = read_id(message);
     xor_key(id)
 }
 
 /// Returns the port and the octets in the XORed address attribute at the offset `place` of a
 /// message, without the XOR. The octets are written to the front of `room`, which has 16 bytes.
-fn shown_at<'a>(
+fn read_shown_at<'a>(
     message: &[u8],
     place: usize,
     room: &'a mut [u8],
@@ -321,10 +321,10 @@ fn shown_at<'a>(
         (λ a. parts.0 ≡ xor_port a.port)) }
     ensures err { IfErr result (λ refusal. octets_at message.now place ≡ Err refusal) }
 {
-    let (port, octets) = hidden_at(message, place)?;
+    let (port, octets) = read_hidden_at(message, place)?;
     let shown = &mut room[..octets.len()];
     shown.copy_from_slice(octets);
-    xor_with(shown, &key_in(message));
+    xor_with(shown, &read_xor_key(message));
     Ok((port ^ PORT_KEY, shown))
 }
 
@@ -338,7 +338,7 @@ pub fn address_at(message: &[u8], place: usize, out: &mut [u8], port: &mut u16) 
         (address_at message.now place) port.old }
 {
     let mut room = [0; 16];
-    match shown_at(message, place, &mut room) {
+    match read_shown_at(message, place, &mut room) {
         Ok((shown, octets)) => {
             if out.len() < octets.len() {
                 return Refusal::BufferTooSmall.code();
@@ -358,7 +358,7 @@ pub fn plain_at(message: &[u8], place: usize, out: &mut [u8], port: &mut u16) ->
         (within_room (plain_octets (address_at message.now place)) (length out.old))
         (address_at message.now place) port.old }
 {
-    match hidden_at(message, place) {
+    match read_hidden_at(message, place) {
         Ok((plain, octets)) => {
             if out.len() < octets.len() {
                 return Refusal::BufferTooSmall.code();

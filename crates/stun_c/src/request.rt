@@ -20,7 +20,7 @@ pub const LONGEST_REQUEST: usize = 20 + 4 + 516 + 4 + 32;
 
 /// Converts bytes to a USERNAME. Fails with `NotText` if they are not UTF-8, and with `TextTooLong`
 /// if there are more than 513 bytes.
-fn username(bytes: &[u8]) -> Result<Username<'_>, Refusal>
+fn to_username(bytes: &[u8]) -> Result<Username<'_>, Refusal>
     ensures ok { IfOk result (λ username. (username_refusal bytes.now ≡ None)
         × (username ≡ bytes.now)) }
     ensures short { OnOk result (length bytes.now ≤ USERNAME_LIMIT) }
@@ -50,7 +50,7 @@ pub fn signed_request<'a>(
 {
     let algorithm = algorithm_numbered(algorithm)?;
     let id = transaction_id(id)?;
-    let username = username(name)?;
+    let username = to_username(name)?;
     let writer = MessageWriteMutSlice::new(buffer);
     let mut writer = Message::builder_request(BINDING, id, writer).unwrap();
     writer.add_attribute(&username).unwrap();

@@ -31,7 +31,7 @@ fn is_channel_number(number: u32) -> bool
 }
 
 /// Returns how many zero bytes follow `data_length` bytes of data, or 0 if `is_padded` is false.
-fn padding_length(data_length: usize, is_padded: bool) -> usize
+fn count_padding(data_length: usize, is_padded: bool) -> usize
     ensures length { result ≡ padding_length data_length is_padded }
     ensures short { result < 4 }
 {
@@ -77,7 +77,7 @@ pub fn build_channel_data(channel: u32, data: &[u8], is_padded: bool, out: &mut 
     if data.len() > MOST_DATA {
         return Refusal::MessageTooLong.code();
     }
-    let padding = padding_length(data.len(), is_padded);
+    let padding = count_padding(data.len(), is_padded);
     let whole = CHANNEL_HEADER_LENGTH + data.len() + padding;
     if out.len() < whole {
         return Refusal::BufferTooSmall.code();
@@ -89,7 +89,7 @@ pub fn build_channel_data(channel: u32, data: &[u8], is_padded: bool, out: &mut 
 /// Returns the channel number and the length of the data in the ChannelData message at the front of
 /// `bytes`. Fails with `Truncated` if the message is not whole, and with `NotStun` if the bytes do
 /// not begin with a channel number.
-fn channel_data_in(bytes: &[u8]) -> Result<(u16, usize), Refusal>
+fn parse_channel_data(bytes: &[u8]) -> Result<(u16, usize), Refusal>
     ensures ok { OnOk result (channel_refusal bytes.now ≡ None) }
     ensures channel { IfOk result (λ parts. parts.0 ≡ big_number 2 bytes.now) }
     ensures data { IfOk result (λ parts. parts.1 ≡ stated_data bytes.now) }
@@ -117,7 +117,7 @@ pub fn read_channel_data(bytes: &[u8], channel: &mut u16, data_length: &mut usiz
     ensures data_length { data_length.new
         ≡ set_by_data (channel_refusal bytes.now) (stated_data bytes.now) data_length.old }
 {
-    match channel_data_in(bytes) {
+    match parse_channel_data(bytes) {
         Ok((number, stated)) => {
             *channel = number;
             *data_length = stated;
@@ -128,7 +128,7 @@ pub fn read_channel_data(bytes: &[u8], channel: &mut u16, data_length: &mut usiz
 }
 
 /// Returns the first visible CHANNEL-NUMBER of a message.
-fn channel_in(message: &Message<'_>) -> Result<ChannelNumber, StunParseError>
+fn find_channel(message: &Message<'_>) -> Result<ChannelNumber, StunParseError>
     ensures { result ≡ channel_in message.now }
 {
     message.attribute::<ChannelNumber>()
@@ -140,7 +140,7 @@ pub fn channel_number(message: &[u8]) -> i64
     ensures { result ≡ channel_number_answer message.now }
 {
     match Message::from_bytes(message) {
-        Ok(message) => match channel_in(&message) {
+        Ok(message) => match find_channel(&message) {
             Ok(number) => i64::from(number.channel()),
             Err(error) => Refusal::from(error).code(),
         },
@@ -149,7 +149,7 @@ pub fn channel_number(message: &[u8]) -> i64
 }
 
 /// Returns the first visible REQUESTED-TRANSPORT of a message.
-fn transport_in(message: &Message<'_>) -> Result<RequestedTransport, StunParseError>
+fn find_transport(message: &Message<'_>) -> Result<RequestedTransport, StunParseError>
     ensures { result ≡ transport_in message.now }
 {
     message.attribute::<RequestedTransport>()
@@ -161,7 +161,7 @@ pub fn requested_transport(message: &[u8]) -> i64
     ensures { result ≡ transport_answer message.now }
 {
     match Message::from_bytes(message) {
-        Ok(message) => match transport_in(&message) {
+        Ok(message) => match find_transport(&message) {
             Ok(transport) => i64::from(transport.protocol()),
             Err(error) => Refusal::from(error).code(),
         },

@@ -42,7 +42,7 @@ fn copy_types(types: &mut [AttributeType], numbers: &[u16])
 /// Converts the numbers of the types that the caller knows, and writes the types to `place`, which
 /// has room for `MOST_KNOWN` types. Fails with `BadArgument` if there are more than `MOST_KNOWN`
 /// numbers.
-fn known_types<'a>(
+fn copy_known<'a>(
     numbers: &[u16],
     place: &'a mut [AttributeType],
 ) -> Result<&'a [AttributeType], Refusal>
@@ -88,7 +88,7 @@ fn tell(message: &Message<'_>, known: &[AttributeType], types: &mut [u16]) -> us
 /// Parses the message, and converts the numbers of the types that the caller knows. Fails with
 /// `BadArgument` if there are more than `MOST_KNOWN` numbers, and then with the error of
 /// `Message::from_bytes`.
-fn readable<'a, 'b>(
+fn parse_arguments<'a, 'b>(
     bytes: &'a [u8],
     known: &[u16],
     place: &'b mut [AttributeType],
@@ -98,7 +98,7 @@ fn readable<'a, 'b>(
         × (both.0 ≡ bytes.now) × (both.1.now ≡ types_of known.now)) }
     ensures err { IfErr result (λ refusal. known_refusal bytes.now known.now ≡ Some refusal) }
 {
-    let known = known_types(known, place)?;
+    let known = copy_known(known, place)?;
     let message = Message::from_bytes(bytes)?;
     Ok((message, known))
 }
@@ -112,7 +112,7 @@ pub fn types(message: &[u8], known: &[u16], types: &mut [u16]) -> i64
         (unknown_of message.now known.now) types.old }
 {
     let mut place = [AttributeType::new(0); MOST_KNOWN];
-    match readable(message, known, &mut place) {
+    match parse_arguments(message, known, &mut place) {
         Ok((message, known)) => tell(&message, known, types) as i64,
         Err(refusal) => refusal.code(),
     }
@@ -126,7 +126,7 @@ const FRONT_LENGTH: usize = 48;
 
 /// Writes the header of an error response to a request to the front of a buffer that has room for
 /// it, and returns its bytes.
-fn header<'a>(request: &Message<'_>, buffer: &'a mut [u8]) -> &'a [u8]
+fn make_answer_header<'a>(request: &Message<'_>, buffer: &'a mut [u8]) -> &'a [u8]
     requires { 20 ≤ length buffer.old }
     ensures { result.now ≡ empty_answer MessageClass.Error request.now }
 {
@@ -140,7 +140,7 @@ fn begin_answer(request: &Message<'_>, out: &mut [u8])
     ensures { out.new ≡ empty_answer MessageClass.Error request.now ++ drop 20 out.old }
 {
     let mut place = [0; HEADER_LENGTH];
-    let header = header(request, &mut place);
+    let header = make_answer_header(request, &mut place);
     out[..HEADER_LENGTH].copy_from_slice(header);
 }
 
@@ -270,7 +270,7 @@ pub fn refuse(request: &[u8], known: &[u16], out: &mut [u8]) -> i64
     ensures { WritesWithin (unknown_made request.now known.now) out.old result out.new }
 {
     let mut place = [AttributeType::new(0); MOST_KNOWN];
-    match readable(request, known, &mut place) {
+    match parse_arguments(request, known, &mut place) {
         Ok((message, known)) => answer(&message, known, out),
         Err(refusal) => refusal.code(),
     }

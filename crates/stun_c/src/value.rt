@@ -22,7 +22,7 @@ pub fn attribute_place(place: usize) -> usize
 
 /// Returns the value of the attribute at the offset `place` of a message. Fails with `BadArgument`
 /// if there is no attribute at this offset.
-fn value_at(message: &[u8], place: usize) -> Result<&[u8], Refusal>
+fn read_value_at(message: &[u8], place: usize) -> Result<&[u8], Refusal>
     ensures ok { IfOk result (λ value. value_at message.now place ≡ Ok value.now) }
     ensures within { OnOk result (place + 4 ≤ length message.now) }
     ensures short { IfOk result (λ value. length value.now < 65536) }
@@ -39,12 +39,12 @@ fn value_at(message: &[u8], place: usize) -> Result<&[u8], Refusal>
 
 /// Returns the text in the attribute at the offset `place` of a message. Fails with `BadArgument`
 /// if there is no attribute, and with `NotText` if its value is not UTF-8.
-fn text_at(message: &[u8], place: usize) -> Result<&str, Refusal>
+fn read_text_at(message: &[u8], place: usize) -> Result<&str, Refusal>
     ensures ok { IfOk result (λ text. text_at message.now place ≡ Ok text.now) }
     ensures within { OnOk result (place + 4 ≤ length message.now) }
     ensures err { IfErr result (λ refusal. text_at message.now place ≡ Err refusal) }
 {
-    let value = value_at(message, place)?;
+    let value = read_value_at(message, place)?;
     text(value)
 }
 
@@ -55,7 +55,7 @@ pub fn read_text(message: &[u8], place: usize, text_length: &mut usize) -> i64
     ensures text_length { text_length.new
         ≡ text_length_after (text_at message.now place) text_length.old }
 {
-    match text_at(message, place) {
+    match read_text_at(message, place) {
         Ok(text) => {
             *text_length = text.len();
             (place + ATTRIBUTE_HEADER_LENGTH) as i64
@@ -68,12 +68,12 @@ pub fn read_text(message: &[u8], place: usize, text_length: &mut usize) -> i64
 /// `BadArgument` if there is no attribute, and with `MalformedAttribute` if its value is not a list
 /// of types.
 #[tactic(auto, using(crate::proofs::Told::held_few))]
-fn types_at(message: &[u8], place: usize) -> Result<UnknownAttributes<'_>, Refusal>
+fn read_types_at(message: &[u8], place: usize) -> Result<UnknownAttributes<'_>, Refusal>
     ensures ok { IfOk result (λ types. types_at message.now place ≡ Ok types) }
     ensures few { IfOk result (λ types. length types < 65536) }
     ensures err { IfErr result (λ refusal. types_at message.now place ≡ Err refusal) }
 {
-    let value = value_at(message, place)?;
+    let value = read_value_at(message, place)?;
     match UnknownAttributes::from_raw(RawAttribute::new(UNKNOWN_ATTRIBUTES, value)) {
         Ok(types) => Ok(types),
         Err(_) => Err(Refusal::MalformedAttribute),
@@ -98,7 +98,7 @@ pub fn read_types(message: &[u8], place: usize, types: &mut [u16]) -> i64
     ensures answer { result ≡ held_number (types_at message.now place) }
     ensures types { types.new ≡ held_after (types_at message.now place) types.old }
 {
-    match types_at(message, place) {
+    match read_types_at(message, place) {
         Ok(held) => {
             hold(&held, types);
             held.len() as i64

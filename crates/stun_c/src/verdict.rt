@@ -13,7 +13,7 @@ use stun_types::message::Message;
 
 /// Converts the library's error for a message whose integrity attribute cannot be read to the error
 /// that the call returns.
-fn integrity_refusal(error: StunParseError) -> Refusal
+fn to_integrity_refusal(error: StunParseError) -> Refusal
     ensures { result ≡ refusal_of_integrity error }
 {
     match error {
@@ -27,11 +27,11 @@ fn integrity_refusal(error: StunParseError) -> Refusal
 
 /// Converts the library's error for a message that cannot be verified to the error that the call
 /// returns.
-fn verdict_refusal(error: ValidateError) -> Refusal
+fn to_verdict_refusal(error: ValidateError) -> Refusal
     ensures { result ≡ refusal_of_verdict error }
 {
     match error {
-        ValidateError::Parse(error) => integrity_refusal(error),
+        ValidateError::Parse(error) => to_integrity_refusal(error),
         ValidateError::IntegrityFailed => Refusal::IntegrityFailed,
     }
 }
@@ -46,6 +46,6 @@ pub fn verdict(message: &[u8], key: &[u8]) -> Result<IntegrityAlgorithm, Refusal
     let message = Message::from_bytes(message)?;
     match message.validate_integrity_with_key_bytes(key) {
         Ok(algorithm) => Ok(algorithm),
-        Err(error) => Err(verdict_refusal(error)),
+        Err(error) => Err(to_verdict_refusal(error)),
     }
 }

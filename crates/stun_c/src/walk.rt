@@ -26,7 +26,7 @@ pub struct Cursor {
 }
 
 /// Converts the number in a cursor to a visibility.
-fn visibility_from(hidden: u32) -> Visibility
+fn to_visibility(hidden: u32) -> Visibility
     ensures { result ≡ visibility_from hidden }
 {
     match hidden {
@@ -38,7 +38,7 @@ fn visibility_from(hidden: u32) -> Visibility
 }
 
 /// Converts a visibility to the number in a cursor.
-fn hidden_number(visibility: Visibility) -> u32
+fn to_hidden_number(visibility: Visibility) -> u32
     ensures { visibility_from result ≡ visibility }
 {
     match visibility {
@@ -68,10 +68,10 @@ fn advance<'a>(message: &'a [u8], cursor: &mut Cursor) -> Option<(usize, RawAttr
     while let Some(attribute) = RawAttribute::at(message, cursor.place) {
         let place = cursor.place;
         let kind = attribute.get_type();
-        let visibility = visibility_from(cursor.hidden);
+        let visibility = to_visibility(cursor.hidden);
         let after = visibility.after(kind);
         cursor.place += attribute.padded_len();
-        cursor.hidden = hidden_number(after);
+        cursor.hidden = to_hidden_number(after);
         if visibility.shows(kind) {
             return Some((place, attribute));
         }
@@ -83,7 +83,7 @@ fn advance<'a>(message: &'a [u8], cursor: &mut Cursor) -> Option<(usize, RawAttr
 /// header of the message if the offset in the caller's cursor is 0. Fails with `BadArgument` if any
 /// other offset is in the header or after the end of the message.
 #[tactic(auto, using(crate::proofs::Walking::shown_visible))]
-fn begun(message: &[u8], cursor: Cursor) -> Result<Cursor, Refusal>
+fn begin_walk(message: &[u8], cursor: Cursor) -> Result<Cursor, Refusal>
     ensures ok { IfOk result
         (λ begun. visible_after (visibility_from begun.hidden) (walk_from begun.place message.now)
         ≡ ahead cursor message.now) }
@@ -123,7 +123,7 @@ pub fn walk(message: &[u8], cursor: &mut Cursor, kind: &mut u16, value_length: &
     ensures refused { IfSome (cursor_refusal cursor.old message.now)
         (λ _. cursor.new ≡ cursor.old) }
 {
-    match begun(message, *cursor) {
+    match begin_walk(message, *cursor) {
         Ok(begun) => {
             *cursor = begun;
             match advance(message, cursor) {

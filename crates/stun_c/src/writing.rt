@@ -81,7 +81,7 @@ pub fn fits(message: &Message<'_>, room: usize, value_length: usize) -> Result<(
 /// - `NotAllowed`: attributes of this type are written only by calls of their own.
 /// - `AttributeExists`: the message has an attribute of this type.
 /// - `MessageTooLong` or `BufferTooSmall`: the attribute does not fit (`fits`).
-fn addable(
+fn check_adding(
     buffer: &[u8],
     count: usize,
     kind: AttributeType,
@@ -166,7 +166,7 @@ pub fn add(buffer: &mut [u8], count: usize, kind: AttributeType, value: &[u8]) -
     ensures { Writes (added_attribute buffer.old count kind.0 value.now) buffer.old result
         buffer.new }
 {
-    match addable(buffer, count, kind, value.len()) {
+    match check_adding(buffer, count, kind, value.len()) {
         Ok(()) => append(buffer, count, kind, value),
         Err(refusal) => refusal.code(),
     }
@@ -242,7 +242,7 @@ fn append_integrity(
 /// Returns the algorithm with this number, if its integrity attribute can be added to the message
 /// in the first `count` bytes of the buffer. Fails with `BadArgument` if no algorithm has this
 /// number, and otherwise with the first error because of which the attribute cannot be added.
-fn signable(buffer: &[u8], count: usize, algorithm: u32) -> Result<IntegrityAlgorithm, Refusal>
+fn check_signing(buffer: &[u8], count: usize, algorithm: u32) -> Result<IntegrityAlgorithm, Refusal>
     ensures ok { IfOk result (λ algorithm'. (algorithm_numbered algorithm ≡ Some algorithm')
         × (digest_refusal buffer.now count algorithm' ≡ None)
         × HasRoom count (digest_length algorithm') (length buffer.now)) }
@@ -261,14 +261,14 @@ pub fn sign(buffer: &mut [u8], count: usize, algorithm: u32, key: &[u8]) -> i64
     ensures { Writes (signed_message buffer.old count (algorithm_numbered algorithm) key.now)
         buffer.old result buffer.new }
 {
-    match signable(buffer, count, algorithm) {
+    match check_signing(buffer, count, algorithm) {
         Ok(algorithm) => append_integrity(buffer, count, algorithm, key),
         Err(refusal) => refusal.code(),
     }
 }
 
 /// Returns the class with this number. Fails with `BadArgument` if the number is above 3.
-fn class_numbered(number: u32) -> Result<MessageClass, Refusal>
+fn to_class(number: u32) -> Result<MessageClass, Refusal>
     ensures ok { IfOk result (λ class. (nat_lt number 4 ≡ true) × (class ≡ class_of_bits number)) }
     ensures err { IfErr result (λ refusal. (nat_lt number 4 ≡ false)
         × (refusal ≡ Refusal.BadArgument)) }
@@ -284,7 +284,7 @@ fn class_numbered(number: u32) -> Result<MessageClass, Refusal>
 
 /// Returns the method with this number. Fails with `BadArgument` if the number has more than 12
 /// bits.
-fn method_numbered(number: u32) -> Result<Method, Refusal>
+fn to_method(number: u32) -> Result<Method, Refusal>
     ensures ok { IfOk result (λ method. (nat_lt number 4096 ≡ true) × (method ≡ number)) }
     ensures err { IfErr result (λ refusal. (nat_lt number 4096 ≡ false)
         × (refusal ≡ Refusal.BadArgument)) }
@@ -296,13 +296,18 @@ fn method_numbered(number: u32) -> Result<Method, Refusal>
 }
 
 /// Writes a message header to a buffer that has room for it, and returns its bytes.
-fn header<'a>(class: u32, method: u32, id: &[u8], buffer: &'a mut [u8]) -> Result<&'a [u8], Refusal>
+fn make_message_header<'a>(
+    class: u32,
+    method: u32,
+    id: &[u8],
+    buffer: &'a mut [u8],
+) -> Result<&'a [u8], Refusal>
     requires { 20 ≤ length buffer.old }
     ensures ok { IfOk result (λ header. begun_message class method id.now ≡ Ok header.now) }
     ensures err { IfErr result (λ refusal. begun_message class method id.now ≡ Err refusal) }
 {
-    let class = class_numbered(class)?;
-    let method = method_numbered(method)?;
+    let class = to_class(class)?;
+    let method = to_method(method)?;
     let id = transaction_id(id)?;
     let writer = MessageWriteMutSlice::new(buffer);
     let message_type = MessageType::from_class_method(class, method);
@@ -316,7 +321,7 @@ pub fn begin(class: u32, method: u32, id: &[u8], out: &mut [u8]) -> i64
     ensures { WritesWithin (begun_message class method id.now) out.old result out.new }
 {
     let mut place = [0; HEADER_LENGTH];
-    match header(class, method, id, &mut place) {
+    match make_message_header(class, method, id, &mut place) {
         Ok(header) => write(out, header),
         Err(refusal) => refusal.code(),
     }
@@ -336,7 +341,7 @@ pub fn write_error(value: &mut [u8], code: u16, reason: &[u8])
 /// Returns the code, if an ERROR-CODE can have this code and this reason phrase. Fails with
 /// `BadArgument` if the code is not between 300 and 699, then with `NotText` if the reason phrase
 /// is not UTF-8, then with `TextTooLong` if it has more than 763 bytes.
-fn error_arguments(code: u32, reason: &[u8]) -> Result<u16, Refusal>
+fn check_error_arguments(code: u32, reason: &[u8]) -> Result<u16, Refusal>
     ensures ok { IfOk result (λ code'. (code' ≡ code) × (code < 700) ×
         (length reason.now ≤ TEXT_LIMIT)) }
     ensures accepted { OnOk result (error_argument_refusal code reason.now ≡ None) }
@@ -357,7 +362,7 @@ fn error_arguments(code: u32, reason: &[u8]) -> Result<u16, Refusal>
 pub fn add_error(buffer: &mut [u8], count: usize, code: u32, reason: &[u8]) -> i64
     ensures { Writes (added_error buffer.old count code reason.now) buffer.old result buffer.new }
 {
-    match error_arguments(code, reason) {
+    match check_error_arguments(code, reason) {
         Ok(code) => {
             let mut longest = [0; 4 + TEXT_LIMIT];
             let value = &mut longest[..4 + reason.len()];

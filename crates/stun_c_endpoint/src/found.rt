@@ -55,7 +55,7 @@ fn by_keys<'f>(name: &'f [u8], sha1: &[u8], sha256: &[u8]) -> Result<FoundUser<'
 
 impl<'f> Found<'f> {
     /// Converts the user to the type of the library. This does not allocate.
-    fn user(&self) -> Result<FoundUser<'f>, Refusal>
+    fn to_user(&self) -> Result<FoundUser<'f>, Refusal>
         ensures { result ≡ found_user self.now.name.now self.now.password.now self.now.has_password
             self.now.sha1.now self.now.sha256.now }
     {
@@ -86,7 +86,7 @@ pub fn resume(
         received.new }
 {
     match server {
-        Kept::Server(server) => match found.user() {
+        Kept::Server(server) => match found.to_user() {
             Ok(user) => resume_at(server, &user, message, from, unix_seconds, out, received),
             Err(refusal) => Err(refusal),
         },

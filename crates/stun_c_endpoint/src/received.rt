@@ -125,7 +125,7 @@ pub fn integrity_number(algorithm: Option<IntegrityAlgorithm>) -> u8
 }
 
 /// Returns the SHA-1 of some bytes.
-fn sha1_of(bytes: &[u8]) -> [u8; 20]
+fn hash_by_sha1(bytes: &[u8]) -> [u8; 20]
     ensures { result ≡ sha1 bytes.now }
 {
     let mut hasher = Sha1::new();
@@ -134,7 +134,7 @@ fn sha1_of(bytes: &[u8]) -> [u8; 20]
 }
 
 /// Returns the SHA-256 of some bytes.
-fn sha256_of(bytes: &[u8]) -> [u8; 32]
+fn hash_by_sha256(bytes: &[u8]) -> [u8; 32]
     ensures { result ≡ sha256 bytes.now }
 {
     let mut hasher = <Sha256 as Digest>::new();
@@ -151,7 +151,7 @@ struct KeyBlock {
 
 impl KeyBlock {
     /// Pads a key with zeros to one block of HMAC.
-    fn filled(key: &[u8]) -> KeyBlock
+    fn pad(key: &[u8]) -> KeyBlock
         requires { length key.now ≤ 64 }
         ensures bytes { result.bytes ≡ block_of key.now }
         ensures length { result.length ≡ length key.now }
@@ -171,11 +171,11 @@ impl KeyBlock {
         ensures length { result.length ≡ length (short_key (hash_by algorithm) key.now) }
     {
         if key.len() <= KEY_ROOM {
-            return KeyBlock::filled(key);
+            return KeyBlock::pad(key);
         }
         match algorithm {
-            IntegrityAlgorithm::Sha1 => KeyBlock::filled(&sha1_of(key)),
-            IntegrityAlgorithm::Sha256 => KeyBlock::filled(&sha256_of(key)),
+            IntegrityAlgorithm::Sha1 => KeyBlock::pad(&hash_by_sha1(key)),
+            IntegrityAlgorithm::Sha256 => KeyBlock::pad(&hash_by_sha256(key)),
         }
     }
 
@@ -186,7 +186,7 @@ impl KeyBlock {
     {
         match algorithm {
             Some(algorithm) => KeyBlock::of(algorithm, key),
-            None => KeyBlock::filled(&[]),
+            None => KeyBlock::pad(&[]),
         }
     }
 }
@@ -220,8 +220,6 @@ pub fn drop_number(why: DropReason) -> u32
         DropReason::UnknownAttribute => 4,
         DropReason::MissingFingerprint => 13,
         DropReason::NotSigned(_) => 8,
-        // There is no other variant in this release.
-        _ => 0,
     }
 }
 
@@ -333,7 +331,7 @@ impl Received {
     }
 
     /// Sets the user who has signed the message.
-    fn signed(&mut self, name: &str, algorithm: IntegrityAlgorithm)
+    fn set_signer(&mut self, name: &str, algorithm: IntegrityAlgorithm)
         ensures { self.new ≡ signer_told (Some (record { name = name.now; algorithm = algorithm }))
             self.old }
     {
@@ -353,7 +351,7 @@ impl Received {
     }
 
     /// Clears the name, for a message that is accepted without a signature.
-    fn signed_by_nobody(&mut self)
+    fn clear_name(&mut self)
         ensures { self.new ≡ signer_told None self.old }
     {
         self.name = [0; 516];
@@ -367,7 +365,7 @@ impl Received {
         self.begin(2);
         self.method = request.reply().method().value();
         self.reply = Reply::of(request.reply());
-        self.signed(request.user(), request.algorithm());
+        self.set_signer(request.user(), request.algorithm());
     }
 
     /// Sets the outcome to an accepted request to a server without credentials, which anybody may
@@ -378,7 +376,7 @@ impl Received {
         self.begin(2);
         self.method = request.reply().method().value();
         self.reply = Reply::of(request.reply());
-        self.signed_by_nobody();
+        self.clear_name();
     }
 
     /// Sets the outcome to a request whose user must be looked up.
@@ -387,11 +385,11 @@ impl Received {
     {
         self.begin(5);
         self.method = lookup.message().method().value();
-        self.named(lookup.user_id());
+        self.set_named_user(lookup.user_id());
     }
 
     /// Sets the name of the user whom a request names, or the hash of the name.
-    fn named(&mut self, user: NamedUser<'_>)
+    fn set_named_user(&mut self, user: NamedUser<'_>)
         ensures { self.new ≡ named_told (named_seen user.entry) self.old }
     {
         match user {
@@ -410,7 +408,7 @@ impl Received {
     {
         self.begin(3);
         self.method = message.method().value();
-        self.signed_by_nobody();
+        self.clear_name();
     }
 
     /// Sets the outcome to an indication that a user has signed.
@@ -420,7 +418,7 @@ impl Received {
     {
         self.begin(3);
         self.method = indication.message().method().value();
-        self.signed(indication.user(), indication.algorithm());
+        self.set_signer(indication.user(), indication.algorithm());
     }
 
     /// Sets the outcome to a response, which is for a client on the same socket.

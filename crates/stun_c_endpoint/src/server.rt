@@ -32,7 +32,7 @@ pub mod laws;
 pub const LAST_SECOND: u64 = 1_099_511_627_776;
 
 /// Returns the error code of a response, or 0 if it is a success response.
-fn code(refusal: Option<Refused>) -> u16
+fn to_code(refusal: Option<Refused>) -> u16
     ensures { result ≡ code_told refusal }
 {
     match refusal {
@@ -43,7 +43,7 @@ fn code(refusal: Option<Refused>) -> u16
 
 /// Copies a response to the front of `out`, and writes its code and length to `received`. If `out`
 /// is too small, sets only `received.needed`, and fails with `BufferTooSmall`.
-fn answered(
+fn write_answer(
     answer: &Answer<Global>,
     out: &mut [u8],
     received: &mut Received,
@@ -57,7 +57,7 @@ fn answered(
         return Err(Refusal::BufferTooSmall);
     }
     put(out, bytes);
-    received.answered(code(answer.refusal()), bytes.len());
+    received.answered(to_code(answer.refusal()), bytes.len());
     Ok(1)
 }
 
@@ -72,7 +72,7 @@ pub fn tell<R: Accepted, I: Accepted>(
         out.new received.old received.new }
 {
     match outcome {
-        Outcome::Answer(answer) => answered(answer, out, received),
+        Outcome::Answer(answer) => write_answer(answer, out, received),
         Outcome::Request(request) => Ok(request.tell(received)),
         Outcome::Indication(indication) => Ok(indication.tell(received)),
         Outcome::Response(message) => {
@@ -83,8 +83,6 @@ pub fn tell<R: Accepted, I: Accepted>(
             received.dropped(*why);
             Ok(0)
         }
-        // There is no other variant in this release.
-        _ => Err(Refusal::BadArgument),
     }
 }
 
@@ -248,8 +246,6 @@ fn identify_at(
             received.looked_up(&lookup);
             Ok(5)
         }
-        // There is no other variant in this release.
-        _ => Err(Refusal::BadArgument),
     }
 }
 
@@ -266,8 +262,6 @@ pub fn cause_number(cause: Option<Cause>) -> u32
         Some(Cause::StaleNonce) => 5,
         Some(Cause::WrongCredentials) => 6,
         Some(Cause::UnknownAttribute) => 7,
-        // There is no other variant in this release.
-        Some(_) => 0,
     }
 }
 
@@ -286,7 +280,7 @@ pub fn cause(
 {
     match (server, users) {
         (Kept::Server(server), Kept::Users(users)) => {
-            cause_at(server, users, message, from, unix_seconds)
+            find_cause(server, users, message, from, unix_seconds)
         }
         _ => Err(Refusal::WrongHandle),
     }
@@ -305,7 +299,7 @@ pub fn cause_alone(server: &Kept) -> Refusal
 
 /// Returns the `stunp_cause` for which this server with this table refuses a datagram, or 0 if it
 /// does not refuse the datagram.
-fn cause_at(
+fn find_cause(
     server: &Server<Global>,
     users: &Users<Global>,
     message: &[u8],

@@ -85,7 +85,7 @@ impl<'a> Model for Given<'a> {
 
 /// Returns the nonce lifetime in seconds: the number that the caller passes, or an hour if this
 /// number is 0.
-fn nonce_seconds(seconds: u64) -> u64
+fn choose_nonce_seconds(seconds: u64) -> u64
     ensures { result ≡ nonce_seconds seconds }
 {
     if seconds == 0 {
@@ -185,8 +185,8 @@ impl<'a> Given<'a> {
     {
         self.algorithms > MOST_ALGORITHMS
             || self.anonymous_username > DISABLED
-            || nonce_seconds(self.nonce_seconds) < SHORTEST_NONCE_LIFETIME
-            || nonce_seconds(self.nonce_seconds) > LONGEST_NONCE_LIFETIME
+            || choose_nonce_seconds(self.nonce_seconds) < SHORTEST_NONCE_LIFETIME
+            || choose_nonce_seconds(self.nonce_seconds) > LONGEST_NONCE_LIFETIME
     }
 
     /// Returns `true` if a secret is one repeated byte, or if both secrets are equal.
@@ -197,7 +197,7 @@ impl<'a> Given<'a> {
     }
 
     /// Creates the settings of the server, with this realm and this SOFTWARE text.
-    fn long_term(
+    fn make_long_term(
         &self,
         alloc: Global,
         realm: &str,
@@ -229,7 +229,7 @@ impl<'a> Given<'a> {
             previous_secret: self.previous_secret,
             algorithms: algorithms(self.algorithms),
             user_hashes: self.anonymous_username != DISABLED,
-            nonce_lifetime: nonce_seconds(self.nonce_seconds),
+            nonce_lifetime: choose_nonce_seconds(self.nonce_seconds),
             understood,
             software,
             answers_binding: self.answers_binding,
@@ -242,7 +242,7 @@ impl<'a> Given<'a> {
         requires { handle.old.kept ≡ None }
         ensures { MakesServer self.now result handle.new.kept }
     {
-        match self.server(alloc) {
+        match self.make_server(alloc) {
             Ok(server) => placed(alloc, handle, Kept::Server(server)),
             Err(refusal) => refusal.code(),
         }
@@ -250,7 +250,7 @@ impl<'a> Given<'a> {
 
     /// Creates the server from these arguments.
     #[tactic(auto, unfolding(crate::specs::Given::given_refusal))]
-    fn server(&self, alloc: Global) -> Result<Server<Global>, Refusal>
+    fn make_server(&self, alloc: Global) -> Result<Server<Global>, Refusal>
         ensures { Builds (given_refusal self.now) (server_given self.now) result }
     {
         if self.is_out_of_range() || self.is_wrong_secret() {
@@ -261,7 +261,7 @@ impl<'a> Given<'a> {
         if realm.len() > TEXT_LIMIT || software.len() > TEXT_LIMIT {
             return Err(Refusal::TextTooLong);
         }
-        let settings = self.long_term(alloc, realm, software)?;
+        let settings = self.make_long_term(alloc, realm, software)?;
         match Server::new(alloc, settings) {
             Ok(server) => Ok(server),
             // Wrong settings were refused above, so the cause is a failed allocation.
@@ -302,7 +302,7 @@ impl<'a> GivenAlone<'a> {
         requires { handle.old.kept ≡ None }
         ensures { MakesShortTerm self.now result handle.new.kept }
     {
-        match self.short_term(alloc) {
+        match self.make_short_term(alloc) {
             Ok(server) => placed(alloc, handle, Kept::ShortTerm(server)),
             Err(refusal) => refusal.code(),
         }
@@ -314,7 +314,7 @@ impl<'a> GivenAlone<'a> {
         requires { handle.old.kept ≡ None }
         ensures { MakesOpen self.now result handle.new.kept }
     {
-        match self.without_credentials(alloc) {
+        match self.make_open(alloc) {
             Ok(server) => placed(alloc, handle, Kept::Open(server)),
             Err(refusal) => refusal.code(),
         }
@@ -322,7 +322,7 @@ impl<'a> GivenAlone<'a> {
 
     /// Creates the settings of a server's responses. Fails with `NotText`, `TextTooLong` or
     /// `OutOfMemory` if the SOFTWARE text is not UTF-8, is too long or cannot be stored.
-    fn settings(&self, alloc: Global) -> Result<ResponseSettings<Global>, Refusal>
+    fn make_settings(&self, alloc: Global) -> Result<ResponseSettings<Global>, Refusal>
         ensures refused { RefusedFor (alone_refusal self.now) result }
         ensures software { IfOk result (λ made. option_map string_bytes made.software
             ≡ if_any self.now.software) }
@@ -346,10 +346,10 @@ impl<'a> GivenAlone<'a> {
     }
 
     /// Creates a server with short-term credentials.
-    fn short_term(&self, alloc: Global) -> Result<ShortTermServer<Global>, Refusal>
+    fn make_short_term(&self, alloc: Global) -> Result<ShortTermServer<Global>, Refusal>
         ensures { Builds (alone_refusal self.now) (responding_given self.now) result }
     {
-        match ShortTermServer::new(alloc, self.settings(alloc)?) {
+        match ShortTermServer::new(alloc, self.make_settings(alloc)?) {
             Ok(server) => Ok(server),
             // Wrong settings were refused above, so the cause is a failed allocation.
             Err(_) => Err(Refusal::OutOfMemory),
@@ -357,10 +357,10 @@ impl<'a> GivenAlone<'a> {
     }
 
     /// Creates a server without credentials.
-    fn without_credentials(&self, alloc: Global) -> Result<OpenServer<Global>, Refusal>
+    fn make_open(&self, alloc: Global) -> Result<OpenServer<Global>, Refusal>
         ensures { Builds (alone_refusal self.now) (responding_given self.now) result }
     {
-        match OpenServer::new(alloc, self.settings(alloc)?) {
+        match OpenServer::new(alloc, self.make_settings(alloc)?) {
             Ok(server) => Ok(server),
             // Wrong settings were refused above, so the cause is a failed allocation.
             Err(_) => Err(Refusal::OutOfMemory),

@@ -52,15 +52,15 @@ pub fn table(alloc: Global, server: &Kept) -> Result<Box<Kept, Global>, Refusal>
     match server {
         Kept::Server(server) => {
             let users = server.users()?;
-            boxed(alloc, Kept::Users(users))
+            box_table(alloc, Kept::Users(users))
         }
-        Kept::ShortTerm(_) => boxed(alloc, Kept::ShortTermUsers(ShortTermUsers::new(alloc))),
+        Kept::ShortTerm(_) => box_table(alloc, Kept::ShortTermUsers(ShortTermUsers::new(alloc))),
         _ => Err(Refusal::WrongHandle),
     }
 }
 
 /// Moves a table to the heap.
-fn boxed(alloc: Global, table: Kept) -> Result<Box<Kept, Global>, Refusal>
+fn box_table(alloc: Global, table: Kept) -> Result<Box<Kept, Global>, Refusal>
     ensures { MatchResult result (λ made. made.value ≡ table)
         (λ refusal. refusal ≡ Refusal.OutOfMemory) }
 {

@@ -20,8 +20,8 @@ mod rule;
 mod signing;
 
 use crate::challenge::kept::KeptChallenge;
-use crate::challenge::reading::{code_of, is_challenge, list_of, nonce_of, realm_of};
-use crate::challenge::rule::{chosen, has_same_bits, is_hashed, lacks_userhash};
+use crate::challenge::reading::{is_challenge, read_code, read_list, read_nonce, read_realm};
+use crate::challenge::rule::{choose_algorithm, has_same_bits, is_hashed, lacks_userhash};
 use crate::preferences::Preferences;
 use std::alloc::{AllocError, Allocator, Global};
 use std::fmt;
@@ -125,13 +125,13 @@ impl<A: Memory> Challenge<A> {
         if !is_challenge(message) {
             return Ok(None);
         }
-        let Some(realm) = realm_of(message) else {
+        let Some(realm) = read_realm(message) else {
             return Ok(None);
         };
-        let Some(nonce) = nonce_of(message) else {
+        let Some(nonce) = read_nonce(message) else {
             return Ok(None);
         };
-        let list = list_for(before, message);
+        let list = choose_list(before, message);
         let read = Challenge::by_rule(alloc, preferences, credentials, realm, nonce, list)?;
         Ok(read)
     }
@@ -160,10 +160,10 @@ impl<A: Memory> Challenge<A> {
         if lacks_userhash(preferences, nonce) {
             return Ok(None);
         }
-        let Some(algorithm) = chosen(preferences, nonce, list) else {
+        let Some(algorithm) = choose_algorithm(preferences, nonce, list) else {
             return Ok(None);
         };
-        let kept = parts_of(
+        let kept = make_parts(
             alloc,
             preferences,
             credentials,
@@ -179,7 +179,7 @@ impl<A: Memory> Challenge<A> {
 
 /// Makes the parts of a challenge that is answered with this algorithm. Fails if an allocation
 /// fails.
-fn parts_of<A: Memory>(
+fn make_parts<A: Memory>(
     alloc: A,
     preferences: Preferences,
     credentials: &LongTermCredentials<A>,
@@ -199,7 +199,7 @@ fn parts_of<A: Memory>(
     let naming = UserNaming::new(alloc, is_hashed(preferences, nonce), username, realm)?;
     let realm_kept = LimitedText::copied(alloc, realm)?;
     let nonce_kept = LimitedText::copied(alloc, nonce)?;
-    let offered = list_kept(alloc, nonce, list)?;
+    let offered = copy_list(alloc, nonce, list)?;
     let key = long_term_key(alloc, algorithm, username, realm, credentials.password());
     Ok(KeptChallenge {
         naming,
@@ -213,7 +213,7 @@ fn parts_of<A: Memory>(
 
 /// Copies the server's PASSWORD-ALGORITHMS, which later requests must repeat. The copy is empty if
 /// the nonce does not have the security bit *Password algorithms*.
-fn list_kept<A: Memory>(alloc: A, nonce: &str, list: &[u8]) -> Result<Vec<u8, A>, AllocError>
+fn copy_list<A: Memory>(alloc: A, nonce: &str, list: &[u8]) -> Result<Vec<u8, A>, AllocError>
     ensures list { IfOk result (λ copy. copy.items ≡ list_kept nonce.now list.now) }
     ensures granted { A.grants → IsOk result }
 {
@@ -227,33 +227,36 @@ fn list_kept<A: Memory>(alloc: A, nonce: &str, list: &[u8]) -> Result<Vec<u8, A>
 /// Returns the list from which the algorithm is chosen. This is the list of the message, with one
 /// exception: if the message is a 438 without a list, and is signed with the key of the challenge
 /// `before`, it is the list of that challenge.
-fn list_for<'a, A: Allocator>(before: Option<&'a Challenge<A>>, message: &Message<'a>) -> &'a [u8]
+fn choose_list<'a, A: Allocator>(
+    before: Option<&'a Challenge<A>>,
+    message: &Message<'a>,
+) -> &'a [u8]
     ensures { result.now
         ≡ list_for (option_map (λ (b : Answered). b.challenge) (option_copied before.entry)) message.now }
 {
     match before {
-        Some(before) => list_after(before, message),
-        None => own_list(message),
+        Some(before) => choose_list_after(before, message),
+        None => read_own_list(message),
     }
 }
 
 /// Returns the list from which the algorithm is chosen for a message that follows the challenge
 /// `before`.
-fn list_after<'a, A: Allocator>(before: &'a Challenge<A>, message: &Message<'a>) -> &'a [u8]
+fn choose_list_after<'a, A: Allocator>(before: &'a Challenge<A>, message: &Message<'a>) -> &'a [u8]
     ensures { result.now ≡ list_for (Some before.now.challenge) message.now }
 {
     if is_renewal(before, message) {
         before.list()
     } else {
-        own_list(message)
+        read_own_list(message)
     }
 }
 
 /// Returns the list of a message, which is empty if the message has none.
-fn own_list<'a>(message: &Message<'a>) -> &'a [u8]
+fn read_own_list<'a>(message: &Message<'a>) -> &'a [u8]
     ensures { result.now ≡ list_or_none (list_in message.now) }
 {
-    match list_of(message) {
+    match read_list(message) {
         Some(list) => list,
         None => &[],
     }
@@ -264,8 +267,8 @@ fn own_list<'a>(message: &Message<'a>) -> &'a [u8]
 fn is_renewal<A: Allocator>(before: &Challenge<A>, message: &Message<'_>) -> bool
     ensures { result ≡ is_renewal before.now.challenge message.now }
 {
-    code_of(message) == Some(ErrorCode::STALE_NONCE)
-        && list_of(message).is_none()
+    read_code(message) == Some(ErrorCode::STALE_NONCE)
+        && read_list(message).is_none()
         && before.verifies(message).is_some()
 }
 
@@ -388,7 +391,7 @@ impl<A: Memory> Clone for Challenge<A> {
 
     #[tactic(auto, using(crate::proofs::ChosenLemmas::chosen_copy))]
     fn clone(&self) -> Result<Self, AllocError> {
-        let kept = self.kept.copied()?;
+        let kept = self.kept.copy()?;
         Ok(Challenge {
             preferences: self.preferences,
             kept: A::boxed(*self.kept.offered.allocator(), kept)?,

@@ -11,7 +11,7 @@ ghost use Rattle.stun_client.specs.Judging.{judged_challenge, judged_earlier, ne
 ghost use Rattle.stun_client.specs.Judging.{short_term, unbelieved, verdict_of};
 
 use crate::challenge::Challenge;
-use crate::challenge::reading::{code_of, is_challenge};
+use crate::challenge::reading::{is_challenge, read_code};
 use crate::judged::{Distrust, Judged};
 use crate::preferences::Preferences;
 use crate::standing::Standing;
@@ -66,7 +66,7 @@ pub enum Credentials<A: Allocator = Global> {
 
 /// Returns the reason to drop a message because of its FINGERPRINT, or `None` if there is no such
 /// reason. A missing FINGERPRINT is a reason only if `is_required` is true.
-fn fault_in(message: &Message<'_>, is_required: bool) -> Option<Distrust>
+fn find_fault(message: &Message<'_>, is_required: bool) -> Option<Distrust>
     ensures { result ≡ fault_in is_required message.now }
 {
     match check_fingerprint(message) {
@@ -143,7 +143,7 @@ impl<A: Memory> Credentials<A> {
         ensures no_memory_earlier { is_current ≡ false → IsOk result }
         ensures granted { A.grants → IsOk result }
     {
-        if let Some(why) = fault_in(response, requires_fingerprint) {
+        if let Some(why) = find_fault(response, requires_fingerprint) {
             return Ok(Judged::Dropped(why));
         }
         if !is_current {
@@ -227,8 +227,8 @@ impl<A: Memory> LongTerm<A> {
         if !is_challenge(response) {
             return Ok(self.by_signature(signed_for, response, Distrust::NotVerified));
         }
-        match self.challenge_in(alloc, signed_for, response)? {
-            Some(challenge) => Ok(judged_challenge(standing, signed_for, challenge, response)),
+        match self.read_challenge(alloc, signed_for, response)? {
+            Some(challenge) => Ok(judge_challenge(standing, signed_for, challenge, response)),
             None => Ok(self.by_signature(signed_for, response, Distrust::UnanswerableChallenge)),
         }
     }
@@ -236,7 +236,7 @@ impl<A: Memory> LongTerm<A> {
     /// Reads the challenge in a message. Returns `None` if the message is not a challenge, or if
     /// the rule ignores it. Fails if an allocation fails.
     #[tactic(auto, using(crate::proofs::JudgingLemmas::answered))]
-    fn challenge_in(
+    fn read_challenge(
         &self,
         alloc: A,
         signed_for: &Option<Challenge<A>>,
@@ -267,10 +267,10 @@ impl<A: Memory> LongTerm<A> {
         match signed_for {
             Some(challenge) => by_key(
                 challenge.verifies(response),
-                unbelieved(signed_for, response, otherwise),
+                judge_unverified(signed_for, response, otherwise),
             ),
             None if self.accepts_unsigned => Judged::Believed(None),
-            None => unbelieved(signed_for, response, otherwise),
+            None => judge_unverified(signed_for, response, otherwise),
         }
     }
 }
@@ -301,7 +301,7 @@ fn by_own_key<A: Allocator>(signed_for: &Option<Challenge<A>>, response: &Messag
 
 /// Judges a response without a valid signature: it casts doubt on the message that it answers, or
 /// is dropped.
-fn unbelieved<A: Allocator>(
+fn judge_unverified<A: Allocator>(
     signed_for: &Option<Challenge<A>>,
     response: &Message<'_>,
     otherwise: Distrust,
@@ -320,7 +320,7 @@ fn unbelieved<A: Allocator>(
 fn is_doubt<A: Allocator>(signed_for: &Option<Challenge<A>>, response: &Message<'_>) -> bool
     ensures { result ≡ is_doubt signed_for.now (code_in response.now) }
 {
-    match (signed_for, code_of(response)) {
+    match (signed_for, read_code(response)) {
         (Some(_), Some(code)) => {
             code == ErrorCode::BAD_REQUEST
                 || code == ALLOCATION_MISMATCH
@@ -332,7 +332,7 @@ fn is_doubt<A: Allocator>(signed_for: &Option<Challenge<A>>, response: &Message<
 }
 
 /// Judges a challenge that the rule does not ignore.
-fn judged_challenge<A: Allocator + Copy>(
+fn judge_challenge<A: Allocator + Copy>(
     standing: &Standing<A>,
     signed_for: &Option<Challenge<A>>,
     challenge: Challenge<A>,
@@ -365,7 +365,7 @@ fn is_refusal<A: Allocator + Copy>(
 {
     match signed_for {
         Some(before) => {
-            code_of(response) == Some(ErrorCode::UNAUTHORIZED) && challenge.is_alike(before)
+            read_code(response) == Some(ErrorCode::UNAUTHORIZED) && challenge.is_alike(before)
         }
         None => false,
     }

@@ -3,7 +3,7 @@ ghost use Rattle.std.specs.Prelude.{◌≡◌};
 ghost use Rattle.stun_client.specs.Outcomes.{by_class, outcome_of};
 
 use crate::challenge::Challenge;
-use crate::challenge::reading::code_of;
+use crate::challenge::reading::read_code;
 use std::alloc::{Allocator, Global};
 use stun_extra::unknown::unknown_types;
 use stun_types::attribute::AttributeType;
@@ -11,7 +11,6 @@ use stun_types::message::{IntegrityAlgorithm, Message, MessageClass};
 
 /// Why a response to an outstanding request is dropped. The request continues.
 #[derive(Clone, Copy, Debug, PartialEq, Eq)]
-#[non_exhaustive]
 pub enum Distrust {
     /// The FINGERPRINT is wrong, is not the last attribute, or does not have 4 bytes. So the
     /// response is damaged, or belongs to another protocol (RFC 8489, section 14.7).
@@ -50,7 +49,6 @@ pub enum Judged<A: Allocator = Global> {
 
 /// How a response that is believed ends its request.
 #[derive(Clone, Copy, Debug, PartialEq, Eq)]
-#[non_exhaustive]
 pub enum Outcome {
     /// The response is a success.
     Success,
@@ -85,7 +83,7 @@ fn by_class(response: &Message<'_>) -> Outcome
     if response.class() != MessageClass::Error {
         return Outcome::Success;
     }
-    match code_of(response) {
+    match read_code(response) {
         Some(300) => Outcome::Redirected,
         Some(code) => Outcome::Refused(code),
         None => Outcome::Malformed,

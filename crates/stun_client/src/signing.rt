@@ -32,7 +32,7 @@ impl<A: Allocator> ShortTerm<A> {
     }
 
     /// Adds USERNAME and the integrity attribute to a message, and returns the writer.
-    fn signed<W: MessageWrite>(&self, writer: W) -> Result<W, StunWriteError>
+    fn sign<W: MessageWrite>(&self, writer: W) -> Result<W, StunWriteError>
         requires { 20 ≤ length (W.bytes writer) }
         ensures outcome { UnlessMemory result (written_page W.bytes W.room result
             ≡ added_all (short_term_additions self.now) (page_in W.bytes W.room writer))
@@ -72,7 +72,7 @@ impl<A: Allocator> Credentials<A> {
     {
         match self {
             Credentials::Unsigned => Ok(request),
-            Credentials::ShortTerm(short) => short.signed(request),
+            Credentials::ShortTerm(short) => short.sign(request),
             Credentials::LongTerm(_) => match signed_for {
                 Some(challenge) => challenge.sign(request),
                 None => Ok(request),

@@ -66,14 +66,14 @@ impl<A: Allocator + Copy> Standing<A> {
     pub fn ignores(&self, challenge: &Challenge<A>) -> bool
         ensures { result ≡ is_ignored self.now challenge.now }
     {
-        match self.confirmed() {
+        match self.find_confirmed() {
             Some(confirmed) => challenge.is_weaker_than(confirmed),
             None => false,
         }
     }
 
     /// Returns the challenge that was confirmed last.
-    fn confirmed(&self) -> &Option<Challenge<A>>
+    fn find_confirmed(&self) -> &Option<Challenge<A>>
         ensures { result.now ≡ confirmed self.now }
     {
         if self.is_validated {
@@ -88,7 +88,7 @@ impl<A: Allocator + Copy> Standing<A> {
     fn is_stronger(&self, challenge: &Challenge<A>) -> bool
         ensures { result ≡ is_stronger_than challenge.now (confirmed self.now) }
     {
-        match self.confirmed() {
+        match self.find_confirmed() {
             Some(confirmed) => is_stronger(challenge, confirmed),
             None => true,
         }

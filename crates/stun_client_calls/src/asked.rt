@@ -195,7 +195,7 @@ impl<A: Memory> Asked<A> {
             body,
             options,
             until,
-            rank: rank_after(0),
+            rank: compute_rank(0),
             signed_for,
             handed_out: HandedOut::Never,
             earlier: BTreeMap::new(alloc),
@@ -325,7 +325,7 @@ impl<A: Memory> Asked<A> {
     pub fn next_rank(&self) -> u32
         ensures { result ≡ rank_after (counted_on self.now.turns) }
     {
-        rank_after(self.turns.saturating_add(1))
+        compute_rank(self.turns.saturating_add(1))
     }
 
     /// Returns the earlier message with a transaction ID, and its rank, or `None` if there is no
@@ -430,7 +430,7 @@ impl<A: Memory> Asked<A> {
             is_doubted,
         };
         let before = mem::replace(&mut self.rank, rank);
-        self.handed_out = handed_out_before(is_back);
+        self.handed_out = count_handed_out(is_back);
         A::insert(&mut self.earlier, before, sent).is_ok()
     }
 
@@ -440,13 +440,13 @@ impl<A: Memory> Asked<A> {
     pub fn step_back(&self, standing: &mut Standing<A>)
         ensures { standing.new ≡ stepped_back self.now standing.old }
     {
-        let signed_for = self.challenge_for(standing.current());
+        let signed_for = self.find_challenge(standing.current());
         standing.step_back(signed_for);
     }
 
     /// Returns this challenge if an earlier message is signed for it, and otherwise the challenge
     /// that the current message is signed for.
-    fn challenge_for(&self, challenge: &Option<Challenge<A>>) -> &Option<Challenge<A>>
+    fn find_challenge(&self, challenge: &Option<Challenge<A>>) -> &Option<Challenge<A>>
         ensures { result.now ≡ challenge_for challenge.now self.now }
     {
         let Some(challenge) = challenge else {
@@ -526,7 +526,7 @@ pub enum Change {
 
 /// Returns the rank of a message that is sent for the first time after another message has become
 /// the current one `turns` times.
-fn rank_after(turns: u32) -> u32
+fn compute_rank(turns: u32) -> u32
     ensures { result ≡ rank_after turns }
 {
     u32::MAX - turns
@@ -535,7 +535,7 @@ fn rank_after(turns: u32) -> u32
 /// Returns how often `poll` has returned the bytes of a message that becomes the current one: never
 /// for a new message. For an earlier message (`is_back`) the number is not stored, so the message
 /// counts as sent more than once.
-fn handed_out_before(is_back: bool) -> HandedOut
+fn count_handed_out(is_back: bool) -> HandedOut
     ensures { result ≡ if is_back then HandedOut.Again else HandedOut.Never }
 {
     if is_back {

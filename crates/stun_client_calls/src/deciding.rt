@@ -87,17 +87,17 @@ pub fn decide<A: Memory>(
 {
     match judged {
         Judged::Believed(by) => Ok(Decision::Answered(by)),
-        Judged::Anew(challenge) => Ok(answered_anew(asked, limits, challenge, now)),
-        Judged::Refused(None) => Ok(refused_again(asked, limits)),
-        Judged::Refused(Some(challenge)) => Ok(answered_refusal(asked, limits, challenge, now)),
-        Judged::Doubted => on_doubt(asked, standing, limits, now),
+        Judged::Anew(challenge) => Ok(decide_on_challenge(asked, limits, challenge, now)),
+        Judged::Refused(None) => Ok(decide_on_repeat(asked, limits)),
+        Judged::Refused(Some(challenge)) => Ok(decide_on_refusal(asked, limits, challenge, now)),
+        Judged::Doubted => decide_on_doubt(asked, standing, limits, now),
         Judged::Dropped(why) => Ok(Decision::Drop(reason_of(why))),
     }
 }
 
 /// Decides on a new challenge: answers it, drops it after the first plan, or ends the request at
 /// the limit.
-fn answered_anew<A: Allocator + Copy>(
+fn decide_on_challenge<A: Allocator + Copy>(
     asked: &Asked<A>,
     limits: Limits,
     challenge: Challenge<A>,
@@ -111,12 +111,12 @@ fn answered_anew<A: Allocator + Copy>(
     if asked.is_spent(limits.turns) {
         return Decision::Unauthorized;
     }
-    turns_for(Why::Challenged, challenge, asked)
+    turn_for_challenge(Why::Challenged, challenge, asked)
 }
 
 /// Decides on a 401 for the same realm and security bits, with a different nonce or list: answers
 /// it like a challenge, but only twice.
-fn answered_refusal<A: Allocator + Copy>(
+fn decide_on_refusal<A: Allocator + Copy>(
     asked: &Asked<A>,
     limits: Limits,
     challenge: Challenge<A>,
@@ -130,13 +130,13 @@ fn answered_refusal<A: Allocator + Copy>(
     if asked.is_spent(limits.turns) || asked.refusals().is_last() {
         return Decision::Unauthorized;
     }
-    turns_for(Why::Refused, challenge, asked)
+    turn_for_challenge(Why::Refused, challenge, asked)
 }
 
 /// Decides on a response that repeats the challenge that the message is signed for: ends the
 /// request if the transport is reliable, or if such a response arrived before the request was sent
 /// last. Otherwise drops the response as a refusal.
-fn refused_again<A: Allocator + Copy>(asked: &Asked<A>, limits: Limits) -> Decision<A>
+fn decide_on_repeat<A: Allocator + Copy>(asked: &Asked<A>, limits: Limits) -> Decision<A>
     ensures { decision_of result ≡ refused_again limits asked.now }
 {
     if limits.is_reliable || asked.refusals().is_earlier() {
@@ -148,20 +148,20 @@ fn refused_again<A: Allocator + Copy>(asked: &Asked<A>, limits: Limits) -> Decis
 
 /// Decides that the message for a challenge becomes the current one: the earlier message that is
 /// signed for it, or a new message.
-fn turns_for<A: Allocator + Copy>(
+fn turn_for_challenge<A: Allocator + Copy>(
     why: Why,
     challenge: Challenge<A>,
     asked: &Asked<A>,
 ) -> Decision<A>
     ensures { decision_of result ≡ turns_for why challenge asked.now }
 {
-    let place = place_for(asked, &challenge);
+    let place = find_place(asked, &challenge);
     Decision::Turn(why, place, Some(challenge))
 }
 
 /// Returns the rank and the transaction ID of the earlier message that is signed for a challenge,
 /// or `None` if there is no such message.
-fn place_for<A: Allocator + Copy>(
+fn find_place<A: Allocator + Copy>(
     asked: &Asked<A>,
     challenge: &Challenge<A>,
 ) -> Option<(u32, TransactionId)>
@@ -175,7 +175,7 @@ fn place_for<A: Allocator + Copy>(
 
 /// Decides on a doubt, which is an error that casts doubt on the message that it answers (see
 /// `decide`). Fails if an allocation fails.
-fn on_doubt<A: Memory>(
+fn decide_on_doubt<A: Memory>(
     asked: &Asked<A>,
     standing: &Standing<A>,
     limits: Limits,
@@ -189,8 +189,8 @@ fn on_doubt<A: Memory>(
         return Ok(Decision::Drop(DropReason::NotVerified));
     }
     match asked.eligible(standing) {
-        Some((rank, sent)) => back_to(Why::Doubted, rank, sent),
-        None => without_eligible(asked, standing),
+        Some((rank, sent)) => turn_back_to(Why::Doubted, rank, sent),
+        None => decide_without_eligible(asked, standing),
     }
 }
 
@@ -202,16 +202,16 @@ fn is_idle<A: Allocator + Copy>(asked: &Asked<A>, limits: Limits, now: Instant) 
 }
 
 /// Decides that an earlier message becomes the current one again. Fails if an allocation fails.
-fn back_to<A: Memory>(why: Why, rank: u32, sent: &Sent<A>) -> Result<Decision<A>, AllocError>
+fn turn_back_to<A: Memory>(why: Why, rank: u32, sent: &Sent<A>) -> Result<Decision<A>, AllocError>
     ensures value { IfOk result (λ decision. decision_of decision ≡ back_to why (rank, sent.now)) }
     ensures granted { A.grants → IsOk result }
 {
-    let signed_for = copied(sent.signed_for())?;
+    let signed_for = copy_challenge(sent.signed_for())?;
     Ok(Decision::Turn(why, Some((rank, sent.id())), signed_for))
 }
 
 /// Copies a challenge, if there is one. Fails if an allocation fails.
-pub(crate) fn copied<A: Memory>(
+pub(crate) fn copy_challenge<A: Memory>(
     challenge: &Option<Challenge<A>>,
 ) -> Result<Option<Challenge<A>>, AllocError>
     ensures value { IfOk result (λ copy. copy ≡ challenge.now) }
@@ -225,7 +225,7 @@ pub(crate) fn copied<A: Memory>(
 
 /// Decides on a doubt if every earlier message is in doubt or too weak. Fails if an allocation
 /// fails.
-fn without_eligible<A: Memory>(
+fn decide_without_eligible<A: Memory>(
     asked: &Asked<A>,
     standing: &Standing<A>,
 ) -> Result<Decision<A>, AllocError>
@@ -234,16 +234,16 @@ fn without_eligible<A: Memory>(
     ensures granted { A.grants → IsOk result }
 {
     if asked.signed_for().is_none() {
-        undoubted(asked, standing)
+        decide_for_unsigned(asked, standing)
     } else {
-        Ok(begun_again(asked))
+        Ok(decide_for_signed(asked))
     }
 }
 
 /// Decides on a doubt about a signed message, if every earlier message is in doubt or too weak:
 /// replaces the message by a new unsigned one, or drops the response if an earlier message is
 /// unsigned already.
-fn begun_again<A: Allocator + Copy>(asked: &Asked<A>) -> Decision<A>
+fn decide_for_signed<A: Allocator + Copy>(asked: &Asked<A>) -> Decision<A>
     ensures { decision_of result ≡ begun_again asked.now }
 {
     if asked.has_unsigned() {
@@ -256,13 +256,16 @@ fn begun_again<A: Allocator + Copy>(asked: &Asked<A>) -> Decision<A>
 /// Decides on a doubt about an unsigned message, if every earlier message is in doubt or too weak:
 /// goes back to the last signed message that is not too weak, or drops the response if there is
 /// none. Fails if an allocation fails.
-fn undoubted<A: Memory>(asked: &Asked<A>, standing: &Standing<A>) -> Result<Decision<A>, AllocError>
+fn decide_for_unsigned<A: Memory>(
+    asked: &Asked<A>,
+    standing: &Standing<A>,
+) -> Result<Decision<A>, AllocError>
     ensures value { IfOk result (λ decision. decision_of decision
         ≡ undoubted (signed_eligible standing.now asked.now.earlier)) }
     ensures granted { A.grants → IsOk result }
 {
     match asked.signed_eligible(standing) {
-        Some((rank, sent)) => back_to(Why::Undoubted, rank, sent),
+        Some((rank, sent)) => turn_back_to(Why::Undoubted, rank, sent),
         None => Ok(Decision::Drop(DropReason::NotVerified)),
     }
 }

@@ -36,7 +36,7 @@ pub struct RequestOptions {
 
 /// Returns the plan of each message of a request: the plan in these options or, if there are none,
 /// `of_client`, which is the plan of the client.
-pub(crate) fn plan_by(options: Option<RequestOptions>, of_client: RequestRto) -> RequestRto
+pub(crate) fn choose_plan(options: Option<RequestOptions>, of_client: RequestRto) -> RequestRto
     ensures { settings_of result ≡ plan_by (option_map options_of options) (settings_of of_client) }
 {
     match options {

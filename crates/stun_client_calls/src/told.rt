@@ -7,7 +7,6 @@ use stun_base::instant::Instant;
 
 /// The next thing to do, as `ClientEndpoint::poll` returns it.
 #[derive(Drop)]
-#[non_exhaustive]
 pub enum Polled<A: Allocator = Global> {
     /// Send the bytes of the request with this number to the server (see
     /// `ClientEndpoint::bytes_of`).

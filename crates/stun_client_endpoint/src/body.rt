@@ -26,7 +26,6 @@ pub const BODY_LIMIT: usize = 60_000;
 
 /// Why an attribute is not added to a body. The body is then unchanged.
 #[derive(Clone, Copy, Debug, PartialEq, Eq, Error)]
-#[non_exhaustive]
 pub enum BodyError {
     /// The client itself writes attributes of this type, or the value depends on the transaction
     /// ID, or the attribute is ERROR-CODE, which no request has.
@@ -188,7 +187,7 @@ impl<A: Memory> Body<A> {
     {
         let mut pieces = Vec::new(self.alloc);
         for piece in &self.pieces {
-            A::push(&mut pieces, piece.cloned(self.alloc)?)?;
+            A::push(&mut pieces, piece.copy(self.alloc)?)?;
         }
         Ok(Body {
             alloc: self.alloc,

@@ -7,7 +7,6 @@ use stun_types::message::IntegrityAlgorithm;
 
 /// Why a response to an outstanding request is dropped. The request continues.
 #[derive(Clone, Copy, Debug, PartialEq, Eq)]
-#[non_exhaustive]
 pub enum DropReason {
     /// The FINGERPRINT is wrong, is not the last attribute, or does not have 4 bytes. So the
     /// response is damaged, or belongs to another protocol (RFC 8489, section 14.7).
@@ -43,7 +42,7 @@ pub fn reason_of(why: Distrust) -> DropReason
         Distrust::MissingFingerprint => DropReason::MissingFingerprint,
         Distrust::NotVerified => DropReason::NotVerified,
         Distrust::UnanswerableChallenge => DropReason::UnanswerableChallenge,
-        _ => DropReason::WeakerChallenge,
+        Distrust::WeakerChallenge => DropReason::WeakerChallenge,
     }
 }
 
@@ -86,7 +85,6 @@ impl Drops {
 
 /// How a request ended.
 #[derive(Clone, Copy, Debug, PartialEq, Eq)]
-#[non_exhaustive]
 pub enum RequestEnd {
     /// A response was accepted and ended the request with this outcome. The algorithm is that of
     /// the response's signature, or `None` if the response is unsigned.

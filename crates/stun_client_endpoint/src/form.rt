@@ -97,7 +97,7 @@ impl<A: Memory> Form<A> {
         if self.is_text_too_long() {
             return Err(StunWriteError::TooLarge);
         }
-        self.whole(alloc, credentials, signed_for, method, id, body)
+        self.write_request(alloc, credentials, signed_for, method, id, body)
     }
 
     /// Returns whether the text of SOFTWARE has more than 763 bytes.
@@ -111,7 +111,7 @@ impl<A: Memory> Form<A> {
     }
 
     /// Writes a request like `written`, once the text of SOFTWARE is known to fit.
-    fn whole(
+    fn write_request(
         &self,
         alloc: A,
         credentials: &Credentials<A>,
@@ -128,13 +128,13 @@ impl<A: Memory> Form<A> {
             (option_copied signed_for.entry) method id body.now ≡ Err why)) }
         ensures granted { A.grants → UnlessMemory result ⊤ ⊥ }
     {
-        let page = begun_with(alloc, method, id, body)?;
-        self.completed(credentials, signed_for, page)
+        let page = begin_with_body(alloc, method, id, body)?;
+        self.complete_request(credentials, signed_for, page)
     }
 
     /// Completes a request: adds SOFTWARE, the signature and FINGERPRINT, if the form and the
     /// credentials require them.
-    fn completed(
+    fn complete_request(
         &self,
         credentials: &Credentials<A>,
         signed_for: Option<&Challenge<A>>,
@@ -151,12 +151,12 @@ impl<A: Memory> Form<A> {
     {
         let mut page = page;
         self.add_software(&mut page)?;
-        self.closed(credentials, signed_for, page)
+        self.close_request(credentials, signed_for, page)
     }
 
     /// Closes a request: adds the signature and FINGERPRINT, if the credentials and the form
     /// require them.
-    fn closed(
+    fn close_request(
         &self,
         credentials: &Credentials<A>,
         signed_for: Option<&Challenge<A>>,
@@ -170,8 +170,8 @@ impl<A: Memory> Form<A> {
             (option_copied signed_for.entry) page.bytes ≡ Err why)) }
         ensures granted { A.grants → UnlessMemory result ⊤ ⊥ }
     {
-        let page = signed(credentials, signed_for, page)?;
-        finished(page, self.has_fingerprint)
+        let page = sign_request(credentials, signed_for, page)?;
+        finish_request(page, self.has_fingerprint)
     }
 
     /// Adds SOFTWARE, if there is one.
@@ -226,7 +226,7 @@ fn add<A: Memory, M: Attribute>(
 }
 
 /// Completes a request, with FINGERPRINT if `has_fingerprint` is true, and returns its bytes.
-fn finished<A: Memory>(
+fn finish_request<A: Memory>(
     page: MessageWriteVec<A>,
     has_fingerprint: bool,
 ) -> Result<Vec<u8, A>, StunWriteError>
@@ -237,14 +237,14 @@ fn finished<A: Memory>(
     ensures granted { A.grants → UnlessMemory result ⊤ ⊥ }
 {
     if has_fingerprint {
-        fingerprinted(page)
+        finish_fingerprinted(page)
     } else {
         Ok(page.finish())
     }
 }
 
 /// Completes a request with FINGERPRINT, and returns its bytes.
-fn fingerprinted<A: Memory>(page: MessageWriteVec<A>) -> Result<Vec<u8, A>, StunWriteError>
+fn finish_fingerprinted<A: Memory>(page: MessageWriteVec<A>) -> Result<Vec<u8, A>, StunWriteError>
     requires { 20 ≤ length page.bytes }
     ensures ok { IfOk result (λ bytes. with_own_end true page.bytes ≡ Ok bytes.items) }
     ensures refused { IfErr result (λ why. (why ≡ StunWriteError.OutOfMemory)
@@ -255,7 +255,7 @@ fn fingerprinted<A: Memory>(page: MessageWriteVec<A>) -> Result<Vec<u8, A>, Stun
 }
 
 /// Begins a request: writes its header and its body.
-fn begun_with<A: Memory>(
+fn begin_with_body<A: Memory>(
     alloc: A,
     method: Method,
     id: TransactionId,
@@ -268,13 +268,13 @@ fn begun_with<A: Memory>(
         ⊎ (with_body id body.now (empty_message MessageClass.Request method id) ≡ Err why)) }
     ensures granted { A.grants → UnlessMemory result ⊤ ⊥ }
 {
-    let mut page = begun(alloc, method, id, body.length())?;
+    let mut page = begin_request(alloc, method, id, body.length())?;
     body.write(id, &mut page)?;
     Ok(page)
 }
 
 /// Begins a request: writes its header, and reserves memory for `room` bytes of attributes.
-fn begun<A: Memory>(
+fn begin_request<A: Memory>(
     alloc: A,
     method: Method,
     id: TransactionId,
@@ -297,7 +297,7 @@ fn begun<A: Memory>(
 }
 
 /// Signs a request for this challenge.
-fn signed<A: Memory>(
+fn sign_request<A: Memory>(
     credentials: &Credentials<A>,
     signed_for: Option<&Challenge<A>>,
     page: MessageWriteVec<A>,

@@ -61,7 +61,7 @@ impl<A: Memory> Piece<A> {
     }
 
     /// Copies the attribute. Fails if an allocation fails.
-    pub(crate) fn cloned(&self, alloc: A) -> Result<Piece<A>, AllocError>
+    pub(crate) fn copy(&self, alloc: A) -> Result<Piece<A>, AllocError>
         ensures copied { IfOk result (λ copy. copy ≡ self.now) }
         ensures granted { A.grants → IsOk result }
     {

@@ -7,7 +7,6 @@ use thiserror::Error;
 
 /// Why a request could not be started. The client is then unchanged.
 #[derive(Clone, Copy, Debug, PartialEq, Eq, Error)]
-#[non_exhaustive]
 pub enum RequestError {
     /// The seed has no transaction ID left.
     #[error("no transaction ID is left")]
@@ -22,7 +21,6 @@ pub enum RequestError {
 
 /// How a client has handled a datagram.
 #[derive(Debug, Drop)]
-#[non_exhaustive]
 pub enum Received<'a> {
     /// A response to a request of this client. Call `poll`, which returns what to do next.
     Consumed,

@@ -39,7 +39,6 @@ pub struct Request<D> {
 
 /// Why a request could not be started. The requests are then unchanged.
 #[derive(Clone, Copy, Debug, PartialEq, Eq, Error)]
-#[non_exhaustive]
 pub enum StartRefusal {
     /// An outstanding request already has this transaction ID.
     #[error("an outstanding request has the transaction ID")]
@@ -54,7 +53,6 @@ pub enum StartRefusal {
 
 /// Why another message of a request could not be sent. The requests are then unchanged.
 #[derive(Clone, Copy, Debug, PartialEq, Eq, Error)]
-#[non_exhaustive]
 pub enum AgainRefusal {
     /// No outstanding request has this number.
     #[error("no outstanding request has the number")]
@@ -94,7 +92,6 @@ impl<A: Allocator, D> Former<A, D> {
 
 /// The next thing to do, as `Requests::poll` returns it.
 #[derive(Drop)]
-#[non_exhaustive]
 pub enum Polled<D, E> {
     /// Send the bytes of the request with this number (see `Requests::bytes_of`).
     Transmit(u64),
@@ -393,7 +390,7 @@ impl<A: Memory, D: Drop, E: Drop> Requests<A, D, E> {
     fn poll_repeats(&mut self, now: Instant) -> Polled<D, E>
         ensures { (result, self.new) ≡ repeats_step now self.old }
     {
-        match next_repeated(&mut self.table, now) {
+        match take_repeated(&mut self.table, now) {
             Some(number) => Polled::Transmit(number),
             None => self.poll_ends(now),
         }
@@ -437,7 +434,7 @@ impl<A: Memory, D: Drop, E: Drop> Requests<A, D, E> {
 
 /// Advances the requests of the table that are due, like `Table::poll_transmit`, and returns the
 /// number of the request to retransmit. Returns `None` if no request is due.
-fn next_repeated<A: Allocator + Copy, D: Drop>(
+fn take_repeated<A: Allocator + Copy, D: Drop>(
     table: &mut Table<A, Request<D>>,
     now: Instant,
 ) -> Option<u64>

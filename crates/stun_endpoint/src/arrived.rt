@@ -32,7 +32,7 @@ impl<'a> Arrived<'a> {
         ensures class { IsByClass bytes.now result }
     {
         let Ok(message) = Message::from_bytes(bytes) else {
-            return Arrived::Dropped(no_message(bytes));
+            return Arrived::Dropped(find_drop_reason(bytes));
         };
         match check_fingerprint(&message) {
             Fingerprint::Right => Arrived::by_class(message, true),
@@ -60,7 +60,7 @@ impl<'a> Arrived<'a> {
 
 /// Returns why bytes that are not a message are dropped: `Malformed` if they begin with the header
 /// of a STUN message, and `NotStun` otherwise.
-fn no_message(bytes: &[u8]) -> DropReason
+fn find_drop_reason(bytes: &[u8]) -> DropReason
     ensures { result ≡ no_message bytes.now }
 {
     match MessageHeader::from_bytes(bytes) {

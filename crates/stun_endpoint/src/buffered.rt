@@ -27,7 +27,6 @@ pub struct BufferedAnswer {
 /// The outcome of a datagram whose response is in your buffer. `R` is the type of an accepted
 /// request and `I` that of an accepted indication, as in `Received`.
 #[derive(Debug, Drop)]
-#[non_exhaustive]
 pub enum ReceivedInto<'a, R = Request<'a>, I = Message<'a>> {
     /// Send the response in the buffer.
     Answer(BufferedAnswer),
@@ -50,7 +49,6 @@ pub type ShortTermReceivedInto<'a, A> = ReceivedInto<'a, Request<'a, A>, ShortTe
 
 /// The result of `Server::identify_into` for a datagram.
 #[derive(Debug, Drop)]
-#[non_exhaustive]
 pub enum IdentifiedInto<'a, A: Allocator = Global> {
     /// The outcome of the datagram, which does not depend on the user.
     Done(ReceivedInto<'a, Request<'a, A>>),

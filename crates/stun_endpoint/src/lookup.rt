@@ -18,7 +18,6 @@ use stun_types::message::{Message, TransactionId};
 
 /// The result of `Server::identify` for a datagram.
 #[derive(Debug, Drop)]
-#[non_exhaustive]
 pub enum Identified<'a, A: Allocator = Global> {
     /// The outcome of the datagram, which does not depend on the user.
     Done(Received<'a, A>),

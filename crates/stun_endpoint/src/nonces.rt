@@ -28,7 +28,7 @@ const NONCE_LENGTH: usize = 29;
 /// Returns the security bits of a server's nonces, as four characters of base64. The first bit
 /// (*Password algorithms*) is set if HMAC-SHA256 is supported, and the second (*Username
 /// anonymity*) if names may be hashed. All others are zero.
-fn spelled_bits(algorithms: AlgorithmSet, feature: Feature) -> &'static str
+fn spell_bits(algorithms: AlgorithmSet, feature: Feature) -> &'static str
     ensures bits { result.now ≡ bits_text (contains Sha256 algorithms) (is_possible feature) }
     ensures length { length result.now ≡ 4 }
 {
@@ -46,7 +46,7 @@ fn spelled_bits(algorithms: AlgorithmSet, feature: Feature) -> &'static str
 /// numbers. If the server uses no security feature, all bits are zero (RFC 8489, section 9.2). The
 /// call allocates once, and fails if the allocation fails.
 #[tactic(auto, using(crate::proofs::FrontLemmas::spelled_front))]
-pub(crate) fn nonce_of<A: Memory>(
+pub(crate) fn write_nonce<A: Memory>(
     alloc: A,
     secret: &PreparedKey<A>,
     from: SocketAddr,
@@ -58,16 +58,16 @@ pub(crate) fn nonce_of<A: Memory>(
         ≡ front_of algorithms feature ++ map letter (words_of algorithms secret.now from epoch)) }
     ensures granted { A.grants → IsOk result }
 {
-    let words = words_of(secret, from, epoch, algorithms);
+    let words = derive_words(secret, from, epoch, algorithms);
     let mut nonce = text_with_room(alloc, NONCE_LENGTH)?;
     nonce.push_str(LONG_TERM_RFC8489_NONCE_COOKIE)?;
-    nonce.push_str(spelled_bits(algorithms, feature))?;
+    nonce.push_str(spell_bits(algorithms, feature))?;
     push_letters(&mut nonce, &words)?;
     Ok(nonce)
 }
 
 /// Returns the number that represents the supported algorithms in the HMAC of a nonce.
-fn algorithms_number(algorithms: AlgorithmSet) -> u8
+fn encode_algorithms(algorithms: AlgorithmSet) -> u8
     ensures { result ≡ algorithms_number algorithms }
 {
     match algorithms {
@@ -79,7 +79,7 @@ fn algorithms_number(algorithms: AlgorithmSet) -> u8
 
 /// Returns the sixteen numbers from which the nonce for an address and an epoch is made: the first
 /// sixteen bytes of an HMAC-SHA1 of the address, the port, the epoch and the supported algorithms.
-fn words_of<A: Allocator>(
+fn derive_words<A: Allocator>(
     secret: &PreparedKey<A>,
     from: SocketAddr,
     epoch: u64,
@@ -90,12 +90,12 @@ fn words_of<A: Allocator>(
     let octets = address_octets(from.ip());
     let port = from.port().to_be_bytes();
     let epoch = epoch.to_be_bytes();
-    let number = [algorithms_number(algorithms)];
-    first_sixteen(&secret.hmac_sha1(&[&octets, &port, &epoch, &number]))
+    let number = [encode_algorithms(algorithms)];
+    take_sixteen(&secret.hmac_sha1(&[&octets, &port, &epoch, &number]))
 }
 
 /// Returns the first sixteen bytes of a digest, each as a number.
-fn first_sixteen(digest: &[u8; 20]) -> [u32; 16]
+fn take_sixteen(digest: &[u8; 20]) -> [u32; 16]
     ensures { result ≡ take 16 digest.now }
 {
     let [a, b, c, d, e, f, g, h, i, j, k, l, m, n, o, p, _, _, _, _] = *digest;

@@ -185,8 +185,8 @@ impl<A: Memory> OpenServer<A> {
             ≡ false → IsOk result }
         ensures granted { A.grants → IsOk result }
     {
-        let mut buffer = self.responder.buffer();
-        self.received(bytes, from, &mut buffer)
+        let mut buffer = self.responder.make_buffer();
+        self.judge_datagram(bytes, from, &mut buffer)
     }
 
     /// Judges a datagram like `receive`, and writes the response into a buffer, replacing its
@@ -211,7 +211,7 @@ impl<A: Memory> OpenServer<A> {
         ensures granted { A.grants → IsOk result }
         ensures err { OnErr result (buffer.new.items ≡ []) }
     {
-        match self.received(bytes, from, buffer) {
+        match self.judge_datagram(bytes, from, buffer) {
             Ok(received) => Ok(received.into_buffer(buffer)),
             Err(_) => {
                 buffer.clear();
@@ -221,7 +221,7 @@ impl<A: Memory> OpenServer<A> {
     }
 
     /// Returns the outcome of a datagram. A response takes over the memory of the buffer.
-    fn received<'a>(
+    fn judge_datagram<'a>(
         &self,
         bytes: &'a [u8],
         from: SocketAddr,
@@ -235,16 +235,16 @@ impl<A: Memory> OpenServer<A> {
     {
         match self.responder.read(bytes) {
             Arrived::Request(message, has_fingerprint) => {
-                self.request(message, from, has_fingerprint, buffer)
+                self.judge_request(message, from, has_fingerprint, buffer)
             }
-            Arrived::Indication(message) => Ok(self.indication(message)),
+            Arrived::Indication(message) => Ok(self.judge_indication(message)),
             Arrived::Response(message) => Ok(Received::Response(message)),
             Arrived::Dropped(reason) => Ok(Received::Dropped(reason)),
         }
     }
 
     /// Returns the outcome of a request.
-    fn request<'a>(
+    fn judge_request<'a>(
         &self,
         message: Message<'a>,
         from: SocketAddr,
@@ -260,18 +260,20 @@ impl<A: Memory> OpenServer<A> {
     {
         match self
             .responder
-            .own_answer(&message, from, &None, has_fingerprint, buffer)?
+            .write_own_answer(&message, from, &None, has_fingerprint, buffer)?
         {
             Some(answer) => Ok(Received::Answer(answer)),
             None => {
-                let reply = self.responder.reply(&message, from, None, has_fingerprint)?;
+                let reply = self
+                    .responder
+                    .make_reply(&message, from, None, has_fingerprint)?;
                 Ok(Received::Request(OpenRequest::new(message, reply)))
             }
         }
     }
 
     /// Returns the outcome of an indication.
-    fn indication<'a>(&self, message: Message<'a>) -> OpenReceived<'a, A>
+    fn judge_indication<'a>(&self, message: Message<'a>) -> OpenReceived<'a, A>
         ensures { outcome_of result
             ≡ (if is_empty (unknown_types self.now.known message.entry)
             then indicated message.entry else dropped DropReason.UnknownAttribute) }

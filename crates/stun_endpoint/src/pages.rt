@@ -20,7 +20,7 @@ use stun_types::message::{Message, StunWriteError};
 use stun_types::prelude::*;
 
 /// Begins an error response with ERROR-CODE, and reserves `more` bytes for the attributes after it.
-pub(crate) fn error_page<A: Memory>(
+pub(crate) fn begin_error_page<A: Memory>(
     buffer: &mut Vec<u8, A>,
     request: &Message<'_>,
     code: u16,
@@ -33,7 +33,7 @@ pub(crate) fn error_page<A: Memory>(
     ensures granted { A.grants → error_refusal (record { code = code; reason = reason.now }) ≡ None
         → more ≤ 5000 → IsOk result }
 {
-    match try_error_page(buffer, request, code, reason, more) {
+    match try_begin_error_page(buffer, request, code, reason, more) {
         Ok(page) => Ok(page),
         Err(_) => Err(AllocError),
     }
@@ -41,7 +41,7 @@ pub(crate) fn error_page<A: Memory>(
 
 /// Begins an error response with ERROR-CODE, and reserves `more` bytes for the attributes after it.
 #[tactic(auto, unfolding(crate::specs::Answers::error_page))]
-fn try_error_page<A: Memory>(
+fn try_begin_error_page<A: Memory>(
     buffer: &mut Vec<u8, A>,
     request: &Message<'_>,
     code: u16,
@@ -55,7 +55,7 @@ fn try_error_page<A: Memory>(
         → more ≤ 5000 → IsOk result }
 {
     let error = ErrorCode::builder(code).reason(reason).build()?;
-    let writer = writer_with_room(buffer, error.padded_len().saturating_add(more))?;
+    let writer = make_writer(buffer, error.padded_len().saturating_add(more))?;
     let mut page = Message::builder_error(request, writer)?;
     page.add_attribute(&error)?;
     Ok(page)
@@ -64,7 +64,7 @@ fn try_error_page<A: Memory>(
 /// Begins a success response with the address that a request came from, and reserves `more` bytes
 /// for the attributes after it.
 #[tactic(auto, unfolding(crate::specs::Answers::binding_page))]
-pub(crate) fn mapped_page<A: Memory>(
+pub(crate) fn begin_mapped_page<A: Memory>(
     buffer: &mut Vec<u8, A>,
     request: &Message<'_>,
     from: SocketAddr,
@@ -75,7 +75,7 @@ pub(crate) fn mapped_page<A: Memory>(
     ensures room { IfOk result (λ page. IsEndable page.bytes) }
     ensures granted { A.grants → more ≤ 5000 → IsOk result }
 {
-    match try_mapped_page(buffer, request, from, more) {
+    match try_begin_mapped_page(buffer, request, from, more) {
         Ok(page) => Ok(page),
         Err(_) => Err(AllocError),
     }
@@ -83,7 +83,7 @@ pub(crate) fn mapped_page<A: Memory>(
 
 /// Begins a success response with the address that a request came from, and reserves `more` bytes
 /// for the attributes after it.
-fn try_mapped_page<A: Memory>(
+fn try_begin_mapped_page<A: Memory>(
     buffer: &mut Vec<u8, A>,
     request: &Message<'_>,
     from: SocketAddr,
@@ -97,7 +97,7 @@ fn try_mapped_page<A: Memory>(
     ensures granted { A.grants → more ≤ 5000 → IsOk result }
 {
     let address = mapped_address(from, request.transaction_id());
-    let writer = writer_with_room(buffer, address.padded_len().saturating_add(more))?;
+    let writer = make_writer(buffer, address.padded_len().saturating_add(more))?;
     let mut page = Message::builder_success(request, writer)?;
     page.add_attribute(&address)?;
     Ok(page)
@@ -105,7 +105,7 @@ fn try_mapped_page<A: Memory>(
 
 /// Creates a writer in the memory of a buffer, with room for a header and `attributes` bytes of
 /// attributes, so that a response takes at most one allocation.
-pub(crate) fn writer_with_room<A: Memory>(
+pub(crate) fn make_writer<A: Memory>(
     buffer: &mut Vec<u8, A>,
     attributes: usize,
 ) -> Result<BufferWriter<A>, StunWriteError>

@@ -20,7 +20,6 @@ use stun_types::message::{Message, Method};
 /// indication. They depend on the kind of server: the defaults are those of `Server`, and
 /// `OpenReceived` and `ShortTermReceived` name the types of the two other kinds.
 #[derive(Debug, Drop)]
-#[non_exhaustive]
 pub enum Received<'a, A: Allocator = Global, R = Request<'a, A>, I = Message<'a>> {
     /// Send this response.
     Answer(Answer<A>),
@@ -38,7 +37,6 @@ pub enum Received<'a, A: Allocator = Global, R = Request<'a, A>, I = Message<'a>
 
 /// Why a datagram is dropped.
 #[derive(Clone, Copy, Debug, PartialEq, Eq)]
-#[non_exhaustive]
 pub enum DropReason {
     /// The datagram does not begin with the header of a STUN message.
     NotStun,
@@ -61,7 +59,6 @@ pub enum DropReason {
 
 /// The error with which a response refuses a request.
 #[derive(Clone, Copy, Debug, PartialEq, Eq)]
-#[non_exhaustive]
 pub enum Refusal {
     /// 400: with long-term credentials, the realm, the nonce or the user name is missing, or the
     /// request has the current nonce, but not the algorithms that were offered with it. With

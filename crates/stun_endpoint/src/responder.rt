@@ -20,7 +20,7 @@ ghost use Rattle.stun_base.specs.declared.wire.message_type.MessageClass.TheVari
 
 use crate::arrived::Arrived;
 use crate::ending::{Ending, Signature};
-use crate::pages::{error_page, mapped_page, writer_with_room};
+use crate::pages::{begin_error_page, begin_mapped_page, make_writer};
 use crate::received::{Answer, Refusal};
 use crate::reply::Reply;
 use crate::server::{BuildError, STUN_ATTRIBUTES};
@@ -120,7 +120,7 @@ impl<A: Memory> Responder<A> {
         ensures granted { A.grants
             → software_refusal (option_map string_bytes settings.software) ≡ None → IsOk result }
     {
-        if text_length(&settings.software) > TEXT_LIMIT {
+        if count_text_bytes(&settings.software) > TEXT_LIMIT {
             return Err(BuildError::SoftwareTooLong);
         }
         match with_stun_attributes(settings.understood) {
@@ -197,7 +197,7 @@ impl<A: Allocator> Responder<A> {
 
 impl<A: Memory> Responder<A> {
     /// Returns an empty buffer for a response.
-    pub(crate) fn buffer(&self) -> Vec<u8, A>
+    pub(crate) fn make_buffer(&self) -> Vec<u8, A>
         ensures { result.items ≡ [] }
     {
         Vec::new(self.alloc)
@@ -206,7 +206,7 @@ impl<A: Memory> Responder<A> {
     /// Writes the response to an accepted request: a 420 if the request has attributes that are not
     /// understood, or a success if the server answers Binding requests and this is one. Returns
     /// `None` if neither applies.
-    pub(crate) fn own_answer(
+    pub(crate) fn write_own_answer(
         &self,
         request: &Message<'_>,
         from: SocketAddr,
@@ -221,18 +221,30 @@ impl<A: Memory> Responder<A> {
         ensures granted { A.grants → IsOk result }
     {
         if !self.understands(request) {
-            let answer = self.unknown_answer(request, from, signature, has_fingerprint, buffer)?;
+            let answer = self.write_unknown_answer(
+                request,
+                from,
+                signature,
+                has_fingerprint,
+                buffer,
+            )?;
             return Ok(Some(answer));
         }
         if self.answers(request) {
-            let answer = self.binding_answer(request, from, signature, has_fingerprint, buffer)?;
+            let answer = self.write_binding_answer(
+                request,
+                from,
+                signature,
+                has_fingerprint,
+                buffer,
+            )?;
             return Ok(Some(answer));
         }
         Ok(None)
     }
 
     /// Returns the handle with which you respond to an accepted request.
-    pub(crate) fn reply(
+    pub(crate) fn make_reply(
         &self,
         request: &Message<'_>,
         from: SocketAddr,
@@ -244,7 +256,7 @@ impl<A: Memory> Responder<A> {
             ≡ reply_by self.now signature from request.now) }
         ensures granted { A.grants → IsOk result }
     {
-        let software = self.cloned_software()?;
+        let software = self.copy_software()?;
         Ok(Reply::new(
             self.alloc,
             request,
@@ -257,7 +269,7 @@ impl<A: Memory> Responder<A> {
 
     /// Writes an error response that is not signed.
     #[tactic(auto, unfolding(crate::specs::Responding::refusal_by))]
-    pub(crate) fn refusal(
+    pub(crate) fn write_refusal(
         &self,
         request: &Message<'_>,
         from: SocketAddr,
@@ -270,8 +282,8 @@ impl<A: Memory> Responder<A> {
             ≡ refusal_by self.now refusal from request.now) }
         ensures granted { A.grants → IsOk result }
     {
-        let more = self.end_length(&None, has_fingerprint);
-        let page = error_page(buffer, request, refusal.code(), refusal.phrase(), more)?;
+        let more = self.count_end_bytes(&None, has_fingerprint);
+        let page = begin_error_page(buffer, request, refusal.code(), refusal.phrase(), more)?;
         let bytes = self.end(page, &None, has_fingerprint)?;
         Ok(Answer::new(from, Some(refusal), bytes))
     }
@@ -301,7 +313,7 @@ impl<A: Memory> Responder<A> {
     }
 
     /// Returns how many bytes `end` adds to a response.
-    pub(crate) fn end_length(
+    pub(crate) fn count_end_bytes(
         &self,
         signature: &Option<Signature<A>>,
         has_fingerprint: bool,
@@ -312,7 +324,7 @@ impl<A: Memory> Responder<A> {
     }
 
     /// Returns a copy of the text of SOFTWARE, or `None` if there is none.
-    fn cloned_software(&self) -> Result<Option<String<A>>, AllocError>
+    fn copy_software(&self) -> Result<Option<String<A>>, AllocError>
         ensures copy { IfOk result (λ copy. option_map string_bytes copy ≡ self.now.software) }
         ensures short { IfOk result (λ copy.
             length (unwrap_or (option_map string_bytes copy) []) ≤ TEXT_LIMIT) }
@@ -326,7 +338,7 @@ impl<A: Memory> Responder<A> {
 
     /// Writes the 420 response to an accepted request.
     #[tactic(auto, unfolding(crate::specs::Responding::unknown_by))]
-    fn unknown_answer(
+    fn write_unknown_answer(
         &self,
         request: &Message<'_>,
         from: SocketAddr,
@@ -341,15 +353,15 @@ impl<A: Memory> Responder<A> {
             ≡ unknown_by self.now signature.now from request.now) }
         ensures granted { A.grants → IsOk result }
     {
-        let more = self.end_length(signature, has_fingerprint);
-        let page = self.unknown_page(request, more, buffer)?;
+        let more = self.count_end_bytes(signature, has_fingerprint);
+        let page = self.begin_unknown_page(request, more, buffer)?;
         let bytes = self.end(page, signature, has_fingerprint)?;
         Ok(Answer::new(from, Some(Refusal::UnknownAttribute), bytes))
     }
 
     /// Begins the 420 response to a request, and reserves `more` bytes for the attributes that
     /// `end` adds.
-    fn unknown_page(
+    fn begin_unknown_page(
         &self,
         request: &Message<'_>,
         more: usize,
@@ -363,15 +375,15 @@ impl<A: Memory> Responder<A> {
         ensures room { IfOk result (λ page. IsEndable page.bytes) }
         ensures granted { A.grants → more ≤ 5000 → IsOk result }
     {
-        let Ok(writer) = writer_with_room(buffer, UNKNOWN_LENGTH.saturating_add(more)) else {
+        let Ok(writer) = make_writer(buffer, UNKNOWN_LENGTH.saturating_add(more)) else {
             return Err(AllocError);
         };
-        refused_page(request, self.known.as_slice(), writer)
+        write_unknown_page(request, self.known.as_slice(), writer)
     }
 
     /// Writes the success response to an accepted Binding request.
     #[tactic(auto, unfolding(crate::specs::Responding::binding_by))]
-    fn binding_answer(
+    fn write_binding_answer(
         &self,
         request: &Message<'_>,
         from: SocketAddr,
@@ -384,8 +396,8 @@ impl<A: Memory> Responder<A> {
             ≡ binding_by self.now signature.now from request.now) }
         ensures granted { A.grants → IsOk result }
     {
-        let more = self.end_length(signature, has_fingerprint);
-        let page = mapped_page(buffer, request, from, more)?;
+        let more = self.count_end_bytes(signature, has_fingerprint);
+        let page = begin_mapped_page(buffer, request, from, more)?;
         let bytes = self.end(page, signature, has_fingerprint)?;
         Ok(Answer::new(from, None, bytes))
     }
@@ -393,7 +405,7 @@ impl<A: Memory> Responder<A> {
 
 /// Writes the 420 response to a request into an empty writer, without the attributes that `end`
 /// adds.
-fn refused_page<A: Memory>(
+fn write_unknown_page<A: Memory>(
     request: &Message<'_>,
     known: &[AttributeType],
     writer: BufferWriter<A>,
@@ -417,7 +429,7 @@ fn refused_page<A: Memory>(
 }
 
 /// Returns the number of bytes of a text, or 0 if there is none.
-pub(crate) fn text_length<A: Allocator>(text: &Option<String<A>>) -> usize
+pub(crate) fn count_text_bytes<A: Allocator>(text: &Option<String<A>>) -> usize
     ensures { result ≡ length (unwrap_or (option_map string_bytes text.now) []) }
 {
     match text {

@@ -14,7 +14,7 @@ ghost use Rattle.stun_endpoint.specs.Realm.{table_of};
 ghost use Rattle.stun_endpoint.specs.Settings.{registered_of};
 ghost use Rattle.stun_types.specs.Limits.{TEXT_LIMIT};
 
-use crate::nonces::nonce_of;
+use crate::nonces::write_nonce;
 use crate::responder::Responder;
 use crate::unix_time::UnixTime;
 use crate::users::Users;
@@ -169,13 +169,13 @@ impl<A: Memory> Server<A> {
             ≡ current_nonce self.now from now) }
         ensures granted { A.grants → IsOk result }
     {
-        self.nonce_in(&self.secret, from, now.epoch(self.lifetime))
+        self.make_nonce(&self.secret, from, now.epoch(self.lifetime))
     }
 
     /// Returns the nonce that the server makes with a secret for the address `from` in this epoch.
     /// It has the security bit *Password algorithms* if and only if HMAC-SHA256 is supported.
     #[tactic(auto, using(crate::proofs::OfferLemmas::nonce_asks, crate::proofs::OfferedLemmas::nonce_short))]
-    fn nonce_in(
+    fn make_nonce(
         &self,
         secret: &PreparedKey<A>,
         from: SocketAddr,
@@ -189,6 +189,6 @@ impl<A: Memory> Server<A> {
         ensures granted { A.grants → IsOk result }
     {
         let (algorithms, feature) = (self.realm.algorithms(), self.realm.feature());
-        nonce_of(self.alloc, secret, from, epoch, algorithms, feature)
+        write_nonce(self.alloc, secret, from, epoch, algorithms, feature)
     }
 }

@@ -34,7 +34,7 @@ use stun_types::message::{IntegrityAlgorithm, Message, MessageClass};
 mod signer;
 mod users;
 
-use signer::{Signer, signer_of};
+use signer::{Signer, find_signer};
 pub use users::ShortTermUsers;
 
 /// A STUN server with short-term credentials (RFC 8489, section 9.1). It stores nothing about its
@@ -179,8 +179,8 @@ impl<A: Memory> ShortTermServer<A> {
             ≡ false → IsOk result }
         ensures granted { A.grants → IsOk result }
     {
-        let mut buffer = self.responder.buffer();
-        self.received(bytes, from, users, &mut buffer)
+        let mut buffer = self.responder.make_buffer();
+        self.judge_datagram(bytes, from, users, &mut buffer)
     }
 
     /// Judges a datagram like `receive`, and writes the response into a buffer, replacing its
@@ -206,7 +206,7 @@ impl<A: Memory> ShortTermServer<A> {
         ensures granted { A.grants → IsOk result }
         ensures err { OnErr result (buffer.new.items ≡ []) }
     {
-        match self.received(bytes, from, users, buffer) {
+        match self.judge_datagram(bytes, from, users, buffer) {
             Ok(received) => Ok(received.into_buffer(buffer)),
             Err(_) => {
                 buffer.clear();
@@ -216,7 +216,7 @@ impl<A: Memory> ShortTermServer<A> {
     }
 
     /// Returns the outcome of a datagram. A response takes over the memory of the buffer.
-    fn received<'a>(
+    fn judge_datagram<'a>(
         &self,
         bytes: &'a [u8],
         from: SocketAddr,
@@ -231,16 +231,16 @@ impl<A: Memory> ShortTermServer<A> {
     {
         match self.responder.read(bytes) {
             Arrived::Request(message, has_fingerprint) => {
-                self.request(message, from, users, has_fingerprint, buffer)
+                self.judge_request(message, from, users, has_fingerprint, buffer)
             }
-            Arrived::Indication(message) => Ok(self.indication(message, users)),
+            Arrived::Indication(message) => Ok(self.judge_indication(message, users)),
             Arrived::Response(message) => Ok(Received::Response(message)),
             Arrived::Dropped(reason) => Ok(Received::Dropped(reason)),
         }
     }
 
     /// Returns the outcome of a request.
-    fn request<'a>(
+    fn judge_request<'a>(
         &self,
         message: Message<'a>,
         from: SocketAddr,
@@ -254,19 +254,19 @@ impl<A: Memory> ShortTermServer<A> {
             ≡ by_signer self.now from message.entry (signer_of users.now message.entry)) }
         ensures granted { A.grants → IsOk result }
     {
-        match signer_of(users, &message) {
-            Ok(signer) => self.accepted(message, from, signer, has_fingerprint, buffer),
+        match find_signer(users, &message) {
+            Ok(signer) => self.accept(message, from, signer, has_fingerprint, buffer),
             Err(refusal) => {
                 let answer = self
                     .responder
-                    .refusal(&message, from, refusal, has_fingerprint, buffer)?;
+                    .write_refusal(&message, from, refusal, has_fingerprint, buffer)?;
                 Ok(Received::Answer(answer))
             }
         }
     }
 
     /// Returns the outcome of a request that `signer` has signed.
-    fn accepted<'a>(
+    fn accept<'a>(
         &self,
         message: Message<'a>,
         from: SocketAddr,
@@ -281,16 +281,16 @@ impl<A: Memory> ShortTermServer<A> {
             (own_answer self.now (Some (signature_of signer.entry)) from message.entry)) }
         ensures granted { A.grants → IsOk result }
     {
-        let signature = signer.signature()?;
+        let signature = signer.make_signature()?;
         match self
             .responder
-            .own_answer(&message, from, &signature, has_fingerprint, buffer)?
+            .write_own_answer(&message, from, &signature, has_fingerprint, buffer)?
         {
             Some(answer) => Ok(Received::Answer(answer)),
             None => {
                 let reply = self
                     .responder
-                    .reply(&message, from, signature, has_fingerprint)?;
+                    .make_reply(&message, from, signature, has_fingerprint)?;
                 let request = Request::new(message, signer.name(), signer.algorithm(), reply);
                 Ok(Received::Request(request))
             }
@@ -298,7 +298,7 @@ impl<A: Memory> ShortTermServer<A> {
     }
 
     /// Returns the outcome of an indication.
-    fn indication<'a>(
+    fn judge_indication<'a>(
         &self,
         message: Message<'a>,
         users: &'a ShortTermUsers<A>,
@@ -306,7 +306,7 @@ impl<A: Memory> ShortTermServer<A> {
         ensures { outcome_of result
             ≡ indicated_by self.now message.entry (signer_of users.now message.entry) }
     {
-        match signer_of(users, &message) {
+        match find_signer(users, &message) {
             Ok(signer) => {
                 if self.responder.understands(&message) {
                     Received::Indication(ShortTermIndication {

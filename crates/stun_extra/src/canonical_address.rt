@@ -15,13 +15,13 @@ pub fn address_octets(ip: IpAddr) -> [u8; 16]
     ensures { result ≡ address_octets ip }
 {
     match ip {
-        IpAddr::V4(ip) => mapped_octets(ip),
+        IpAddr::V4(ip) => map_octets(ip),
         IpAddr::V6(ip) => ip.octets(),
     }
 }
 
 /// Returns the octets of `::ffff:a.b.c.d`.
-fn mapped_octets(ip: Ipv4Addr) -> [u8; 16]
+fn map_octets(ip: Ipv4Addr) -> [u8; 16]
     ensures { result ≡ address_octets (IpAddr.V4 ip) }
 {
     let [a, b, c, d] = ip.octets();

@@ -18,11 +18,11 @@ pub fn crc32(bytes: &[u8]) -> u32
     let mut remainder: u32 = 0xFFFF_FFFF;
     let mut left = bytes;
     while let Some((eight, rest)) = left.split_first_chunk::<8>() {
-        remainder = after_eight(remainder, eight);
+        remainder = update_eight(remainder, eight);
         left = rest;
     }
     for byte in left {
-        remainder = after_byte(remainder, *byte);
+        remainder = update_byte(remainder, *byte);
     }
     remainder ^ 0xFFFF_FFFF
 }
@@ -33,30 +33,30 @@ pub fn crc32(bytes: &[u8]) -> u32
 /// Because the division is linear, the result is then the XOR of eight remainders, one for each of
 /// the eight bytes: the remainder after this byte, followed by as many zero bytes as there are
 /// bytes after it.
-fn after_eight(remainder: u32, bytes: &[u8; 8]) -> u32
+fn update_eight(remainder: u32, bytes: &[u8; 8]) -> u32
     ensures { result ≡ fold after_byte remainder bytes.now }
 {
     let [a, b, c, d, e, f, g, h] = *bytes;
     let [p, q, r, s] = remainder.to_le_bytes();
-    entry(0, h)
-        ^ entry(1, g)
-        ^ entry(2, f)
-        ^ entry(3, e)
-        ^ entry(4, s ^ d)
-        ^ entry(5, r ^ c)
-        ^ entry(6, q ^ b)
-        ^ entry(7, p ^ a)
+    look_up(0, h)
+        ^ look_up(1, g)
+        ^ look_up(2, f)
+        ^ look_up(3, e)
+        ^ look_up(4, s ^ d)
+        ^ look_up(5, r ^ c)
+        ^ look_up(6, q ^ b)
+        ^ look_up(7, p ^ a)
 }
 
 /// Returns the remainder after the bits of one more byte.
-fn after_byte(remainder: u32, byte: u8) -> u32
+fn update_byte(remainder: u32, byte: u8) -> u32
     ensures { result ≡ after_byte remainder byte }
 {
-    remainder / 256 ^ entry(0, (remainder % 256) as u8 ^ byte)
+    remainder / 256 ^ look_up(0, (remainder % 256) as u8 ^ byte)
 }
 
 /// Returns the remainder after the bits of a single byte, followed by `zeros` zero bytes.
-fn entry(zeros: usize, byte: u8) -> u32
+fn look_up(zeros: usize, byte: u8) -> u32
     requires { zeros < 8 }
     ensures { result ≡ after_zeros zeros (after_byte 0 byte) }
 {

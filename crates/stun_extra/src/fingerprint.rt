@@ -61,14 +61,14 @@ pub enum Fingerprint {
 pub fn check_fingerprint(message: &Message<'_>) -> Fingerprint
     ensures { result ≡ fingerprint_in message.now }
 {
-    match first_fingerprint(message) {
+    match find_fingerprint(message) {
         Some((place, attribute)) => fingerprint_at(message.as_bytes(), place, &attribute),
         None => Fingerprint::Absent,
     }
 }
 
 /// Returns the first visible FINGERPRINT of a message and its offset.
-fn first_fingerprint<'a>(message: &Message<'a>) -> Option<(usize, RawAttribute<'a>)>
+fn find_fingerprint<'a>(message: &Message<'a>) -> Option<(usize, RawAttribute<'a>)>
     ensures { result ≡ first_of FINGERPRINT (visible message.now) }
 {
     message
@@ -90,7 +90,7 @@ pub fn fingerprint_at(message: &[u8], place: usize, attribute: &RawAttribute<'_>
     {
         return Fingerprint::Misplaced;
     }
-    if BigEndian::read_u32(value) == fingerprint_number(&message[..place]) {
+    if BigEndian::read_u32(value) == compute_fingerprint(&message[..place]) {
         Fingerprint::Right
     } else {
         Fingerprint::Wrong
@@ -99,7 +99,7 @@ pub fn fingerprint_at(message: &[u8], place: usize, attribute: &RawAttribute<'_>
 
 /// Returns the value of a FINGERPRINT that follows these bytes of a message: their CRC-32, XORed
 /// with `FINGERPRINT_XOR`.
-fn fingerprint_number(bytes: &[u8]) -> u32
+fn compute_fingerprint(bytes: &[u8]) -> u32
     ensures { result ≡ fingerprint_word bytes.now }
 {
     crc32(bytes) ^ FINGERPRINT_XOR
@@ -158,7 +158,7 @@ pub fn finish_with_fingerprint<W: MessageWrite>(mut writer: W) -> Result<W::Outp
     }
     writer.reserve(FINGERPRINT_LENGTH)?;
     writer.set_length(message_length as u16);
-    let value = fingerprint_number(writer.data()).to_be_bytes();
+    let value = compute_fingerprint(writer.data()).to_be_bytes();
     RawAttribute::new(AttributeType::FINGERPRINT, &value).write_into(&mut writer);
     Ok(writer.finish())
 }

@@ -68,7 +68,7 @@ pub fn next_frame(bytes: &[u8]) -> Frame
 {
     match MessageHeader::from_bytes(bytes) {
         Ok(header) => {
-            frame_to(
+            make_frame(
                 bytes.len(),
                 HEADER_LENGTH + usize::from(header.data_length()),
             )
@@ -115,7 +115,7 @@ pub fn next_packet_frame(bytes: &[u8]) -> Frame
         return Frame::Need(PACKET_HEADER_LENGTH - bytes.len());
     }
     let length = usize::from(BigEndian::read_u16(bytes));
-    frame_to(bytes.len(), PACKET_HEADER_LENGTH + length)
+    make_frame(bytes.len(), PACKET_HEADER_LENGTH + length)
 }
 
 /// Finds the message or the ChannelData at the front of the bytes of a stream, as TURN sends them
@@ -145,26 +145,26 @@ pub fn next_turn_frame(bytes: &[u8]) -> Frame
         return Frame::Need(CHANNEL_HEADER_LENGTH);
     }
     if bytes[0] / 64 == 1 {
-        next_channel_frame(bytes)
+        find_channel_frame(bytes)
     } else {
         next_frame(bytes)
     }
 }
 
 /// Finds the end of the ChannelData at the front of the bytes.
-fn next_channel_frame(bytes: &[u8]) -> Frame
+fn find_channel_frame(bytes: &[u8]) -> Frame
     ensures { result ≡ channel_frame_of bytes.now }
 {
     if bytes.len() < CHANNEL_HEADER_LENGTH {
         return Frame::Need(CHANNEL_HEADER_LENGTH - bytes.len());
     }
     let length = usize::from(BigEndian::read_u16(&bytes[2..]));
-    frame_to(bytes.len(), CHANNEL_HEADER_LENGTH + (length + 3) / 4 * 4)
+    make_frame(bytes.len(), CHANNEL_HEADER_LENGTH + (length + 3) / 4 * 4)
 }
 
 /// Returns `Message` if all bytes of a frame have arrived, and otherwise `Need`. `there` is the
 /// number of bytes that have arrived, and `whole` is the number of bytes of the frame.
-fn frame_to(there: usize, whole: usize) -> Frame
+fn make_frame(there: usize, whole: usize) -> Frame
     ensures { result ≡ frame_to there whole }
 {
     if there < whole {

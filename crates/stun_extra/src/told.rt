@@ -12,7 +12,7 @@ pub(crate) struct Told {
 
 impl Told {
     /// Creates an empty set.
-    pub(crate) fn none() -> Told
+    pub(crate) fn new() -> Told
         ensures { (kind : ℕ) → is_told result.words kind ≡ false }
     {
         Told { words: None }

@@ -57,7 +57,7 @@ pub fn unknown_types<'a>(message: &Message<'a>, known: &'a [AttributeType]) -> U
     UnknownTypes {
         left: message.iter_attributes(),
         known,
-        told: Told::none(),
+        told: Told::new(),
     }
 }
 

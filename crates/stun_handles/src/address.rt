@@ -20,7 +20,7 @@ pub struct Address {
 }
 
 /// Returns the IPv4 address in the first four octets, with this port.
-fn ipv4(octets: &[u8; 16], port: u16) -> SocketAddr
+fn make_ipv4(octets: &[u8; 16], port: u16) -> SocketAddr
     ensures { result ≡ ipv4 (take 4 octets.now) port }
 {
     let mut front = [0; 4];
@@ -29,7 +29,7 @@ fn ipv4(octets: &[u8; 16], port: u16) -> SocketAddr
 }
 
 /// Returns the IPv6 address in the octets, with this port.
-fn ipv6(octets: &[u8; 16], port: u16) -> SocketAddr
+fn make_ipv6(octets: &[u8; 16], port: u16) -> SocketAddr
     ensures { result ≡ ipv6 octets.now port }
 {
     SocketAddr::V6(SocketAddrV6::new(Ipv6Addr::from_octets(*octets), port, 0, 0))
@@ -46,8 +46,8 @@ impl Address {
             × (refusal ≡ Refusal.BadArgument)) }
     {
         match self.length {
-            4 => Ok(ipv4(&self.octets, self.port)),
-            16 => Ok(ipv6(&self.octets, self.port)),
+            4 => Ok(make_ipv4(&self.octets, self.port)),
+            16 => Ok(make_ipv6(&self.octets, self.port)),
             _ => Err(Refusal::BadArgument),
         }
     }

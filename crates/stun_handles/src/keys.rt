@@ -8,7 +8,7 @@ use stun_numbers::refusal::Refusal;
 
 /// Converts a key of `N` bytes that a caller passes. Returns `None` if the caller passes no bytes.
 /// Fails with `BadArgument` if the number of bytes is neither 0 nor `N`.
-fn key_of<const N: usize>(bytes: &[u8]) -> Result<Option<[u8; N]>, Refusal>
+fn to_key<const N: usize>(bytes: &[u8]) -> Result<Option<[u8; N]>, Refusal>
     ensures { result ≡ key_given N bytes.now }
 {
     if bytes.is_empty() {
@@ -27,7 +27,7 @@ fn key_of<const N: usize>(bytes: &[u8]) -> Result<Option<[u8; N]>, Refusal>
 pub fn keys_of(sha1: &[u8], sha256: &[u8]) -> Result<StoredKeys, Refusal>
     ensures { result ≡ keys_given (key_given 16 sha1.now) (key_given 32 sha256.now) }
 {
-    let sha1 = key_of(sha1)?;
-    let sha256 = key_of(sha256)?;
+    let sha1 = to_key(sha1)?;
+    let sha256 = to_key(sha256)?;
     Ok(StoredKeys { sha1, sha256 })
 }

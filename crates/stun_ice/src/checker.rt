@@ -26,7 +26,7 @@ pub(crate) mod receiving;
 mod responses;
 
 use crate::check::Check;
-use crate::parts::{peer_name, username};
+use crate::parts::{read_peer_name, read_username};
 use crate::role::Role;
 use std::alloc::{AllocError, Allocator, Global};
 use std::fmt;
@@ -60,7 +60,6 @@ pub struct Credentials<'a> {
 
 /// Why a checker could not be built.
 #[derive(Clone, Copy, Debug, PartialEq, Eq, Error)]
-#[non_exhaustive]
 pub enum BuildError {
     /// A name has fewer than 4 or more than 256 bytes.
     #[error("a name has fewer than 4 or more than 256 bytes")]
@@ -78,7 +77,6 @@ pub enum BuildError {
 
 /// Why a check could not be written.
 #[derive(Clone, Copy, Debug, PartialEq, Eq, Error)]
-#[non_exhaustive]
 pub enum CheckError {
     /// The credentials of the peer are not known yet.
     #[error("the credentials of the peer are not known yet")]
@@ -179,7 +177,7 @@ fn has_colon(name: &str) -> bool
 
 /// Returns the reason to refuse the credentials of the two sides, or `None` if the credentials of
 /// both are accepted.
-fn refusal(local: &Credentials<'_>, remote: &Credentials<'_>) -> Option<BuildError>
+fn find_refusal(local: &Credentials<'_>, remote: &Credentials<'_>) -> Option<BuildError>
     ensures { result ≡ build_refusal local.now.name.now remote.now.name.now local.now.password.now
         remote.now.password.now }
 {
@@ -196,7 +194,7 @@ fn refusal(local: &Credentials<'_>, remote: &Credentials<'_>) -> Option<BuildErr
 }
 
 /// Returns the reason to refuse the credentials of one side, or `None` if they are accepted.
-fn side_refusal(side: &Credentials<'_>) -> Option<BuildError>
+fn find_side_refusal(side: &Credentials<'_>) -> Option<BuildError>
     ensures { result ≡ side_refusal side.now.name.now side.now.password.now }
 {
     if side.name.len() < 4 || 256 < side.name.len() {
@@ -212,7 +210,7 @@ fn side_refusal(side: &Credentials<'_>) -> Option<BuildError>
 }
 
 /// Joins two names with a colon.
-fn joined<A: Memory>(alloc: A, front: &str, back: &str) -> Result<String<A>, AllocError>
+fn join_names<A: Memory>(alloc: A, front: &str, back: &str) -> Result<String<A>, AllocError>
     requires { length front.now + length back.now ≤ 512 }
     ensures bytes { IfOk result (λ text. string_bytes text ≡ with_colon front.now back.now) }
     ensures granted { A.grants → IsOk result }
@@ -227,7 +225,7 @@ fn joined<A: Memory>(alloc: A, front: &str, back: &str) -> Result<String<A>, All
 }
 
 /// Prepares a password for HMAC-SHA1.
-fn prepared<A: Memory>(alloc: A, password: &str) -> Result<PreparedKey<A>, AllocError>
+fn prepare_password<A: Memory>(alloc: A, password: &str) -> Result<PreparedKey<A>, AllocError>
     ensures key { IfOk result (λ key. key ≡ password.now) }
     ensures granted { A.grants → IsOk result }
 {
@@ -244,8 +242,8 @@ impl<A: Memory> Remote<A> {
         ensures granted { A.grants → IsOk result }
     {
         Ok(Remote {
-            username: joined(alloc, remote.name, name)?,
-            password: prepared(alloc, remote.password)?,
+            username: join_names(alloc, remote.name, name)?,
+            password: prepare_password(alloc, remote.password)?,
         })
     }
 }
@@ -284,13 +282,13 @@ impl<A: Memory> Checker<A> {
           role = role;
         }) }
     {
-        if let Some(refusal) = refusal(&local, &remote) {
+        if let Some(refusal) = find_refusal(&local, &remote) {
             return Err(refusal);
         }
         let Ok(remote) = Remote::new(alloc, local.name, &remote) else {
             return Err(BuildError::OutOfMemory);
         };
-        match Checker::built_of(alloc, &local, Some(remote), tie_breaker, role) {
+        match Checker::build_from(alloc, &local, Some(remote), tie_breaker, role) {
             Ok(checker) => Ok(checker),
             Err(_) => Err(BuildError::OutOfMemory),
         }
@@ -328,17 +326,17 @@ impl<A: Memory> Checker<A> {
           role = role;
         }) }
     {
-        if let Some(refusal) = side_refusal(&local) {
+        if let Some(refusal) = find_side_refusal(&local) {
             return Err(refusal);
         }
-        match Checker::built_of(alloc, &local, None, tie_breaker, role) {
+        match Checker::build_from(alloc, &local, None, tie_breaker, role) {
             Ok(checker) => Ok(checker),
             Err(_) => Err(BuildError::OutOfMemory),
         }
     }
 
     /// Creates an agent from credentials that have been checked.
-    fn built_of(
+    fn build_from(
         alloc: A,
         local: &Credentials<'_>,
         remote: Option<Remote<A>>,
@@ -358,7 +356,7 @@ impl<A: Memory> Checker<A> {
         Ok(Checker {
             alloc,
             name: A::text(alloc, local.name)?,
-            password: prepared(alloc, local.password)?,
+            password: prepare_password(alloc, local.password)?,
             remote,
             tie_breaker,
             role,
@@ -386,7 +384,7 @@ impl<A: Memory> Checker<A> {
         }) }
         ensures err { OnErr result (self.new ≡ self.old) }
     {
-        if let Some(refusal) = side_refusal(&remote) {
+        if let Some(refusal) = find_side_refusal(&remote) {
             return Err(refusal);
         }
         match Remote::new(self.alloc, &self.name, &remote) {
@@ -460,7 +458,7 @@ impl<A: Memory> Checker<A> {
             return Err(CheckError::NoRemote);
         };
         let nominates = self.can_nominate(nominate);
-        match self.check_page(remote, id, priority, nominates) {
+        match self.make_check_page(remote, id, priority, nominates) {
             Ok(page) => Ok(page),
             // There is room for every attribute, so an allocation has failed.
             Err(_) => Err(CheckError::OutOfMemory),
@@ -501,7 +499,7 @@ impl<A: Memory> Checker<A> {
             return Err(StunWriteError::NotAllowed);
         };
         let nominates = self.can_nominate(nominate);
-        match ended_page(&remote.password, page) {
+        match end_page(&remote.password, page) {
             Ok(bytes) => Ok(Check::new(id, to, self.role, nominates, bytes)),
             Err(why) => Err(why),
         }
@@ -531,13 +529,13 @@ impl<A: Memory> Checker<A> {
             ≡ check_bytes self.now remote.now id priority nominates) }
         ensures granted { A.grants → IsOk result }
     {
-        let page = self.check_page(remote, id, priority, nominates)?;
-        let bytes = ended_page(&remote.password, page)?;
+        let page = self.make_check_page(remote, id, priority, nominates)?;
+        let bytes = end_page(&remote.password, page)?;
         Ok(bytes)
     }
 
     /// Writes a check without its signature and FINGERPRINT.
-    fn check_page(
+    fn make_check_page(
         &self,
         remote: &Remote<A>,
         id: TransactionId,
@@ -564,7 +562,7 @@ impl<A: Memory> Checker<A> {
 }
 
 /// Signs a check with a password, and adds FINGERPRINT.
-fn ended_page<A: Memory>(
+fn end_page<A: Memory>(
     password: &PreparedKey<A>,
     page: MessageWriteVec<A>,
 ) -> Result<Vec<u8, A>, StunWriteError>
@@ -649,8 +647,8 @@ impl<A: Allocator + Copy> Checker<A> {
     pub fn sender<'a>(&self, check: &Message<'a>) -> Option<&'a [u8]>
         ensures { option_copied result ≡ sender_in self.now check.now }
     {
-        match username(check) {
-            Some(username) => peer_name(&self.name, username),
+        match read_username(check) {
+            Some(username) => read_peer_name(&self.name, username),
             None => None,
         }
     }

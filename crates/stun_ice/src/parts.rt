@@ -43,7 +43,7 @@ pub(crate) const UNDERSTOOD: [AttributeType; 13] = [
 const USE_CANDIDATE: AttributeType = AttributeType(0x0025);
 
 /// Returns the first visible USERNAME with its offset, or `None` if there is none.
-fn first_username<'a>(message: &Message<'a>) -> Option<(usize, RawAttribute<'a>)>
+fn find_username<'a>(message: &Message<'a>) -> Option<(usize, RawAttribute<'a>)>
     ensures { result ≡ first_of USERNAME (visible message.now) }
 {
     message
@@ -52,7 +52,7 @@ fn first_username<'a>(message: &Message<'a>) -> Option<(usize, RawAttribute<'a>)
 }
 
 /// Returns the first visible USE-CANDIDATE with its offset, or `None` if there is none.
-fn first_use_candidate<'a>(message: &Message<'a>) -> Option<(usize, RawAttribute<'a>)>
+fn find_use_candidate<'a>(message: &Message<'a>) -> Option<(usize, RawAttribute<'a>)>
     ensures { result ≡ first_of USE_CANDIDATE_TYPE (visible message.now) }
 {
     message
@@ -68,10 +68,10 @@ pub(crate) fn is_binding(message: &Message<'_>) -> bool
 }
 
 /// Returns the value of the first visible USERNAME, or `None` if there is none.
-pub(crate) fn username<'a>(message: &Message<'a>) -> Option<&'a [u8]>
+pub(crate) fn read_username<'a>(message: &Message<'a>) -> Option<&'a [u8]>
     ensures { option_copied result ≡ username_in message.now }
 {
-    match first_username(message) {
+    match find_username(message) {
         Some((_, attribute)) => Some(attribute.value()),
         None => None,
     }
@@ -79,7 +79,7 @@ pub(crate) fn username<'a>(message: &Message<'a>) -> Option<&'a [u8]>
 
 /// Returns the bytes that follow `front` in `bytes`, or `None` if `bytes` do not begin with
 /// `front`.
-fn after_front<'a>(front: &[u8], bytes: &'a [u8]) -> Option<&'a [u8]>
+fn strip_front<'a>(front: &[u8], bytes: &'a [u8]) -> Option<&'a [u8]>
     ensures { option_copied result ≡ after_front front.now bytes.now }
 {
     bytes.strip_prefix(front)
@@ -87,17 +87,17 @@ fn after_front<'a>(front: &[u8], bytes: &'a [u8]) -> Option<&'a [u8]>
 
 /// Returns the name of the peer in a USERNAME that the agent `name` receives: the part after `name`
 /// and a colon. Returns `None` if USERNAME does not begin with `name` and a colon.
-pub(crate) fn peer_name<'a>(name: &str, username: &'a [u8]) -> Option<&'a [u8]>
+pub(crate) fn read_peer_name<'a>(name: &str, username: &'a [u8]) -> Option<&'a [u8]>
     ensures { option_copied result ≡ peer_name_in name.now username.now }
 {
-    match after_front(name.as_bytes(), username) {
-        Some(rest) => after_front(b":", rest),
+    match strip_front(name.as_bytes(), username) {
+        Some(rest) => strip_front(b":", rest),
         None => None,
     }
 }
 
 /// Returns the number in PRIORITY, or `None` if PRIORITY is missing or malformed.
-pub(crate) fn priority(message: &Message<'_>) -> Option<u32>
+pub(crate) fn read_priority(message: &Message<'_>) -> Option<u32>
     ensures { result ≡ priority_in message.now }
 {
     match message.attribute::<Priority>() {
@@ -110,22 +110,22 @@ pub(crate) fn priority(message: &Message<'_>) -> Option<u32>
 pub(crate) fn has_use_candidate(message: &Message<'_>) -> bool
     ensures { result ≡ has_use_candidate message.now }
 {
-    first_use_candidate(message).is_some()
+    find_use_candidate(message).is_some()
 }
 
 /// Returns the tie-breaker in a check, or `None` if the check does not state that its sender has
 /// the role `role`.
-pub(crate) fn rival(role: Role, message: &Message<'_>) -> Option<u64>
+pub(crate) fn read_tie_breaker(role: Role, message: &Message<'_>) -> Option<u64>
     ensures { result ≡ rival role message.now }
 {
     match role {
-        Role::Controlling => controlling(message),
-        Role::Controlled => controlled(message),
+        Role::Controlling => read_controlling(message),
+        Role::Controlled => read_controlled(message),
     }
 }
 
 /// Returns the tie-breaker in ICE-CONTROLLING, or `None` if this attribute is missing or malformed.
-fn controlling(message: &Message<'_>) -> Option<u64>
+fn read_controlling(message: &Message<'_>) -> Option<u64>
     ensures { result ≡ rival Role.Controlling message.now }
 {
     match message.attribute::<IceControlling>() {
@@ -135,7 +135,7 @@ fn controlling(message: &Message<'_>) -> Option<u64>
 }
 
 /// Returns the tie-breaker in ICE-CONTROLLED, or `None` if this attribute is missing or malformed.
-fn controlled(message: &Message<'_>) -> Option<u64>
+fn read_controlled(message: &Message<'_>) -> Option<u64>
     ensures { result ≡ rival Role.Controlled message.now }
 {
     match message.attribute::<IceControlled>() {
@@ -145,7 +145,7 @@ fn controlled(message: &Message<'_>) -> Option<u64>
 }
 
 /// Returns XOR-MAPPED-ADDRESS, or `None` if it is missing or malformed.
-pub(crate) fn mapped_address_in(message: &Message<'_>) -> Option<XorMappedAddress>
+pub(crate) fn read_mapped_address(message: &Message<'_>) -> Option<XorMappedAddress>
     ensures { result ≡ mapped_address_in message.now }
 {
     match message.attribute::<XorMappedAddress>() {

@@ -17,7 +17,6 @@ use stun_types::message::Message;
 
 /// The outcome of a datagram, as `Checker::receive` returns it.
 #[derive(Debug, Drop)]
-#[non_exhaustive]
 pub enum Received<'a, A: Allocator = Global> {
     /// A check of the peer. Send the answer to the address that the check came from.
     Check {
@@ -41,7 +40,6 @@ pub enum Received<'a, A: Allocator = Global> {
 /// The outcome of a datagram, as `Checker::receive_into` returns it: the answer to a check is in
 /// the buffer of the caller.
 #[derive(Debug, Drop)]
-#[non_exhaustive]
 pub enum ReceivedInto<'a> {
     /// A check of the peer. Send the answer in the buffer to the address that the check came from.
     Check {
@@ -94,7 +92,6 @@ impl<'a, A: Allocator> Received<'a, A> {
 
 /// The outcome of a check of the peer.
 #[derive(Clone, Copy, Debug, PartialEq, Eq)]
-#[non_exhaustive]
 pub enum Judged {
     /// The check is accepted, and the answer is a success. Send a check on the same pair, if no
     /// check of yours has succeeded on it (RFC 8445, section 7.3.1.4).
@@ -117,7 +114,6 @@ pub enum Judged {
 
 /// The error with which the answer refuses a check.
 #[derive(Clone, Copy, Debug, PartialEq, Eq)]
-#[non_exhaustive]
 pub enum Refusal {
     /// 400: the check has no integrity attribute or no USERNAME, or its signature is valid but
     /// PRIORITY is missing or malformed.
@@ -145,7 +141,6 @@ impl Refusal {
 
 /// How a check ended, according to the peer's answer.
 #[derive(Clone, Copy, Debug, PartialEq, Eq)]
-#[non_exhaustive]
 pub enum Outcome {
     /// The check succeeded, and the pair is valid. The peer saw the check arrive from this address.
     /// If this address is not one of your candidates, it is a new peer-reflexive candidate (RFC
@@ -164,7 +159,6 @@ pub enum Outcome {
 
 /// Why a check failed.
 #[derive(Clone, Copy, Debug, PartialEq, Eq)]
-#[non_exhaustive]
 pub enum Failure {
     /// The answer is an error with this code.
     Error(u16),
@@ -181,7 +175,6 @@ pub enum Failure {
 
 /// Why a datagram is dropped.
 #[derive(Clone, Copy, Debug, PartialEq, Eq)]
-#[non_exhaustive]
 pub enum DropReason {
     /// The datagram does not begin with the header of a STUN message.
     NotStun,

@@ -40,7 +40,7 @@ impl Role {
     /// switch its role. `self` and `ours` are the role and the tie-breaker of the agent. `theirs`
     /// is the tie-breaker of the sender if the check states that the sender has the same role as
     /// the agent, and otherwise `None`.
-    pub(crate) fn after_check(self, ours: u64, theirs: Option<u64>) -> Option<Role>
+    pub(crate) fn resolve_conflict(self, ours: u64, theirs: Option<u64>) -> Option<Role>
         ensures { result ≡ role_after_check self ours theirs }
     {
         let Some(theirs) = theirs else {

@@ -55,7 +55,7 @@ impl AlgorithmSet {
 
     /// Returns the password algorithms that make the keys for the algorithms of this set, the
     /// strongest first.
-    pub(crate) fn password_algorithms(self) -> &'static [PasswordAlgorithmValue]
+    pub(crate) fn as_password_algorithms(self) -> &'static [PasswordAlgorithmValue]
         ensures { map integrity_of result.now ≡ algorithms_of self }
     {
         match self {

@@ -47,7 +47,7 @@ impl<'a, 'm, 'r> JudgeableMessage<'a, 'm, 'r> {
         }
         reading.realm?;
         let nonce = reading.nonce?;
-        let user = named_user(reading)?;
+        let user = read_user(reading)?;
         Some(JudgeableMessage {
             reading,
             claim: Some(Claim { nonce, user }),
@@ -57,7 +57,7 @@ impl<'a, 'm, 'r> JudgeableMessage<'a, 'm, 'r> {
 
 /// Returns the user whom a message names: by the hash in USERHASH or, without a USERHASH, by the
 /// name in USERNAME. Returns `None` if the message has neither.
-pub(crate) fn named_user<'a>(reading: &MessageReading<'a, '_>) -> Option<NamedUser<'a>>
+pub(crate) fn read_user<'a>(reading: &MessageReading<'a, '_>) -> Option<NamedUser<'a>>
     ensures named { IfSome result (IsNamed (reading_seen reading.now)) }
     ensures there { is_some result ≡ (is_some (reading_seen reading.now).userhash
         || is_some (reading_seen reading.now).username) }
@@ -74,7 +74,7 @@ pub(crate) fn named_user<'a>(reading: &MessageReading<'a, '_>) -> Option<NamedUs
 /// Returns the user whom a request or an indication names: by the hash in USERHASH or, without a
 /// USERHASH, by the name in USERNAME. Returns `None` if it has neither, or if it has a USERHASH and
 /// `feature` does not allow hashes.
-pub(crate) fn named_in<'a>(
+pub(crate) fn read_allowed_user<'a>(
     reading: &MessageReading<'a, '_>,
     feature: Feature,
 ) -> Option<NamedUser<'a>>

@@ -26,7 +26,7 @@ use crate::named_user::NamedUser;
 use crate::read_message::ReadMessage;
 use crate::realm::Realm;
 use crate::stored_keys::StoredKeys;
-use crate::verdict::{agreed, is_same_nonce};
+use crate::verdict::{agree_on_algorithm, is_same_nonce};
 use std::alloc::Allocator;
 use std::fmt;
 use std::marker::Model;
@@ -107,7 +107,7 @@ impl FoundSecret<'_> {
     /// Returns the key for an algorithm. If the secret is a password, the key is made from the
     /// name, the realm and the password. Returns `None` if the secret is stored keys, and none of
     /// them is for this algorithm. The call does not allocate.
-    fn key<A: Allocator + Copy>(
+    fn make_key<A: Allocator + Copy>(
         &self,
         alloc: A,
         algorithm: IntegrityAlgorithm,
@@ -120,7 +120,7 @@ impl FoundSecret<'_> {
             FoundSecret::Password(password) => {
                 Some(long_term_key(alloc, algorithm, name, realm, password))
             }
-            FoundSecret::Keys(keys) => keys.key(alloc, algorithm),
+            FoundSecret::Keys(keys) => keys.make_key(alloc, algorithm),
         }
     }
 }
@@ -183,7 +183,7 @@ impl<'u> FoundUser<'u> {
 
     /// Returns the user's key for an algorithm at a realm. Returns `None` if the algorithm is not
     /// supported, or if the user has no key for it. It does not allocate.
-    fn key<A: Allocator + Copy>(
+    fn prepare_key<A: Allocator + Copy>(
         &self,
         alloc: A,
         supported: AlgorithmSet,
@@ -196,7 +196,7 @@ impl<'u> FoundUser<'u> {
         if !supported.contains(algorithm) {
             return None;
         }
-        let key = self.secret.key(alloc, algorithm, self.name, realm)?;
+        let key = self.secret.make_key(alloc, algorithm, self.name, realm)?;
         Some(PreparedKey::new(key, algorithm))
     }
 }
@@ -250,7 +250,7 @@ impl<A: Memory> Realm<A> {
         reading.realm?;
         let nonce = reading.nonce?;
         let user = self.named_in(read)?;
-        let algorithm = agreed(reading, nonce, Some(self.algorithms()))?;
+        let algorithm = agree_on_algorithm(reading, nonce, Some(self.algorithms()))?;
         Some(UserClaim {
             read,
             nonce,
@@ -281,7 +281,7 @@ impl<A: Memory> Realm<A> {
         if !is_claimed(claim.user, user.name, realm) {
             return None;
         }
-        let key = user.key(self.alloc, self.algorithms(), claim.algorithm, realm)?;
+        let key = user.prepare_key(self.alloc, self.algorithms(), claim.algorithm, realm)?;
         match claim.read.verified_under(&key) {
             Some(by) => Some((by, key)),
             None => None,

@@ -8,7 +8,7 @@ use std::alloc::{AllocError, Allocator};
 use stun_base::memory::Memory;
 
 /// Returns the letter for a number, which depends only on the number modulo 62.
-fn letter(number: u32) -> u8
+fn to_letter(number: u32) -> u8
     ensures { result ≡ letter number }
 {
     // A compiler can vectorize these comparisons, but not a look-up in a table.
@@ -23,12 +23,12 @@ fn letter(number: u32) -> u8
 }
 
 /// Returns the letters for sixteen numbers.
-fn letters_of(numbers: &[u32; 16]) -> [u8; 16]
+fn to_letters(numbers: &[u32; 16]) -> [u8; 16]
     ensures { result ≡ map letter numbers.now }
 {
     let mut letters = [0; 16];
     for i in 0..16 {
-        letters[i] = letter(numbers[i]);
+        letters[i] = to_letter(numbers[i]);
     }
     letters
 }
@@ -44,7 +44,7 @@ pub fn push_letters<A: Allocator>(
     ensures capacity { string_capacity text.old ≤ string_capacity text.new }
     ensures succeeds { string_len text.old + 16 ≤ string_capacity text.old → IsOk result }
 {
-    let letters = letters_of(numbers);
+    let letters = to_letters(numbers);
     text.push_str(str::from_utf8(&letters).unwrap())
 }
 

@@ -60,7 +60,7 @@ impl<A: Memory> NameIndex<A> {
     }
 
     /// Returns the first name in byte order that has this hash, or `None` if no name has it.
-    pub(crate) fn least(&self, hash: &[u8; 32]) -> Option<&str>
+    pub(crate) fn find_first(&self, hash: &[u8; 32]) -> Option<&str>
         ensures { IsLeastNamed self.now hash.now (option_copied result) }
     {
         let from = (*hash, String::new(self.alloc));

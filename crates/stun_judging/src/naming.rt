@@ -70,11 +70,11 @@ impl<A: Allocator> UserNaming<A> {
     {
         add(writer, AddedAttribute::Nonce(nonce))?;
         add(writer, AddedAttribute::Realm(realm))?;
-        add(writer, self.attribute())
+        add(writer, self.as_attribute())
     }
 
     /// Returns the attribute that names the user.
-    fn attribute(&self) -> AddedAttribute<'_>
+    fn as_attribute(&self) -> AddedAttribute<'_>
         ensures { attribute_of result ≡ name_attribute (naming_seen self.now) }
     {
         match self {

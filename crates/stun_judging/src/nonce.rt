@@ -119,7 +119,7 @@ impl NonceSecurityBits {
         ensures capacity { string_capacity text.old ≤ string_capacity text.new }
         ensures succeeds { string_len text.old + 13 ≤ string_capacity text.old → IsOk result }
     {
-        let bits = base64_of(&self.bytes);
+        let bits = to_base64(&self.bytes);
         text.push_str(LONG_TERM_RFC8489_NONCE_COOKIE)?;
         text.push_str(str::from_utf8(&bits).unwrap())
     }
@@ -162,7 +162,7 @@ impl NonceSecurityBits {
 }
 
 /// Returns three bytes as four characters of base64.
-fn base64_of(bytes: &[u8; 3]) -> [u8; 4]
+fn to_base64(bytes: &[u8; 3]) -> [u8; 4]
     ensures characters { result ≡ encode_of standard bytes.now }
     ensures text { IsUtf8 result }
 {
@@ -200,7 +200,7 @@ fn begins_with_cookie(text: &[u8]) -> bool
 }
 
 /// Returns the first security byte of a server with these settings.
-fn security_byte(algorithms: AlgorithmSet, feature: Feature) -> u8
+fn make_security_byte(algorithms: AlgorithmSet, feature: Feature) -> u8
     ensures { result ≡ security_byte algorithms feature }
 {
     let for_algorithms = if algorithms.contains(IntegrityAlgorithm::Sha256) {
@@ -228,7 +228,7 @@ pub fn nonce_of_words<A: Memory>(
     ensures text { IfOk result (λ text. string_bytes text ≡ nonce_of algorithms feature words.now) }
     ensures granted { A.grants → IsOk result }
 {
-    let byte = security_byte(algorithms, feature);
+    let byte = make_security_byte(algorithms, feature);
     if byte != 0 {
         let mut text = text_with_room(alloc, FRONT_LENGTH + LETTERS)?;
         NonceSecurityBits::from_bytes([byte, 0, 0]).push_to(&mut text)?;

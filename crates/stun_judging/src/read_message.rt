@@ -126,6 +126,6 @@ impl<'a, 'm> ReadMessage<'a, 'm> {
     pub fn verified_under<A: Allocator>(&self, key: &PreparedKey<A>) -> Option<IntegrityAlgorithm>
         ensures { result ≡ verified_under (reading_of self.now) key.now }
     {
-        self.reading.verified_under(key)
+        self.reading.verify_under(key)
     }
 }

@@ -144,7 +144,7 @@ impl Signature<'_, '_> {
 
     /// Returns the algorithm of the message's signature if the signature is valid under `key`, and
     /// `None` otherwise.
-    fn verified_under<A: Allocator>(&self, key: &PreparedKey<A>) -> Option<IntegrityAlgorithm>
+    fn verify_under<A: Allocator>(&self, key: &PreparedKey<A>) -> Option<IntegrityAlgorithm>
         ensures { result ≡ verified_algorithm self.now key.now }
     {
         match &self.decides {
@@ -171,7 +171,7 @@ fn read<'a, A: AttributeFromRaw<'a>>(attribute: Option<RawAttribute<'a>>) -> Opt
 
 /// Returns the error code in `attribute`, which is an ERROR-CODE. Returns `None` if `class` is not
 /// the class of error responses, or if the attribute is missing or malformed.
-fn error(class: MessageClass, attribute: Option<RawAttribute<'_>>) -> Option<u16>
+fn read_error_code(class: MessageClass, attribute: Option<RawAttribute<'_>>) -> Option<u16>
     ensures { result ≡ last_error_code class attribute.entry }
 {
     match class {
@@ -184,7 +184,7 @@ fn error(class: MessageClass, attribute: Option<RawAttribute<'_>>) -> Option<u16
 }
 
 /// Returns the text of REALM, or `None` if it is missing or malformed.
-fn realm<'a>(attribute: Option<RawAttribute<'a>>) -> Option<&'a str>
+fn read_realm<'a>(attribute: Option<RawAttribute<'a>>) -> Option<&'a str>
     ensures text { option_copied result
         ≡ option_and_then (text_of REALM TEXT_LIMIT) attribute.entry }
     ensures short { option_map_or (λ text. length text.now) result 0 ≤ TEXT_LIMIT }
@@ -196,7 +196,7 @@ fn realm<'a>(attribute: Option<RawAttribute<'a>>) -> Option<&'a str>
 }
 
 /// Returns the text of NONCE, or `None` if it is missing or malformed.
-fn nonce<'a>(attribute: Option<RawAttribute<'a>>) -> Option<&'a str>
+fn read_nonce<'a>(attribute: Option<RawAttribute<'a>>) -> Option<&'a str>
     ensures text { option_copied result
         ≡ option_and_then (text_of NONCE TEXT_LIMIT) attribute.entry }
     ensures short { option_map_or (λ text. length text.now) result 0 ≤ TEXT_LIMIT }
@@ -208,7 +208,7 @@ fn nonce<'a>(attribute: Option<RawAttribute<'a>>) -> Option<&'a str>
 }
 
 /// Returns the text of USERNAME, or `None` if it is missing or malformed.
-fn username<'a>(attribute: Option<RawAttribute<'a>>) -> Option<&'a str>
+fn read_username<'a>(attribute: Option<RawAttribute<'a>>) -> Option<&'a str>
     ensures { option_copied result
         ≡ option_and_then (text_of USERNAME USERNAME_LIMIT) attribute.entry }
 {
@@ -219,7 +219,7 @@ fn username<'a>(attribute: Option<RawAttribute<'a>>) -> Option<&'a str>
 }
 
 /// Returns the hash in USERHASH, or `None` if it is missing or malformed.
-fn userhash(attribute: Option<RawAttribute<'_>>) -> Option<[u8; 32]>
+fn read_userhash(attribute: Option<RawAttribute<'_>>) -> Option<[u8; 32]>
     ensures { result ≡ option_and_then hash_of attribute.entry }
 {
     match read::<Userhash>(attribute) {
@@ -230,7 +230,7 @@ fn userhash(attribute: Option<RawAttribute<'_>>) -> Option<[u8; 32]>
 
 /// Returns the integrity algorithm whose key is made by the password algorithm in
 /// PASSWORD-ALGORITHM, or `None` if the attribute is missing or malformed.
-fn algorithm(attribute: Option<RawAttribute<'_>>) -> Option<IntegrityAlgorithm>
+fn read_algorithm(attribute: Option<RawAttribute<'_>>) -> Option<IntegrityAlgorithm>
     ensures { result
         ≡ option_map integrity_of (option_and_then password_algorithm_in attribute.entry) }
 {
@@ -280,13 +280,13 @@ impl<'a, 'm> MessageReading<'a, 'm> {
                 decides: last.integrity_sha256.or(last.integrity),
             },
             class,
-            error: error(class, last.error_code),
-            realm: realm(last.realm),
-            nonce: nonce(last.nonce),
-            username: username(last.username),
-            userhash: userhash(last.userhash),
+            error: read_error_code(class, last.error_code),
+            realm: read_realm(last.realm),
+            nonce: read_nonce(last.nonce),
+            username: read_username(last.username),
+            userhash: read_userhash(last.userhash),
             algorithms: read::<PasswordAlgorithms<'a>>(last.password_algorithms),
-            algorithm: algorithm(last.password_algorithm),
+            algorithm: read_algorithm(last.password_algorithm),
             has_integrity: last.has_integrity,
         }
     }
@@ -315,7 +315,7 @@ impl<'a, 'm> MessageReading<'a, 'm> {
 
     /// Returns the algorithm of the message's signature if the signature is valid under `key`, and
     /// `None` otherwise.
-    pub(crate) fn verified_under<A: Allocator>(
+    pub(crate) fn verify_under<A: Allocator>(
         &self,
         key: &PreparedKey<A>,
     ) -> Option<IntegrityAlgorithm>
@@ -324,6 +324,6 @@ impl<'a, 'm> MessageReading<'a, 'm> {
         if !self.has_integrity {
             return None;
         }
-        self.signature.verified_under(key)
+        self.signature.verify_under(key)
     }
 }

@@ -135,7 +135,7 @@ impl<A: Memory> Realm<A> {
     pub fn key(&self, name: &str, algorithm: IntegrityAlgorithm) -> Option<&PreparedKey<A>>
         ensures { option_copied result ≡ key_at self.now.registered name.now algorithm }
     {
-        self.registry.key(name, algorithm)
+        self.registry.find_key(name, algorithm)
     }
 
     /// Returns the name of the registered user whose name has this hash at the realm (USERHASH, RFC
@@ -144,7 +144,7 @@ impl<A: Memory> Realm<A> {
     pub fn name_with_hash(&self, hash: &[u8; 32]) -> Option<&str>
         ensures { option_copied result ≡ name_with_hash self.now.registered hash.now }
     {
-        self.registry.name_with_hash(hash)
+        self.registry.find_name_by_hash(hash)
     }
 
     /// Adds a user with a key for each supported algorithm (RFC 8489, section 9.2.2), or replaces

@@ -47,7 +47,7 @@ pub(crate) struct KeptUser<A: Allocator> {
 
 /// Returns the key of a user for an algorithm. Returns `None` if the algorithm is not supported, or
 /// if the user has no key for it.
-fn key_if<A: Allocator + Copy>(
+fn prepare_key<A: Allocator + Copy>(
     alloc: A,
     supported: AlgorithmSet,
     algorithm: IntegrityAlgorithm,
@@ -59,7 +59,7 @@ fn key_if<A: Allocator + Copy>(
         (secret_seen secret.now) }
 {
     if supported.contains(algorithm) {
-        match secret.key(alloc, algorithm, name, realm) {
+        match secret.make_key(alloc, algorithm, name, realm) {
             Some(key) => Some(PreparedKey::new(key, algorithm)),
             None => None,
         }
@@ -100,7 +100,7 @@ impl<A: Memory> User<A> {
         ensures secret { secret_of self.new ≡ secret_of self.old }
     {
         let secret = &self.kept.secret;
-        let sha1 = key_if(
+        let sha1 = prepare_key(
             alloc,
             supported,
             IntegrityAlgorithm::Sha1,
@@ -108,7 +108,7 @@ impl<A: Memory> User<A> {
             realm,
             secret,
         );
-        let sha256 = key_if(
+        let sha256 = prepare_key(
             alloc,
             supported,
             IntegrityAlgorithm::Sha256,
@@ -120,7 +120,7 @@ impl<A: Memory> User<A> {
         self.kept.sha256 = sha256;
     }
 
-    fn key(&self, algorithm: IntegrityAlgorithm) -> Option<&PreparedKey<A>>
+    fn find_key(&self, algorithm: IntegrityAlgorithm) -> Option<&PreparedKey<A>>
         ensures { option_copied result ≡ key_in self.now algorithm }
     {
         match algorithm {
@@ -199,21 +199,25 @@ impl<A: Memory> Registry<A> {
 
     /// Returns the key of a registered user for an algorithm, or `None` if there is no such user or
     /// key.
-    pub(crate) fn key(&self, name: &str, algorithm: IntegrityAlgorithm) -> Option<&PreparedKey<A>>
+    pub(crate) fn find_key(
+        &self,
+        name: &str,
+        algorithm: IntegrityAlgorithm,
+    ) -> Option<&PreparedKey<A>>
         ensures { option_copied result ≡ key_at self.now name.now algorithm }
     {
         match self.users.get(name) {
-            Some(user) => user.key(algorithm),
+            Some(user) => user.find_key(algorithm),
             None => None,
         }
     }
 
     /// Returns the name of the registered user whose name has this hash, or `None` if there is no
     /// such user. If several names have the hash, returns the first of them in byte order.
-    pub(crate) fn name_with_hash(&self, hash: &[u8; 32]) -> Option<&str>
+    pub(crate) fn find_name_by_hash(&self, hash: &[u8; 32]) -> Option<&str>
         ensures { option_copied result ≡ name_with_hash self.now hash.now }
     {
-        self.hashed.least(hash)
+        self.hashed.find_first(hash)
     }
 
     /// Adds a user, or replaces the password and the keys of a registered user.

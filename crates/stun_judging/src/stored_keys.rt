@@ -25,7 +25,7 @@ pub struct StoredKeys {
 
 impl StoredKeys {
     /// Returns the key for an algorithm, or `None` if it is not stored. It does not allocate.
-    pub(crate) fn key<A: Allocator + Copy>(
+    pub(crate) fn make_key<A: Allocator + Copy>(
         &self,
         alloc: A,
         algorithm: IntegrityAlgorithm,

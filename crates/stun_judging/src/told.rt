@@ -30,17 +30,17 @@ pub fn told_refusal(
     match refusal {
         VerdictRefusal::Unauthorized => VerdictRefusal::Unauthorized,
         VerdictRefusal::StaleNonce => VerdictRefusal::StaleNonce,
-        VerdictRefusal::BadRequest => told_bad_request(&read.reading, nonce),
+        VerdictRefusal::BadRequest => replace_bad_request(&read.reading, nonce),
     }
 }
 
 /// Returns the refusal to send in place of `BadRequest`: `StaleNonce`, unless the message is
 /// malformed or has the current nonce.
-fn told_bad_request(reading: &MessageReading<'_, '_>, nonce: &str) -> VerdictRefusal
+fn replace_bad_request(reading: &MessageReading<'_, '_>, nonce: &str) -> VerdictRefusal
     ensures { result
         ≡ told_refusal nonce.now (reading_seen reading.now) VerdictRefusal.BadRequest }
 {
-    if JudgeableMessage::of(reading).is_none() || reads_nonce(reading, nonce) {
+    if JudgeableMessage::of(reading).is_none() || carries_nonce(reading, nonce) {
         VerdictRefusal::BadRequest
     } else {
         VerdictRefusal::StaleNonce
@@ -56,11 +56,11 @@ fn told_bad_request(reading: &MessageReading<'_, '_>, nonce: &str) -> VerdictRef
 pub fn has_nonce(read: &ReadMessage<'_, '_>, nonce: &str) -> bool
     ensures { result ≡ bytes_eq (their_nonce (reading_of read.now)) nonce.now }
 {
-    reads_nonce(&read.reading, nonce)
+    carries_nonce(&read.reading, nonce)
 }
 
 /// Returns whether a message has this nonce (see `has_nonce`).
-fn reads_nonce(reading: &MessageReading<'_, '_>, nonce: &str) -> bool
+fn carries_nonce(reading: &MessageReading<'_, '_>, nonce: &str) -> bool
     ensures { result ≡ bytes_eq (their_nonce (reading_seen reading.now)) nonce.now }
 {
     match reading.nonce {

@@ -20,7 +20,7 @@ impl<A: Allocator + Copy> UserSecret<A> {
     /// Returns the key for an algorithm. If the secret is a password, the key is made from the
     /// name, the realm and the password. Returns `None` if the secret is stored keys, and none of
     /// them is for this algorithm. The call does not allocate.
-    pub(crate) fn key(
+    pub(crate) fn make_key(
         &self,
         alloc: A,
         algorithm: IntegrityAlgorithm,
@@ -34,7 +34,7 @@ impl<A: Allocator + Copy> UserSecret<A> {
                 let key = long_term_key(alloc, algorithm, name, realm, password.as_str());
                 Some(key)
             }
-            UserSecret::Keys(keys) => keys.key(alloc, algorithm),
+            UserSecret::Keys(keys) => keys.make_key(alloc, algorithm),
         }
     }
 }

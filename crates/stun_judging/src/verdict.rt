@@ -27,12 +27,12 @@ use stun_base::compare::is_same_text;
 use stun_types::attribute::{PasswordAlgorithmValue, PasswordAlgorithms};
 
 /// Returns the password algorithms that were offered, the strongest first.
-fn offered_values(offered: Option<AlgorithmSet>) -> &'static [PasswordAlgorithmValue]
+fn list_offered(offered: Option<AlgorithmSet>) -> &'static [PasswordAlgorithmValue]
     ensures { map integrity_of result.now ≡ offered_list offered }
 {
     match offered {
         None => &[],
-        Some(set) => set.password_algorithms(),
+        Some(set) => set.as_password_algorithms(),
     }
 }
 
@@ -40,7 +40,7 @@ fn offered_values(offered: Option<AlgorithmSet>) -> &'static [PasswordAlgorithmV
 fn is_offered_list(list: &PasswordAlgorithms<'_>, offered: Option<AlgorithmSet>) -> bool
     ensures { result ≡ same_list (map integrity_of list.now) (offered_list offered) }
 {
-    list.equals(offered_values(offered))
+    list.equals(list_offered(offered))
 }
 
 /// Returns whether an algorithm was offered.
@@ -55,7 +55,7 @@ fn is_offered(algorithm: IntegrityAlgorithm, offered: Option<AlgorithmSet>) -> b
 
 /// Returns the algorithm that both sides agree on, or `None` if the message's algorithms disagree
 /// with the offer.
-pub(crate) fn agreed(
+pub(crate) fn agree_on_algorithm(
     reading: &MessageReading<'_, '_>,
     nonce: &str,
     offered: Option<AlgorithmSet>,
@@ -76,7 +76,7 @@ pub(crate) fn agreed(
 }
 
 /// Returns whether both nonces have security bits, and the bits differ.
-fn bits_differ(ours: &str, theirs: &str) -> bool
+fn are_bits_different(ours: &str, theirs: &str) -> bool
     ensures { result ≡ bits_differ (security_bits ours.now) (security_bits theirs.now) }
 {
     let Some(ours) = NonceSecurityBits::from_nonce(ours) else {
@@ -89,10 +89,10 @@ fn bits_differ(ours: &str, theirs: &str) -> bool
 }
 
 /// Returns the reason to refuse a message whose nonce is not the current one.
-fn nonce_refusal(ours: &str, theirs: &str) -> VerdictRefusal
+fn choose_refusal(ours: &str, theirs: &str) -> VerdictRefusal
     ensures { result ≡ nonce_refusal ours.now theirs.now }
 {
-    if bits_differ(ours, theirs) {
+    if are_bits_different(ours, theirs) {
         VerdictRefusal::Unauthorized
     } else {
         VerdictRefusal::StaleNonce
@@ -101,7 +101,7 @@ fn nonce_refusal(ours: &str, theirs: &str) -> VerdictRefusal
 
 /// Returns the name of the user whom a message names. A hash is looked up in the registry. Returns
 /// `None` if no registered name has the hash, or if `feature` does not allow hashes.
-fn name_of<'a, A: Allocator + Copy>(
+fn find_name<'a, A: Allocator + Copy>(
     registry: &'a Registry<A>,
     feature: Feature,
     user: NamedUser<'a>,
@@ -111,7 +111,7 @@ fn name_of<'a, A: Allocator + Copy>(
     match user {
         NamedUser::ByHash(hash) => {
             if feature.is_possible() {
-                registry.name_with_hash(&hash)
+                registry.find_name_by_hash(&hash)
             } else {
                 None
             }
@@ -132,7 +132,7 @@ pub(crate) fn is_same_nonce(theirs: &str, ours: &str) -> bool
 /// refusal that applies.
 ///
 /// It does not allocate and derives no key.
-pub(crate) fn verdict<'a, A: Allocator + Copy>(
+pub(crate) fn judge_message<'a, A: Allocator + Copy>(
     registry: &'a Registry<A>,
     feature: Feature,
     message: &JudgeableMessage<'a, '_, '_>,
@@ -147,19 +147,19 @@ pub(crate) fn verdict<'a, A: Allocator + Copy>(
     let Some(claim) = &message.claim else {
         return Err(VerdictRefusal::Unauthorized);
     };
-    let Some(algorithm) = agreed(message.reading, claim.nonce, offered) else {
+    let Some(algorithm) = agree_on_algorithm(message.reading, claim.nonce, offered) else {
         return Err(VerdictRefusal::BadRequest);
     };
     if !is_same_nonce(claim.nonce, nonce) {
-        return Err(nonce_refusal(nonce, claim.nonce));
+        return Err(choose_refusal(nonce, claim.nonce));
     }
-    let Some(name) = name_of(registry, feature, claim.user) else {
+    let Some(name) = find_name(registry, feature, claim.user) else {
         return Err(VerdictRefusal::Unauthorized);
     };
-    let Some(key) = registry.key(name, algorithm) else {
+    let Some(key) = registry.find_key(name, algorithm) else {
         return Err(VerdictRefusal::Unauthorized);
     };
-    match message.reading.verified_under(key) {
+    match message.reading.verify_under(key) {
         Some(_) => Ok(Accepted::new(name, algorithm, key)),
         None => Err(VerdictRefusal::Unauthorized),
     }

@@ -31,7 +31,7 @@ pub fn algorithm(answer: Result<IntegrityAlgorithm, Refusal>) -> i64
 
 /// Returns the number for a response that asks for another request. `signed_by` is the algorithm of
 /// its signature, or `None` if it has no valid signature.
-fn resend(signed_by: Option<IntegrityAlgorithm>) -> i64
+fn to_resend_number(signed_by: Option<IntegrityAlgorithm>) -> i64
     ensures { result ≡ pos (resend_number signed_by) }
 {
     match signed_by {
@@ -55,7 +55,7 @@ pub fn reading(answer: Result<LongTermClientValidation, Refusal>) -> i64
         Ok(LongTermClientValidation::Validated(algorithm)) => i64::from(algorithm_number(
             algorithm,
         )),
-        Ok(LongTermClientValidation::ResendRequest(signed_by)) => resend(signed_by),
+        Ok(LongTermClientValidation::ResendRequest(signed_by)) => to_resend_number(signed_by),
         Err(refusal) => refusal.code(),
     }
 }

@@ -47,7 +47,7 @@ pub const ATTRIBUTE_HEADER_LENGTH: usize = 4;
 
 /// Returns the number of zero bytes that pad a value of `value_length` bytes to a multiple of 4
 /// bytes.
-pub(crate) fn padding_length(value_length: usize) -> usize
+pub(crate) fn count_padding_length(value_length: usize) -> usize
     ensures { result ≡ padded_length value_length - value_length }
 {
     (4 - value_length % 4) % 4
@@ -59,7 +59,7 @@ pub fn attribute_length(value_length: usize) -> usize
     ensures { result ≡ min (attribute_length value_length) (2 ^ 64 - 1) }
 {
     value_length
-        .saturating_add(padding_length(value_length))
+        .saturating_add(count_padding_length(value_length))
         .saturating_add(ATTRIBUTE_HEADER_LENGTH)
 }
 

@@ -18,7 +18,7 @@ ghost use Rattle.stun_types.specs.Integrity.{Verifies, verified_algorithm, verif
 pub(crate) mod digest_key;
 
 use crate::attribute::{ATTRIBUTE_HEADER_LENGTH, AttributeType, RawAttribute};
-use crate::message::walk::{deciding_place, first_place};
+use crate::message::walk::{find_deciding_place, find_first_place};
 use crate::message::{Message, StunParseError, ValidateError};
 use std::alloc::Allocator;
 use stun_base::algorithm::IntegrityAlgorithm;
@@ -34,7 +34,7 @@ const MIN_SHA256_LENGTH: usize = 16;
 
 /// Returns the first visible attribute of this type with its offset, or `None` if no attribute of
 /// this type is visible.
-pub(crate) fn first_of<'a>(
+pub(crate) fn find_first<'a>(
     message: &Message<'a>,
     kind: AttributeType,
 ) -> Option<(usize, RawAttribute<'a>)>
@@ -42,12 +42,12 @@ pub(crate) fn first_of<'a>(
     ensures within { IfSome result (IsInside message.now) }
 {
     let bytes = message.as_bytes();
-    let place = first_place(bytes, kind)?;
+    let place = find_first_place(bytes, kind)?;
     Some((place, RawAttribute::at(bytes, place)?))
 }
 
 /// Returns the algorithm that belongs to the type of an integrity attribute.
-fn integrity_algorithm(attribute: &RawAttribute<'_>) -> IntegrityAlgorithm
+fn read_algorithm(attribute: &RawAttribute<'_>) -> IntegrityAlgorithm
     ensures { result ≡ integrity_algorithm attribute.now }
 {
     if attribute.get_type() == AttributeType::MESSAGE_INTEGRITY_SHA256 {
@@ -65,9 +65,9 @@ fn integrity_algorithm(attribute: &RawAttribute<'_>) -> IntegrityAlgorithm
 pub fn deciding_algorithm(bytes: &[u8]) -> Option<IntegrityAlgorithm>
     ensures { result ≡ deciding_algorithm bytes.now }
 {
-    let place = deciding_place(bytes)?;
+    let place = find_deciding_place(bytes)?;
     let attribute = RawAttribute::at(bytes, place)?;
-    Some(integrity_algorithm(&attribute))
+    Some(read_algorithm(&attribute))
 }
 
 /// Returns `true` if the value of an integrity attribute has a length that the type of the
@@ -76,7 +76,7 @@ pub(crate) fn is_well_formed(attribute: &RawAttribute<'_>) -> bool
     ensures { result ≡ is_well_formed attribute.now }
 {
     let length = attribute.length();
-    match integrity_algorithm(attribute) {
+    match read_algorithm(attribute) {
         IntegrityAlgorithm::Sha1 => length == SHA1_LENGTH,
         IntegrityAlgorithm::Sha256 => {
             (MIN_SHA256_LENGTH..=SHA256_LENGTH).contains(&length) && length % 4 == 0
@@ -87,7 +87,9 @@ pub(crate) fn is_well_formed(attribute: &RawAttribute<'_>) -> bool
 /// Returns the deciding attribute with its offset, so that its HMAC can be compared. Fails if no
 /// key can make the signature valid: the attribute is missing or malformed, or its HMAC is
 /// truncated.
-fn claimed_digest<'a>(message: &Message<'a>) -> Result<(usize, RawAttribute<'a>), ValidateError>
+fn find_claimed_digest<'a>(
+    message: &Message<'a>,
+) -> Result<(usize, RawAttribute<'a>), ValidateError>
     ensures deciding { IfOk result (λ m. deciding message.now ≡ Some m) }
     ensures whole { IfOk result (λ m. length m.1.value ≡ digest_length (integrity_algorithm m.1)) }
     ensures within { IfOk result (IsInside message.now) }
@@ -121,7 +123,7 @@ fn check_whole(attribute: &RawAttribute<'_>) -> Result<(), ValidateError>
     if !is_well_formed(attribute) {
         return Err(ValidateError::Parse(StunParseError::InvalidAttributeData));
     }
-    if attribute.length() != integrity_algorithm(attribute).digest_length() {
+    if attribute.length() != read_algorithm(attribute).digest_length() {
         return Err(ValidateError::IntegrityFailed);
     }
     Ok(())
@@ -129,7 +131,7 @@ fn check_whole(attribute: &RawAttribute<'_>) -> Result<(), ValidateError>
 
 /// Returns the message length that is covered by the HMAC in an attribute at this offset: the
 /// length of a message that ends after this attribute.
-fn covered_length(place: usize, value_length: usize) -> u16
+fn count_covered_length(place: usize, value_length: usize) -> u16
     requires behind_header { header_length ≤ place }
     requires fits { place + attribute_header_length + value_length < header_length + 2 ^ 16 }
     ensures { result ≡ place + attribute_header_length + value_length - header_length }
@@ -138,8 +140,8 @@ fn covered_length(place: usize, value_length: usize) -> u16
 }
 
 /// Returns the first four bytes that are covered by the HMAC in an attribute at this offset: the
-/// type of the message, and the message length that `covered_length` returns.
-fn covered_start(message: &[u8], place: usize, value_length: usize) -> [u8; 4]
+/// type of the message, and the message length that `count_covered_length` returns.
+fn make_covered_start(message: &[u8], place: usize, value_length: usize) -> [u8; 4]
     requires behind_header { header_length ≤ place }
     requires within { place + attribute_header_length + value_length ≤ length message.now }
     requires limit { length message.now < header_length + 2 ^ 16 }
@@ -147,7 +149,7 @@ fn covered_start(message: &[u8], place: usize, value_length: usize) -> [u8; 4]
         take 2 message.now
         ++ big_bytes 2 (place + attribute_header_length + value_length - header_length) }
 {
-    let length = covered_length(place, value_length).to_be_bytes();
+    let length = count_covered_length(place, value_length).to_be_bytes();
     [message[0], message[1], length[0], length[1]]
 }
 
@@ -162,10 +164,10 @@ fn is_digest(message: &[u8], key: &[u8], place: usize, attribute: &RawAttribute<
         ≡ digest_length (integrity_algorithm attribute.now) }
     ensures { result ≡ is_digest message.now key.now (place, attribute.now) }
 {
-    let start = covered_start(message, place, attribute.length());
+    let start = make_covered_start(message, place, attribute.length());
     let pieces: [&[u8]; 2] = [&start, &message[4..place]];
     let claimed = attribute.value();
-    match integrity_algorithm(attribute) {
+    match read_algorithm(attribute) {
         IntegrityAlgorithm::Sha1 => is_same_text(claimed, &hmac_sha1(key, &pieces)),
         IntegrityAlgorithm::Sha256 => is_same_text(claimed, &hmac_sha256(key, &pieces)),
     }
@@ -186,10 +188,10 @@ fn is_prepared_digest<A: Allocator>(
         ≡ digest_length (integrity_algorithm attribute.now) }
     ensures { result ≡ is_digest message.now key.now (place, attribute.now) }
 {
-    let start = covered_start(message, place, attribute.length());
+    let start = make_covered_start(message, place, attribute.length());
     let pieces: [&[u8]; 2] = [&start, &message[4..place]];
     let claimed = attribute.value();
-    match integrity_algorithm(attribute) {
+    match read_algorithm(attribute) {
         IntegrityAlgorithm::Sha1 => is_same_text(claimed, &key.hmac_sha1(&pieces)),
         IntegrityAlgorithm::Sha256 => is_same_text(claimed, &key.hmac_sha256(&pieces)),
     }
@@ -220,7 +222,7 @@ impl<'a> Message<'a> {
         ensures { result ≡ deciding self.now }
     {
         let bytes = self.as_bytes();
-        let place = deciding_place(bytes)?;
+        let place = find_deciding_place(bytes)?;
         Some((place, RawAttribute::at(bytes, place)?))
     }
 
@@ -246,8 +248,8 @@ impl<'a> Message<'a> {
     ) -> Result<IntegrityAlgorithm, ValidateError>
         ensures { Verifies self.now (verified_by (keys_of credentials.now) self.now) result }
     {
-        let (place, attribute) = claimed_digest(self)?;
-        let algorithm = integrity_algorithm(&attribute);
+        let (place, attribute) = find_claimed_digest(self)?;
+        let algorithm = read_algorithm(&attribute);
         let key = credentials.key(algorithm);
         if !is_digest(self.as_bytes(), key.as_bytes(), place, &attribute) {
             return Err(ValidateError::IntegrityFailed);
@@ -287,11 +289,11 @@ impl<'a> Message<'a> {
     ) -> Result<IntegrityAlgorithm, ValidateError>
         ensures { Verifies self.now (verified_algorithm self.now key.now) result }
     {
-        let (place, attribute) = claimed_digest(self)?;
+        let (place, attribute) = find_claimed_digest(self)?;
         if !is_digest(self.as_bytes(), key, place, &attribute) {
             return Err(ValidateError::IntegrityFailed);
         }
-        Ok(integrity_algorithm(&attribute))
+        Ok(read_algorithm(&attribute))
     }
 
     /// Like `validate_integrity_with_key`, but with a prepared key. If the key was prepared for the
@@ -306,11 +308,11 @@ impl<'a> Message<'a> {
     ) -> Result<IntegrityAlgorithm, ValidateError>
         ensures { Verifies self.now (verified_algorithm self.now key.now) result }
     {
-        let (place, attribute) = claimed_digest(self)?;
+        let (place, attribute) = find_claimed_digest(self)?;
         if !is_prepared_digest(self.as_bytes(), key, place, &attribute) {
             return Err(ValidateError::IntegrityFailed);
         }
-        Ok(integrity_algorithm(&attribute))
+        Ok(read_algorithm(&attribute))
     }
 
     /// Like `validate_integrity_with_key`, but takes the deciding attribute as an argument. The
@@ -335,7 +337,7 @@ impl<'a> Message<'a> {
         if !is_digest(self.as_bytes(), key.as_bytes(), place, attribute) {
             return Err(ValidateError::IntegrityFailed);
         }
-        Ok(integrity_algorithm(attribute))
+        Ok(read_algorithm(attribute))
     }
 
     /// Like `validate_integrity_at`, but with a prepared key.
@@ -359,6 +361,6 @@ impl<'a> Message<'a> {
         if !is_prepared_digest(self.as_bytes(), key, place, attribute) {
             return Err(ValidateError::IntegrityFailed);
         }
-        Ok(integrity_algorithm(attribute))
+        Ok(read_algorithm(attribute))
     }
 }

@@ -21,10 +21,10 @@ pub(crate) mod walk;
 
 use crate::attribute::{AttributeFromRaw, AttributeStaticType};
 pub use crate::integrity::deciding_algorithm;
-use crate::integrity::first_of;
+use crate::integrity::find_first;
 pub use crate::message::attributes_iter::MessageAttributesIter;
 pub use crate::message::visibility::Visibility;
-use crate::message::walk::kind_at;
+use crate::message::walk::read_kind;
 use crate::write::MessageWrite;
 pub use crate::write::{MessageWriteMutSlice, MessageWriteVec};
 use std::alloc::AllocError;
@@ -122,7 +122,7 @@ impl<'a> Message<'a> {
         }
         let mut place = HEADER_LENGTH;
         while place < end {
-            let Some((_, behind)) = kind_at(bytes, place) else {
+            let Some((_, behind)) = read_kind(bytes, place) else {
                 return Err(StunParseError::Truncated);
             };
             place = behind;
@@ -148,7 +148,7 @@ impl<'a> Message<'a> {
             (spelled_message message_type id []) result }
     {
         writer.reserve(HEADER_LENGTH)?;
-        writer.append(&header_of(message_type, id));
+        writer.append(&make_header(message_type, id));
         Ok(writer)
     }
 
@@ -318,7 +318,7 @@ impl<'a> Message<'a> {
             (result ≡ Err (StunParseError.MissingAttribute (record { 0 = A.static_kind })))
             (λ m. result ≡ attribute_answer (A.reading m.1)) }
     {
-        match first_of(self, A::static_type()) {
+        match find_first(self, A::static_type()) {
             Some((_, attribute)) => A::from_raw(attribute),
             None => Err(StunParseError::MissingAttribute(A::static_type())),
         }
@@ -326,7 +326,7 @@ impl<'a> Message<'a> {
 }
 
 /// Returns the header of a message that has no attributes yet.
-fn header_of(message_type: MessageType, id: TransactionId) -> [u8; HEADER_LENGTH]
+fn make_header(message_type: MessageType, id: TransactionId) -> [u8; HEADER_LENGTH]
     ensures bytes { result ≡ spelled_message message_type id [] }
     ensures fits { message_type < 2 ^ 14 }
 {

@@ -169,10 +169,10 @@ impl<A: Memory> StunAgent<A> {
         let id = msg.transaction_id();
         let round_trip = match self.outstanding.get(id, Uncounted::new()) {
             Some(request) => {
-                if !request.went_to(from) {
+                if !request.was_sent_to(from) {
                     return Ok(false);
                 }
-                request.round_trip(moment)
+                request.measure_round_trip(moment)
             }
             None => return Ok(false),
         };

@@ -67,7 +67,7 @@ impl<A: Allocator + Copy> StunAgent<A> {
             × (r.agent.ghost_name ≡ self.entry.ghost_name)
             × (r.id ≡ id)) }
     {
-        let (peer_address, integrity) = self.peer_of(id)?;
+        let (peer_address, integrity) = self.find_peer(id)?;
         Some(StunRequestMut {
             agent: self,
             id,
@@ -78,7 +78,7 @@ impl<A: Allocator + Copy> StunAgent<A> {
 
     /// Returns the address that the request with this transaction ID was sent to, and the algorithm
     /// of its integrity attribute. Returns `None` if no such request is outstanding.
-    fn peer_of(&self, id: TransactionId) -> Option<(SocketAddr, Option<IntegrityAlgorithm>)>
+    fn find_peer(&self, id: TransactionId) -> Option<(SocketAddr, Option<IntegrityAlgorithm>)>
         ensures { result ≡ option_map peer_and_integrity (at id self.now.transactions) }
     {
         let request = self.outstanding.get(id, Uncounted::new())?;

@@ -27,7 +27,7 @@ impl<A: Allocator + Copy> StunAgent<A> {
         ensures least { result ≡ next_awaited self.now.transport self.now.transactions }
         ensures kept { AreKept self.now.transactions }
     {
-        self.outstanding.next_awaited(Uncounted::new())
+        self.outstanding.find_next_awaited(Uncounted::new())
     }
 
     /// Returns the next retransmission that is due, if there is one.
@@ -48,7 +48,7 @@ impl<A: Allocator + Copy> StunAgent<A> {
         let Ok(Some(id)) = self.pass_and_count(now, None) else {
             return None;
         };
-        self.transmit_of(id)
+        self.make_transmit(id)
     }
 
     /// Like `poll_transmit`, but fails with `NoRoom` if the request has more than `room` bytes. The
@@ -71,7 +71,7 @@ impl<A: Allocator + Copy> StunAgent<A> {
         let Some(id) = self.pass_and_count(now, Some(room))? else {
             return Ok(None);
         };
-        Ok(self.transmit_of(id))
+        Ok(self.make_transmit(id))
     }
 
     /// Returns the next retransmission that is due, like `poll_transmit`, but leaves the agent
@@ -83,7 +83,7 @@ impl<A: Allocator + Copy> StunAgent<A> {
         ensures sent { option_map lent_datagram result
             ≡ option_map (λ e. datagram_of self.now e.1) (sent_by_poll now self.now) }
     {
-        let request = self.outstanding.next_sent(now, Uncounted::new())?;
+        let request = self.outstanding.find_next_sent(now, Uncounted::new())?;
         Some(Transmit {
             data: request.bytes(),
             transport: self.outstanding.transport(),
@@ -94,7 +94,7 @@ impl<A: Allocator + Copy> StunAgent<A> {
 
     /// Returns the bytes of the request with this transaction ID, and the address to send them to.
     /// Returns `None` if no such request is outstanding.
-    fn transmit_of(&self, id: TransactionId) -> Option<Transmit<&[u8]>>
+    fn make_transmit(&self, id: TransactionId) -> Option<Transmit<&[u8]>>
         ensures { option_map lent_datagram result
             ≡ option_map (datagram_of self.now) (at id self.now.transactions) }
     {

@@ -96,7 +96,7 @@ impl<A: Memory> StunAgent<A> {
             ≡ (msg, self.old.transport, self.old.local_addr, to)) }
     {
         let bytes = msg.bytes();
-        let class = self.class_to_send(bytes, to)?;
+        let class = self.read_class_to_send(bytes, to)?;
         counting::count_sent(&mut self.stats, class, bytes.len());
         Ok(Transmit::new(msg, self.outstanding.transport(), self.local_addr, to))
     }
@@ -169,7 +169,7 @@ impl<A: Memory> StunAgent<A> {
         ensures kept { IfOk result (λ id. at id self.new.transactions
             ≡ Some (request_of self.old bytes.now to now)) }
     {
-        let id = self.id_to_ask(bytes, to)?;
+        let id = self.read_id_to_ask(bytes, to)?;
         let kept = A::copied(self.alloc, bytes)?;
         let request = Transaction::new(kept, to, deciding_algorithm(bytes), self.settings, now);
         self.outstanding.insert(self.alloc, id, request, ())?;
@@ -179,20 +179,20 @@ impl<A: Memory> StunAgent<A> {
 
     /// Returns the class of a message if it is an indication or a response that may be sent to
     /// `to`. Fails with the error of `send` otherwise.
-    fn class_to_send(&self, bytes: &[u8], to: SocketAddr) -> Result<MessageClass, StunError>
+    fn read_class_to_send(&self, bytes: &[u8], to: SocketAddr) -> Result<MessageClass, StunError>
         ensures accepted { OnOk result (sending_refusal self.now bytes.now to ≡ None) }
         ensures class { IfOk result (λ class. class ≡ class_in bytes.now) }
         ensures refused { IfErr result (λ error. sending_refusal self.now bytes.now to
             ≡ Some error) }
     {
-        let class = class_of_answerless(bytes)?;
+        let class = read_answerless_class(bytes)?;
         self.check_address(to)?;
         Ok(class)
     }
 
     /// Returns the transaction ID of a message if it is a request that may be sent to `to`. Fails
     /// with the error of `send_request` otherwise.
-    fn id_to_ask(&self, bytes: &[u8], to: SocketAddr) -> Result<TransactionId, StunError>
+    fn read_id_to_ask(&self, bytes: &[u8], to: SocketAddr) -> Result<TransactionId, StunError>
         ensures answer { MatchOption (request_refusal self.now bytes.now to)
             (result ≡ Ok (transaction_id_field bytes.now)) (λ error. result ≡ Err error) }
         ensures request { IfOk result (λ id. IsRequestOf id bytes.now) }
@@ -213,7 +213,7 @@ impl<A: Memory> StunAgent<A> {
 
 /// Returns the class of an indication or a response. Fails for a request, and if the bytes do not
 /// start with a STUN header.
-fn class_of_answerless(bytes: &[u8]) -> Result<MessageClass, StunError>
+fn read_answerless_class(bytes: &[u8]) -> Result<MessageClass, StunError>
     ensures { MatchOption (class_refusal bytes.now) (result ≡ Ok (class_in bytes.now))
         (λ error. result ≡ Err error) }
 {

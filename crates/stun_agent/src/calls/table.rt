@@ -41,7 +41,7 @@ impl<A: Memory, D: Drop> Table<A, D> {
     pub fn datum(&self, id: TransactionId) -> Option<&D>
         ensures { option_copied result ≡ datum_at id self.now.attached }
     {
-        self.outstanding.datum(id, Uncounted::new())
+        self.outstanding.find_datum(id, Uncounted::new())
     }
 
     /// Replaces the datum of the outstanding request with this transaction ID, and returns the
@@ -113,7 +113,7 @@ impl<A: Memory, D: Drop> Table<A, D> {
         ensures after { self.new ≡ after_answer id count now self.old }
     {
         let (request, datum) = self.outstanding.remove(id)?;
-        let round_trip = request.round_trip(now);
+        let round_trip = request.measure_round_trip(now);
         counting::count_response_received(&mut self.stats, count, round_trip);
         Some((request.into_bytes(), datum))
     }
@@ -156,6 +156,6 @@ impl<A: Memory, D: Drop> Table<A, D> {
     pub fn next_awaited(&self) -> Option<Instant>
         ensures { result ≡ next_awaited self.now.transport self.now.requests }
     {
-        self.outstanding.next_awaited(Uncounted::new())
+        self.outstanding.find_next_awaited(Uncounted::new())
     }
 }

@@ -103,7 +103,7 @@ impl<A: Allocator, D: Drop> Outstanding<A, D> {
         } }
         ensures same { MatchOption result (self.new ≡ self.old) (λ _. Unit {0}) }
     {
-        let leaf = remove(&mut self.root, LEVELS, id, &mut Awaited::nothing())?;
+        let leaf = remove(&mut self.root, LEVELS, id, &mut Awaited::new())?;
         Some(Box::into_inner(leaf).into_parts())
     }
 }
@@ -134,10 +134,10 @@ impl<A: Allocator + Copy, D: Drop> Outstanding<A, D> {
     }
 
     /// Returns the datum of the request with this ID, or `None` if there is no such request.
-    pub(crate) fn datum(&self, id: TransactionId, leave: Uncounted) -> Option<&D>
+    pub(crate) fn find_datum(&self, id: TransactionId, leave: Uncounted) -> Option<&D>
         ensures { option_copied result ≡ datum_at id self.now.attached }
     {
-        lookups::datum(&self.root, LEVELS, id, leave)
+        lookups::find_datum(&self.root, LEVELS, id, leave)
     }
 
     /// Replaces the datum of the request with this ID, and returns the former datum. If there is no
@@ -153,11 +153,11 @@ impl<A: Allocator + Copy, D: Drop> Outstanding<A, D> {
 
     /// Returns the earliest time that a request awaits, or `None` if no request awaits a time.
     /// Canceled requests do not count.
-    pub(crate) fn next_awaited(&self, leave: Uncounted) -> Option<Instant>
+    pub(crate) fn find_next_awaited(&self, leave: Uncounted) -> Option<Instant>
         ensures least { result ≡ next_awaited self.now.transport self.now.requests }
         ensures kept { AreKept self.now.requests }
     {
-        lookups::next_awaited(&self.root, leave)
+        lookups::find_next_awaited(&self.root, leave)
     }
 
     /// Advances requests past the slots that are due, in the order of their IDs, up to and
@@ -193,7 +193,7 @@ impl<A: Allocator + Copy, D: Drop> Outstanding<A, D> {
     {
         // The request is found before any request is changed, so a failure leaves everything as it
         // was.
-        let sent = lookups::length_sent(&self.root, now, leave);
+        let sent = lookups::find_sent_length(&self.root, now, leave);
         if !fits(room, &sent) {
             return Err(NoRoom);
         }
@@ -203,11 +203,11 @@ impl<A: Allocator + Copy, D: Drop> Outstanding<A, D> {
 
     /// Returns the next request to retransmit, if one is due. This is the request whose ID the next
     /// call of `pass_due_slots` returns.
-    pub(crate) fn next_sent(&self, now: Instant, leave: Uncounted) -> Option<&Transaction<A>>
+    pub(crate) fn find_next_sent(&self, now: Instant, leave: Uncounted) -> Option<&Transaction<A>>
         ensures { option_copied result ≡ option_map (λ e. e.1)
             (next_sent self.now.transport now self.now.requests) }
     {
-        lookups::next_sent(&self.root, now, leave)
+        lookups::find_next_sent(&self.root, now, leave)
     }
 
     /// Changes a request, if it is outstanding. Does not allocate.
@@ -240,7 +240,7 @@ impl<A: Memory, D: Drop> Outstanding<A, D> {
         ensures err { OnErr result (self.new ≡ self.old) }
         ensures granted { A.grants → IsOk result }
     {
-        let awaited = request.awaited_by(self.transport);
+        let awaited = request.to_awaited(self.transport);
         let leaf = A::boxed(alloc, Leaf::new(id, request, datum))?;
         insert(&mut self.root, LEVELS, alloc, &awaited, leaf)
     }

@@ -49,7 +49,7 @@ impl RequestRto {
         ensures { result ≡ slots transport (settings_of self.now) }
     {
         match transport {
-            TransportType::Udp => self.repetitions(),
+            TransportType::Udp => self.count_repetitions(),
             TransportType::Tcp => 0,
         }
     }
@@ -58,7 +58,7 @@ impl RequestRto {
     pub fn timeout(&self, i: u32) -> Duration
         ensures { as_nanos result ≡ timeout (settings_of self.now) i }
     {
-        Duration::from_nanos_u128(self.timeout_nanos(i))
+        Duration::from_nanos_u128(self.count_timeout_nanos(i))
     }
 
     /// Returns the wait from the last transmission until the request ends. Over TCP this is the sum
@@ -69,8 +69,8 @@ impl RequestRto {
         match transport {
             TransportType::Udp => self.last_retransmit,
             TransportType::Tcp => {
-                let all = nanos_of(self.last_retransmit) + self.sum_of_timeouts();
-                Duration::from_nanos_u128(all.min(nanos_of(Duration::MAX)))
+                let all = count_nanos(self.last_retransmit) + self.sum_timeouts();
+                Duration::from_nanos_u128(all.min(count_nanos(Duration::MAX)))
             }
         }
     }
@@ -82,11 +82,11 @@ impl RequestRto {
     pub fn within(&self, time: Duration) -> RequestRto
         ensures { settings_of result ≡ cut (as_nanos time) (settings_of self.now) }
     {
-        let end = nanos_of(time);
-        if self.sum_of_timeouts() + nanos_of(self.last_retransmit) <= end {
+        let end = count_nanos(time);
+        if self.sum_timeouts() + count_nanos(self.last_retransmit) <= end {
             return *self;
         }
-        let (count, passed) = self.timeouts_before(end);
+        let (count, passed) = self.count_timeouts_before(end);
         RequestRto {
             initial: self.initial,
             max: self.max,
@@ -96,18 +96,18 @@ impl RequestRto {
     }
 
     /// Returns how many times the request is retransmitted over UDP.
-    fn repetitions(&self) -> u32
+    fn count_repetitions(&self) -> u32
         ensures { result ≡ repetitions (settings_of self.now) }
     {
         self.retransmits.max(1) - 1
     }
 
-    fn timeout_nanos(&self, i: u32) -> u128
+    fn count_timeout_nanos(&self, i: u32) -> u128
         ensures value { result ≡ timeout (settings_of self.now) i }
         ensures bound { result ≤ max_nanos }
     {
-        let initial = nanos_of(self.initial);
-        let max = nanos_of(self.max);
+        let initial = count_nanos(self.initial);
+        let max = count_nanos(self.max);
         let doublings = i.min(DOUBLINGS);
         if initial <= max >> doublings {
             initial << doublings
@@ -118,47 +118,47 @@ impl RequestRto {
 
     /// Returns the sum of the waits between transmissions. From transmission `DOUBLINGS` on, all
     /// waits are equal, so a short loop adds them up.
-    fn sum_of_timeouts(&self) -> u128
+    fn sum_timeouts(&self) -> u128
         ensures value { result ≡ sum_of_timeouts (settings_of self.now)
             (repetitions (settings_of self.now)) }
         ensures bound { result ≤ 2 ^ 32 * max_nanos }
     {
-        let all = self.repetitions();
+        let all = self.count_repetitions();
         let rising = all.min(DOUBLINGS);
         let mut sum = 0;
         for i in 0..rising {
-            sum += self.timeout_nanos(i);
+            sum += self.count_timeout_nanos(i);
         }
-        sum + (all - rising) as u128 * self.timeout_nanos(DOUBLINGS)
+        sum + (all - rising) as u128 * self.count_timeout_nanos(DOUBLINGS)
     }
 
     /// Returns how many of the waits between transmissions end before `time`, and the sum of those
     /// waits.
-    fn timeouts_before(&self, time: u128) -> (u32, u128)
+    fn count_timeouts_before(&self, time: u128) -> (u32, u128)
         ensures count { result.0
             ≡ timeouts_before time (settings_of self.now) (repetitions (settings_of self.now)) }
         ensures most { result.0 ≤ repetitions (settings_of self.now) }
         ensures sum { result.1 ≡ sum_of_timeouts (settings_of self.now) result.0 }
         ensures within { result.1 ≤ time }
     {
-        let all = self.repetitions();
+        let all = self.count_repetitions();
         let rising = all.min(DOUBLINGS);
         let mut passed = 0;
         for i in 0..rising {
-            let next = passed + self.timeout_nanos(i);
+            let next = passed + self.count_timeout_nanos(i);
             if next >= time {
                 return (i, passed);
             }
             passed = next;
         }
-        let wait = self.timeout_nanos(DOUBLINGS);
-        let more = waits_before(wait, all - rising, time - passed);
+        let wait = self.count_timeout_nanos(DOUBLINGS);
+        let more = count_waits_before(wait, all - rising, time - passed);
         (rising + more, passed + more as u128 * wait)
     }
 }
 
 /// Returns how many of `most` waits of the same length end before `time`.
-fn waits_before(wait: u128, most: u32, time: u128) -> u32
+fn count_waits_before(wait: u128, most: u32, time: u128) -> u32
     ensures most { result ≤ most }
     ensures fit { (result ≡ 0) ⊎ (result * wait < time) }
     ensures next { (result ≡ most) ⊎ (time ≤ result * wait + wait) }
@@ -177,7 +177,7 @@ fn waits_before(wait: u128, most: u32, time: u128) -> u32
     }
 }
 
-fn nanos_of(span: Duration) -> u128
+fn count_nanos(span: Duration) -> u128
     ensures value { result ≡ as_nanos span }
     ensures bound { result ≤ max_nanos }
 {

@@ -47,12 +47,12 @@ pub(crate) fn decide<A: Allocator, D, L: Ledger>(
 {
     match find_ended(index, now, reads) {
         Some(ended) => Ok(ended),
-        None => Err(wake_up(index, now, reads)),
+        None => Err(find_wake_up(index, now, reads)),
     }
 }
 
 /// Returns the time of the next poll if no request is over.
-fn wake_up<A: Allocator, D, L: Ledger>(
+fn find_wake_up<A: Allocator, D, L: Ledger>(
     index: &Link<A, D>,
     now: Instant,
     reads: &mut Reads<L>,
@@ -63,7 +63,7 @@ fn wake_up<A: Allocator, D, L: Ledger>(
     ensures counts { reads.new ≡ record reads.old { looks = reads.old.looks + 1 } }
 {
     let longest = now + Duration::from_secs(LONGEST_WAIT_SECONDS);
-    let first = match index.first(reads) {
+    let first = match index.look_at_first(reads) {
         Some(first) => first.min(longest),
         None => longest,
     };

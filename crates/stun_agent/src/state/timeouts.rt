@@ -53,7 +53,7 @@ impl Timeouts {
     }
 
     /// Returns the settings that have these timeouts.
-    pub(crate) fn settings(&self) -> RequestRto
+    pub(crate) fn to_settings(&self) -> RequestRto
         ensures { settings_of result ≡ self.now }
     {
         RequestRto {

@@ -45,7 +45,7 @@ impl Sending {
     }
 
     /// Returns the state after the retransmissions are canceled.
-    fn silenced(self) -> Sending
+    fn silence(self) -> Sending
         ensures { result ≡ after_silence self }
     {
         match self {
@@ -138,7 +138,7 @@ impl<A: Allocator> Transaction<A> {
     }
 
     /// Returns whether the request was sent to this address.
-    pub(crate) fn went_to(&self, address: SocketAddr) -> bool
+    pub(crate) fn was_sent_to(&self, address: SocketAddr) -> bool
         ensures { result ≡ same_address address self.now.to }
     {
         is_same(address, self.to)
@@ -153,7 +153,7 @@ impl<A: Allocator> Transaction<A> {
     /// Returns the number of nanoseconds between the time at which the request was sent and the
     /// time `moment`. Returns `None` if `moment` is `None`, or if a timeout of the request has
     /// passed.
-    pub(crate) fn round_trip(&self, moment: Option<Instant>) -> Option<u64>
+    pub(crate) fn measure_round_trip(&self, moment: Option<Instant>) -> Option<u64>
         ensures { result ≡ round_trip moment self.now }
     {
         if self.slot != 0 {
@@ -173,7 +173,7 @@ impl<A: Allocator> Transaction<A> {
         ensures { self.new ≡ changed_transaction change self.old }
     {
         match change {
-            Change::Silence => self.sending = self.sending.silenced(),
+            Change::Silence => self.sending = self.sending.silence(),
             Change::Cancel => self.sending = Sending::Cancelled,
             Change::Configure(settings) => {
                 self.timeouts = Timeouts::of(settings);
@@ -185,7 +185,7 @@ impl<A: Allocator> Transaction<A> {
     fn has_slots(&self, transport: TransportType) -> bool
         ensures { result ≡ has_slots transport self.now }
     {
-        self.slot < self.timeouts.settings().slots(transport)
+        self.slot < self.timeouts.to_settings().slots(transport)
     }
 
     pub(crate) fn is_cancelled(&self) -> bool
@@ -196,10 +196,10 @@ impl<A: Allocator> Transaction<A> {
 
     /// Returns the time of the next slot or, if no slot is left, the time at which the request
     /// ends.
-    pub(crate) fn awaited(&self, transport: TransportType) -> Instant
+    pub(crate) fn compute_awaited(&self, transport: TransportType) -> Instant
         ensures { result ≡ awaited_moment transport self.now }
     {
-        let settings = self.timeouts.settings();
+        let settings = self.timeouts.to_settings();
         let wait = if self.has_slots(transport) {
             settings.timeout(self.slot)
         } else {
@@ -210,15 +210,15 @@ impl<A: Allocator> Transaction<A> {
 
     /// Returns the time that the request awaits, as the time of a slot or as the time at which the
     /// request ends. A canceled request awaits no time.
-    pub(crate) fn awaited_by(&self, transport: TransportType) -> Awaited
+    pub(crate) fn to_awaited(&self, transport: TransportType) -> Awaited
         ensures { result ≡ awaited_by transport self.now }
     {
         if self.is_cancelled() {
-            Awaited::cancelled()
+            Awaited::with_cancelled()
         } else if self.has_slots(transport) {
-            Awaited::slot_at(self.awaited(transport))
+            Awaited::with_slot(self.compute_awaited(transport))
         } else {
-            Awaited::end_at(self.awaited(transport))
+            Awaited::with_end(self.compute_awaited(transport))
         }
     }
 

@@ -5,9 +5,10 @@
 //! The tree is also the index of deadlines that a poll searches. Such a search sees only a `&Link`.
 //! The fields of a `Leaf`, and the times in a link, are private to this module and to the modules
 //! below it. So the search can read them in only two ways: it looks at the times of a link
-//! (`Awaited::is_over` and `Link::first`), or it calls `read_entry`, which returns the entry of one
-//! request. Both are counted (`Reads`). All other calls of the modules below require a link that
-//! can be changed, or the permission `Uncounted`, which neither the search nor `poll` can create.
+//! (`Awaited::is_over` and `Link::look_at_first`), or it calls `read_entry`, which returns the
+//! entry of one request. Both are counted (`Reads`). All other calls of the modules below require a
+//! link that can be changed, or the permission `Uncounted`, which neither the search nor `poll` can
+//! create.
 ghost use Rattle.std.specs.Prelude.{◌≡◌, ◌+◌, ◌-◌, ◌*◌};
 ghost use Rattle.stun_base.specs.declared.wire.transport.TransportType.{TransportType};
 ghost use Rattle.stun_agent.specs.code.Awaited.{awaited_of, first_awaited, joined};
@@ -86,24 +87,24 @@ pub(crate) struct Fork<A: Allocator, D> {
 impl<A: Allocator, D> Link<A, D> {
     /// Returns the earliest time that a request below this link awaits, or `None` if there is none,
     /// and counts one look.
-    pub(crate) fn first<L: Ledger>(&self, reads: &mut Reads<L>) -> Option<Instant>
+    pub(crate) fn look_at_first<L: Ledger>(&self, reads: &mut Reads<L>) -> Option<Instant>
         ensures first { (transport : TransportType) → IsTimed transport self.now
             → result ≡ first_awaited (awaited_of transport (items self.now)) }
         ensures counts { reads.new ≡ record reads.old { looks = reads.old.looks + 1 } }
     {
-        self.awaited().first(reads)
+        self.copy_awaited().look_at_first(reads)
     }
 
     /// Returns the earliest times that the requests below this link await.
-    fn awaited(&self) -> Awaited
+    fn copy_awaited(&self) -> Awaited
         ensures told { result ≡ told self.now }
         ensures timed { (transport : TransportType) → IsTimed transport self.now
             → result ≡ awaited_of transport (items self.now) }
     {
         match self {
-            Link::Empty => Awaited::nothing(),
-            Link::Leaf(awaited, _) => awaited.copied(),
-            Link::Fork(awaited, _) => awaited.copied(),
+            Link::Empty => Awaited::new(),
+            Link::Leaf(awaited, _) => awaited.copy(),
+            Link::Fork(awaited, _) => awaited.copy(),
         }
     }
 
@@ -122,11 +123,11 @@ impl<A: Allocator, D> Link<A, D> {
 
 impl<A: Allocator, D> Fork<A, D> {
     /// Returns the earliest times that the requests below this fork await.
-    fn awaited(&self) -> Awaited
+    fn join_awaited(&self) -> Awaited
         ensures { (transport : TransportType) → IsTimedFork transport self.now
             → result ≡ awaited_of transport (fork_items self.now) }
     {
-        let mut all = self.first.awaited();
+        let mut all = self.first.copy_awaited();
         self.second.join_to(&mut all);
         self.third.join_to(&mut all);
         self.fourth.join_to(&mut all);
@@ -150,7 +151,7 @@ pub(crate) fn read_entry<A: Allocator, D, L: Ledger>(
     ensures counts { reads.new ≡ record reads.old { entries = reads.old.entries + 1 } }
 {
     reads.count_entry();
-    (awaited.earliest(), leaf.id, leaf.request.sending())
+    (awaited.find_earliest(), leaf.id, leaf.request.sending())
 }
 
 /// The number of levels of forks that the IDs need: each level stands for two of the 96 bits of an
@@ -168,7 +169,7 @@ enum Quarter {
 
 /// Returns the quarter of a fork to which an ID belongs. `levels` is the number of levels below and
 /// including this fork.
-fn quarter_of(id: TransactionId, levels: u32) -> Quarter
+fn choose_quarter(id: TransactionId, levels: u32) -> Quarter
     requires { IsDeep levels }
     ensures { part_of (levels - 1) id ≡ 4 * part_of levels id + two_bits result }
 {

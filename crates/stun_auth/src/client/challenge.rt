@@ -55,7 +55,7 @@ impl Offer<'_, '_> {
 
     /// Copies the texts of the challenge and makes the key, and returns them to be stored. Fails if
     /// an allocation fails.
-    pub(crate) fn kept<A: Memory>(
+    pub(crate) fn to_kept_challenge<A: Memory>(
         &self,
         alloc: A,
         feature: Feature,
@@ -67,7 +67,7 @@ impl Offer<'_, '_> {
         let naming = UserNaming::new(alloc, hashes, self.username, self.realm)?;
         let realm = LimitedText::copied(alloc, self.realm)?;
         let nonce = LimitedText::copied(alloc, self.nonce)?;
-        let algorithms = copied(alloc, &self.list)?;
+        let algorithms = copy_algorithms(alloc, &self.list)?;
         let key = long_term_key(
             alloc,
             self.algorithm,
@@ -87,7 +87,7 @@ impl Offer<'_, '_> {
 }
 
 /// Copies a server's list of algorithms. The copy is empty if the server sent no list.
-fn copied<A: Memory>(
+fn copy_algorithms<A: Memory>(
     alloc: A,
     list: &Option<PasswordAlgorithms>,
 ) -> Result<Vec<PasswordAlgorithmValue, A>, AllocError>
@@ -96,13 +96,13 @@ fn copied<A: Memory>(
     ensures granted { A.grants → IsOk result }
 {
     match list {
-        Some(list) => listed(alloc, list),
+        Some(list) => copy_list(alloc, list),
         None => Ok(Vec::new(alloc)),
     }
 }
 
 /// Copies a list of algorithms.
-fn listed<A: Memory>(
+fn copy_list<A: Memory>(
     alloc: A,
     list: &PasswordAlgorithms,
 ) -> Result<Vec<PasswordAlgorithmValue, A>, AllocError>
@@ -120,7 +120,10 @@ fn listed<A: Memory>(
 
 /// Returns the first algorithm of a server's list that the client supports, or `None` if it
 /// supports none of them.
-fn first_supported(supported: Supported, list: &PasswordAlgorithms) -> Option<IntegrityAlgorithm>
+fn find_first_supported(
+    supported: Supported,
+    list: &PasswordAlgorithms,
+) -> Option<IntegrityAlgorithm>
     ensures { result ≡ first_supported (in_order supported) (map integrity_of list.now) }
 {
     for i in 0..list.len() {
@@ -148,7 +151,7 @@ fn choose_by_list(
         (option_map (map integrity_of) list.now) }
 {
     match list {
-        Some(list) => match first_supported(supported, list) {
+        Some(list) => match find_first_supported(supported, list) {
             Some(algorithm) => Ok(algorithm),
             None => Err(ChallengeRefusal::UnsupportedFeature),
         },
@@ -164,7 +167,7 @@ fn choose_by_list(
 
 /// Returns `choice`. Fails with `UnsupportedFeature` if `choice` is an algorithm but `missing` is
 /// true, which means that the nonce lacks a required feature.
-fn unless(
+fn refuse_if_missing(
     missing: bool,
     choice: Result<IntegrityAlgorithm, ChallengeRefusal>,
 ) -> Result<IntegrityAlgorithm, ChallengeRefusal>
@@ -206,7 +209,7 @@ pub(crate) fn choose(
     match NonceSecurityBits::from_nonce(nonce) {
         Some(bits) => {
             let missing = feature.is_required() && !bits.username_anonymity();
-            unless(
+            refuse_if_missing(
                 missing,
                 choose_by_list(supported, bits.password_algorithms(), list),
             )

@@ -91,17 +91,17 @@ impl<A: Allocator> KeptChallenge<A> {
     }
 
     /// Returns the number of bytes that signing adds to a request, saturating at 2^64 - 1.
-    fn signature_bytes(&self) -> usize
+    fn count_signature_bytes(&self) -> usize
         ensures { result ≡ min (growth (challenge_additions true (challenge_seen self.now)))
             (2 ^ 64 - 1) }
     {
-        self.identity_bytes()
-            .saturating_add(self.choice_bytes())
+        self.count_identity_bytes()
+            .saturating_add(self.count_choice_bytes())
             .saturating_add(integrity_bytes(self.algorithm))
     }
 
     /// Returns the number of bytes that `add_identity` adds, saturating at 2^64 - 1.
-    fn identity_bytes(&self) -> usize
+    fn count_identity_bytes(&self) -> usize
         ensures { result ≡ min (growth (identity (challenge_seen self.now))) (2 ^ 64 - 1) }
     {
         attribute_bytes(self.nonce.len())
@@ -110,7 +110,7 @@ impl<A: Allocator> KeptChallenge<A> {
     }
 
     /// Returns the number of bytes that `add_algorithm_choice` adds, saturating at 2^64 - 1.
-    fn choice_bytes(&self) -> usize
+    fn count_choice_bytes(&self) -> usize
         ensures { result ≡ min (growth (algorithm_choice
             (challenge_seen self.now).algorithms self.now.algorithm)) (2 ^ 64 - 1) }
     {
@@ -126,7 +126,7 @@ impl<A: Allocator> KeptChallenge<A> {
 
 impl<A: Allocator> State<A> {
     /// Returns the challenge that the client has stored, or `None` if it has stored none.
-    fn kept(&self) -> Option<&KeptChallenge<A>>
+    fn as_challenge(&self) -> Option<&KeptChallenge<A>>
         ensures { option_map (λ kept. challenge_seen kept.now) result
             ≡ kept_challenge (state_seen self.now) }
     {
@@ -158,7 +158,7 @@ impl<A: Allocator> LongTermClientAuth<A> {
             → option_map (λ p. p.algorithm) (added_by_client request self.now.state).integrity
             ≡ result }
     {
-        match self.state.kept() {
+        match self.state.as_challenge() {
             Some(kept) => Some(kept.algorithm),
             None => None,
         }
@@ -169,8 +169,8 @@ impl<A: Allocator> LongTermClientAuth<A> {
     pub fn message_signature_bytes(&self) -> usize
         ensures { result ≡ min (growth (client_additions true self.now.state)) (2 ^ 64 - 1) }
     {
-        match self.state.kept() {
-            Some(kept) => kept.signature_bytes(),
+        match self.state.as_challenge() {
+            Some(kept) => kept.count_signature_bytes(),
             None => 0,
         }
     }
@@ -223,7 +223,7 @@ impl<A: Allocator> LongTermClientAuth<A> {
         // A law does nothing at run time. This one helps to prove the clause `succeeds`.
         sides_sign_what_is_signable();
         self.keeps_short_texts();
-        self.signed(writer)
+        self.add_signature(writer)
     }
 
     /// Does nothing at run time. It gives the proof a fact that the types of the fields guarantee:
@@ -235,7 +235,7 @@ impl<A: Allocator> LongTermClientAuth<A> {
     }
 
     /// Adds to a message the attributes that the stored challenge requires.
-    fn signed<W: MessageWrite>(&self, writer: W) -> Result<W, StunWriteError>
+    fn add_signature<W: MessageWrite>(&self, writer: W) -> Result<W, StunWriteError>
         requires { BeginsWithHeader (W.bytes writer) }
         ensures outcome { let additions = client_additions
             (is_request (class_in (W.bytes writer))) self.now.state in
@@ -245,7 +245,7 @@ impl<A: Allocator> LongTermClientAuth<A> {
         ensures granted { W.grants → UnlessMemory result ⊤ ⊥ }
     {
         let mut writer = writer;
-        if let Some(kept) = self.state.kept() {
+        if let Some(kept) = self.state.as_challenge() {
             let is_request = is_request(&writer);
             kept.sign(&mut writer, is_request)?;
         }

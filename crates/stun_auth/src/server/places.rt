@@ -48,7 +48,7 @@ impl<A: Memory> ValidatedUser<A> {
 
     /// Returns a client with this name. If `removed` has the same name, its text is used and
     /// nothing is allocated. Otherwise the name is copied.
-    pub(crate) fn in_place_of(
+    pub(crate) fn from_removed(
         removed: Option<Self>,
         alloc: A,
         name: &str,
@@ -310,17 +310,17 @@ impl<A: Memory> Places<A> {
     {
         let mut start = start_at(from);
         for _looked in 0..most {
-            let first = self.first_from(start, now)?;
+            let first = self.find_first_from(start, now)?;
             self.forget_if(first.address, first.has_expired);
             start = Bound::Excluded(first.address);
         }
-        let next = self.first_from(start, now)?;
+        let next = self.find_first_from(start, now)?;
         Some(next.address)
     }
 
     /// Returns the first address from `start` on that has a record, and whether that record may be
     /// forgotten. Returns `None` if there is no such address.
-    fn first_from(&self, start: Bound<SocketAddr>, now: Instant) -> Option<FirstPlace>
+    fn find_first_from(&self, start: Bound<SocketAddr>, now: Instant) -> Option<FirstPlace>
         ensures first { IsFirstFrom self.now.seen start (option_map (λ f. f.address) result) }
         ensures expired { IfSome result (λ f. f.has_expired
             ≡ option_map_or (is_forgotten now) (map.get self.now.seen f.address) false) }

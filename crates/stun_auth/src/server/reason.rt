@@ -86,7 +86,7 @@ impl From<VerdictRefusal> for LongTermServerAuthErrorReason {
 }
 
 /// Converts the reason in a refusal to an error. Returns any other answer as it is.
-pub(crate) fn refused(
+pub(crate) fn wrap_reason(
     answer: Result<LongTermServerValidation, LongTermServerAuthErrorReason>,
 ) -> Result<LongTermServerValidation, LongTermServerAuthError>
     ensures { result ≡ answer }

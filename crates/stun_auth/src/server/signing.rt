@@ -50,7 +50,7 @@ impl<A: Allocator + Copy> LongTermServerAuth<A> {
         ensures { result ≡ min (server_growth (sight self.now to) (not is_request)) (2 ^ 64 - 1) }
     {
         match self.places.get(to) {
-            Some(place) => self.signature_bytes(place, !is_request),
+            Some(place) => self.count_signature_bytes(place, !is_request),
             None => 0,
         }
     }
@@ -290,18 +290,18 @@ impl<A: Allocator + Copy> LongTermServerAuth<A> {
 
     /// Returns the number of bytes that signing adds to a message to an address with this record,
     /// at most 2^64 - 1.
-    fn signature_bytes(&self, place: &Place<A>, is_response: bool) -> usize
+    fn count_signature_bytes(&self, place: &Place<A>, is_response: bool) -> usize
         ensures { result ≡ min (growth_at is_response self.now.registered
             (Some (place_seen place.now))) (2 ^ 64 - 1) }
     {
-        self.challenge_bytes(place.nonce.as_str(), is_response)
-            .saturating_add(self.algorithms_bytes(place.client(), is_response))
-            .saturating_add(protection_bytes(place.client()))
+        self.count_challenge_bytes(place.nonce.as_str(), is_response)
+            .saturating_add(self.count_algorithms_bytes(place.client(), is_response))
+            .saturating_add(count_protection_bytes(place.client()))
     }
 
     /// Returns the number of bytes of NONCE and REALM in a response, at most 2^64 - 1, or 0 for a
     /// request or an indication, which gets neither.
-    fn challenge_bytes(&self, nonce: &str, is_response: bool) -> usize
+    fn count_challenge_bytes(&self, nonce: &str, is_response: bool) -> usize
         ensures { result ≡ min (growth (challenge is_response self.now.registered nonce.now))
             (2 ^ 64 - 1) }
     {
@@ -312,12 +312,12 @@ impl<A: Allocator + Copy> LongTermServerAuth<A> {
     }
 
     /// Returns the number of bytes that `add_algorithms` adds.
-    fn algorithms_bytes(&self, client: Option<&ValidatedUser<A>>, is_response: bool) -> usize
+    fn count_algorithms_bytes(&self, client: Option<&ValidatedUser<A>>, is_response: bool) -> usize
         ensures { result ≡ growth (algorithms_for is_response self.now.registered
             (option_map client_seen (option_copied client.entry))) }
     {
         match client {
-            Some(client) => named_algorithm_bytes(client.algorithm),
+            Some(client) => count_named_bytes(client.algorithm),
             None => {
                 if is_response {
                     self.realm.offer_bytes()
@@ -348,7 +348,7 @@ fn add_named_algorithm<W: MessageWrite>(
 }
 
 /// Returns the number of bytes that `add_named_algorithm` adds.
-fn named_algorithm_bytes(algorithm: IntegrityAlgorithm) -> usize
+fn count_named_bytes(algorithm: IntegrityAlgorithm) -> usize
     ensures { result ≡ growth (named_algorithm algorithm) }
 {
     match algorithm {
@@ -358,7 +358,7 @@ fn named_algorithm_bytes(algorithm: IntegrityAlgorithm) -> usize
 }
 
 /// Returns the number of bytes of the integrity attribute for a client, or 0 without a client.
-fn protection_bytes<A: Allocator>(client: Option<&ValidatedUser<A>>) -> usize
+fn count_protection_bytes<A: Allocator>(client: Option<&ValidatedUser<A>>) -> usize
     ensures { result ≡ protection_growth (option_map client_seen (option_copied client.entry)) }
 {
     match client {

@@ -21,7 +21,7 @@ use crate::server::LongTermServerAuth;
 use crate::server::drawn::make_nonce;
 use crate::server::places::{Place, Places, ValidatedUser};
 use crate::server::reason::{
-    LongTermServerAuthError, LongTermServerAuthErrorReason, LongTermServerValidation, refused,
+    LongTermServerAuthError, LongTermServerAuthErrorReason, LongTermServerValidation, wrap_reason,
 };
 use rand_core::Rng;
 use std::alloc::{AllocError, Allocator};
@@ -60,7 +60,7 @@ impl<A: Allocator> Judgement<A> {
     ghost use Rattle.stun_auth.specs.code.Judging.{judgement_answer, client_in};
 
     /// Returns the result of `validate_incoming_message` for this judgement.
-    fn answer(&self) -> Result<LongTermServerValidation, LongTermServerAuthErrorReason>
+    fn to_answer(&self) -> Result<LongTermServerValidation, LongTermServerAuthErrorReason>
         ensures { result ≡ judgement_answer self.now }
     {
         match self {
@@ -84,7 +84,7 @@ impl<A: Allocator> Judgement<A> {
 
 /// Returns whether there is a record whose nonce is current, which means that `now` is not later
 /// than its expiry time.
-fn nonce_stands<A: Allocator>(place: Option<&Place<A>>, now: Instant) -> bool
+fn has_current_nonce<A: Allocator>(place: Option<&Place<A>>, now: Instant) -> bool
     ensures { result ≡ has_current_nonce now (option_map place_seen (option_copied place.entry)) }
 {
     match place {
@@ -95,7 +95,7 @@ fn nonce_stands<A: Allocator>(place: Option<&Place<A>>, now: Instant) -> bool
 
 /// Returns the nonce under which a message is judged: the new nonce if one was made, and otherwise
 /// the stored nonce.
-fn nonce_at<'p, A: Allocator>(
+fn choose_nonce<'p, A: Allocator>(
     place: Option<&'p Place<A>>,
     renewal: &'p Option<Renewal<A>>,
 ) -> &'p str
@@ -113,7 +113,7 @@ fn nonce_at<'p, A: Allocator>(
 
 /// Returns the algorithms that were offered to an address, or `None` if it has no record or no
 /// offer.
-fn offered_at<A: Allocator>(place: Option<&Place<A>>) -> Option<AlgorithmSet>
+fn find_offered<A: Allocator>(place: Option<&Place<A>>) -> Option<AlgorithmSet>
     ensures { result ≡ option_and_then (λ (p : PlaceSeen). p.offered)
         (option_map place_seen (option_copied place.entry)) }
 {
@@ -226,7 +226,7 @@ impl<A: Memory> LongTermServerAuth<A> {
             (reading_of message.now) }
         ensures granted { A.grants → ServerUnlessMemory result ⊤ ⊥ }
     {
-        refused(self.judge_incoming(message, from, now, rng))
+        wrap_reason(self.judge_incoming(message, from, now, rng))
     }
 
     /// Judges a message like `validate_incoming_message`, but fails with the bare reason.
@@ -262,7 +262,7 @@ impl<A: Memory> LongTermServerAuth<A> {
             return Err(LongTermServerAuthErrorReason::BadRequest);
         }
         let place = self.places.get(from);
-        let Ok(renewal) = self.renewal(place, now, rng) else {
+        let Ok(renewal) = self.make_renewal(place, now, rng) else {
             return Err(LongTermServerAuthErrorReason::OutOfMemory);
         };
         let Ok(judged) = self.judge_at(&read, from, &renewal) else {
@@ -299,7 +299,7 @@ impl<A: Memory> LongTermServerAuth<A> {
 
     /// Makes a new nonce from the next sixteen random numbers, or returns `None` if the stored
     /// nonce is current.
-    fn renewal<R: Rng>(
+    fn make_renewal<R: Rng>(
         &self,
         place: Option<&Place<A>>,
         now: Instant,
@@ -317,7 +317,7 @@ impl<A: Memory> LongTermServerAuth<A> {
             → IsOk result }
         ensures granted { A.grants → IsOk result }
     {
-        if nonce_stands(place, now) {
+        if has_current_nonce(place, now) {
             return Ok(None);
         }
         let nonce = make_nonce(&self.realm, rng)?;
@@ -368,7 +368,7 @@ impl<A: Memory> LongTermServerAuth<A> {
         ensures needless { IfNone renewal (result ≡ judgement_answer judged) }
         ensures granted { A.grants → result ≡ judgement_answer judged }
     {
-        let answer = judged.answer();
+        let answer = judged.to_answer();
         let client = judged.into_client();
         match renewal {
             None => {
@@ -410,8 +410,8 @@ fn judge_by<A: Memory>(
     ensures granted { A.grants → IsOk result }
 {
     let place = places.get(from);
-    let nonce = nonce_at(place, renewal);
-    let offered = offered_at(place);
+    let nonce = choose_nonce(place, renewal);
+    let offered = find_offered(place);
     match realm.judge_offered(read, nonce, offered) {
         Err(refusal) => Ok(Judgement::Refused(refusal)),
         Ok(accepted) => {
@@ -437,5 +437,5 @@ fn new_client<A: Memory>(
     ensures granted { A.grants → IsOk result }
 {
     let removed = places.take_removed(from);
-    ValidatedUser::in_place_of(removed, alloc, accepted.name(), accepted.algorithm())
+    ValidatedUser::from_removed(removed, alloc, accepted.name(), accepted.algorithm())
 }

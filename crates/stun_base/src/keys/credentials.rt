@@ -73,7 +73,7 @@ impl<A: Memory> Clone for ShortTermCredentials<A> {
     ghost is_infallible = { λ _. A.grants };
 
     fn clone(&self) -> Result<Self, AllocError> {
-        Ok(ShortTermCredentials::new(copied(&self.password)?))
+        Ok(ShortTermCredentials::new(copy_text(&self.password)?))
     }
 }
 
@@ -182,8 +182,8 @@ impl<A: Memory> LongTermCredentials<A> {
         }) }
         ensures granted { A.grants → IsOk result }
     {
-        let username = copied(&self.username)?;
-        let password = copied(&self.password)?;
+        let username = copy_text(&self.username)?;
+        let password = copy_text(&self.password)?;
         Ok(LongTermKeyCredentials {
             username,
             realm,
@@ -193,7 +193,7 @@ impl<A: Memory> LongTermCredentials<A> {
 }
 
 /// Copies a text into memory of its own allocator.
-fn copied<A: Memory>(text: &String<A>) -> Result<String<A>, AllocError>
+fn copy_text<A: Memory>(text: &String<A>) -> Result<String<A>, AllocError>
     ensures bytes { IfOk result (λ copy. string_bytes copy ≡ string_bytes text.now) }
     ensures granted { A.grants → IsOk result }
 {
@@ -207,8 +207,8 @@ impl<A: Memory> Clone for LongTermCredentials<A> {
     ghost is_infallible = { λ _. A.grants };
 
     fn clone(&self) -> Result<Self, AllocError> {
-        let username = copied(&self.username)?;
-        let password = copied(&self.password)?;
+        let username = copy_text(&self.username)?;
+        let password = copy_text(&self.password)?;
         Ok(LongTermCredentials { username, password })
     }
 }
@@ -298,7 +298,7 @@ impl<A: Allocator> LongTermKeyCredentials<A> {
     pub fn make_key(&self, algorithm: IntegrityAlgorithm) -> IntegrityKey<A>
         ensures { result ≡ long_term_key_of self.now algorithm }
     {
-        key::hashed_key(
+        key::derive_key(
             algorithm,
             self.username.as_str(),
             self.realm.as_str(),
@@ -314,9 +314,9 @@ impl<A: Memory> Clone for LongTermKeyCredentials<A> {
     ghost is_infallible = { λ _. A.grants };
 
     fn clone(&self) -> Result<Self, AllocError> {
-        let username = copied(&self.username)?;
-        let realm = copied(&self.realm)?;
-        let password = copied(&self.password)?;
+        let username = copy_text(&self.username)?;
+        let realm = copy_text(&self.realm)?;
+        let password = copy_text(&self.password)?;
         Ok(LongTermKeyCredentials {
             username,
             realm,

@@ -37,7 +37,7 @@ pub(crate) trait HashFunction: Drop {
 }
 
 /// Returns the digest of a message, which is passed in one piece.
-pub(crate) fn digest_of<H: HashFunction>(message: &[u8]) -> H::Digest
+pub(crate) fn digest_message<H: HashFunction>(message: &[u8]) -> H::Digest
     ensures value { H.Digest.items result ≡ H.digest message.now }
     ensures fits { length (H.Digest.items result) ≤ 64 }
 {

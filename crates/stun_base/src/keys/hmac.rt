@@ -30,21 +30,21 @@ const OUTER_PAD: u8 = 0x5c;
 
 /// Returns the key as one block, filled up with zeros. A key that is longer than a block is first
 /// replaced by its digest (RFC 2104, section 2).
-fn key_block<H: HashFunction>(key: &[u8]) -> [u8; BLOCK_LENGTH]
+fn make_key_block<H: HashFunction>(key: &[u8]) -> [u8; BLOCK_LENGTH]
     ensures { result ≡ spec.key_block H.digest key.now }
 {
     if key.len() > BLOCK_LENGTH {
         let mut hasher = H::start();
         hasher.feed(key);
         let digest = hasher.finish();
-        filled(digest.as_slice())
+        fill_block(digest.as_slice())
     } else {
-        filled(key)
+        fill_block(key)
     }
 }
 
 /// Returns these bytes as one block, filled up with zeros.
-fn filled(bytes: &[u8]) -> [u8; BLOCK_LENGTH]
+fn fill_block(bytes: &[u8]) -> [u8; BLOCK_LENGTH]
     requires { length bytes.now ≤ 64 }
     ensures { result ≡ spec.block_of bytes.now }
 {
@@ -54,7 +54,7 @@ fn filled(bytes: &[u8]) -> [u8; BLOCK_LENGTH]
 }
 
 /// Returns the block with each of its bytes XORed with `pad`.
-fn padded(block: &[u8; BLOCK_LENGTH], pad: u8) -> [u8; BLOCK_LENGTH]
+fn xor_block(block: &[u8; BLOCK_LENGTH], pad: u8) -> [u8; BLOCK_LENGTH]
     ensures { result ≡ spec.xor_pad pad block.now }
 {
     let mut masked = [0; BLOCK_LENGTH];
@@ -65,11 +65,11 @@ fn padded(block: &[u8; BLOCK_LENGTH], pad: u8) -> [u8; BLOCK_LENGTH]
 }
 
 /// Returns a hasher that has been fed the key block, XORed with `pad`.
-fn begun<H: HashFunction>(block: &[u8; BLOCK_LENGTH], pad: u8) -> H
+fn begin_hash<H: HashFunction>(block: &[u8; BLOCK_LENGTH], pad: u8) -> H
     ensures { H.holds result (spec.xor_pad pad block.now) }
 {
     let mut hasher = H::start();
-    hasher.feed(&padded(block, pad));
+    hasher.feed(&xor_block(block, pad));
     hasher
 }
 
@@ -85,14 +85,14 @@ fn feed_all<H: HashFunction>(hasher: &mut H, pieces: &[&[u8]])
 
 /// Computes the HMAC of the concatenated `pieces` under `key`, with the hash function `H`.
 #[tactic(auto, unfolding(crate::specs::Hmac::hmac))]
-fn hmac<H: HashFunction>(key: &[u8], pieces: &[&[u8]]) -> H::Digest
+fn compute_hmac<H: HashFunction>(key: &[u8], pieces: &[&[u8]]) -> H::Digest
     ensures { H.Digest.items result ≡
         spec.hmac H.digest key.now (concat (map (λ piece. piece.now) pieces.now)) }
 {
-    let block = key_block::<H>(key);
-    let mut inner = begun::<H>(&block, INNER_PAD);
+    let block = make_key_block::<H>(key);
+    let mut inner = begin_hash::<H>(&block, INNER_PAD);
     feed_all(&mut inner, pieces);
-    let mut outer = begun::<H>(&block, OUTER_PAD);
+    let mut outer = begin_hash::<H>(&block, OUTER_PAD);
     outer.feed(inner.finish().as_slice());
     outer.finish()
 }
@@ -112,10 +112,10 @@ impl<B: BegunHash> BegunHmac<B> {
     pub(crate) fn of(key: &[u8]) -> Self
         ensures { IsBegun B.has_begun B.Hasher.digest key.now result.inner result.outer }
     {
-        let block = key_block::<B::Hasher>(key);
+        let block = make_key_block::<B::Hasher>(key);
         BegunHmac {
-            inner: B::of(&padded(&block, INNER_PAD)),
-            outer: B::of(&padded(&block, OUTER_PAD)),
+            inner: B::of(&xor_block(&block, INNER_PAD)),
+            outer: B::of(&xor_block(&block, OUTER_PAD)),
         }
     }
 
@@ -152,7 +152,7 @@ impl<B: BegunHash> BegunHmac<B> {
 pub fn hmac_sha1(key: &[u8], pieces: &[&[u8]]) -> [u8; SHA1_LENGTH]
     ensures { result ≡ spec.hmac sha1 key.now (concat (map (λ piece. piece.now) pieces.now)) }
 {
-    hmac::<Sha1>(key, pieces)
+    compute_hmac::<Sha1>(key, pieces)
 }
 
 /// Computes the HMAC-SHA256 (RFC 2104) of the concatenated `pieces` under `key`. The key and the
@@ -160,5 +160,5 @@ pub fn hmac_sha1(key: &[u8], pieces: &[&[u8]]) -> [u8; SHA1_LENGTH]
 pub fn hmac_sha256(key: &[u8], pieces: &[&[u8]]) -> [u8; SHA256_LENGTH]
     ensures { result ≡ spec.hmac sha256 key.now (concat (map (λ piece. piece.now) pieces.now)) }
 {
-    hmac::<Sha256>(key, pieces)
+    compute_hmac::<Sha256>(key, pieces)
 }

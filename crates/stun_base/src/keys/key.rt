@@ -7,7 +7,7 @@ ghost use Rattle.std.specs.Str.{is_utf8};
 ghost use Rattle.stun_base.specs.Keys as spec;
 
 use crate::keys::algorithm::IntegrityAlgorithm;
-use crate::keys::hash::{HashFunction, digest_of};
+use crate::keys::hash::{HashFunction, digest_message};
 use crate::keys::no_memory::NoMemory;
 use crate::keys::short_text::ShortText;
 use crate::memory::Memory;
@@ -148,14 +148,14 @@ fn digest_in_turn<H: HashFunction>(username: &[u8], realm: &[u8], password: &[u8
 }
 
 /// Returns the digest of `username:realm:password`.
-fn credentials_digest<H: HashFunction>(username: &[u8], realm: &[u8], password: &[u8]) -> H::Digest
+fn digest_credentials<H: HashFunction>(username: &[u8], realm: &[u8], password: &[u8]) -> H::Digest
     ensures value { H.Digest.items result ≡
         H.digest (spec.with_colon (spec.with_colon username.now realm.now) password.now) }
     ensures fits { length (H.Digest.items result) ≤ 64 }
 {
     let mut text = ShortText::new();
     if join(&mut text, username, realm, password) {
-        digest_of::<H>(text.as_bytes())
+        digest_message::<H>(text.as_bytes())
     } else {
         digest_in_turn::<H>(username, realm, password)
     }
@@ -170,11 +170,7 @@ fn is_utf8(bytes: &[u8]) -> bool
 
 /// Returns the digest of `username:realm:password`, or `None` if one of the three texts is not
 /// UTF-8.
-fn digest_of_utf8<H: HashFunction>(
-    username: &[u8],
-    realm: &[u8],
-    password: &[u8],
-) -> Option<H::Digest>
+fn digest_utf8<H: HashFunction>(username: &[u8], realm: &[u8], password: &[u8]) -> Option<H::Digest>
     ensures digest { IfSome result (λ digest. H.Digest.items digest ≡
         H.digest (spec.with_colon (spec.with_colon username.now realm.now) password.now)) }
     ensures utf8 { IsSome result ↔ (spec.are_utf8 username.now realm.now password.now ≡ true) }
@@ -183,7 +179,7 @@ fn digest_of_utf8<H: HashFunction>(
     // digest.
     let mut text = ShortText::new();
     if join(&mut text, username, realm, password) {
-        let digest = digest_of::<H>(text.as_bytes());
+        let digest = digest_message::<H>(text.as_bytes());
         text.is_utf8().then_some(digest)
     } else {
         let digest = digest_in_turn::<H>(username, realm, password);
@@ -209,12 +205,12 @@ pub fn long_term_key<A: Allocator>(
     ensures { result ≡ spec.long_term_key algorithm username.now realm.now password.now }
 {
     drop(alloc);
-    hashed_key(algorithm, username, realm, password)
+    derive_key(algorithm, username, realm, password)
 }
 
 /// Like `long_term_key`, but without an allocator as an argument, because only the allocator type
 /// of the key is needed.
-pub(crate) fn hashed_key<A: Allocator>(
+pub(crate) fn derive_key<A: Allocator>(
     algorithm: IntegrityAlgorithm,
     username: &str,
     realm: &str,
@@ -228,11 +224,11 @@ pub(crate) fn hashed_key<A: Allocator>(
     let inline = match algorithm {
         IntegrityAlgorithm::Sha1 => SmallVec::from_slice(
             NoMemory,
-            &credentials_digest::<Md5>(username, realm, password),
+            &digest_credentials::<Md5>(username, realm, password),
         ),
         IntegrityAlgorithm::Sha256 => SmallVec::from_slice(
             NoMemory,
-            &credentials_digest::<Sha256>(username, realm, password),
+            &digest_credentials::<Sha256>(username, realm, password),
         ),
     };
     IntegrityKey {
@@ -251,7 +247,7 @@ pub fn md5_key_from_utf8(username: &[u8], realm: &[u8], password: &[u8]) -> Opti
         ≡ spec.long_term_key IntegrityAlgorithm.Sha1 username.now realm.now password.now) }
     ensures utf8 { IsSome result ↔ (spec.are_utf8 username.now realm.now password.now ≡ true) }
 {
-    digest_of_utf8::<Md5>(username, realm, password)
+    digest_utf8::<Md5>(username, realm, password)
 }
 
 /// Derives the long-term key for HMAC-SHA256 from texts that are passed as bytes: the SHA-256 hash
@@ -265,7 +261,7 @@ pub fn sha256_key_from_utf8(username: &[u8], realm: &[u8], password: &[u8]) -> O
         ≡ spec.long_term_key IntegrityAlgorithm.Sha256 username.now realm.now password.now) }
     ensures utf8 { IsSome result ↔ (spec.are_utf8 username.now realm.now password.now ≡ true) }
 {
-    digest_of_utf8::<Sha256>(username, realm, password)
+    digest_utf8::<Sha256>(username, realm, password)
 }
 
 /// Computes the hash that a client sends in USERHASH instead of its user name: SHA-256 of

@@ -77,7 +77,7 @@ pub extern "C" fn stunp_endpoint_server_new_with(
         realm,
         software,
         secret: *secret,
-        previous_secret: previous(previous_secret, has_previous_secret),
+        previous_secret: copy_previous_secret(previous_secret, has_previous_secret),
         understood,
         nonce_seconds,
         algorithms,
@@ -89,7 +89,7 @@ pub extern "C" fn stunp_endpoint_server_new_with(
 }
 
 /// Returns the previous secret, or `None` if the caller has passed none.
-fn previous(secret: &[u8; 32], is_there: bool) -> Option<[u8; 32]>
+fn copy_previous_secret(secret: &[u8; 32], is_there: bool) -> Option<[u8; 32]>
     ensures { result ≡ (if is_there then Some secret.now else None) }
 {
     if is_there {

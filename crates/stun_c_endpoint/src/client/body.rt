@@ -17,21 +17,19 @@ use stun_types::attribute::RawAttribute;
 const XOR_PEER_ADDRESS: u16 = 0x0012;
 
 /// Converts the library's error for an attribute that cannot be added to a body.
-fn refusal_of_attribute(error: BodyError) -> Refusal
+fn convert_body_error(error: BodyError) -> Refusal
     ensures { result ≡ refusal_of_attribute error }
 {
     match error {
         BodyError::NotAllowed => Refusal::NotAllowed,
         BodyError::TooLarge => Refusal::MessageTooLong,
         BodyError::OutOfMemory => Refusal::OutOfMemory,
-        // There is no other variant in this release.
-        _ => Refusal::BadArgument,
     }
 }
 
 /// Returns the address in the value of a XOR-PEER-ADDRESS, whose address is not XORed, or `None` if
 /// the value is malformed.
-fn peer_of(value: &[u8]) -> Option<SocketAddr>
+fn read_peer_address(value: &[u8]) -> Option<SocketAddr>
     ensures { result ≡ peer_of value.now }
 {
     if value.len() == 8 && BigEndian::read_u16(value) == 1 {
@@ -58,7 +56,7 @@ fn add(body: &mut Body<Global>, attribute: &RawAttribute<'_>) -> Result<(), Refu
         ⊎ (with_attribute body.old attribute.now ≡ Err refusal)) }
 {
     let added = if attribute.get_type().value() == XOR_PEER_ADDRESS {
-        match peer_of(attribute.value()) {
+        match read_peer_address(attribute.value()) {
             Some(address) => body.add_xor_peer_address(address),
             None => return Err(Refusal::BadArgument),
         }
@@ -67,7 +65,7 @@ fn add(body: &mut Body<Global>, attribute: &RawAttribute<'_>) -> Result<(), Refu
     };
     match added {
         Ok(()) => Ok(()),
-        Err(error) => Err(refusal_of_attribute(error)),
+        Err(error) => Err(convert_body_error(error)),
     }
 }
 

@@ -35,15 +35,13 @@ use stun_types::message::Method;
 const FOR_EVER: u64 = 18_446_744_073_709_551_615;
 
 /// Converts the library's error for a request that could not be started.
-fn refusal_of_request(error: RequestError) -> Refusal
+fn convert_request_error(error: RequestError) -> Refusal
     ensures { result ≡ refusal_of_request error }
 {
     match error {
         RequestError::NoId => Refusal::AlreadyInProgress,
         RequestError::TooLarge => Refusal::MessageTooLong,
         RequestError::OutOfMemory => Refusal::OutOfMemory,
-        // There is no other variant in this release.
-        _ => Refusal::BadArgument,
     }
 }
 
@@ -97,7 +95,7 @@ fn ask_of(
             *request = number;
             Ok(())
         }
-        Err(error) => Err(refusal_of_request(error)),
+        Err(error) => Err(convert_request_error(error)),
     }
 }
 
@@ -126,7 +124,7 @@ fn start(
 
 /// Returns the `stunp_kind` of a datagram. If the datagram is dropped, writes the `stunp_drop` to
 /// `why`.
-fn told(received: &Received<'_>, why: &mut u32) -> u32
+fn tell_received(received: &Received<'_>, why: &mut u32) -> u32
     ensures number { result ≡ received_number received.now }
     ensures why { why.new ≡ why_told received.now why.old }
 {
@@ -138,8 +136,6 @@ fn told(received: &Received<'_>, why: &mut u32) -> u32
             *why = drop_number(*reason);
             0
         }
-        // There is no other variant in this release.
-        _ => 0,
     }
 }
 
@@ -175,11 +171,11 @@ fn hear_by(
 {
     let from = from.socket()?;
     let received = client.receive(message, from, Instant::from_nanos(now));
-    Ok(told(&received, why))
+    Ok(tell_received(&received, why))
 }
 
 /// Returns the time to wait until in nanoseconds, or `FOR_EVER` if `until` is `None`.
-fn until_told(until: Option<Instant>) -> u64
+fn convert_until(until: Option<Instant>) -> u64
     ensures { result ≡ or_for_ever until }
 {
     match until {
@@ -190,7 +186,7 @@ fn until_told(until: Option<Instant>) -> u64
 
 /// Copies bytes to the front of `out`, and returns `number`, the kind of the event. If the bytes do
 /// not fit, marks the event as failed, and fails with `BufferTooSmall`.
-fn written(bytes: &[u8], number: u32, out: &mut [u8], event: &mut Event) -> Result<u32, Refusal>
+fn write_out(bytes: &[u8], number: u32, out: &mut [u8], event: &mut Event) -> Result<u32, Refusal>
     ensures event { event.new ≡ event_unless (nat_lt (length out.old) (length bytes.now))
         (length bytes.now) event.old }
     ensures written { WritesTold (nat_lt (length out.old) (length bytes.now)) bytes.now number
@@ -250,14 +246,12 @@ fn tell(
         Polled::Transmit(number) => transmit(client, *number, out, event),
         Polled::Ended(number, end) => {
             event.ends(*number, end);
-            written(&end.response, 2, out, event)
+            write_out(&end.response, 2, out, event)
         }
         Polled::Wait(until) => {
-            event.waits(until_told(*until));
-            written(&[], 0, out, event)
+            event.waits(convert_until(*until));
+            write_out(&[], 0, out, event)
         }
-        // There is no other variant in this release.
-        _ => Err(Refusal::BadArgument),
     }
 }
 
@@ -275,11 +269,11 @@ fn transmit(
     match client.bytes_of(number) {
         Some(bytes) => {
             event.sends(number, bytes.len());
-            written(bytes, 1, out, event)
+            write_out(bytes, 1, out, event)
         }
         None => {
             event.sends(number, 0);
-            written(&[], 1, out, event)
+            write_out(&[], 1, out, event)
         }
     }
 }

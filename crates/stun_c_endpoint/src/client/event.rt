@@ -74,14 +74,12 @@ pub fn drop_number(why: DropReason) -> u32
         DropReason::OutOfMemory => 12,
         DropReason::LateChallenge => 14,
         DropReason::Refused => 15,
-        // There is no other variant in this release.
-        _ => 0,
     }
 }
 
 /// Converts a round-trip time to nanoseconds. Returns `u64::MAX` if the time is not known, or does
 /// not fit into 64 bits.
-fn trip_told(round_trip: Option<Duration>) -> u64
+fn convert_round_trip(round_trip: Option<Duration>) -> u64
     ensures { result ≡ trip_told (option_map as_nanos round_trip) }
 {
     match round_trip {
@@ -181,18 +179,18 @@ impl Event {
         self.begin(2);
         self.request = request;
         self.length = end.response.len();
-        self.round_trip = trip_told(end.round_trip);
-        self.ended(end.end);
+        self.round_trip = convert_round_trip(end.round_trip);
+        self.set_end(end.end);
     }
 
     /// Sets how the request has ended.
-    fn ended(&mut self, end: RequestEnd)
+    fn set_end(&mut self, end: RequestEnd)
         ensures { self.new ≡ end_told end self.old }
     {
         match end {
             RequestEnd::Answered(outcome, by) => {
                 self.signed_by = u16::from(integrity_number(by));
-                self.answered(outcome);
+                self.set_outcome(outcome);
             }
             RequestEnd::TimedOut(drops) => {
                 self.result = 4;
@@ -200,13 +198,11 @@ impl Event {
             }
             RequestEnd::Unauthorized => self.result = 5,
             RequestEnd::Cancelled => self.result = 8,
-            // There is no other variant in this release.
-            _ => {}
         }
     }
 
     /// Sets the result for a response that was accepted.
-    fn answered(&mut self, outcome: Outcome)
+    fn set_outcome(&mut self, outcome: Outcome)
         ensures { self.new ≡ outcome_told outcome self.old }
     {
         match outcome {
@@ -224,8 +220,6 @@ impl Event {
                 self.not_understood = kind.value();
             }
             Outcome::Malformed => self.result = 7,
-            // There is no other variant in this release.
-            _ => {}
         }
     }
 }

@@ -41,7 +41,7 @@ pub struct RequestOptions {
 }
 
 /// Converts nanoseconds to a duration. Returns the default if the number is 0.
-fn time_or(nanos: u64, default: Duration) -> Duration
+fn choose_time(nanos: u64, default: Duration) -> Duration
     ensures { as_nanos result ≡ or_else nanos (as_nanos default) }
 {
     if nanos == 0 {
@@ -54,7 +54,7 @@ fn time_or(nanos: u64, default: Duration) -> Duration
 impl RequestOptions {
     /// Returns the retransmission timeouts of the request. Each number that is 0 is replaced by the
     /// client's number in `plan`.
-    fn timeouts(&self, plan: RequestRto) -> RequestRto
+    fn choose_timeouts(&self, plan: RequestRto) -> RequestRto
         ensures { settings_of result ≡ plan_given self.now (settings_of plan) }
     {
         let transmissions = if self.transmissions == 0 {
@@ -63,17 +63,17 @@ impl RequestOptions {
             self.transmissions
         };
         RequestRto {
-            initial: time_or(self.initial, plan.initial),
-            max: time_or(self.longest, plan.max),
+            initial: choose_time(self.initial, plan.initial),
+            max: choose_time(self.longest, plan.max),
             retransmits: transmissions,
-            last_retransmit: time_or(self.last, plan.last_retransmit),
+            last_retransmit: choose_time(self.last, plan.last_retransmit),
         }
     }
 
     /// Returns the address from which responses are accepted. `server` is the address of the
     /// client's server, which is used if the caller passes no address. Fails with `BadArgument` if
     /// the length of the caller's address is not 0, 4 or 16.
-    fn source(&self, server: SocketAddr) -> Result<SocketAddr, Refusal>
+    fn choose_source(&self, server: SocketAddr) -> Result<SocketAddr, Refusal>
         ensures ok { IfOk result (λ from. source_given self.now.from server ≡ Some from) }
         ensures err { IfErr result (λ refusal. (source_given self.now.from server ≡ None)
             × (refusal ≡ Refusal.BadArgument)) }
@@ -95,10 +95,10 @@ impl RequestOptions {
         if self.size != OPTIONS_SIZE {
             return Err(Refusal::BadArgument);
         }
-        let from = self.source(client.server())?;
+        let from = self.choose_source(client.server())?;
         Ok(Options {
             is_signed: !self.is_unsigned,
-            timeouts: self.timeouts(client.timeouts()),
+            timeouts: self.choose_timeouts(client.timeouts()),
             from,
         })
     }

@@ -158,21 +158,21 @@ impl<'a> Model for ClientGiven<'a> {
 }
 
 /// Returns a number, or its default if the number is 0.
-fn or_else(number: u64, default: u64) -> u64
+fn choose_number(number: u64, default: u64) -> u64
     ensures { result ≡ or_else number default }
 {
     if number == 0 { default } else { number }
 }
 
-/// Like `or_else`, but for a number of 32 bits.
-fn or_else_small(number: u32, default: u32) -> u32
+/// Like `choose_number`, but for a number of 32 bits.
+fn choose_small_number(number: u32, default: u32) -> u32
     ensures { result ≡ or_else number default }
 {
     if number == 0 { default } else { number }
 }
 
 /// Returns the feature with this number: `Required` for 1, `Disabled` for 2, and otherwise `Auto`.
-fn feature(number: u32) -> Feature
+fn choose_feature(number: u32) -> Feature
     ensures { result ≡ feature_given number }
 {
     match number {
@@ -184,7 +184,7 @@ fn feature(number: u32) -> Feature
 
 /// Returns the algorithm for short-term credentials: HMAC-SHA256 if `number` is 2, and otherwise
 /// HMAC-SHA1.
-fn algorithm(number: u32) -> IntegrityAlgorithm
+fn choose_algorithm(number: u32) -> IntegrityAlgorithm
     ensures { result ≡ algorithm_given number }
 {
     if number == ONLY_SHA256 {
@@ -197,12 +197,12 @@ fn algorithm(number: u32) -> IntegrityAlgorithm
 impl ClientOptions {
     /// Returns the preferences of a user with long-term credentials: the algorithms, and when the
     /// user name is sent as a hash.
-    fn preferences(&self) -> Preferences
+    fn make_preferences(&self) -> Preferences
         ensures { result ≡ preferences_given self.now }
     {
         Preferences {
             algorithms: algorithms(self.algorithms),
-            anonymous_username: feature(self.anonymous_username),
+            anonymous_username: choose_feature(self.anonymous_username),
         }
     }
 
@@ -218,7 +218,7 @@ impl ClientOptions {
     }
 
     /// Returns the transport over which messages are sent.
-    fn transport(&self) -> TransportType
+    fn choose_transport(&self) -> TransportType
         ensures { result ≡ transport_given self.now.is_stream }
     {
         if self.is_stream {
@@ -229,19 +229,19 @@ impl ClientOptions {
     }
 
     /// Returns the retransmission timeouts of requests.
-    fn timeouts(&self) -> RequestRto
+    fn choose_timeouts(&self) -> RequestRto
         ensures { settings_of result ≡ timeouts_given self.now }
     {
         RequestRto {
-            initial: Duration::from_nanos(or_else(self.initial, INITIAL)),
-            max: Duration::from_nanos(or_else(self.longest, LONGEST)),
-            retransmits: or_else_small(self.transmissions, TRANSMISSIONS),
-            last_retransmit: Duration::from_nanos(or_else(self.last, LAST)),
+            initial: Duration::from_nanos(choose_number(self.initial, INITIAL)),
+            max: Duration::from_nanos(choose_number(self.longest, LONGEST)),
+            retransmits: choose_small_number(self.transmissions, TRANSMISSIONS),
+            last_retransmit: Duration::from_nanos(choose_number(self.last, LAST)),
         }
     }
 
     /// Creates the credentials of the client's user, or `Unsigned` if the name is empty.
-    fn credentials(
+    fn make_credentials(
         &self,
         alloc: Global,
         name: &str,
@@ -255,7 +255,7 @@ impl ClientOptions {
         }
         let name = copied(alloc, name)?;
         if self.credentials == SHORT_TERM {
-            let algorithm = algorithm(self.algorithms);
+            let algorithm = choose_algorithm(self.algorithms);
             let key = IntegrityKey::from_bytes(alloc, password.as_bytes())?;
             return Ok(Credentials::ShortTerm(ShortTerm {
                 name,
@@ -265,14 +265,14 @@ impl ClientOptions {
         }
         Ok(Credentials::LongTerm(LongTerm {
             user: LongTermCredentials::new(name, copied(alloc, password)?),
-            preferences: self.preferences(),
+            preferences: self.make_preferences(),
             accepts_unsigned: self.accepts_unsigned,
         }))
     }
 }
 
 /// Returns the types that a client understands: those that the caller passes, and `UNDERSTOOD`.
-fn understood(alloc: Global, numbers: &[u16]) -> Result<Vec<AttributeType, Global>, AllocError>
+fn list_understood(alloc: Global, numbers: &[u16]) -> Result<Vec<AttributeType, Global>, AllocError>
     ensures { IfOk result (λ types. types.items ≡ types_of numbers.now ++ UNDERSTOOD) }
 {
     let mut types = types(alloc, numbers)?;
@@ -310,7 +310,7 @@ impl<'a> ClientGiven<'a> {
         ensures { Makes (client_refusal self.now) (kind.Client (client_given self.now server)) result
             handle.new.kept }
     {
-        match self.client(alloc, server) {
+        match self.make_client(alloc, server) {
             Ok(client) => placed(alloc, handle, Kept::Client(client)),
             Err(refusal) => refusal.code(),
         }
@@ -318,7 +318,11 @@ impl<'a> ClientGiven<'a> {
 
     /// Creates the client of a server at this address.
     #[tactic(auto, unfolding(crate::specs::ClientsGiven::client_refusal))]
-    fn client(&self, alloc: Global, server: SocketAddr) -> Result<ClientEndpoint<Global>, Refusal>
+    fn make_client(
+        &self,
+        alloc: Global,
+        server: SocketAddr,
+    ) -> Result<ClientEndpoint<Global>, Refusal>
         ensures { Builds (client_refusal self.now) (client_given self.now server) result }
     {
         if self.options.is_out_of_range(!self.name.is_empty())
@@ -333,7 +337,7 @@ impl<'a> ClientGiven<'a> {
         if name.len() > USERNAME_LIMIT || software.len() > TEXT_LIMIT {
             return Err(Refusal::TextTooLong);
         }
-        match self.made(alloc, server, name, password, software) {
+        match self.make_from_texts(alloc, server, name, password, software) {
             Ok(client) => Ok(client),
             Err(_) => Err(Refusal::OutOfMemory),
         }
@@ -341,7 +345,7 @@ impl<'a> ClientGiven<'a> {
 
     /// Creates the client from these settings. `name`, `password` and `software` are the fields of
     /// the same names, which the caller has checked to be UTF-8.
-    fn made(
+    fn make_from_texts(
         &self,
         alloc: Global,
         server: SocketAddr,
@@ -354,18 +358,18 @@ impl<'a> ClientGiven<'a> {
         requires software { software.now ≡ self.now.software }
         ensures { IfOk result (λ client. client ≡ client_given self.now server) }
     {
-        let credentials = self.options.credentials(alloc, name, password)?;
+        let credentials = self.options.make_credentials(alloc, name, password)?;
         let software = text_if_any(alloc, software)?;
         let settings = Settings {
             form: Form::new(software, self.options.has_fingerprint),
             requires_fingerprint: self.options.requires_fingerprint,
-            understood: understood(alloc, self.understood)?,
-            challenges: or_else_small(self.options.challenges, CHALLENGES),
-            timeouts: self.options.timeouts(),
+            understood: list_understood(alloc, self.understood)?,
+            challenges: choose_small_number(self.options.challenges, CHALLENGES),
+            timeouts: self.options.choose_timeouts(),
         };
         ClientEndpoint::new(
             alloc,
-            self.options.transport(),
+            self.options.choose_transport(),
             server,
             credentials,
             settings,

@@ -89,7 +89,7 @@ impl<'a> Model for Given<'a> {
 }
 
 /// Converts the library's error for an agent that could not be created.
-fn refusal_of_building(error: BuildError) -> Refusal
+fn convert_build_error(error: BuildError) -> Refusal
     ensures { result ≡ refusal_of_building error }
 {
     match error {
@@ -97,13 +97,11 @@ fn refusal_of_building(error: BuildError) -> Refusal
         BuildError::ColonInName => Refusal::BadArgument,
         BuildError::PasswordLength => Refusal::BadArgument,
         BuildError::OutOfMemory => Refusal::OutOfMemory,
-        // There is no other variant in this release.
-        _ => Refusal::BadArgument,
     }
 }
 
 /// Moves an agent to the heap.
-fn boxed(alloc: Global, checker: Checker<Global>) -> Result<Box<Kept, Global>, AllocError>
+fn box_checker(alloc: Global, checker: Checker<Global>) -> Result<Box<Kept, Global>, AllocError>
     ensures { IfOk result (λ made. made.value ≡ kind.Checker checker) }
 {
     match Box::new(alloc, Kept::Checker(checker)) {
@@ -118,8 +116,8 @@ impl<'a> Given<'a> {
         requires { handle.old.kept ≡ None }
         ensures { MakesAgent self.now result handle.new.kept }
     {
-        match self.checker(alloc) {
-            Ok(checker) => match boxed(alloc, checker) {
+        match self.make_checker(alloc) {
+            Ok(checker) => match box_checker(alloc, checker) {
                 Ok(made) => {
                     handle.put(alloc, made);
                     0
@@ -132,7 +130,7 @@ impl<'a> Given<'a> {
 
     /// Creates the agent from these arguments.
     #[tactic(auto, unfolding(crate::specs::Agents::agent_refusal))]
-    fn checker(&self, alloc: Global) -> Result<Checker<Global>, Refusal>
+    fn make_checker(&self, alloc: Global) -> Result<Checker<Global>, Refusal>
         ensures { Builds (agent_refusal self.now) (agent_given self.now) result }
     {
         let local = Credentials {
@@ -151,7 +149,7 @@ impl<'a> Given<'a> {
             role_if(self.is_controlling),
         ) {
             Ok(checker) => Ok(checker),
-            Err(error) => Err(refusal_of_building(error)),
+            Err(error) => Err(convert_build_error(error)),
         }
     }
 }
@@ -169,8 +167,8 @@ impl<'a> Side<'a> {
         requires { handle.old.kept ≡ None }
         ensures { MakesOffering self.now tie_breaker is_controlling result handle.new.kept }
     {
-        match self.checker(alloc, tie_breaker, is_controlling) {
-            Ok(checker) => match boxed(alloc, checker) {
+        match self.make_checker(alloc, tie_breaker, is_controlling) {
+            Ok(checker) => match box_checker(alloc, checker) {
                 Ok(made) => {
                     handle.put(alloc, made);
                     0
@@ -183,7 +181,7 @@ impl<'a> Side<'a> {
 
     /// Creates an agent that has these credentials, and whose peer is not known yet.
     #[tactic(auto, unfolding(crate::specs::Agents::side_given_refusal))]
-    fn checker(
+    fn make_checker(
         &self,
         alloc: Global,
         tie_breaker: u64,
@@ -198,7 +196,7 @@ impl<'a> Side<'a> {
         };
         match Checker::offer(alloc, local, tie_breaker, role_if(is_controlling)) {
             Ok(checker) => Ok(checker),
-            Err(error) => Err(refusal_of_building(error)),
+            Err(error) => Err(convert_build_error(error)),
         }
     }
 
@@ -215,7 +213,7 @@ impl<'a> Side<'a> {
         };
         match checker.set_remote(remote) {
             Ok(()) => Ok(()),
-            Err(error) => Err(refusal_of_building(error)),
+            Err(error) => Err(convert_build_error(error)),
         }
     }
 

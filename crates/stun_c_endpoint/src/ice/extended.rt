@@ -9,7 +9,7 @@ ghost use Rattle.stun_c_endpoint.specs.Kept.{agent_of};
 use crate::client::body::after;
 use crate::handle::endpoint::Kept;
 use crate::ice::told::IceCheck;
-use crate::ice::writing::{hand_out, refusal_of_check};
+use crate::ice::writing::{convert_check_error, hand_out};
 use std::alloc::Global;
 use std::net::SocketAddr;
 use stun_handles::address::Address;
@@ -76,7 +76,7 @@ fn with_all(page: MessageWriteVec<Global>, bytes: &[u8]) -> Result<MessageWriteV
 }
 
 /// Creates a check with the attributes that `body` encodes.
-fn extended(
+fn make_extended(
     checker: &Checker<Global>,
     id: TransactionId,
     to: SocketAddr,
@@ -88,7 +88,7 @@ fn extended(
 {
     let begun = match checker.begin_check(id, priority, nominate) {
         Ok(page) => page,
-        Err(error) => return Err(refusal_of_check(error)),
+        Err(error) => return Err(convert_check_error(error)),
     };
     let page = match with_all(begun, body) {
         Ok(page) => page,
@@ -117,7 +117,7 @@ fn write(
 {
     let to = to.socket()?;
     let id = transaction_id(id)?;
-    match extended(checker, id, to, priority, nominate, body) {
+    match make_extended(checker, id, to, priority, nominate, body) {
         Ok(written) => hand_out(&written, out, check),
         Err(refusal) => Err(refusal),
     }

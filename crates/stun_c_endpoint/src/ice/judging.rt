@@ -24,7 +24,7 @@ use stun_numbers::refusal::Refusal;
 
 /// Converts the check that a caller passes. Returns `None` if `has_check` is false. Otherwise fails
 /// with `BadArgument` if the address in the check is not an IPv4 or IPv6 address.
-fn stored(
+fn convert_check(
     alloc: Global,
     has_check: bool,
     check: &IceCheck,
@@ -87,7 +87,7 @@ fn judge(
         return Err(Refusal::BadArgument);
     }
     let from = from.socket()?;
-    let check = stored(alloc, has_check, check)?;
+    let check = convert_check(alloc, has_check, check)?;
     let before = checker.role();
     let seen = checker.receive(message, from, check.as_ref())?;
     tell(checker, before, seen, out, received)
@@ -122,7 +122,7 @@ fn tell(
             Ok(1)
         }
         Received::Response(outcome) => {
-            ended(&outcome, received);
+            tell_outcome(&outcome, received);
             Ok(4)
         }
         Received::Indication(_) => {
@@ -133,13 +133,11 @@ fn tell(
             received.dropped(why);
             Ok(0)
         }
-        // There is no other variant in this release.
-        _ => Err(Refusal::BadArgument),
     }
 }
 
 /// Writes to `received` the outcome of a check of this agent that its answer has ended.
-fn ended(outcome: &Outcome, received: &mut IceReceived)
+fn tell_outcome(outcome: &Outcome, received: &mut IceReceived)
     ensures told { received.new ≡ outcome_told outcome.now received.new.mapped
         (ice_blank 4 received.old) }
     ensures mapped { TellsMapped (responded outcome.now) received.new.mapped }
@@ -148,7 +146,5 @@ fn ended(outcome: &Outcome, received: &mut IceReceived)
         Outcome::Valid(mapped) => received.valid(mapped),
         Outcome::RoleConflict { switched } => received.conflict(*switched),
         Outcome::Failed(failure) => received.failed(*failure),
-        // There is no other variant in this release.
-        _ => {}
     }
 }

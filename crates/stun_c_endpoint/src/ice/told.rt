@@ -90,8 +90,6 @@ fn drop_number(why: DropReason) -> u32
         DropReason::OtherMethod => 5,
         DropReason::NotAsked => 6,
         DropReason::WrongSignature => 7,
-        // There is no other variant in this release.
-        _ => 0,
     }
 }
 
@@ -148,12 +146,12 @@ impl IceReceived {
         } }
     {
         self.begin(1);
-        self.judged(judged);
+        self.set_judged(judged);
         self.length = length;
     }
 
     /// Sets the fields that say how a check of the peer was judged.
-    fn judged(&mut self, judged: Judged)
+    fn set_judged(&mut self, judged: Judged)
         ensures { self.new ≡ judged_told judged self.old }
     {
         match judged {
@@ -175,8 +173,6 @@ impl IceReceived {
                 self.outcome = 3;
                 self.code = u32::from(refusal.code());
             }
-            // There is no other variant in this release.
-            _ => {}
         }
     }
 
@@ -223,8 +219,6 @@ impl IceReceived {
                 self.not_understood = kind.value();
             }
             Failure::Malformed => self.outcome = 9,
-            // There is no other variant in this release.
-            _ => {}
         }
     }
 }

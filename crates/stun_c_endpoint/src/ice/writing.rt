@@ -17,14 +17,12 @@ use stun_numbers::id::transaction_id;
 use stun_numbers::refusal::Refusal;
 
 /// Converts the library's error for a check that could not be written.
-pub(crate) fn refusal_of_check(error: CheckError) -> Refusal
+pub(crate) fn convert_check_error(error: CheckError) -> Refusal
     ensures { result ≡ refusal_of_check error }
 {
     match error {
         CheckError::NoRemote => Refusal::CannotSign,
         CheckError::OutOfMemory => Refusal::OutOfMemory,
-        // There is no other variant in this release.
-        _ => Refusal::BadArgument,
     }
 }
 
@@ -67,7 +65,7 @@ fn write(
     let id = transaction_id(id)?;
     match checker.check(id, to, priority, nominate) {
         Ok(written) => hand_out(&written, out, check),
-        Err(error) => Err(refusal_of_check(error)),
+        Err(error) => Err(convert_check_error(error)),
     }
 }
 

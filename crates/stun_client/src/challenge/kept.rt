@@ -25,7 +25,7 @@ impl<A: Memory> KeptChallenge<A> {
     ghost use Rattle.stun_client.specs.code.Kept.{challenge_seen};
 
     /// Copies the parts. Fails if an allocation fails.
-    pub(crate) fn copied(&self) -> Result<Self, AllocError>
+    pub(crate) fn copy(&self) -> Result<Self, AllocError>
         ensures copy { IfOk result (λ copy. challenge_seen copy ≡ challenge_seen self.now) }
         ensures granted { A.grants → IsOk result }
     {

@@ -102,7 +102,7 @@ pub(crate) fn are_entries(bytes: &[u8]) -> bool
 
 /// Returns the integrity algorithm whose key is made by the password algorithm of an entry. Returns
 /// `None` if the number of the password algorithm is unknown, or if the entry has parameters.
-fn known(entry: &RawAttribute<'_>) -> Option<IntegrityAlgorithm>
+fn read_algorithm(entry: &RawAttribute<'_>) -> Option<IntegrityAlgorithm>
     ensures { result ≡ known entry.now }
 {
     if entry.length() != 0 {
@@ -117,10 +117,10 @@ fn known(entry: &RawAttribute<'_>) -> Option<IntegrityAlgorithm>
 
 /// Returns the integrity algorithm of an entry, or `None` if it is unknown or the client does not
 /// support it.
-fn supported(preferences: Preferences, entry: &RawAttribute<'_>) -> Option<IntegrityAlgorithm>
+fn read_supported(preferences: Preferences, entry: &RawAttribute<'_>) -> Option<IntegrityAlgorithm>
     ensures { result ≡ if_supported preferences (known entry.now) }
 {
-    match known(entry) {
+    match read_algorithm(entry) {
         Some(algorithm) if preferences.supports(algorithm) => Some(algorithm),
         _ => None,
     }
@@ -128,12 +128,12 @@ fn supported(preferences: Preferences, entry: &RawAttribute<'_>) -> Option<Integ
 
 /// Returns the first algorithm in a list that the client supports, or `None` if it supports none of
 /// them. Unknown entries are skipped.
-pub(crate) fn first_supported(preferences: Preferences, list: &[u8]) -> Option<IntegrityAlgorithm>
+pub(crate) fn find_supported(preferences: Preferences, list: &[u8]) -> Option<IntegrityAlgorithm>
     ensures { result ≡ find (supports preferences) (algorithms_in list.now) }
 {
     let mut place = 0;
     while let Some(entry) = RawAttribute::at(list, place) {
-        if let Some(algorithm) = supported(preferences, &entry) {
+        if let Some(algorithm) = read_supported(preferences, &entry) {
             return Some(algorithm);
         }
         place += entry.padded_len();

@@ -11,7 +11,7 @@ use stun_types::message::{Message, MessageClass};
 
 /// Returns the error code of a message, or `None` if the message is not an error response with a
 /// well-formed ERROR-CODE.
-pub(crate) fn code_of(message: &Message<'_>) -> Option<u16>
+pub(crate) fn read_code(message: &Message<'_>) -> Option<u16>
     ensures { result ≡ code_in message.now }
 {
     if message.class() != MessageClass::Error {
@@ -27,14 +27,14 @@ pub(crate) fn code_of(message: &Message<'_>) -> Option<u16>
 pub(crate) fn is_challenge(message: &Message<'_>) -> bool
     ensures { result ≡ is_challenge message.now }
 {
-    match code_of(message) {
+    match read_code(message) {
         Some(code) => code == ErrorCode::UNAUTHORIZED || code == ErrorCode::STALE_NONCE,
         None => false,
     }
 }
 
 /// Returns the text of REALM, or `None` if it is missing or malformed.
-pub(crate) fn realm_of<'a>(message: &Message<'a>) -> Option<&'a str>
+pub(crate) fn read_realm<'a>(message: &Message<'a>) -> Option<&'a str>
     ensures text { option_copied result ≡ realm_in message.now }
     ensures short { option_map_or (λ text. length text.now) result 0 ≤ TEXT_LIMIT }
 {
@@ -45,7 +45,7 @@ pub(crate) fn realm_of<'a>(message: &Message<'a>) -> Option<&'a str>
 }
 
 /// Returns the text of NONCE, or `None` if it is missing or malformed.
-pub(crate) fn nonce_of<'a>(message: &Message<'a>) -> Option<&'a str>
+pub(crate) fn read_nonce<'a>(message: &Message<'a>) -> Option<&'a str>
     ensures text { option_copied result ≡ nonce_in message.now }
     ensures short { option_map_or (λ text. length text.now) result 0 ≤ TEXT_LIMIT }
 {
@@ -57,7 +57,7 @@ pub(crate) fn nonce_of<'a>(message: &Message<'a>) -> Option<&'a str>
 
 /// Returns the value of PASSWORD-ALGORITHMS, or `None` if it is missing or not a sequence of whole
 /// entries.
-pub(crate) fn list_of<'a>(message: &Message<'a>) -> Option<&'a [u8]>
+pub(crate) fn read_list<'a>(message: &Message<'a>) -> Option<&'a [u8]>
     ensures { option_copied result ≡ list_in message.now }
 {
     match message.attribute::<Offer<'a>>() {

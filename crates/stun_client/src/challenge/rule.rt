@@ -3,7 +3,7 @@ ghost use Rattle.std.specs.Prelude.{◌≡◌};
 ghost use Rattle.stun_client.specs.Challenges.{has_same_bits, is_same_bit};
 ghost use Rattle.stun_client.specs.Rule.{chosen, is_hashed, lacks_userhash};
 
-use crate::challenge::offer::first_supported;
+use crate::challenge::offer::find_supported;
 use crate::preferences::Preferences;
 use stun_judging::nonce::{asks_for_algorithms, asks_for_userhash};
 use stun_types::message::IntegrityAlgorithm;
@@ -38,7 +38,7 @@ pub(crate) fn lacks_userhash(preferences: Preferences, nonce: &str) -> bool
 }
 
 /// Returns the algorithm for a nonce and a list, or `None` if the client ignores the challenge.
-pub(crate) fn chosen(
+pub(crate) fn choose_algorithm(
     preferences: Preferences,
     nonce: &str,
     list: &[u8],
@@ -46,7 +46,7 @@ pub(crate) fn chosen(
     ensures { result ≡ chosen preferences nonce.now list.now }
 {
     if asks_for_algorithms(nonce) {
-        return first_supported(preferences, list);
+        return find_supported(preferences, list);
     }
     if preferences.supports(IntegrityAlgorithm::Sha1) {
         Some(IntegrityAlgorithm::Sha1)

@@ -91,7 +91,7 @@ impl<A: Allocator> KeptChallenge<A> {
     }
 
     /// Adds to a message the attributes that the challenge requires, and returns the writer.
-    fn signed<W: MessageWrite>(&self, writer: W) -> Result<W, StunWriteError>
+    fn sign<W: MessageWrite>(&self, writer: W) -> Result<W, StunWriteError>
         requires { 20 ≤ length (W.bytes writer) }
         ensures outcome { UnlessMemory result (written_page W.bytes W.room result
             ≡ added_all (challenge_additions true (challenge_seen self.now))
@@ -165,6 +165,6 @@ impl<A: Allocator> Challenge<A> {
         stun_types::laws::signed_message_stands();
         signed_requests_are_not_bid_down();
         self.kept.keeps_texts();
-        self.kept.signed(writer)
+        self.kept.sign(writer)
     }
 }

@@ -21,11 +21,11 @@ ghost use Rattle.stun_client_calls.specs.code.Acting.{IsExchanged, confirmed_in,
 ghost use Rattle.stun_client_requests.specs.Requests.{after_answering, datum_of, number_at};
 
 use crate::asked::{Asked, End};
-use crate::deciding::copied;
+use crate::deciding::copy_challenge;
 use crate::endpoint::ClientEndpoint;
-use crate::endpoint::changing::nothing;
+use crate::endpoint::changing::make_placeholder;
 use crate::turning::{Turn, Why};
-use crate::writing::message as written;
+use crate::writing::message as write_message;
 use std::alloc::AllocError;
 use std::collections::BTreeMap;
 use std::marker::Model;
@@ -81,13 +81,13 @@ impl<A: Memory> ClientEndpoint<A> {
         let Ok(response) = A::copied(self.alloc, message.as_bytes()) else {
             return self.drop_for(number, DropReason::OutOfMemory, message);
         };
-        let Ok(confirmed) = self.confirmed_by(number, is_current, message) else {
+        let Ok(confirmed) = self.copy_confirmed(number, is_current, message) else {
             return self.drop_for(number, DropReason::OutOfMemory, message);
         };
         let end = End {
             end: RequestEnd::Answered(Outcome::of(message, &self.understood), by),
             response,
-            round_trip: self.round_trip_of(number, is_current, now),
+            round_trip: self.measure_round_trip(number, is_current, now),
         };
         let Some(asked) = self.end_by(number, is_current, end, message, now) else {
             return Received::NotOurs;
@@ -100,7 +100,7 @@ impl<A: Memory> ClientEndpoint<A> {
     /// Returns the time between a message of a request and a response to it that arrives at `now`.
     /// Returns `None` unless the message is the current one and `poll` has returned its bytes
     /// exactly once.
-    fn round_trip_of(&self, number: u64, is_current: bool, now: Instant) -> Option<Duration>
+    fn measure_round_trip(&self, number: u64, is_current: bool, now: Instant) -> Option<Duration>
         ensures { (a : AskedSeen) → datum_of number self.now.requests ≡ Some a
             → option_map as_nanos result
             ≡ if is_current then round_trip now a.handed_out else None }
@@ -114,7 +114,7 @@ impl<A: Memory> ClientEndpoint<A> {
 
     /// Returns the challenge that a success confirms: the challenge that the answered message is
     /// signed for. An error response confirms no challenge. Fails if an allocation fails.
-    fn confirmed_by(
+    fn copy_confirmed(
         &self,
         number: u64,
         is_current: bool,
@@ -132,10 +132,10 @@ impl<A: Memory> ClientEndpoint<A> {
             return Ok(None);
         };
         if is_current {
-            return copied(asked.signed_for());
+            return copy_challenge(asked.signed_for());
         }
         match asked.message(message.transaction_id()) {
-            Some((_, sent)) => copied(sent.signed_for()),
+            Some((_, sent)) => copy_challenge(sent.signed_for()),
             None => Ok(None),
         }
     }
@@ -204,12 +204,12 @@ impl<A: Memory> ClientEndpoint<A> {
             → (result, self.new) ≡ turned_at all_memory self.old now message.now m why signed_for
             (spot_of self.old m.asked place) }
     {
-        let Some(spot) = self.spot(number, place) else {
+        let Some(spot) = self.find_spot(number, place) else {
             return self.drop_for(number, DropReason::OutOfMemory, message);
         };
-        match self.bytes_for(number, spot.id, &signed_for) {
+        match self.write_bytes(number, spot.id, &signed_for) {
             Ok(bytes) => self.turn_to(number, why, spot, signed_for, bytes, message, now),
-            Err(error) => self.drop_for(number, reason_for(why, error), message),
+            Err(error) => self.drop_for(number, explain_failure(why, error), message),
         }
     }
 
@@ -217,7 +217,7 @@ impl<A: Memory> ClientEndpoint<A> {
     /// current one: the earlier message at `place`, or a new one if `place` is `None`. Returns
     /// `None` if no transaction ID is left for a new message, or if a current message has the
     /// transaction ID of the earlier one.
-    fn spot(&self, number: u64, place: Option<(u32, TransactionId)>) -> Option<Spot>
+    fn find_spot(&self, number: u64, place: Option<(u32, TransactionId)>) -> Option<Spot>
         ensures { (a : AskedSeen) → datum_of number self.now.requests ≡ Some a
             → result ≡ spot_of self.now a place }
     {
@@ -236,7 +236,7 @@ impl<A: Memory> ClientEndpoint<A> {
                 })
             }
             None => {
-                let free = self.chosen()?;
+                let free = self.choose_id()?;
                 Some(Spot {
                     id: free.id,
                     rank: asked.next_rank(),
@@ -247,7 +247,7 @@ impl<A: Memory> ClientEndpoint<A> {
     }
 
     /// Writes the message of a request with this transaction ID, signed for this challenge.
-    fn bytes_for(
+    fn write_bytes(
         &self,
         number: u64,
         id: TransactionId,
@@ -267,7 +267,7 @@ impl<A: Memory> ClientEndpoint<A> {
             return Err(StunWriteError::OutOfMemory);
         };
         let signed_for = signed_for.as_ref();
-        written(
+        write_message(
             self.alloc,
             &self.form,
             &self.credentials,
@@ -299,7 +299,7 @@ impl<A: Memory> ClientEndpoint<A> {
             → (result, self.new) ≡ turned_to all_memory self.old now message.now m why signed_for
             spot bytes.items }
     {
-        let Ok(answered) = copied(&signed_for) else {
+        let Ok(answered) = copy_challenge(&signed_for) else {
             return self.drop_for(number, DropReason::OutOfMemory, message);
         };
         let turn = Turn {
@@ -314,7 +314,7 @@ impl<A: Memory> ClientEndpoint<A> {
             return self.drop_for(number, DropReason::OutOfMemory, message);
         };
         let plan = asked.plan(self.plan);
-        let empty = nothing(self.alloc, asked.method());
+        let empty = make_placeholder(self.alloc, asked.method());
         let response = (message.as_bytes().len(), Some(now));
         match self
             .requests
@@ -366,19 +366,19 @@ fn note<A: Memory>(
 
 /// Returns the reason to drop a response after which another message should be sent, if writing
 /// that message has failed with `error`.
-fn reason_for(why: Why, error: StunWriteError) -> DropReason
+fn explain_failure(why: Why, error: StunWriteError) -> DropReason
     ensures memory { error ≡ StunWriteError.OutOfMemory → result ≡ DropReason.OutOfMemory }
     ensures other { (error ≡ StunWriteError.OutOfMemory) ⊎ (result ≡ unwritten why) }
 {
     match error {
         StunWriteError::OutOfMemory => DropReason::OutOfMemory,
-        _ => unwritten(why),
+        _ => explain_unwritten(why),
     }
 }
 
 /// Returns the reason to drop a response after which another message should be sent, if no valid
 /// message can be written.
-fn unwritten(why: Why) -> DropReason
+fn explain_unwritten(why: Why) -> DropReason
     ensures { result ≡ unwritten why }
 {
     if why.is_doubt() {

@@ -12,7 +12,7 @@ use stun_types::message::Method;
 
 /// Returns a placeholder for the state of a request, which the table holds while the state is
 /// changed. It does not allocate.
-pub(crate) fn nothing<A: Allocator + Copy>(alloc: A, method: Method) -> Asked<A>
+pub(crate) fn make_placeholder<A: Allocator + Copy>(alloc: A, method: Method) -> Asked<A>
     ensures { result ≡ new_asked method [] None 0 None }
 {
     Asked::new(alloc, method, Body::new(alloc), None, Instant::ZERO, None)
@@ -32,7 +32,7 @@ pub(crate) fn change<A: Allocator + Copy>(
         return;
     };
     let method = asked.method();
-    if let Some(asked) = requests.replace(number, nothing(alloc, method)) {
+    if let Some(asked) = requests.replace(number, make_placeholder(alloc, method)) {
         requests.replace(number, asked.changed(change));
     }
 }

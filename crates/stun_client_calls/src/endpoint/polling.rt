@@ -30,8 +30,6 @@ impl<A: Allocator + Copy> ClientEndpoint<A> {
             OfRequests::Ended(number, end) => Polled::Ended(number, end),
             OfRequests::TimedOut(number, asked) => self.time_out(number, asked),
             OfRequests::Wait(until) => Polled::Wait(until),
-            // `OfRequests` has no other variant.
-            _ => Polled::Wait(None),
         }
     }
 

@@ -105,7 +105,7 @@ impl<A: Memory> ClientEndpoint<A> {
     {
         match message.class() {
             MessageClass::Request => Received::NotOurs,
-            MessageClass::Indication => self.indicated(message, from),
+            MessageClass::Indication => self.receive_indication(message, from),
             MessageClass::Success => self.respond(&message, from, now),
             MessageClass::Error => self.respond(&message, from, now),
         }
@@ -113,7 +113,7 @@ impl<A: Memory> ClientEndpoint<A> {
 
     /// Returns `Received::Indication` if the indication came from the server, and
     /// `Received::NotOurs` otherwise.
-    fn indicated<'a>(&self, message: Message<'a>, from: SocketAddr) -> Received<'a>
+    fn receive_indication<'a>(&self, message: Message<'a>, from: SocketAddr) -> Received<'a>
         ensures { (result, self.now) ≡ indicated from message.entry self.now }
     {
         if is_same_address(from, self.server) {
@@ -141,7 +141,7 @@ impl<A: Memory> ClientEndpoint<A> {
         ensures granted { A.grants → (result, self.new)
             ≡ by_met all_memory self.old now message.now (heard_in from message.now self.old) }
     {
-        let Some(met) = self.heard(message, from) else {
+        let Some(met) = self.find_answered_from(message, from) else {
             return Received::NotOurs;
         };
         let number = met.number;
@@ -154,10 +154,10 @@ impl<A: Memory> ClientEndpoint<A> {
 
     /// Returns the message that a response answers. Returns `None` if it answers no message of an
     /// outstanding request, or if `from` is not the address that answers the request.
-    fn heard(&self, message: &Message<'_>, from: SocketAddr) -> Option<Met<'_, A>>
+    fn find_answered_from(&self, message: &Message<'_>, from: SocketAddr) -> Option<Met<'_, A>>
         ensures { result ≡ heard_in from message.now self.now }
     {
-        let met = self.answered(message)?;
+        let met = self.find_answered(message)?;
         if is_same_address(from, met.asked.address(self.server)) {
             Some(met)
         } else {
@@ -167,10 +167,10 @@ impl<A: Memory> ClientEndpoint<A> {
 
     /// Returns the message that a response answers, whatever address the response comes from.
     /// Returns `None` if it answers no message of an outstanding request.
-    fn answered(&self, message: &Message<'_>) -> Option<Met<'_, A>>
+    fn find_answered(&self, message: &Message<'_>) -> Option<Met<'_, A>>
         ensures { result ≡ answered_in message.now self.now }
     {
-        let met = self.met(message.transaction_id())?;
+        let met = self.find_message(message.transaction_id())?;
         if is_answer(met.asked.method(), message) {
             Some(met)
         } else {
@@ -179,18 +179,18 @@ impl<A: Memory> ClientEndpoint<A> {
     }
 
     /// Returns the current or earlier message with this transaction ID, or `None` if there is none.
-    fn met(&self, id: TransactionId) -> Option<Met<'_, A>>
+    fn find_message(&self, id: TransactionId) -> Option<Met<'_, A>>
         ensures { result ≡ met id self.now }
     {
         match self.requests.number_of(id) {
-            Some(number) => self.current(number),
-            None => self.earlier(id),
+            Some(number) => self.find_current(number),
+            None => self.find_earlier(id),
         }
     }
 
     /// Returns the current message of a request, or `None` if no outstanding request has this
     /// number.
-    fn current(&self, number: u64) -> Option<Met<'_, A>>
+    fn find_current(&self, number: u64) -> Option<Met<'_, A>>
         ensures { result ≡ current_of self.now number }
     {
         let asked = self.requests.datum_of(number)?;
@@ -203,7 +203,7 @@ impl<A: Memory> ClientEndpoint<A> {
     }
 
     /// Returns the earlier message with this transaction ID, or `None` if there is none.
-    fn earlier(&self, id: TransactionId) -> Option<Met<'_, A>>
+    fn find_earlier(&self, id: TransactionId) -> Option<Met<'_, A>>
         ensures { result ≡ option_and_then (earlier_of id self.now) (number_in id self.now.earlier) }
     {
         let Some(number) = self.earlier.get(&id) else {
@@ -246,11 +246,11 @@ impl<A: Memory> ClientEndpoint<A> {
             met.signed_for,
             message,
         )?;
-        decide(met.asked, &self.standing, self.limits(), judged, now)
+        decide(met.asked, &self.standing, self.make_limits(), judged, now)
     }
 
     /// Returns the limits on the messages of a request.
-    fn limits(&self) -> Limits
+    fn make_limits(&self) -> Limits
         ensures { (a : AskedSeen) → result ≡ (judge_for self.now a).limits }
     {
         Limits {

@@ -15,10 +15,10 @@ ghost use Rattle.stun_client_endpoint.specs.Written.{is_text_too_long, request_b
 ghost use Rattle.stun_client_requests.specs.Requests.{LAST_NUMBER, after_start, start_refusal};
 
 use crate::asked::Asked;
-use crate::deciding::copied;
+use crate::deciding::copy_challenge;
 use crate::endpoint::ClientEndpoint;
 use crate::ids::{NumberedId, free_number};
-use crate::options::{RequestOptions, plan_by};
+use crate::options::{RequestOptions, choose_plan};
 use std::alloc::AllocError;
 use std::time::Duration;
 use stun_agent::agent::RequestRto;
@@ -129,20 +129,20 @@ impl<A: Memory> ClientEndpoint<A> {
             ≡ started method body (option_map options_of options) now self.old) }
         ensures same { OnErr result (self.new ≡ self.old) }
     {
-        let Some(free) = self.chosen() else {
+        let Some(free) = self.choose_id() else {
             return Err(RequestError::NoId);
         };
         // A method has 12 bits, so the message begins with the header of a request.
         prove!(method.value() < 4096);
-        let bytes = self.first_message(method, free.id, &body, options)?;
-        let Ok(asked) = self.first_asked(method, body, options, now) else {
+        let bytes = self.write_first_message(method, free.id, &body, options)?;
+        let Ok(asked) = self.make_first_asked(method, body, options, now) else {
             return Err(RequestError::OutOfMemory);
         };
         self.start(free, bytes, asked, now)
     }
 
     /// Returns the transaction ID of the next message and its number, or `None` if no ID is left.
-    pub(crate) fn chosen(&self) -> Option<NumberedId>
+    pub(crate) fn choose_id(&self) -> Option<NumberedId>
         ensures chosen { option_map (λ free. free.number) result ≡ chosen self.now }
         ensures named { IfSome result (λ free. free.id ≡ id_of self.now.seed free.number) }
         ensures low { IfSome result (λ free. free.number < LAST_NUMBER) }
@@ -151,7 +151,7 @@ impl<A: Memory> ClientEndpoint<A> {
     }
 
     /// Writes the first message of a request, with this transaction ID.
-    fn first_message(
+    fn write_first_message(
         &self,
         method: Method,
         id: TransactionId,
@@ -176,21 +176,21 @@ impl<A: Memory> ClientEndpoint<A> {
             → result ≡ Err RequestError.TooLarge }
     {
         let Some(options) = options else {
-            return self.signed_message(method, id, body);
+            return self.write_signed_message(method, id, body);
         };
         if options.is_signed {
-            return self.signed_message(method, id, body);
+            return self.write_signed_message(method, id, body);
         }
         let unsigned = Credentials::Unsigned;
         let challenge: Option<Challenge<A>> = None;
         let signed_for = challenge.as_ref();
-        message(
+        write_request(
             self.alloc, &self.form, &unsigned, signed_for, method, id, body,
         )
     }
 
     /// Writes the first message of a request that is signed with the credentials of the client.
-    fn signed_message(
+    fn write_signed_message(
         &self,
         method: Method,
         id: TransactionId,
@@ -209,7 +209,7 @@ impl<A: Memory> ClientEndpoint<A> {
     {
         let signed_for = self.standing.current().as_ref();
         let credentials = &self.credentials;
-        message(
+        write_request(
             self.alloc,
             &self.form,
             credentials,
@@ -221,7 +221,7 @@ impl<A: Memory> ClientEndpoint<A> {
     }
 
     /// Returns the state of a request that is being started. Fails if an allocation fails.
-    fn first_asked(
+    fn make_first_asked(
         &self,
         method: Method,
         body: Body<A>,
@@ -232,15 +232,15 @@ impl<A: Memory> ClientEndpoint<A> {
             ≡ first_asked self.now method body (option_map options_of options) now) }
         ensures granted { A.grants → IsOk result }
     {
-        let signed_for = self.first_challenge(options)?;
-        let until = now + plan_of(plan_by(options, self.plan));
-        let stored = boxed(self.alloc, options)?;
+        let signed_for = self.copy_first_challenge(options)?;
+        let until = now + measure_plan(choose_plan(options, self.plan));
+        let stored = box_options(self.alloc, options)?;
         Ok(Asked::new(self.alloc, method, body, stored, until, signed_for))
     }
 
     /// Copies the challenge that a new request is signed for, or returns `None` if the request is
     /// not signed. Fails if an allocation fails.
-    fn first_challenge(
+    fn copy_first_challenge(
         &self,
         options: Option<RequestOptions>,
     ) -> Result<Option<Challenge<A>>, AllocError>
@@ -249,10 +249,10 @@ impl<A: Memory> ClientEndpoint<A> {
         ensures granted { A.grants → IsOk result }
     {
         let Some(options) = options else {
-            return copied(self.standing.current());
+            return copy_challenge(self.standing.current());
         };
         if options.is_signed {
-            copied(self.standing.current())
+            copy_challenge(self.standing.current())
         } else {
             Ok(None)
         }
@@ -285,13 +285,13 @@ impl<A: Memory> ClientEndpoint<A> {
                 self.next_id = free.number + 1;
                 Ok(number)
             }
-            Err(refusal) => Err(error_of(refusal)),
+            Err(refusal) => Err(to_error(refusal)),
         }
     }
 }
 
 /// Writes a message that is signed for this challenge.
-fn message<A: Memory>(
+fn write_request<A: Memory>(
     alloc: A,
     form: &Form<A>,
     credentials: &Credentials<A>,
@@ -319,7 +319,7 @@ fn message<A: Memory>(
 }
 
 /// Puts options into a box. Fails if an allocation fails.
-fn boxed<A: Memory>(
+fn box_options<A: Memory>(
     alloc: A,
     options: Option<RequestOptions>,
 ) -> Result<Option<Box<RequestOptions, A>>, AllocError>
@@ -334,7 +334,7 @@ fn boxed<A: Memory>(
 }
 
 /// Converts the reason why the table of requests has refused a request to an error.
-fn error_of(refusal: StartRefusal) -> RequestError
+fn to_error(refusal: StartRefusal) -> RequestError
     ensures { result ≡ error_of refusal }
 {
     match refusal {
@@ -345,7 +345,7 @@ fn error_of(refusal: StartRefusal) -> RequestError
 
 /// Returns the duration of a plan: the time from the first transmission of a message until the
 /// client stops waiting for a response.
-fn plan_of(timeouts: RequestRto) -> Duration
+fn measure_plan(timeouts: RequestRto) -> Duration
     ensures { as_nanos result ≡ plan_of (settings_of timeouts) }
 {
     // Over TCP the client waits as long as a plan over UDP takes.

@@ -58,7 +58,7 @@ impl<A: Memory> Server<A> {
             ≡ false → IsOk result }
         ensures granted { A.grants → IsOk result }
     {
-        self.received_with_cause(bytes, from, now, &Judges::Table(&users.realm))
+        self.judge_datagram_with_cause(bytes, from, now, &Judges::Table(&users.realm))
     }
 
     /// Judges a datagram like `receive_for`, and also returns why it is refused, as `cause_for`
@@ -85,12 +85,12 @@ impl<A: Memory> Server<A> {
             ≡ false → IsOk result }
         ensures granted { A.grants → IsOk result }
     {
-        self.received_with_cause(bytes, from, now, &self.judges(user))
+        self.judge_datagram_with_cause(bytes, from, now, &self.choose_judges(user))
     }
 
     /// Returns the outcome of a datagram, and the cause of its refusal, or `None` if it is not
     /// refused.
-    fn received_with_cause<'a>(
+    fn judge_datagram_with_cause<'a>(
         &'a self,
         bytes: &'a [u8],
         from: SocketAddr,
@@ -108,9 +108,9 @@ impl<A: Memory> Server<A> {
         match self.read(bytes) {
             Arrived::Request(message, has_fingerprint) => {
                 let read = ReadMessage::of(&message);
-                self.request_with_cause(&read, from, now, judges, has_fingerprint)
+                self.judge_request_with_cause(&read, from, now, judges, has_fingerprint)
             }
-            Arrived::Indication(message) => Ok((self.indication(message), None)),
+            Arrived::Indication(message) => Ok((self.judge_indication(message), None)),
             Arrived::Response(message) => Ok((Received::Response(message), None)),
             Arrived::Dropped(reason) => Ok((Received::Dropped(reason), None)),
         }
@@ -118,7 +118,7 @@ impl<A: Memory> Server<A> {
 
     /// Returns the outcome of a request, and the cause of its refusal, or `None` if it is not
     /// refused.
-    fn request_with_cause<'a>(
+    fn judge_request_with_cause<'a>(
         &'a self,
         read: &ReadMessage<'a, '_>,
         from: SocketAddr,
@@ -136,23 +136,23 @@ impl<A: Memory> Server<A> {
             (credential_cause self.now (realm_of judges.now) from now (reading_of read.now))) }
         ensures granted { A.grants → IsOk result }
     {
-        let mut buffer = self.responder.buffer();
-        let epoch = self.epoch(now);
-        let nonce = self.nonce_in(&self.secret, from, epoch)?;
-        match self.judged_in(judges, read, from, epoch, &nonce)? {
+        let mut buffer = self.responder.make_buffer();
+        let epoch = self.compute_epoch(now);
+        let nonce = self.make_nonce(&self.secret, from, epoch)?;
+        match self.judge_in(judges, read, from, epoch, &nonce)? {
             Ok(accepted) => {
-                self.accepted_with_cause(read, from, accepted, has_fingerprint, &mut buffer)
+                self.accept_with_cause(read, from, accepted, has_fingerprint, &mut buffer)
             }
             Err(refusal) => {
                 let text = nonce.as_str();
-                self.refused_with_cause(read, from, text, refusal, has_fingerprint, &mut buffer)
+                self.refuse_with_cause(read, from, text, refusal, has_fingerprint, &mut buffer)
             }
         }
     }
 
     /// Returns the outcome of a request whose user is accepted. The cause is `UnknownAttribute` if
     /// the outcome is a 420, and `None` otherwise.
-    fn accepted_with_cause<'a>(
+    fn accept_with_cause<'a>(
         &self,
         read: &ReadMessage<'a, '_>,
         from: SocketAddr,
@@ -170,13 +170,13 @@ impl<A: Memory> Server<A> {
             accepted.entry.client)) }
         ensures granted { A.grants → IsOk result }
     {
-        let received = self.accepted(read, from, accepted, has_fingerprint, buffer)?;
-        let cause = unknown_in(&received);
+        let received = self.accept(read, from, accepted, has_fingerprint, buffer)?;
+        let cause = find_unknown_cause_in(&received);
         Ok((received, cause))
     }
 
     /// Returns the outcome of a refused request, and the cause of the refusal.
-    fn refused_with_cause<'a>(
+    fn refuse_with_cause<'a>(
         &'a self,
         read: &ReadMessage<'a, '_>,
         from: SocketAddr,
@@ -194,14 +194,14 @@ impl<A: Memory> Server<A> {
             ≡ Some (cause_by_refusal self.now nonce.now (reading_of read.now) refusal)) }
         ensures granted { A.grants → IsOk result }
     {
-        let cause = self.refused_cause(read, nonce, refusal);
-        let received = self.refused(read, from, nonce, refusal, has_fingerprint, buffer)?;
+        let cause = self.find_refusal_cause(read, nonce, refusal);
+        let received = self.refuse(read, from, nonce, refusal, has_fingerprint, buffer)?;
         Ok((received, Some(cause)))
     }
 }
 
 /// Returns `UnknownAttribute` if this outcome is a 420, and `None` otherwise.
-fn unknown_in<A: Allocator>(received: &Received<'_, A>) -> Option<Cause>
+fn find_unknown_cause_in<A: Allocator>(received: &Received<'_, A>) -> Option<Cause>
     ensures { result ≡ unknown_in (outcome_of received.now) }
 {
     match received {

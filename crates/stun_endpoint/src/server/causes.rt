@@ -30,7 +30,6 @@ use stun_types::message::Message;
 /// Why a server with long-term credentials refuses a request: the first check that the request
 /// fails. The nonce is checked before the user.
 #[derive(Clone, Copy, Debug, PartialEq, Eq)]
-#[non_exhaustive]
 pub enum Cause {
     /// 401: the request has no well-formed MESSAGE-INTEGRITY or MESSAGE-INTEGRITY-SHA256. The first
     /// request of a client is not signed, so this says nothing against the client.
@@ -106,7 +105,7 @@ impl<A: Memory> Server<A> {
             ≡ false → IsOk result }
         ensures granted { A.grants → IsOk result }
     {
-        self.cause_by(bytes, from, now, &Judges::Table(&users.realm))
+        self.find_cause(bytes, from, now, &Judges::Table(&users.realm))
     }
 
     /// Returns why `receive_for` refuses a datagram, or `None` if `receive_for` does not refuse it.
@@ -129,11 +128,11 @@ impl<A: Memory> Server<A> {
             ≡ false → IsOk result }
         ensures granted { A.grants → IsOk result }
     {
-        self.cause_by(bytes, from, now, &self.judges(user))
+        self.find_cause(bytes, from, now, &self.choose_judges(user))
     }
 
     /// Returns why a datagram is refused, or `None` if it is not refused.
-    fn cause_by<'a>(
+    fn find_cause<'a>(
         &'a self,
         bytes: &'a [u8],
         from: SocketAddr,
@@ -149,11 +148,11 @@ impl<A: Memory> Server<A> {
         let Arrived::Request(message, _) = self.read(bytes) else {
             return Ok(None);
         };
-        self.request_cause(&ReadMessage::of(&message), from, now, judges)
+        self.find_request_cause(&ReadMessage::of(&message), from, now, judges)
     }
 
     /// Returns why a request is refused, or `None` if it is accepted.
-    fn request_cause<'a>(
+    fn find_request_cause<'a>(
         &'a self,
         read: &ReadMessage<'a, '_>,
         from: SocketAddr,
@@ -165,17 +164,17 @@ impl<A: Memory> Server<A> {
             (credential_cause self.now (realm_of judges.now) from now (reading_of read.now))) }
         ensures granted { A.grants → IsOk result }
     {
-        let epoch = self.epoch(now);
-        let nonce = self.nonce_in(&self.secret, from, epoch)?;
-        match self.judged_in(judges, read, from, epoch, &nonce)? {
-            Ok(_) => Ok(self.unknown_cause(read.message())),
-            Err(refusal) => Ok(Some(self.refused_cause(read, &nonce, refusal))),
+        let epoch = self.compute_epoch(now);
+        let nonce = self.make_nonce(&self.secret, from, epoch)?;
+        match self.judge_in(judges, read, from, epoch, &nonce)? {
+            Ok(_) => Ok(self.find_unknown_cause(read.message())),
+            Err(refusal) => Ok(Some(self.find_refusal_cause(read, &nonce, refusal))),
         }
     }
 
     /// Returns `UnknownAttribute` if a request whose user is accepted has an attribute that must be
     /// understood but is not, and `None` otherwise.
-    fn unknown_cause(&self, request: &Message<'_>) -> Option<Cause>
+    fn find_unknown_cause(&self, request: &Message<'_>) -> Option<Cause>
         ensures { result ≡ (if is_empty (unknown_types self.now.known request.now) then None
             else Some Cause.UnknownAttribute) }
     {
@@ -188,7 +187,7 @@ impl<A: Memory> Server<A> {
 
     /// Returns the cause of the verdict `refusal` on a request. `nonce` is the current nonce of the
     /// request's source.
-    pub(super) fn refused_cause<'a>(
+    pub(super) fn find_refusal_cause<'a>(
         &'a self,
         read: &ReadMessage<'a, '_>,
         nonce: &str,
@@ -198,9 +197,9 @@ impl<A: Memory> Server<A> {
             ≡ cause_by_refusal self.now nonce.now (reading_of read.now) refusal }
     {
         match told_refusal(refusal, read, nonce) {
-            VerdictRefusal::Unauthorized => self.unauthorized_cause(read, nonce),
+            VerdictRefusal::Unauthorized => self.find_unauthorized_cause(read, nonce),
             VerdictRefusal::StaleNonce => Cause::StaleNonce,
-            VerdictRefusal::BadRequest => bad_cause(read),
+            VerdictRefusal::BadRequest => find_bad_cause(read),
         }
     }
 
@@ -208,7 +207,7 @@ impl<A: Memory> Server<A> {
     /// under the empty nonce too. An unsigned request is unauthorized under every nonce. A signed
     /// request that is judged here has a nonce that is not empty, so under the empty nonce it is
     /// refused for another reason.
-    fn unauthorized_cause<'a>(&'a self, read: &ReadMessage<'a, '_>, nonce: &str) -> Cause
+    fn find_unauthorized_cause<'a>(&'a self, read: &ReadMessage<'a, '_>, nonce: &str) -> Cause
         ensures { result ≡ unauthorized_cause self.now nonce.now (reading_of read.now) }
     {
         if self.is_unauthorized(read) {
@@ -225,7 +224,7 @@ impl<A: Memory> Server<A> {
         ensures { result
             ≡ is_unauthorized (verdict_under_none self.now (reading_of read.now)) }
     {
-        match self.judged_by_nobody(read, "") {
+        match self.judge_by_nobody(read, "") {
             Ok(_) => false,
             Err(VerdictRefusal::Unauthorized) => true,
             Err(VerdictRefusal::BadRequest) => false,
@@ -236,7 +235,7 @@ impl<A: Memory> Server<A> {
 
 /// Returns why a request gets a 400. Under the empty nonce, only a malformed request gets a 400,
 /// because a request that is refused for its algorithms has a nonce that is not empty.
-fn bad_cause(read: &ReadMessage<'_, '_>) -> Cause
+fn find_bad_cause(read: &ReadMessage<'_, '_>) -> Cause
     ensures { result ≡ bad_cause (reading_of read.now) }
 {
     match told_refusal(VerdictRefusal::BadRequest, read, "") {

@@ -73,7 +73,7 @@ impl<A: Memory> Server<A> {
         ensures granted { A.grants → IsOk result }
     {
         let mut buffer = Vec::new(self.alloc);
-        self.identified_in(bytes, from, now, &mut buffer)
+        self.identify_datagram(bytes, from, now, &mut buffer)
     }
 
     /// Judges a datagram like `identify`, and writes the response into a buffer, replacing its
@@ -99,7 +99,7 @@ impl<A: Memory> Server<A> {
         ensures granted { A.grants → IsOk result }
         ensures err { OnErr result (buffer.new.items ≡ []) }
     {
-        match self.identified_in(bytes, from, now, buffer) {
+        match self.identify_datagram(bytes, from, now, buffer) {
             Ok(identified) => Ok(identified.into_buffer(buffer)),
             Err(_) => {
                 buffer.clear();
@@ -111,7 +111,7 @@ impl<A: Memory> Server<A> {
     /// Judges a datagram as far as that is possible without its user. A response takes over the
     /// memory of the buffer.
     #[tactic(auto, using(crate::proofs::DroppedLemmas::undropped_anywhere))]
-    fn identified_in<'a>(
+    fn identify_datagram<'a>(
         &'a self,
         bytes: &'a [u8],
         from: SocketAddr,
@@ -127,9 +127,9 @@ impl<A: Memory> Server<A> {
         match self.read(bytes) {
             Arrived::Request(message, has_fingerprint) => {
                 let read = ReadMessage::of(&message);
-                self.identified_request(&read, from, now, has_fingerprint, buffer)
+                self.identify_request(&read, from, now, has_fingerprint, buffer)
             }
-            Arrived::Indication(message) => Ok(Identified::Done(self.indication(message))),
+            Arrived::Indication(message) => Ok(Identified::Done(self.judge_indication(message))),
             Arrived::Response(message) => Ok(Identified::Done(Received::Response(message))),
             Arrived::Dropped(reason) => Ok(Identified::Done(Received::Dropped(reason))),
         }
@@ -155,7 +155,7 @@ impl<A: Memory> Server<A> {
         ensures granted { A.grants → IsOk result }
     {
         let mut buffer = Vec::new(self.alloc);
-        self.resumed(lookup, &self.judges(user), &mut buffer)
+        self.judge_lookup(lookup, &self.choose_judges(user), &mut buffer)
     }
 
     /// Judges the request of a look-up like `resume`, with the user in this table whom the request
@@ -175,7 +175,7 @@ impl<A: Memory> Server<A> {
         ensures granted { A.grants → IsOk result }
     {
         let mut buffer = Vec::new(self.alloc);
-        self.resumed(lookup, &Judges::Table(&users.realm), &mut buffer)
+        self.judge_lookup(lookup, &Judges::Table(&users.realm), &mut buffer)
     }
 
     /// Judges the request of a look-up like `resume`, and writes the response into a buffer,
@@ -199,12 +199,12 @@ impl<A: Memory> Server<A> {
         ensures err { OnErr result (buffer.new.items ≡ []) }
         ensures granted { A.grants → IsOk result }
     {
-        self.resumed_into(lookup, &self.judges(user), buffer)
+        self.judge_lookup_into(lookup, &self.choose_judges(user), buffer)
     }
 
     /// Returns the outcome of a request, or `Lookup` if the request waits for its user. A response
     /// takes over the memory of the buffer.
-    fn identified_request<'a>(
+    fn identify_request<'a>(
         &'a self,
         read: &ReadMessage<'a, '_>,
         from: SocketAddr,
@@ -220,9 +220,9 @@ impl<A: Memory> Server<A> {
             (waits_for self.now from (epoch_of self.now now) (reading_of read.now))) }
         ensures granted { A.grants → IsOk result }
     {
-        let epoch = self.epoch(now);
-        let nonce = self.nonce_in(&self.secret, from, epoch)?;
-        match self.awaited(read, from, epoch, &nonce)? {
+        let epoch = self.compute_epoch(now);
+        let nonce = self.make_nonce(&self.secret, from, epoch)?;
+        match self.find_awaited_user(read, from, epoch, &nonce)? {
             Some(user) => {
                 let message = read.message().clone()?;
                 let lookup = Lookup::new(message, from, now, user, has_fingerprint);
@@ -230,8 +230,8 @@ impl<A: Memory> Server<A> {
             }
             None => {
                 // The request has no other accepted nonce, so the current one decides its outcome.
-                let verdict = self.judged_by_nobody(read, &nonce);
-                let received = self.judged_into(
+                let verdict = self.judge_by_nobody(read, &nonce);
+                let received = self.apply_verdict(
                     read,
                     from,
                     &nonce,
@@ -247,7 +247,7 @@ impl<A: Memory> Server<A> {
     /// Returns the user who must be looked up before the request can be judged, or `None` if no
     /// look-up is needed.
     #[tactic(auto, using(crate::proofs::ReadyLemmas::claim_is_awaited, crate::proofs::ReadyLemmas::nobody_is_awaited))]
-    fn awaited<'a>(
+    fn find_awaited_user<'a>(
         &self,
         read: &ReadMessage<'a, '_>,
         from: SocketAddr,
@@ -259,7 +259,7 @@ impl<A: Memory> Server<A> {
             ≡ waits_for self.now from epoch (reading_of read.now)) }
         ensures granted { A.grants → IsOk result }
     {
-        match self.waiting(read, from, epoch, nonce)? {
+        match self.find_waiting_claim(read, from, epoch, nonce)? {
             Some(claim) => Ok(Some(claim.user())),
             None => Ok(None),
         }
@@ -269,7 +269,7 @@ impl<A: Memory> Server<A> {
     /// request waits if its nonce is accepted in this epoch, and the server has only its user and
     /// signature left to check.
     #[tactic(auto, using(crate::proofs::ReadyLemmas::no_claim_waits_not, crate::proofs::ReadyLemmas::unaccepted_waits_not, crate::proofs::ReadyLemmas::claim_waits))]
-    fn waiting<'a, 'm, 'r>(
+    fn find_waiting_claim<'a, 'm, 'r>(
         &self,
         read: &'r ReadMessage<'a, 'm>,
         from: SocketAddr,
@@ -291,7 +291,7 @@ impl<A: Memory> Server<A> {
     }
 
     /// Judges a request under a nonce, at a realm without users.
-    pub(super) fn judged_by_nobody<'a>(
+    pub(super) fn judge_by_nobody<'a>(
         &'a self,
         read: &ReadMessage<'a, '_>,
         nonce: &str,
@@ -306,7 +306,7 @@ impl<A: Memory> Server<A> {
     /// Returns the outcome of the request of a look-up. A response takes over the memory of the
     /// buffer.
     #[tactic(auto, using(crate::proofs::JudgementLemmas::resumed_received, crate::proofs::JudgementLemmas::resumed_dropped))]
-    fn resumed<'a>(
+    fn judge_lookup<'a>(
         &self,
         lookup: Lookup<'a>,
         judges: &Judges<'a, A>,
@@ -326,12 +326,12 @@ impl<A: Memory> Server<A> {
             return Ok(Received::Dropped(DropReason::MissingFingerprint));
         }
         let read = ReadMessage::of(&message);
-        self.request_into(&read, from, now, judges, has_fingerprint, buffer)
+        self.judge_request(&read, from, now, judges, has_fingerprint, buffer)
     }
 
     /// Returns the outcome of the request of a look-up, and writes the bytes of a response into the
     /// buffer.
-    fn resumed_into<'a>(
+    fn judge_lookup_into<'a>(
         &self,
         lookup: Lookup<'a>,
         judges: &Judges<'a, A>,
@@ -344,7 +344,7 @@ impl<A: Memory> Server<A> {
         ensures err { OnErr result (buffer.new.items ≡ []) }
         ensures granted { A.grants → IsOk result }
     {
-        match self.resumed(lookup, judges, buffer) {
+        match self.judge_lookup(lookup, judges, buffer) {
             Ok(received) => Ok(received.into_buffer(buffer)),
             Err(_) => {
                 buffer.clear();

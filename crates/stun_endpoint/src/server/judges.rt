@@ -46,7 +46,10 @@ impl<'a, A: Allocator + Copy> Judges<'a, A> {
 impl<A: Allocator + Copy> Server<A> {
     /// Returns the users whose signatures the server accepts when it judges a request: `user`
     /// alone, or nobody if `user` is `None`.
-    pub(crate) fn judges<'a>(&'a self, user: Option<&'a LongTermServerUser<A>>) -> Judges<'a, A>
+    pub(crate) fn choose_judges<'a>(
+        &'a self,
+        user: Option<&'a LongTermServerUser<A>>,
+    ) -> Judges<'a, A>
         ensures { realm_of result ≡ realm_of_user self.now (option_copied user.entry) }
     {
         match user {

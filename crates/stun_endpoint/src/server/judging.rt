@@ -28,7 +28,7 @@ impl<A: Memory> Server<A> {
     /// nonce, which the server makes for `from` in this epoch. A request with an earlier nonce that
     /// is still accepted is judged under that nonce.
     #[tactic(auto, using(crate::proofs::EarlierLemmas::accepted_decides, crate::proofs::EarlierLemmas::unauthorized_decides, crate::proofs::EarlierLemmas::bad_decides, crate::proofs::EarlierLemmas::no_earlier_accepts))]
-    pub(super) fn judged_in<'a>(
+    pub(super) fn judge_in<'a>(
         &self,
         judges: &Judges<'a, A>,
         read: &ReadMessage<'a, '_>,
@@ -45,7 +45,7 @@ impl<A: Memory> Server<A> {
     {
         match judges.judge(read, nonce) {
             Err(VerdictRefusal::StaleNonce) => {
-                let Some(earlier) = self.earlier_nonce(read, from, epoch)? else {
+                let Some(earlier) = self.find_earlier_nonce(read, from, epoch)? else {
                     return Ok(Err(VerdictRefusal::StaleNonce));
                 };
                 // A request that is refused under its earlier nonce is answered with a 438, because
@@ -77,13 +77,13 @@ impl<A: Memory> Server<A> {
         if has_nonce(read, nonce) {
             return Ok(true);
         }
-        let earlier = self.earlier_nonce(read, from, epoch)?;
+        let earlier = self.find_earlier_nonce(read, from, epoch)?;
         Ok(earlier.is_some())
     }
 
     /// Returns the nonce of a request if it was current earlier and is still accepted: it is the
     /// nonce of the epoch before, or one of the two nonces that are made with the previous secret.
-    fn earlier_nonce(
+    fn find_earlier_nonce(
         &self,
         read: &ReadMessage<'_, '_>,
         from: SocketAddr,
@@ -93,11 +93,11 @@ impl<A: Memory> Server<A> {
             ≡ their_nonce_among (reading_of read.now) (earlier_nonces self.now from epoch)) }
         ensures granted { A.grants → IsOk result }
     {
-        if let Some(nonce) = self.nonce_before(read, &self.secret, from, epoch)? {
+        if let Some(nonce) = self.find_nonce_before(read, &self.secret, from, epoch)? {
             return Ok(Some(nonce));
         }
         match &self.previous {
-            Some(secret) => self.nonce_under(read, secret, from, epoch),
+            Some(secret) => self.find_nonce_under(read, secret, from, epoch),
             None => Ok(None),
         }
     }
@@ -105,7 +105,7 @@ impl<A: Memory> Server<A> {
     /// Returns the nonce of a request if it is the nonce that is made with a secret for this epoch,
     /// or for the epoch before.
     #[tactic(auto, using(crate::proofs::EarlierLemmas::under_has, crate::proofs::EarlierLemmas::under_other))]
-    fn nonce_under(
+    fn find_nonce_under(
         &self,
         read: &ReadMessage<'_, '_>,
         secret: &PreparedKey<A>,
@@ -116,17 +116,17 @@ impl<A: Memory> Server<A> {
             ≡ their_nonce_among (reading_of read.now) (nonces_of self.now secret.now from epoch)) }
         ensures granted { A.grants → IsOk result }
     {
-        let nonce = self.nonce_in(secret, from, epoch)?;
+        let nonce = self.make_nonce(secret, from, epoch)?;
         if has_nonce(read, &nonce) {
             return Ok(Some(nonce));
         }
-        self.nonce_before(read, secret, from, epoch)
+        self.find_nonce_before(read, secret, from, epoch)
     }
 
     /// Returns the nonce of a request if it is the nonce that is made with a secret for the epoch
     /// before this one.
     #[tactic(auto, using(crate::proofs::EarlierLemmas::none_before, crate::proofs::EarlierLemmas::before_has, crate::proofs::EarlierLemmas::before_other))]
-    fn nonce_before(
+    fn find_nonce_before(
         &self,
         read: &ReadMessage<'_, '_>,
         secret: &PreparedKey<A>,
@@ -141,7 +141,7 @@ impl<A: Memory> Server<A> {
         if epoch == 0 {
             return Ok(None);
         }
-        let nonce = self.nonce_in(secret, from, epoch - 1)?;
+        let nonce = self.make_nonce(secret, from, epoch - 1)?;
         if has_nonce(read, &nonce) {
             Ok(Some(nonce))
         } else {

@@ -84,7 +84,7 @@ impl<A: Memory> Server<A> {
         ensures granted { A.grants → IsOk result }
     {
         let mut buffer = Vec::new(self.alloc);
-        self.received(bytes, from, now, &Judges::Table(&users.realm), &mut buffer)
+        self.judge_datagram(bytes, from, now, &Judges::Table(&users.realm), &mut buffer)
     }
 
     /// Judges a datagram like `receive`, with the one user that you looked up, or with no user if
@@ -108,7 +108,7 @@ impl<A: Memory> Server<A> {
         ensures granted { A.grants → IsOk result }
     {
         let mut buffer = Vec::new(self.alloc);
-        self.received(bytes, from, now, &self.judges(user), &mut buffer)
+        self.judge_datagram(bytes, from, now, &self.choose_judges(user), &mut buffer)
     }
 
     /// Judges a datagram like `receive`, and writes the response into a buffer, replacing its
@@ -134,7 +134,7 @@ impl<A: Memory> Server<A> {
         ensures granted { A.grants → IsOk result }
         ensures err { OnErr result (buffer.new.items ≡ []) }
     {
-        self.received_into(bytes, from, now, &Judges::Table(&users.realm), buffer)
+        self.judge_datagram_into(bytes, from, now, &Judges::Table(&users.realm), buffer)
     }
 
     /// Judges a datagram like `receive_for`, and writes the response into a buffer, replacing its
@@ -161,11 +161,11 @@ impl<A: Memory> Server<A> {
         ensures granted { A.grants → IsOk result }
         ensures err { OnErr result (buffer.new.items ≡ []) }
     {
-        self.received_into(bytes, from, now, &self.judges(user), buffer)
+        self.judge_datagram_into(bytes, from, now, &self.choose_judges(user), buffer)
     }
 
     /// Returns the outcome of a datagram, and writes the bytes of a response into the buffer.
-    fn received_into<'a>(
+    fn judge_datagram_into<'a>(
         &self,
         bytes: &'a [u8],
         from: SocketAddr,
@@ -181,7 +181,7 @@ impl<A: Memory> Server<A> {
         ensures granted { A.grants → IsOk result }
         ensures err { OnErr result (buffer.new.items ≡ []) }
     {
-        match self.received(bytes, from, now, judges, buffer) {
+        match self.judge_datagram(bytes, from, now, judges, buffer) {
             Ok(received) => Ok(received.into_buffer(buffer)),
             Err(_) => {
                 buffer.clear();
@@ -200,7 +200,7 @@ impl<A: Memory> Server<A> {
     }
 
     /// Returns the outcome of a datagram. A response takes over the memory of the buffer.
-    fn received<'a>(
+    fn judge_datagram<'a>(
         &self,
         bytes: &'a [u8],
         from: SocketAddr,
@@ -217,16 +217,16 @@ impl<A: Memory> Server<A> {
         match self.read(bytes) {
             Arrived::Request(message, has_fingerprint) => {
                 let read = ReadMessage::of(&message);
-                self.request_into(&read, from, now, judges, has_fingerprint, buffer)
+                self.judge_request(&read, from, now, judges, has_fingerprint, buffer)
             }
-            Arrived::Indication(message) => Ok(self.indication(message)),
+            Arrived::Indication(message) => Ok(self.judge_indication(message)),
             Arrived::Response(message) => Ok(Received::Response(message)),
             Arrived::Dropped(reason) => Ok(Received::Dropped(reason)),
         }
     }
 
     /// Returns the outcome of an indication.
-    pub(super) fn indication<'a>(&self, message: Message<'a>) -> Received<'a, A>
+    pub(super) fn judge_indication<'a>(&self, message: Message<'a>) -> Received<'a, A>
         ensures { outcome_of result
             ≡ (if is_empty (unknown_types self.now.known message.entry)
             then indicated message.entry else dropped DropReason.UnknownAttribute) }
@@ -239,7 +239,7 @@ impl<A: Memory> Server<A> {
     }
 
     /// Returns the outcome of a request. A response takes over the memory of the buffer.
-    pub(super) fn request_into<'a>(
+    pub(super) fn judge_request<'a>(
         &self,
         read: &ReadMessage<'a, '_>,
         from: SocketAddr,
@@ -255,15 +255,15 @@ impl<A: Memory> Server<A> {
             (judged self.now (realm_of judges.now) from now (reading_of read.now))) }
         ensures granted { A.grants → IsOk result }
     {
-        let epoch = self.epoch(now);
-        let nonce = self.nonce_in(&self.secret, from, epoch)?;
-        let verdict = self.judged_in(judges, read, from, epoch, &nonce)?;
-        self.judged_into(read, from, &nonce, verdict, has_fingerprint, buffer)
+        let epoch = self.compute_epoch(now);
+        let nonce = self.make_nonce(&self.secret, from, epoch)?;
+        let verdict = self.judge_in(judges, read, from, epoch, &nonce)?;
+        self.apply_verdict(read, from, &nonce, verdict, has_fingerprint, buffer)
     }
 
     /// Returns the outcome of a request with this verdict. A 401 or a 438 has the nonce `nonce`. A
     /// response takes over the memory of the buffer.
-    pub(super) fn judged_into<'a>(
+    pub(super) fn apply_verdict<'a>(
         &self,
         read: &ReadMessage<'a, '_>,
         from: SocketAddr,
@@ -281,21 +281,21 @@ impl<A: Memory> Server<A> {
         ensures granted { A.grants → IsOk result }
     {
         match verdict {
-            Ok(accepted) => self.accepted(read, from, accepted, has_fingerprint, buffer),
-            Err(refusal) => self.refused(read, from, nonce, refusal, has_fingerprint, buffer),
+            Ok(accepted) => self.accept(read, from, accepted, has_fingerprint, buffer),
+            Err(refusal) => self.refuse(read, from, nonce, refusal, has_fingerprint, buffer),
         }
     }
 
     /// Returns the epoch of a time: the number of whole nonce lifetimes since the beginning of
     /// 1970.
-    pub(super) fn epoch(&self, now: UnixTime) -> u64
+    pub(super) fn compute_epoch(&self, now: UnixTime) -> u64
         ensures { result ≡ epoch_of self.now now }
     {
         now.epoch(self.lifetime)
     }
 
     /// Returns the outcome of an accepted request.
-    pub(super) fn accepted<'a>(
+    pub(super) fn accept<'a>(
         &self,
         read: &ReadMessage<'a, '_>,
         from: SocketAddr,
@@ -313,12 +313,12 @@ impl<A: Memory> Server<A> {
         let key = accepted.key().clone()?;
         let name = accepted.name();
         let algorithm = accepted.algorithm();
-        self.accepted_from(read, from, name, algorithm, key, has_fingerprint, buffer)
+        self.accept_from(read, from, name, algorithm, key, has_fingerprint, buffer)
     }
 
     /// Returns the outcome of a request that is accepted from the user with this name and this key.
     /// A response takes over the memory of the buffer.
-    pub(super) fn accepted_from<'a>(
+    pub(super) fn accept_from<'a>(
         &self,
         read: &ReadMessage<'a, '_>,
         from: SocketAddr,
@@ -335,12 +335,12 @@ impl<A: Memory> Server<A> {
             (record { name = name.entry.now; algorithm = algorithm })) }
         ensures granted { A.grants → IsOk result }
     {
-        let signature = signature_for(read, key);
+        let signature = make_signature(read, key);
         let message = read.message();
-        match self.own_answer(message, from, &signature, has_fingerprint, buffer)? {
+        match self.write_own_answer(message, from, &signature, has_fingerprint, buffer)? {
             Some(answer) => Ok(Received::Answer(answer)),
             None => {
-                let reply = self.reply(message, from, signature, has_fingerprint)?;
+                let reply = self.make_reply(message, from, signature, has_fingerprint)?;
                 let message = message.clone()?;
                 let request = Request::new(message, name, algorithm, reply);
                 Ok(Received::Request(request))
@@ -350,7 +350,7 @@ impl<A: Memory> Server<A> {
 
     /// Writes the response to an accepted request if the server itself responds, and returns `None`
     /// if the caller has to respond.
-    fn own_answer(
+    fn write_own_answer(
         &self,
         request: &Message<'_>,
         from: SocketAddr,
@@ -365,11 +365,11 @@ impl<A: Memory> Server<A> {
         ensures granted { A.grants → IsOk result }
     {
         self.responder
-            .own_answer(request, from, signature, has_fingerprint, buffer)
+            .write_own_answer(request, from, signature, has_fingerprint, buffer)
     }
 
     /// Returns the handle with which you respond to an accepted request.
-    fn reply(
+    fn make_reply(
         &self,
         request: &Message<'_>,
         from: SocketAddr,
@@ -382,13 +382,16 @@ impl<A: Memory> Server<A> {
         ensures granted { A.grants → IsOk result }
     {
         self.responder
-            .reply(request, from, signature, has_fingerprint)
+            .make_reply(request, from, signature, has_fingerprint)
     }
 }
 
 /// Returns the signature for the responses to an accepted request: the algorithm of its integrity
 /// attribute, and the key of its user. Returns `None` if the request has no integrity attribute.
-fn signature_for<A: Memory>(read: &ReadMessage<'_, '_>, key: PreparedKey<A>) -> Option<Signature<A>>
+fn make_signature<A: Memory>(
+    read: &ReadMessage<'_, '_>,
+    key: PreparedKey<A>,
+) -> Option<Signature<A>>
     ensures { result ≡ signature_for key read.now }
 {
     match read.deciding_algorithm() {

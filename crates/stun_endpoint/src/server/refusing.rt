@@ -15,7 +15,7 @@ ghost use Rattle.stun_endpoint.specs.Responding.{refusal_by};
 ghost use Rattle.stun_endpoint.specs.code.Room.{HasRoom, IsEndable, LATER};
 ghost use Rattle.stun_types.specs.Limits.{TEXT_LIMIT};
 
-use crate::pages::error_page;
+use crate::pages::begin_error_page;
 use crate::received::{Answer, Received, Refusal};
 use crate::server::Server;
 use std::alloc::AllocError;
@@ -34,7 +34,7 @@ const ALGORITHM_LENGTH: usize = 4;
 
 impl<A: Memory> Server<A> {
     /// Returns the outcome of a refused request.
-    pub(super) fn refused<'a>(
+    pub(super) fn refuse<'a>(
         &self,
         read: &ReadMessage<'_, '_>,
         from: SocketAddr,
@@ -52,13 +52,20 @@ impl<A: Memory> Server<A> {
     {
         let told = told_refusal(refusal, read, nonce);
         let request = read.message();
-        let answer = self.answer_to_refused(request, from, nonce, told, has_fingerprint, buffer)?;
+        let answer = self.write_refused_answer(
+            request,
+            from,
+            nonce,
+            told,
+            has_fingerprint,
+            buffer,
+        )?;
         Ok(Received::Answer(answer))
     }
 
     /// Writes the response that the refusal `told` requires: a 401 or a 438 with the challenge, or
     /// a 400.
-    fn answer_to_refused(
+    fn write_refused_answer(
         &self,
         request: &Message<'_>,
         from: SocketAddr,
@@ -75,7 +82,7 @@ impl<A: Memory> Server<A> {
         ensures granted { A.grants → IsOk result }
     {
         match told {
-            VerdictRefusal::Unauthorized => self.challenge_answer(
+            VerdictRefusal::Unauthorized => self.write_challenge_answer(
                 request,
                 from,
                 Refusal::Unauthenticated,
@@ -83,7 +90,7 @@ impl<A: Memory> Server<A> {
                 has_fingerprint,
                 buffer,
             ),
-            VerdictRefusal::StaleNonce => self.challenge_answer(
+            VerdictRefusal::StaleNonce => self.write_challenge_answer(
                 request,
                 from,
                 Refusal::StaleNonce,
@@ -91,12 +98,17 @@ impl<A: Memory> Server<A> {
                 has_fingerprint,
                 buffer,
             ),
-            VerdictRefusal::BadRequest => self.bad_answer(request, from, has_fingerprint, buffer),
+            VerdictRefusal::BadRequest => self.write_bad_answer(
+                request,
+                from,
+                has_fingerprint,
+                buffer,
+            ),
         }
     }
 
     /// Writes a 400.
-    fn bad_answer(
+    fn write_bad_answer(
         &self,
         request: &Message<'_>,
         from: SocketAddr,
@@ -108,12 +120,12 @@ impl<A: Memory> Server<A> {
             ≡ refusal_by (responding_of self.now) Refusal.BadRequest from request.now) }
         ensures granted { A.grants → IsOk result }
     {
-        self.responder.refusal(request, from, Refusal::BadRequest, has_fingerprint, buffer)
+        self.responder.write_refusal(request, from, Refusal::BadRequest, has_fingerprint, buffer)
     }
 
     /// Writes a 401 or a 438, which challenges the client with `nonce`.
     #[tactic(auto, unfolding(crate::specs::Received::challenge_answer))]
-    fn challenge_answer(
+    fn write_challenge_answer(
         &self,
         request: &Message<'_>,
         from: SocketAddr,
@@ -129,8 +141,8 @@ impl<A: Memory> Server<A> {
             ≡ challenge_answer self.now refusal nonce.now from request.now) }
         ensures granted { A.grants → IsOk result }
     {
-        let more = self.challenge_length(nonce, has_fingerprint);
-        let page = self.challenge(request, nonce, refusal, more, buffer)?;
+        let more = self.count_challenge_bytes(nonce, has_fingerprint);
+        let page = self.begin_challenge_page(request, nonce, refusal, more, buffer)?;
         let bytes = self.responder.end(page, &None, has_fingerprint)?;
         Ok(Answer::new(from, Some(refusal), bytes))
     }
@@ -138,7 +150,7 @@ impl<A: Memory> Server<A> {
     /// Returns how many bytes a 401 or a 438 has after its ERROR-CODE. The memory for them is
     /// reserved before the response is written, so that it takes one allocation. If less memory
     /// were reserved, the response would have the same bytes, but take two allocations.
-    fn challenge_length(&self, nonce: &str, has_fingerprint: bool) -> usize
+    fn count_challenge_bytes(&self, nonce: &str, has_fingerprint: bool) -> usize
         requires { length nonce.now ≤ TEXT_LIMIT }
         ensures { result ≤ 5000 }
     {
@@ -150,12 +162,12 @@ impl<A: Memory> Server<A> {
         attribute_length(nonce.len())
             .saturating_add(attribute_length(self.realm.name().len()))
             .saturating_add(algorithms)
-            .saturating_add(self.responder.end_length(&None, has_fingerprint))
+            .saturating_add(self.responder.count_end_bytes(&None, has_fingerprint))
     }
 
     /// Begins a 401 or a 438 with ERROR-CODE and the challenge, and reserves `more` bytes for all
     /// attributes after ERROR-CODE.
-    fn challenge(
+    fn begin_challenge_page(
         &self,
         request: &Message<'_>,
         nonce: &str,
@@ -171,8 +183,8 @@ impl<A: Memory> Server<A> {
         ensures room { IfOk result (λ page. IsEndable page.bytes) }
         ensures granted { A.grants → more ≤ 5000 → IsOk result }
     {
-        let page = error_page(buffer, request, refusal.code(), refusal.phrase(), more)?;
-        match self.challenged(page, nonce) {
+        let page = begin_error_page(buffer, request, refusal.code(), refusal.phrase(), more)?;
+        match self.add_challenge(page, nonce) {
             Ok(page) => Ok(page),
             // The settings ensure that these attributes fit into a response, so an allocation has
             // failed.
@@ -181,7 +193,7 @@ impl<A: Memory> Server<A> {
     }
 
     /// Adds NONCE, REALM and, if and only if HMAC-SHA256 is supported, PASSWORD-ALGORITHMS.
-    fn challenged(
+    fn add_challenge(
         &self,
         page: BufferWriter<A>,
         nonce: &str,

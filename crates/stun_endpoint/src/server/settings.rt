@@ -10,7 +10,7 @@ ghost use Rattle.stun_judging.specs.Registered.{empty_realm};
 ghost use Rattle.stun_endpoint.specs.Settings.{registered_of};
 ghost use Rattle.stun_types.specs.Limits.{TEXT_LIMIT};
 
-use crate::responder::{Responder, text_length, with_stun_attributes};
+use crate::responder::{Responder, count_text_bytes, with_stun_attributes};
 use crate::server::Server;
 use std::alloc::{AllocError, Allocator, Global};
 use stun_base::attribute_type::AttributeType;
@@ -84,7 +84,6 @@ pub struct LongTerm<A: Allocator = Global> {
 
 /// Why a server could not be built.
 #[derive(Clone, Copy, Debug, PartialEq, Eq, Error)]
-#[non_exhaustive]
 pub enum BuildError {
     /// The realm has more than 763 bytes, so no response could carry it.
     #[error("the realm has more than 763 bytes")]
@@ -130,14 +129,14 @@ impl<A: Allocator + Copy> LongTerm<A> {
     }
 
     /// Returns why no server can be built from these settings, or `None` if one can be built.
-    fn refusal(&self) -> Option<BuildError>
+    fn find_refusal(&self) -> Option<BuildError>
         ensures { result ≡ build_refusal (string_bytes self.now.realm)
             (option_map string_bytes self.now.software) self.now.nonce_lifetime }
     {
         if self.realm.len() > TEXT_LIMIT {
             return Some(BuildError::RealmTooLong);
         }
-        if text_length(&self.software) > TEXT_LIMIT {
+        if count_text_bytes(&self.software) > TEXT_LIMIT {
             return Some(BuildError::SoftwareTooLong);
         }
         if self.nonce_lifetime < SHORTEST_NONCE_LIFETIME {
@@ -148,7 +147,7 @@ impl<A: Allocator + Copy> LongTerm<A> {
 }
 
 /// Returns whether names may be hashed, as a feature: `Auto` if they may, and otherwise `Disabled`.
-fn feature_for(user_hashes: bool) -> Feature
+fn choose_feature(user_hashes: bool) -> Feature
     ensures { result ≡ feature_for user_hashes }
 {
     if user_hashes {
@@ -159,7 +158,7 @@ fn feature_for(user_hashes: bool) -> Feature
 }
 
 /// Returns a secret, prepared for HMAC-SHA1.
-fn prepared<A: Allocator + Copy>(alloc: A, secret: &[u8; 32]) -> PreparedKey<A>
+fn prepare_secret<A: Allocator + Copy>(alloc: A, secret: &[u8; 32]) -> PreparedKey<A>
     ensures { result ≡ secret.now }
 {
     let key = IntegrityKey::from_bytes(alloc, secret).unwrap();
@@ -167,11 +166,14 @@ fn prepared<A: Allocator + Copy>(alloc: A, secret: &[u8; 32]) -> PreparedKey<A>
 }
 
 /// Returns the previous secret, prepared for HMAC-SHA1, or `None` if there is none.
-fn prepared_if<A: Allocator + Copy>(alloc: A, secret: &Option<[u8; 32]>) -> Option<PreparedKey<A>>
+fn prepare_previous<A: Allocator + Copy>(
+    alloc: A,
+    secret: &Option<[u8; 32]>,
+) -> Option<PreparedKey<A>>
     ensures { result ≡ secret.now }
 {
     match secret {
-        Some(secret) => Some(prepared(alloc, secret)),
+        Some(secret) => Some(prepare_secret(alloc, secret)),
         None => None,
     }
 }
@@ -210,17 +212,17 @@ impl<A: Memory> Server<A> {
             (option_map string_bytes settings.software) settings.nonce_lifetime ≡ None
             → IsOk result }
     {
-        if let Some(refusal) = settings.refusal() {
+        if let Some(refusal) = settings.find_refusal() {
             return Err(refusal);
         }
-        match Server::built_of(alloc, settings) {
+        match Server::build_checked(alloc, settings) {
             Ok(server) => Ok(server),
             Err(_) => Err(BuildError::OutOfMemory),
         }
     }
 
     /// Builds a server from settings that were checked.
-    fn built_of(alloc: A, settings: LongTerm<A>) -> Result<Server<A>, AllocError>
+    fn build_checked(alloc: A, settings: LongTerm<A>) -> Result<Server<A>, AllocError>
         requires lifetime { 0 < settings.nonce_lifetime }
         requires realm { length (string_bytes settings.realm) ≤ TEXT_LIMIT }
         requires software { length (unwrap_or (option_map string_bytes settings.software) [])
@@ -247,12 +249,12 @@ impl<A: Memory> Server<A> {
             settings.answers_binding,
             settings.requires_fingerprint,
         );
-        let feature = feature_for(settings.user_hashes);
+        let feature = choose_feature(settings.user_hashes);
         Ok(Server {
             alloc,
             realm: Realm::new(alloc, settings.realm, settings.algorithms, feature),
-            secret: prepared(alloc, &settings.secret),
-            previous: prepared_if(alloc, &settings.previous_secret),
+            secret: prepare_secret(alloc, &settings.secret),
+            previous: prepare_previous(alloc, &settings.previous_secret),
             lifetime: settings.nonce_lifetime,
             responder,
         })

@@ -52,7 +52,7 @@ impl<'a, A: Allocator> Signer<'a, A> {
 
 impl<'a, A: Memory> Signer<'a, A> {
     /// Returns the signature for the response to the message: the same algorithm and the same key.
-    pub(super) fn signature(&self) -> Result<Option<Signature<A>>, AllocError>
+    pub(super) fn make_signature(&self) -> Result<Option<Signature<A>>, AllocError>
         ensures signature { IfOk result (λ signature. signature
             ≡ Some (signature_of self.now)) }
         ensures granted { A.grants → IsOk result }
@@ -64,7 +64,7 @@ impl<'a, A: Memory> Signer<'a, A> {
 /// Returns the user who has signed a message. Otherwise fails with `BadRequest` if the message has
 /// no integrity attribute or no USERNAME, and with `Unauthenticated` if the name or the signature
 /// is wrong.
-pub(super) fn signer_of<'a, A: Allocator + Copy>(
+pub(super) fn find_signer<'a, A: Allocator + Copy>(
     users: &'a ShortTermUsers<A>,
     message: &Message<'a>,
 ) -> Result<Signer<'a, A>, Refusal>
@@ -73,15 +73,15 @@ pub(super) fn signer_of<'a, A: Allocator + Copy>(
     if message.deciding_attribute().is_none() {
         return Err(Refusal::BadRequest);
     }
-    match named_by(message) {
-        Ok(name) => signer_named(users, message, name),
+    match read_name(message) {
+        Ok(name) => verify_signer(users, message, name),
         Err(refusal) => Err(refusal),
     }
 }
 
 /// Returns the name in the first visible USERNAME. Fails with `BadRequest` if there is no USERNAME,
 /// and with `Unauthenticated` if USERNAME is malformed.
-fn named_by<'a>(message: &Message<'a>) -> Result<&'a str, Refusal>
+fn read_name<'a>(message: &Message<'a>) -> Result<&'a str, Refusal>
     ensures ok { IfOk result (λ name. named_by message.now ≡ Ok name.now) }
     ensures err { IfErr result (λ refusal. named_by message.now ≡ Err refusal) }
 {
@@ -94,14 +94,14 @@ fn named_by<'a>(message: &Message<'a>) -> Result<&'a str, Refusal>
 
 /// Returns the user `name`, if the signature of a message is valid under the user's key. Fails with
 /// `Unauthenticated` otherwise.
-fn signer_named<'a, A: Allocator + Copy>(
+fn verify_signer<'a, A: Allocator + Copy>(
     users: &'a ShortTermUsers<A>,
     message: &Message<'a>,
     name: &'a str,
 ) -> Result<Signer<'a, A>, Refusal>
     ensures { result ≡ by_key message.now name.entry.now (map.get users.now name.entry.now) }
 {
-    let Some(key) = users.key(name) else {
+    let Some(key) = users.find_key(name) else {
         return Err(Refusal::Unauthenticated);
     };
     match message.validate_integrity_with_prepared_key(key) {

@@ -93,7 +93,7 @@ impl<A: Memory> ShortTermUsers<A> {
     }
 
     /// Returns the key of a user, or `None` if the table has no user of this name.
-    pub(super) fn key(&self, name: &str) -> Option<&PreparedKey<A>>
+    pub(super) fn find_key(&self, name: &str) -> Option<&PreparedKey<A>>
         ensures { option_copied result ≡ map.get self.now name.now }
     {
         self.keys.get(name)

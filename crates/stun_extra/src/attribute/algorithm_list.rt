@@ -87,7 +87,7 @@ impl<'a> AlgorithmEntry<'a> {
     }
 
     /// Returns the entry as a raw attribute, which has the same encoding.
-    fn raw(&self) -> RawAttribute<'a>
+    fn to_raw(&self) -> RawAttribute<'a>
         ensures same { result ≡ self.now }
         ensures fits { IsSpellable self.now }
     {
@@ -151,19 +151,19 @@ impl<'a> Model for AlgorithmEntries<'a> {
 }
 
 /// States that every byte is less than 256. Only the proof uses this call.
-fn bytes_fit(bytes: &[u8])
+fn state_bytes_fit(bytes: &[u8])
     ensures { (i : ℕ) → slice_index bytes.now i < 2 ^ 8 }
 {}
 
 /// Returns the entry at an offset, or `None` if there is no whole entry at the offset.
-fn entry_at<'a>(bytes: &'a [u8], place: usize) -> Option<AlgorithmEntry<'a>>
+fn read_entry<'a>(bytes: &'a [u8], place: usize) -> Option<AlgorithmEntry<'a>>
     ensures none { IfNone result (has_attribute (drop place bytes.now) ≡ false) }
     ensures whole { OnSome result (has_attribute (drop place bytes.now) ≡ true) }
     ensures value { IfSome result (λ entry. entry ≡ first_attribute (drop place bytes.now)) }
     ensures sized { length bytes.now < 2 ^ 64 }
 {
     let entry = RawAttribute::at(bytes, place)?;
-    bytes_fit(bytes);
+    state_bytes_fit(bytes);
     Some(AlgorithmEntry {
         number: entry.get_type().value(),
         parameters: entry.value(),
@@ -199,10 +199,10 @@ impl<'a> Iterator for AlgorithmEntries<'a> {
                 })
             }
             Source::Received(bytes, place) => {
-                let Some(first) = entry_at(bytes, place) else {
+                let Some(first) = read_entry(bytes, place) else {
                     return None;
                 };
-                self.left = Source::Received(bytes, place + first.raw().padded_len());
+                self.left = Source::Received(bytes, place + first.to_raw().padded_len());
                 Some(first)
             }
         }
@@ -235,13 +235,13 @@ impl<'a> AlgorithmList<'a> {
     }
 
     /// Returns the number of bytes of the entries with their padding, at most `usize::MAX`.
-    fn value_length(&self) -> usize
+    fn count_value_bytes(&self) -> usize
         ensures length { result ≡ min (length (spelled_attributes self.now)) (2 ^ 64 - 1) }
         ensures fits { AllByRecursion IsSpellable self.now }
     {
         let mut total: usize = 0;
         for entry in self.iter() {
-            total = total.saturating_add(entry.raw().padded_len());
+            total = total.saturating_add(entry.to_raw().padded_len());
         }
         total
     }
@@ -258,7 +258,7 @@ impl<'a> AlgorithmList<'a> {
             ≡ W.reserved writer.old }
     {
         for entry in self.iter() {
-            entry.raw().write_into(writer);
+            entry.to_raw().write_into(writer);
         }
     }
 }
@@ -287,11 +287,11 @@ impl<'a> Attribute for AlgorithmList<'a> {
     }
 
     fn length(&self) -> usize {
-        self.value_length()
+        self.count_value_bytes()
     }
 
     fn write_into<W: MessageWrite>(&self, writer: &mut W) {
-        append_header(writer, Self::TYPE, self.value_length());
+        append_header(writer, Self::TYPE, self.count_value_bytes());
         self.append_entries(writer);
     }
 }

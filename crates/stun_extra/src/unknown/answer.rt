@@ -9,7 +9,7 @@ ghost use Rattle.stun_types.specs.Visible.{visible};
 ghost use Rattle.stun_types.specs.Writing.{IsOpen};
 ghost use Rattle.stun_extra.specs.Unknown.{EndsFailed, IsRefused, refusing_answer};
 
-use crate::unknown::attribute::unknown_count;
+use crate::unknown::attribute::count_unknown;
 use crate::unknown::{UnknownAttributes, has_unknown};
 use stun_base::attribute_type::AttributeType;
 use stun_base::error::StunWriteError;
@@ -79,7 +79,7 @@ fn write_refusal<W: MessageWrite>(
     ensures granted { W.grants → length (refusing_answer known.now request.now) ≤ W.room writer
         → IsOk result }
 {
-    if writer.room() < refusal_length(request, known) {
+    if writer.room() < count_refusal_bytes(request, known) {
         return Err(StunWriteError::TooSmall);
     }
     write_parts(request, known, writer)
@@ -111,11 +111,11 @@ fn write_parts<W: MessageWrite>(
 }
 
 /// Returns the number of bytes of the response that `write_refusal` writes.
-fn refusal_length(request: &Message<'_>, known: &[AttributeType]) -> usize
+fn count_refusal_bytes(request: &Message<'_>, known: &[AttributeType]) -> usize
     ensures value { result ≡ length (refusing_answer known.now request.now) }
     ensures short { result ≤ LENGTH_LIMIT }
 {
-    HEADER_LENGTH + ERROR_LENGTH + attribute_length(2 * unknown_count(request, known))
+    HEADER_LENGTH + ERROR_LENGTH + attribute_length(2 * count_unknown(request, known))
 }
 
 /// Returns `true` if a response makes its request fail, whatever else it contains (RFC 8489,
@@ -129,11 +129,11 @@ pub fn ends_failed(response: &Message<'_>, known: &[AttributeType]) -> bool
     if has_unknown(response, known) {
         return true;
     }
-    response.has_class(MessageClass::Error) && first_error_code(response).is_none()
+    response.has_class(MessageClass::Error) && find_error_code(response).is_none()
 }
 
 /// Returns the first visible ERROR-CODE of a message and its offset.
-fn first_error_code<'a>(message: &Message<'a>) -> Option<(usize, RawAttribute<'a>)>
+fn find_error_code<'a>(message: &Message<'a>) -> Option<(usize, RawAttribute<'a>)>
     ensures { result ≡ first_of ERROR_CODE (visible message.now) }
 {
     message

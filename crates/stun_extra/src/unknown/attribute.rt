@@ -70,7 +70,7 @@ impl<'a> Model for UnknownAttributes<'a> {
 }
 
 /// Returns the type at index `i`, counted from 0, or `None` if there are fewer types.
-fn type_at(bytes: &[u8], i: usize) -> Option<AttributeType>
+fn read_type(bytes: &[u8], i: usize) -> Option<AttributeType>
     ensures { result ≡ slice_get (types_in bytes.now) i }
 {
     if i >= bytes.len() / TYPE_LENGTH {
@@ -80,25 +80,25 @@ fn type_at(bytes: &[u8], i: usize) -> Option<AttributeType>
 }
 
 /// States that every byte is less than 256. Only the proof uses this call.
-fn bytes_fit(bytes: &[u8])
+fn state_bytes_fit(bytes: &[u8])
     ensures { (i : ℕ) → slice_index bytes.now i < 2 ^ 8 }
 {}
 
 /// Returns the number of types of the visible attributes in `message` that the receiver must
 /// understand but that are not in `known`. Each type is counted once.
-pub(super) fn unknown_count(message: &Message<'_>, known: &[AttributeType]) -> usize
+pub(super) fn count_unknown(message: &Message<'_>, known: &[AttributeType]) -> usize
     ensures value { result ≡ length (unknown_types known.now message.now) }
     ensures few { result < 2 ^ 14 }
     ensures fit { AreTypes (unknown_types known.now message.now) }
 {
     // For the proof alone: the types are in these bytes.
     let _bytes = message.as_bytes();
-    bytes_fit(_bytes);
+    state_bytes_fit(_bytes);
     unknown_types(message, known).count()
 }
 
 /// Returns the number of types that are encoded in the bytes.
-fn type_count(bytes: &[u8]) -> usize
+fn count_types(bytes: &[u8]) -> usize
     ensures value { result ≡ length (types_in bytes.now) }
     ensures fit { AreTypes (types_in bytes.now) }
 {
@@ -123,7 +123,7 @@ impl<'a> UnknownAttributes<'a> {
     {
         match self.source {
             Source::OfMessage(message, known) => unknown_types(message, known).next().is_none(),
-            Source::Received(bytes) => type_count(bytes) == 0,
+            Source::Received(bytes) => count_types(bytes) == 0,
         }
     }
 
@@ -133,8 +133,8 @@ impl<'a> UnknownAttributes<'a> {
         ensures fit { AreTypes self.now }
     {
         match self.source {
-            Source::OfMessage(message, known) => unknown_count(message, known),
-            Source::Received(bytes) => type_count(bytes),
+            Source::OfMessage(message, known) => count_unknown(message, known),
+            Source::Received(bytes) => count_types(bytes),
         }
     }
 
@@ -146,7 +146,7 @@ impl<'a> UnknownAttributes<'a> {
     {
         match self.source {
             Source::OfMessage(message, known) => unknown_types(message, known).nth(i),
-            Source::Received(bytes) => type_at(bytes, i),
+            Source::Received(bytes) => read_type(bytes, i),
         }
     }
 

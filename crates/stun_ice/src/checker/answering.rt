@@ -43,14 +43,21 @@ impl<A: Memory> Checker<A> {
         ensures granted { A.grants → IsAnswerable check.now verdict → IsOk result }
     {
         match verdict {
-            Verdict::Accepted(accepted) => self.success(check, from, accepted.algorithm, writer),
-            Verdict::Conflict(algorithm) => self.conflict(check, algorithm, writer),
-            Verdict::Refused(refusal, signature) => self.refused(check, refusal, signature, writer),
+            Verdict::Accepted(accepted) => self.write_success(
+                check,
+                from,
+                accepted.algorithm,
+                writer,
+            ),
+            Verdict::Conflict(algorithm) => self.write_conflict(check, algorithm, writer),
+            Verdict::Refused(refusal, signature) => self.write_refusal(
+                check, refusal, signature, writer,
+            ),
         }
     }
 
     /// Writes the success response, and signs it with `algorithm`.
-    fn success(
+    fn write_success(
         &self,
         check: &Message<'_>,
         from: SocketAddr,
@@ -64,13 +71,13 @@ impl<A: Memory> Checker<A> {
     {
         // One block of memory of this size is enough for the answer.
         let end = attribute_length(algorithm.digest_length()).saturating_add(FINGERPRINT_LENGTH);
-        let page = mapped_page(check, from, end, writer)?;
+        let page = make_mapped_page(check, from, end, writer)?;
         let answer = self.end(page, Some(algorithm))?;
         Ok(answer)
     }
 
     /// Writes the error response 487, and signs it with `algorithm`.
-    fn conflict(
+    fn write_conflict(
         &self,
         check: &Message<'_>,
         algorithm: IntegrityAlgorithm,
@@ -81,12 +88,12 @@ impl<A: Memory> Checker<A> {
             ≡ conflict_answer self.now check.now algorithm) }
         ensures granted { A.grants → IsOk result }
     {
-        self.error(check, 487, "Role Conflict", Some(algorithm), writer)
+        self.write_error(check, 487, "Role Conflict", Some(algorithm), writer)
     }
 
     /// Writes the error response to a check that is refused, and signs it if `signature` is an
     /// algorithm.
-    fn refused(
+    fn write_refusal(
         &self,
         check: &Message<'_>,
         refusal: Refusal,
@@ -100,17 +107,17 @@ impl<A: Memory> Checker<A> {
             → IsOk result }
     {
         match refusal {
-            Refusal::BadRequest => self.error(check, 400, "Bad Request", signature, writer),
+            Refusal::BadRequest => self.write_error(check, 400, "Bad Request", signature, writer),
             Refusal::Unauthenticated => {
-                self.error(check, 401, "Unauthenticated", signature, writer)
+                self.write_error(check, 401, "Unauthenticated", signature, writer)
             }
-            Refusal::UnknownAttribute => self.unknown(check, signature, writer),
+            Refusal::UnknownAttribute => self.write_unknown(check, signature, writer),
         }
     }
 
     /// Writes an error response whose only attribute before its signature is ERROR-CODE, and signs
     /// it if `signature` is an algorithm.
-    fn error(
+    fn write_error(
         &self,
         check: &Message<'_>,
         code: u16,
@@ -124,14 +131,14 @@ impl<A: Memory> Checker<A> {
         ensures granted { A.grants
             → error_refusal (record { code = code; reason = reason.now }) ≡ None → IsOk result }
     {
-        let page = error_page(check, code, reason, writer)?;
+        let page = make_error_page(check, code, reason, writer)?;
         let answer = self.end(page, signature)?;
         Ok(answer)
     }
 
     /// Writes the error response 420, with UNKNOWN-ATTRIBUTES, and signs it if `signature` is an
     /// algorithm.
-    fn unknown(
+    fn write_unknown(
         &self,
         check: &Message<'_>,
         signature: Option<IntegrityAlgorithm>,
@@ -142,7 +149,7 @@ impl<A: Memory> Checker<A> {
             ≡ with_end self.now signature (refusing_answer UNDERSTOOD_TYPES check.now)) }
         ensures granted { A.grants → IsRefused UNDERSTOOD_TYPES check.now → IsOk result }
     {
-        let page = unknown_page(check, &UNDERSTOOD, writer)?;
+        let page = make_unknown_page(check, &UNDERSTOOD, writer)?;
         let answer = self.end(page, signature)?;
         Ok(answer)
     }
@@ -187,7 +194,7 @@ impl<A: Memory> Checker<A> {
 
 /// Begins a success response with the address that a check came from, and reserves `more` bytes for
 /// the attributes that follow.
-fn mapped_page<A: Memory>(
+fn make_mapped_page<A: Memory>(
     check: &Message<'_>,
     from: SocketAddr,
     more: usize,
@@ -210,7 +217,7 @@ fn mapped_page<A: Memory>(
 }
 
 /// Begins an error response with a code and a reason phrase.
-fn error_page<A: Memory>(
+fn make_error_page<A: Memory>(
     check: &Message<'_>,
     code: u16,
     reason: &str,
@@ -231,7 +238,7 @@ fn error_page<A: Memory>(
 }
 
 /// Begins the error response 420 to a check with attributes that are not understood.
-fn unknown_page<A: Memory>(
+fn make_unknown_page<A: Memory>(
     check: &Message<'_>,
     known: &[AttributeType],
     writer: BufferWriter<A>,

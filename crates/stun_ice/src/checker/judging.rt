@@ -6,7 +6,10 @@ ghost use Rattle.stun_ice.specs.Checks.{by_priority, by_signature, is_nominated}
 ghost use Rattle.stun_ice.specs.Checks.{judged_of, role_of, verdict_of};
 
 use crate::checker::Checker;
-use crate::parts::{has_use_candidate, is_understood, peer_name, priority, rival, username};
+use crate::parts::{
+    has_use_candidate, is_understood, read_peer_name, read_priority, read_tie_breaker,
+    read_username,
+};
 use crate::received::{Judged, Refusal};
 use crate::role::Role;
 use std::alloc::Allocator;
@@ -34,7 +37,7 @@ pub(crate) enum Verdict {
 impl Verdict {
     /// Returns the outcome for the caller. `before` is the role that the agent had before the
     /// check.
-    pub(crate) fn judged(self, before: Role) -> Judged
+    pub(crate) fn to_judged(self, before: Role) -> Judged
         ensures { result ≡ judged_of before self }
     {
         match self {
@@ -51,7 +54,7 @@ impl Verdict {
 
 impl Verdict {
     /// Returns the role that an agent has after the check. `before` is its role before the check.
-    pub(crate) fn role(self, before: Role) -> Role
+    pub(crate) fn choose_role(self, before: Role) -> Role
         ensures { result ≡ role_of before self }
     {
         match self {
@@ -64,26 +67,26 @@ impl Verdict {
 
 impl<A: Allocator> Checker<A> {
     /// Judges a check.
-    pub(super) fn verdict(&self, check: &Message<'_>) -> Verdict
+    pub(super) fn judge_check(&self, check: &Message<'_>) -> Verdict
         ensures { result ≡ verdict_of self.now check.now }
     {
         let Some((place, attribute)) = check.deciding_attribute() else {
             return Verdict::Refused(Refusal::BadRequest, None);
         };
-        let Some(name) = username(check) else {
+        let Some(name) = read_username(check) else {
             return Verdict::Refused(Refusal::BadRequest, None);
         };
         // Only the first half of the name is checked, so that checks can be answered before the
         // peer's credentials arrive (RFC 8445, section 7.3).
-        if peer_name(&self.name, name).is_none() {
+        if read_peer_name(&self.name, name).is_none() {
             return Verdict::Refused(Refusal::Unauthenticated, None);
         }
-        self.by_signature(check, place, &attribute)
+        self.judge_by_signature(check, place, &attribute)
     }
 
     /// Judges the signature of a check whose USERNAME is already accepted. `attribute` is the
     /// integrity attribute that decides, and `place` is its offset.
-    fn by_signature(
+    fn judge_by_signature(
         &self,
         check: &Message<'_>,
         place: usize,
@@ -94,30 +97,35 @@ impl<A: Allocator> Checker<A> {
             (verified_algorithm check.now self.now.password) }
     {
         match check.validate_integrity_prepared(place, attribute, &self.password) {
-            Ok(algorithm) => self.by_attributes(check, algorithm),
+            Ok(algorithm) => self.judge_by_attributes(check, algorithm),
             Err(_) => Verdict::Refused(Refusal::Unauthenticated, None),
         }
     }
 
     /// Judges a check with a valid signature by its other attributes.
-    fn by_attributes(&self, check: &Message<'_>, algorithm: IntegrityAlgorithm) -> Verdict
+    fn judge_by_attributes(&self, check: &Message<'_>, algorithm: IntegrityAlgorithm) -> Verdict
         ensures { result ≡ by_signature self.now check.now (Some algorithm) }
     {
         if !is_understood(check) {
             return Verdict::Refused(Refusal::UnknownAttribute, Some(algorithm));
         }
-        match priority(check) {
-            Some(priority) => self.by_role(check, algorithm, priority),
+        match read_priority(check) {
+            Some(priority) => self.judge_by_role(check, algorithm, priority),
             None => Verdict::Refused(Refusal::BadRequest, Some(algorithm)),
         }
     }
 
     /// Judges a check with a well-formed PRIORITY by the roles of both sides.
-    fn by_role(&self, check: &Message<'_>, algorithm: IntegrityAlgorithm, priority: u32) -> Verdict
+    fn judge_by_role(
+        &self,
+        check: &Message<'_>,
+        algorithm: IntegrityAlgorithm,
+        priority: u32,
+    ) -> Verdict
         ensures { result ≡ by_priority self.now check.now algorithm (Some priority) }
     {
-        let theirs = rival(self.role, check);
-        match self.role.after_check(self.tie_breaker, theirs) {
+        let theirs = read_tie_breaker(self.role, check);
+        match self.role.resolve_conflict(self.tie_breaker, theirs) {
             Some(role) => Verdict::Accepted(Acceptance {
                 algorithm,
                 role,

@@ -36,7 +36,7 @@ pub(crate) enum Judgement<'a> {
 }
 
 /// Returns the reason to drop bytes that are not a message.
-fn no_message(bytes: &[u8]) -> DropReason
+fn find_drop_reason(bytes: &[u8]) -> DropReason
     ensures { result ≡ no_message bytes.now }
 {
     match MessageHeader::from_bytes(bytes) {
@@ -47,7 +47,7 @@ fn no_message(bytes: &[u8]) -> DropReason
 
 /// Returns the role that an agent has after the outcome of one of its checks. `role` is the role
 /// that it has before.
-fn role_after_outcome(role: Role, outcome: &Outcome) -> Role
+fn choose_role_after_outcome(role: Role, outcome: &Outcome) -> Role
     ensures { result ≡ role_after_outcome role outcome.now }
 {
     match outcome {
@@ -69,16 +69,16 @@ impl<A: Allocator> Checker<A> {
         ensures answerable { AnswersAnswerable result }
     {
         let Ok(message) = Message::from_bytes(bytes) else {
-            return Judgement::Dropped(no_message(bytes));
+            return Judgement::Dropped(find_drop_reason(bytes));
         };
         match check_fingerprint(&message) {
-            Fingerprint::Right => self.by_method(message, from, check),
+            Fingerprint::Right => self.judge_by_method(message, from, check),
             _ => Judgement::Dropped(DropReason::WrongFingerprint),
         }
     }
 
     /// Judges a message with a valid FINGERPRINT by its method and its class.
-    fn by_method<'a>(
+    fn judge_by_method<'a>(
         &self,
         message: Message<'a>,
         from: SocketAddr,
@@ -93,27 +93,27 @@ impl<A: Allocator> Checker<A> {
             return Judgement::Dropped(DropReason::OtherMethod);
         }
         match message.class() {
-            MessageClass::Request => self.of_check(message),
-            MessageClass::Indication => of_indication(message),
-            MessageClass::Success => self.by_response(&message, from, check),
-            MessageClass::Error => self.by_response(&message, from, check),
+            MessageClass::Request => self.judge_request(message),
+            MessageClass::Indication => judge_indication(message),
+            MessageClass::Success => self.judge_response(&message, from, check),
+            MessageClass::Error => self.judge_response(&message, from, check),
         }
     }
 
     /// Judges a check.
     #[tactic(auto, using(crate::proofs::AnswerableLemmas::verdict_answerable))]
-    fn of_check<'a>(&self, message: Message<'a>) -> Judgement<'a>
+    fn judge_request<'a>(&self, message: Message<'a>) -> Judgement<'a>
         requires { class_in message ≡ MessageClass.Request }
         ensures judgement { result
             ≡ Judgement.Check message.entry (verdict_of self.now message.entry) }
         ensures answerable { AnswersAnswerable result }
     {
-        let verdict = self.verdict(&message);
+        let verdict = self.judge_check(&message);
         Judgement::Check(message, verdict)
     }
 
     /// Judges a response.
-    fn by_response<'a>(
+    fn judge_response<'a>(
         &self,
         message: &Message<'_>,
         from: SocketAddr,
@@ -132,12 +132,12 @@ impl<A: Allocator> Checker<A> {
         if !self.is_signed(message) {
             return Judgement::Dropped(DropReason::WrongSignature);
         }
-        Judgement::Response(self.outcome(message, from, check))
+        Judgement::Response(self.judge_answer(message, from, check))
     }
 }
 
 /// Judges an indication.
-fn of_indication<'a>(message: Message<'a>) -> Judgement<'a>
+fn judge_indication<'a>(message: Message<'a>) -> Judgement<'a>
     ensures judgement { result ≡ of_indication message.entry }
     ensures answerable { AnswersAnswerable result }
 {
@@ -197,7 +197,7 @@ impl<A: Memory> Checker<A> {
         ensures granted { A.grants → IsOk result }
     {
         let mut buffer = Vec::new(self.alloc);
-        self.received(bytes, from, check, &mut buffer)
+        self.receive_datagram(bytes, from, check, &mut buffer)
     }
 
     /// Judges a datagram like `receive`, and writes the answer to a check into a buffer, replacing
@@ -228,7 +228,7 @@ impl<A: Memory> Checker<A> {
         ensures err { OnErr result ((self.new ≡ self.old) × (buffer.new.items ≡ [])) }
         ensures granted { A.grants → IsOk result }
     {
-        match self.received(bytes, from, check, buffer) {
+        match self.receive_datagram(bytes, from, check, buffer) {
             Ok(received) => Ok(received.into_buffer(buffer)),
             Err(_) => {
                 buffer.clear();
@@ -239,7 +239,7 @@ impl<A: Memory> Checker<A> {
 
     /// Judges a datagram, and writes the answer if it is a check. The answer uses the memory of
     /// `buffer`, if this is enough.
-    fn received<'a>(
+    fn receive_datagram<'a>(
         &mut self,
         bytes: &'a [u8],
         from: SocketAddr,
@@ -259,9 +259,9 @@ impl<A: Memory> Checker<A> {
         ensures granted { A.grants → IsOk result }
     {
         match self.judge(bytes, from, check) {
-            Judgement::Check(message, verdict) => self.answered(message, from, verdict, buffer),
+            Judgement::Check(message, verdict) => self.answer_check(message, from, verdict, buffer),
             Judgement::Response(outcome) => {
-                self.role = role_after_outcome(self.role, &outcome);
+                self.role = choose_role_after_outcome(self.role, &outcome);
                 Ok(Received::Response(outcome))
             }
             Judgement::Indication(message) => Ok(Received::Indication(message)),
@@ -271,7 +271,7 @@ impl<A: Memory> Checker<A> {
 
     /// Writes the answer to a check into the memory of the buffer, and sets the role that the agent
     /// has after the check.
-    fn answered<'a>(
+    fn answer_check<'a>(
         &mut self,
         message: Message<'a>,
         from: SocketAddr,
@@ -290,8 +290,8 @@ impl<A: Memory> Checker<A> {
         let Ok(answer) = self.answer(&message, from, verdict, writer) else {
             return Err(AllocError);
         };
-        let judged = verdict.judged(self.role);
-        self.role = verdict.role(self.role);
+        let judged = verdict.to_judged(self.role);
+        self.role = verdict.choose_role(self.role);
         Ok(Received::Check {
             message,
             answer,

@@ -10,7 +10,7 @@ ghost use Rattle.stun_ice.specs.Responses.{is_answered, is_signed};
 
 use crate::check::Check;
 use crate::checker::Checker;
-use crate::parts::{UNDERSTOOD, mapped_address_in};
+use crate::parts::{UNDERSTOOD, read_mapped_address};
 use crate::received::{Failure, Mapped, Outcome};
 use std::alloc::Allocator;
 use std::net::SocketAddr;
@@ -37,7 +37,7 @@ impl<A: Allocator> Checker<A> {
 
     /// Judges a response that answers a check and that the peer has signed: first by the address
     /// that it came from, and then by its attributes.
-    pub(super) fn outcome(
+    pub(super) fn judge_answer(
         &self,
         response: &Message<'_>,
         from: SocketAddr,
@@ -50,22 +50,22 @@ impl<A: Allocator> Checker<A> {
         }
         match unknown_types(response, &UNDERSTOOD).next() {
             Some(kind) => Outcome::Failed(Failure::NotUnderstood(kind)),
-            None => self.of_response(response, check),
+            None => self.judge_by_class(response, check),
         }
     }
 
     /// Judges a response whose attributes are understood.
-    fn of_response(&self, response: &Message<'_>, check: &Check<A>) -> Outcome
+    fn judge_by_class(&self, response: &Message<'_>, check: &Check<A>) -> Outcome
         ensures { result ≡ of_response self.now.role check.now response.now (class_in response.now) }
     {
         match response.class() {
-            MessageClass::Success => of_success(response),
-            _ => self.of_error(response, check),
+            MessageClass::Success => judge_success(response),
+            _ => self.judge_error(response, check),
         }
     }
 
     /// Judges an error response.
-    fn of_error(&self, response: &Message<'_>, check: &Check<A>) -> Outcome
+    fn judge_error(&self, response: &Message<'_>, check: &Check<A>) -> Outcome
         ensures { result ≡ of_error self.now.role check.now.role (error_in response.now) }
     {
         match response.attribute::<ErrorCode<'_>>() {
@@ -79,10 +79,10 @@ impl<A: Allocator> Checker<A> {
 }
 
 /// Judges a success response.
-fn of_success(response: &Message<'_>) -> Outcome
+fn judge_success(response: &Message<'_>) -> Outcome
     ensures { result ≡ of_success response.now }
 {
-    match mapped_address_in(response) {
+    match read_mapped_address(response) {
         Some(address) => Outcome::Valid(Mapped::new(address, response.transaction_id())),
         None => Outcome::Failed(Failure::Malformed),
     }

@@ -118,7 +118,7 @@ impl<A: Memory> Realm<A> {
             (page_in W.bytes W.room writer.new) (W.reserved writer.new) }
         ensures granted { W.grants → UnlessMemory result ⊤ ⊥ }
     {
-        let offered = self.algorithms().password_algorithms();
+        let offered = self.algorithms().as_password_algorithms();
         add(writer, AddedAttribute::PasswordAlgorithms(offered))
     }
 

@@ -17,14 +17,14 @@ ghost use Rattle.stun_judging.specs.Verdict.{verdict};
 
 use crate::accepted::Accepted;
 use crate::algorithm_set::AlgorithmSet;
-use crate::claim::{JudgeableMessage, named_in};
+use crate::claim::{JudgeableMessage, read_allowed_user};
 use crate::named_user::NamedUser;
 use crate::read_message::ReadMessage;
 use crate::realm::Realm;
 use crate::refusal::VerdictRefusal;
 use crate::registry::Registry;
 use crate::user::LongTermServerUser;
-use crate::verdict::verdict;
+use crate::verdict::judge_message;
 use stun_base::memory::Memory;
 
 impl<A: Memory> Realm<A> {
@@ -39,7 +39,7 @@ impl<A: Memory> Realm<A> {
         ensures { option_map named_seen result ≡ named_in (reading_of read.now).userhash
             (reading_of read.now).username self.now.feature }
     {
-        named_in(&read.reading, self.feature)
+        read_allowed_user(&read.reading, self.feature)
     }
 
     /// Judges a request or an indication under a nonce, with all supported algorithms as the offer,
@@ -128,6 +128,6 @@ impl<A: Memory> Realm<A> {
         let Some(message) = JudgeableMessage::of(&read.reading) else {
             return Err(VerdictRefusal::BadRequest);
         };
-        verdict(users, self.feature, &message, nonce, offered)
+        judge_message(users, self.feature, &message, nonce, offered)
     }
 }

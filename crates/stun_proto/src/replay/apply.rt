@@ -10,7 +10,7 @@ ghost use Rattle.stun_proto.specs.Steps.{Sent, step_of};
 
 use crate::replay::event::{AgentEvent, AgentStep};
 use crate::replay::step_log::StepLog;
-use crate::replay::turn::transmitted;
+use crate::replay::turn::make_transmitted_step;
 use std::alloc::{AllocError, Allocator};
 use std::net::SocketAddr;
 use stun_agent::agent::{StunAgent, StunError};
@@ -87,13 +87,13 @@ fn send<A: Memory>(
     ensures granted { A.grants → IsKept log.old → IsKept log.new }
 {
     match agent.send(bytes, to, now) {
-        Ok(transmit) => log.add(sent(alloc, now, transmit.to, transmit.data)),
+        Ok(transmit) => log.add(make_sent_step(alloc, now, transmit.to, transmit.data)),
         Err(error) => log.add(Ok(AgentStep::Refused { at: now, error })),
     }
 }
 
 /// Returns the step of an indication or a response that was sent.
-fn sent<A: Memory>(
+fn make_sent_step<A: Memory>(
     alloc: A,
     now: Instant,
     to: SocketAddr,
@@ -126,7 +126,7 @@ fn ask<A: Memory>(
 {
     match agent.send_request(bytes, to, now) {
         Ok(transmit) => {
-            log.add(transmitted(alloc, now, transmit.to, transmit.data));
+            log.add(make_transmitted_step(alloc, now, transmit.to, transmit.data));
             Ok(())
         }
         Err(StunError::OutOfMemory) => Err(AllocError),

@@ -13,7 +13,7 @@ ghost use Rattle.stun_proto.specs.Stopped.{HasStopped};
 use crate::replay::apply::apply;
 use crate::replay::event::{AgentEvent, AgentStep, Stopped};
 use crate::replay::step_log::StepLog;
-use crate::replay::turn::turn;
+use crate::replay::turn::take_turn;
 use std::alloc::AllocError;
 use stun_agent::agent::StunAgent;
 use stun_base::instant::Instant;
@@ -114,7 +114,7 @@ pub fn drive<A: Memory>(
         done += 1;
     }
     let bound = until.as_nanos() as u128 + 1;
-    turns(alloc, agent, from, bound, &mut log);
+    take_turns(alloc, agent, from, bound, &mut log);
     if log.is_lost {
         return Err(Stopped { done });
     }
@@ -140,18 +140,18 @@ fn take_event<A: Memory>(
     ensures granted { A.grants → IsKept log.old → IsOk result }
     ensures kept { A.grants → IsKept log.old → IsKept log.new }
 {
-    turns(alloc, agent, from, now.as_nanos() as u128, log);
+    take_turns(alloc, agent, from, now.as_nanos() as u128, log);
     if log.is_lost {
         return Err(AllocError);
     }
     apply(alloc, agent, now, event, log)?;
-    turn(alloc, agent, now, log);
+    take_turn(alloc, agent, now, log);
     Ok(())
 }
 
 /// Makes a turn at each time that a request waits for and that is at least `from` and less than
 /// `bound`, both in nanoseconds.
-fn turns<A: Memory>(
+fn take_turns<A: Memory>(
     alloc: A,
     agent: &mut StunAgent<A>,
     from: u128,
@@ -174,7 +174,7 @@ fn turns<A: Memory>(
         if bound <= nanos {
             return;
         }
-        turn(alloc, agent, moment, log);
+        take_turn(alloc, agent, moment, log);
         from = nanos + 1;
     }
 }

@@ -19,7 +19,7 @@ use stun_types::message::Message;
 
 /// Validates a message: returns the algorithm of its signature, or the reason why the server
 /// refuses it. Fails only if an allocation fails, and the server is then unchanged.
-pub(crate) fn judged<A: Memory>(
+pub(crate) fn judge<A: Memory>(
     server: &mut LongTermServerAuth<A>,
     message: &Message<'_>,
     from: SocketAddr,
@@ -35,13 +35,13 @@ pub(crate) fn judged<A: Memory>(
 {
     let mut source = WordSource::new(words);
     match server.validate_incoming_message(message, from, now, &mut source) {
-        Ok(validation) => Ok(Ok(validated_algorithm(validation))),
-        Err(error) => server_refusal(error.reason()),
+        Ok(validation) => Ok(Ok(to_algorithm(validation))),
+        Err(error) => to_server_refusal(error.reason()),
     }
 }
 
 /// Returns the algorithm of the signature of a message that was validated.
-fn validated_algorithm(validation: LongTermServerValidation) -> IntegrityAlgorithm
+fn to_algorithm(validation: LongTermServerValidation) -> IntegrityAlgorithm
     ensures { LongTermServerValidation.Validated result ≡ validation }
 {
     match validation {
@@ -50,7 +50,7 @@ fn validated_algorithm(validation: LongTermServerValidation) -> IntegrityAlgorit
 }
 
 /// Returns the reason as a refusal by the server. Fails if the reason is that an allocation failed.
-fn server_refusal(
+fn to_server_refusal(
     reason: LongTermServerAuthErrorReason,
 ) -> Result<Result<IntegrityAlgorithm, LongTermServerAuthErrorReason>, AllocError>
     ensures { ForServerReason reason (result ≡ Ok (Err reason)) (IsErr result) }

@@ -193,10 +193,10 @@ pub fn negotiate<A: Memory>(
 {
     laws::strongest_is_agreed();
     laws::short_names_are_signed();
-    realm_is_text(server);
-    name_is_text(client);
-    let first = round_at(0, ids, moments, words, between);
-    let second = round_at(1, ids, moments, words, between);
+    show_realm_is_text(server);
+    show_name_is_text(client);
+    let first = make_round(0, ids, moments, words, between);
+    let second = make_round(1, ids, moments, words, between);
     let meeting = Meeting {
         from,
         first,
@@ -207,7 +207,7 @@ pub fn negotiate<A: Memory>(
 
 /// Returns the first request of the meeting for the index 0, and the second request for the index
 /// 1.
-fn round_at<'a>(
+fn make_round<'a>(
     index: usize,
     ids: [TransactionId; 2],
     moments: [Instant; 2],
@@ -219,7 +219,7 @@ fn round_at<'a>(
     ensures count { length result.words ≡ 16 }
 {
     let words = words[index];
-    words_are_sixteen(words);
+    show_words_are_sixteen(words);
     Asking {
         id: ids[index],
         moment: moments[index],
@@ -230,13 +230,13 @@ fn round_at<'a>(
 
 /// States that there are sixteen random numbers. Only the proof uses this call: the type of the
 /// numbers guarantees it, but contracts do not see types.
-fn words_are_sixteen(words: [u32; 16])
+fn show_words_are_sixteen(words: [u32; 16])
     ensures { length words ≡ 16 }
 {}
 
 /// States that the realm of a server is UTF-8. Only the proof uses this call, which makes known
 /// what the type `&str` promises.
-fn realm_is_text<A: Allocator + Copy>(server: &LongTermServerAuth<A>)
+fn show_realm_is_text<A: Allocator + Copy>(server: &LongTermServerAuth<A>)
     ensures { IsUtf8 server.now.registered.realm }
 {
     let _realm = server.realm();
@@ -244,7 +244,7 @@ fn realm_is_text<A: Allocator + Copy>(server: &LongTermServerAuth<A>)
 
 /// States that the name of a client's user is UTF-8. Only the proof uses this call, which makes
 /// known what the type `&str` promises.
-fn name_is_text<A: Allocator>(client: &LongTermClientAuth<A>)
+fn show_name_is_text<A: Allocator>(client: &LongTermClientAuth<A>)
     ensures { IfSome client.now.settings.credentials (λ who. IsUtf8 who.username) }
 {
     match client.credentials() {

@@ -109,7 +109,7 @@ fn take_rounds<A: Memory>(
 {
     let mut late = 0;
     for round in rounds {
-        late = greater_of(late, take_round(alloc, agent, round, log)?);
+        late = choose_greater(late, take_round(alloc, agent, round, log)?);
     }
     Ok(late)
 }
@@ -127,9 +127,9 @@ fn take_round<A: Memory>(
     ensures kept { A.grants → IsKept log.old → IsKept log.new }
 {
     let late = take_events(alloc, agent, round.events.as_slice(), log)?;
-    let late = greater_of(late, lateness(agent, round.time));
-    let late = greater_of(late, send_again(alloc, agent, round.time, log));
-    let late = greater_of(late, lateness(agent, round.time));
+    let late = choose_greater(late, measure_lateness(agent, round.time));
+    let late = choose_greater(late, send_again(alloc, agent, round.time, log));
+    let late = choose_greater(late, measure_lateness(agent, round.time));
     let _wait = end_one(agent, round.time, log);
     Ok(late)
 }
@@ -149,7 +149,7 @@ fn take_events<A: Memory>(
 {
     let mut late = 0;
     for (now, event) in events {
-        late = greater_of(late, lateness(agent, *now));
+        late = choose_greater(late, measure_lateness(agent, *now));
         apply(alloc, agent, *now, event, log)?;
     }
     Ok(late)
@@ -169,7 +169,7 @@ fn send_again<A: Memory>(
 {
     let mut late = 0;
     for _ in 0..MOST_AT_ONCE {
-        late = greater_of(late, lateness(agent, now));
+        late = choose_greater(late, measure_lateness(agent, now));
         if !send_one(alloc, agent, now, log) {
             return late;
         }
@@ -179,7 +179,7 @@ fn send_again<A: Memory>(
 
 /// Returns how many nanoseconds before `now` the earliest deadline of a request was, or 0 if no
 /// deadline has passed.
-fn lateness<A: Allocator + Copy>(agent: &StunAgent<A>, now: Instant) -> u64
+fn measure_lateness<A: Allocator + Copy>(agent: &StunAgent<A>, now: Instant) -> u64
     ensures { IsWithin result now agent.now }
 {
     match agent.next_awaited() {
@@ -189,7 +189,7 @@ fn lateness<A: Allocator + Copy>(agent: &StunAgent<A>, now: Instant) -> u64
 }
 
 /// Returns the greater of two numbers.
-fn greater_of(one: u64, other: u64) -> u64
+fn choose_greater(one: u64, other: u64) -> u64
     ensures one { one ≤ result }
     ensures other { other ≤ result }
 {

@@ -16,7 +16,7 @@ ghost use Rattle.stun_proto.specs.Serving.{reply_of_answer, reply_unless};
 
 use crate::replay::call::{ServerCall, ServerReply};
 use crate::replay::event::Stopped;
-use crate::replay::judging::judged;
+use crate::replay::judging::judge;
 use crate::replay::signing::sign;
 use std::alloc::{AllocError, Allocator};
 use std::net::SocketAddr;
@@ -162,7 +162,7 @@ fn validate<A: Memory>(
         Ok(message) => message,
         Err(error) => return Ok(ServerReply::NotAMessage(error)),
     };
-    match judged(server, &message, from, now, words)? {
+    match judge(server, &message, from, now, words)? {
         Ok(algorithm) => Ok(ServerReply::Validated(algorithm)),
         Err(reason) => Ok(ServerReply::Refused(reason)),
     }

@@ -18,7 +18,7 @@ use stun_base::memory::Memory;
 /// Makes one turn: retransmits the requests that are due at the time `now`, ends those that are
 /// over, and repeats this as long as `poll` returns this time. At `Instant::MAX` it does not
 /// repeat. The agent's calls do not allocate, so a turn is always complete.
-pub(crate) fn turn<A: Memory>(
+pub(crate) fn take_turn<A: Memory>(
     alloc: A,
     agent: &mut StunAgent<A>,
     now: Instant,
@@ -77,7 +77,7 @@ pub(crate) fn send_one<A: Memory>(
     ensures granted { A.grants → IsKept log.old → IsKept log.new }
 {
     let step = match agent.poll_transmit(now) {
-        Some(transmit) => transmitted(alloc, now, transmit.to, transmit.data),
+        Some(transmit) => make_transmitted_step(alloc, now, transmit.to, transmit.data),
         None => return false,
     };
     log.add(step);
@@ -109,7 +109,7 @@ pub(crate) fn end_one<A: Memory>(
 
 /// Returns the step of a transmission. The transaction ID in the step comes from the bytes of the
 /// request.
-pub(crate) fn transmitted<A: Memory>(
+pub(crate) fn make_transmitted_step<A: Memory>(
     alloc: A,
     now: Instant,
     to: SocketAddr,

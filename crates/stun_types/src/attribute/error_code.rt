@@ -96,7 +96,7 @@ impl<'a> ErrorCode<'a> {
     {
         ErrorCodeBuilder {
             code,
-            reason: default_reason(code),
+            reason: choose_reason(code),
         }
     }
 
@@ -119,7 +119,7 @@ impl<'a> ErrorCode<'a> {
 }
 
 /// Returns the default reason phrase for this code.
-fn default_reason(code: u16) -> &'static str
+fn choose_reason(code: u16) -> &'static str
     ensures { result.now ≡ default_reason code }
 {
     match code {

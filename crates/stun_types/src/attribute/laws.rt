@@ -55,12 +55,12 @@ pub fn hidden_and_read(addr: SocketAddr, id: TransactionId) -> SocketAddr
     ensures scope_id { socket_scope_id result ≡ 0 }
 {
     // For the proof of the clause `ip` alone, which needs the number of octets.
-    let _octets = octet_count(addr.ip());
+    let _octets = count_octets(addr.ip());
     XorMappedAddress::new(addr, id).addr(id)
 }
 
 /// Returns the number of octets of an address, which depends on its family.
-fn octet_count(ip: IpAddr) -> usize
+fn count_octets(ip: IpAddr) -> usize
     ensures { HasOctets ip }
 {
     match ip {

@@ -54,7 +54,7 @@ impl PasswordAlgorithmValue {
     }
 
     /// Returns the entry of this algorithm: its number, and no parameters.
-    pub(super) fn entry(self) -> [u8; ENTRY_LENGTH]
+    pub(super) fn to_entry(self) -> [u8; ENTRY_LENGTH]
         ensures { result ≡ spelled_entry self }
     {
         match self {
@@ -140,11 +140,11 @@ impl Attribute for PasswordAlgorithm {
     }
 
     fn length(&self) -> usize {
-        self.algorithm.entry().as_slice().len()
+        self.algorithm.to_entry().as_slice().len()
     }
 
     fn write_into<W: MessageWrite>(&self, writer: &mut W) {
-        append_attribute(writer, Self::TYPE, &self.algorithm.entry());
+        append_attribute(writer, Self::TYPE, &self.algorithm.to_entry());
     }
 }
 

@@ -83,7 +83,7 @@ fn are_known(bytes: &[u8]) -> bool
 }
 
 /// Returns the algorithm of the entry with this index, or `None` if there are fewer entries.
-fn entry_at(bytes: &[u8], i: usize) -> Option<PasswordAlgorithmValue>
+fn read_entry_at(bytes: &[u8], i: usize) -> Option<PasswordAlgorithmValue>
     requires { IsTrue (are_entries bytes.now) }
     ensures { result ≡ slice_get (entry_list bytes.now) i }
 {
@@ -94,7 +94,7 @@ fn entry_at(bytes: &[u8], i: usize) -> Option<PasswordAlgorithmValue>
 }
 
 /// Returns the number of entries.
-fn entry_count(bytes: &[u8]) -> usize
+fn count_entries(bytes: &[u8]) -> usize
     requires { IsTrue (are_entries bytes.now) }
     ensures { result ≡ length (entry_list bytes.now) }
 {
@@ -117,7 +117,7 @@ impl<'a> PasswordAlgorithms<'a> {
     {
         match self.source {
             Source::Listed(list) => list.len(),
-            Source::Received(bytes) => entry_count(bytes),
+            Source::Received(bytes) => count_entries(bytes),
         }
     }
 
@@ -134,7 +134,7 @@ impl<'a> PasswordAlgorithms<'a> {
     {
         match self.source {
             Source::Listed(list) => list.get(i).copied(),
-            Source::Received(bytes) => entry_at(bytes, i),
+            Source::Received(bytes) => read_entry_at(bytes, i),
         }
     }
 
@@ -176,7 +176,7 @@ impl<'a> PasswordAlgorithms<'a> {
     {
         for i in 0..self.len() {
             if let Some(algorithm) = self.get(i) {
-                writer.append(&algorithm.entry());
+                writer.append(&algorithm.to_entry());
             }
         }
     }

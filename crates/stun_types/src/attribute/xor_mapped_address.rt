@@ -88,7 +88,7 @@ fn xor_with(octets: &mut [u8], key: &[u8])
 }
 
 /// Returns the key for the octets: the magic cookie, followed by the transaction ID.
-fn xor_key(id: TransactionId) -> [u8; 16]
+fn make_xor_key(id: TransactionId) -> [u8; 16]
     ensures { result ≡ xor_key id }
 {
     let mut key = id.as_u128().to_be_bytes();
@@ -123,7 +123,7 @@ impl XorMappedAddress {
     pub fn new(addr: SocketAddr, id: TransactionId) -> Self
         ensures { result ≡ xored_address (socket_ip addr) (socket_port addr) id }
     {
-        let key = xor_key(id);
+        let key = make_xor_key(id);
         let octets = match addr.ip() {
             IpAddr::V4(ip) => {
                 let mut octets = ip.octets();
@@ -149,7 +149,7 @@ impl XorMappedAddress {
         ensures ip { IsHidden id self.now (socket_ip result) }
         ensures port { IsPlainSocket result (xor_port self.now.port) }
     {
-        let key = xor_key(id);
+        let key = make_xor_key(id);
         let ip = match self.octets {
             XoredOctets::V4(octets) => {
                 let mut octets = octets;

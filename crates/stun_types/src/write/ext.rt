@@ -69,7 +69,7 @@ pub trait MessageWriteExt: MessageWrite {
         requires { BeginsWithHeader (Self.bytes self.now) }
         ensures { IsTrue result ↔ (class_in (Self.bytes self.now) ≡ class) }
     {
-        header(self.data()).get_type().has_class(class)
+        read_header(self.data()).get_type().has_class(class)
     }
 
     /// Returns `true` if the message is a response, either a success or an error.
@@ -79,7 +79,7 @@ pub trait MessageWriteExt: MessageWrite {
         requires { BeginsWithHeader (Self.bytes self.now) }
         ensures { IsTrue result ↔ IsResponse (class_in (Self.bytes self.now)) }
     {
-        header(self.data()).get_type().is_response()
+        read_header(self.data()).get_type().is_response()
     }
 
     /// Returns the transaction ID of the message.
@@ -89,7 +89,7 @@ pub trait MessageWriteExt: MessageWrite {
         requires { BeginsWithHeader (Self.bytes self.now) }
         ensures { result ≡ transaction_id_field (Self.bytes self.now) }
     {
-        header(self.data()).transaction_id()
+        read_header(self.data()).transaction_id()
     }
 
     /// Adds an attribute at the end of the message.
@@ -313,7 +313,7 @@ pub trait MessageWriteExt: MessageWrite {
 impl<W: MessageWrite> MessageWriteExt for W {}
 
 /// Reads the header of a message.
-fn header(message: &[u8]) -> MessageHeader
+fn read_header(message: &[u8]) -> MessageHeader
     requires { BeginsWithHeader message.now }
     ensures { result ≡ header_of message.now }
 {
@@ -333,7 +333,7 @@ fn has_integrity(message: &[u8]) -> bool
 }
 
 /// Returns the message length after `more` bytes are added. The result is at most `usize::MAX`.
-fn length_with(message: &[u8], more: usize) -> usize
+fn count_length_with(message: &[u8], more: usize) -> usize
     requires { header_length ≤ length message.now }
     ensures { result ≡ min (length message.now - header_length + more) (2 ^ 64 - 1) }
 {
@@ -353,7 +353,7 @@ fn add_whole<W: MessageWrite, A: Attribute>(
         (size_refusal (W.bytes writer.old) (W.room writer.old) (length (A.value attribute.now)))
         (record { kind = A.kind attribute.now; value = A.value attribute.now }) result }
 {
-    let message_length = length_with(writer.data(), attribute.padded_len());
+    let message_length = count_length_with(writer.data(), attribute.padded_len());
     if message_length > MAX_LENGTH {
         return Err(StunWriteError::TooLarge);
     }
@@ -364,7 +364,7 @@ fn add_whole<W: MessageWrite, A: Attribute>(
 }
 
 /// Returns the number of bytes of the integrity attribute for this algorithm, with its header.
-fn integrity_length(algorithm: IntegrityAlgorithm) -> usize
+fn count_integrity_length(algorithm: IntegrityAlgorithm) -> usize
     ensures { result ≡ attribute_length (digest_length algorithm) }
 {
     attribute_length(algorithm.digest_length())
@@ -384,8 +384,8 @@ fn add_integrity<W: MessageWrite, K: DigestKey>(
     if has_integrity(writer.data()) {
         return Err(StunWriteError::MessageIntegrityExists);
     }
-    let padded_length = integrity_length(algorithm);
-    if length_with(writer.data(), padded_length) > MAX_LENGTH {
+    let padded_length = count_integrity_length(algorithm);
+    if count_length_with(writer.data(), padded_length) > MAX_LENGTH {
         return Err(StunWriteError::TooLarge);
     }
     if writer.room() < padded_length {
@@ -407,8 +407,8 @@ fn sign<W: MessageWrite, K: DigestKey>(
     ensures { SignsUnchecked W.grants W.bytes W.room W.reserved writer.old writer.new
         algorithm (K.key_bytes key.now) result }
 {
-    let padded_length = integrity_length(algorithm);
-    let message_length = length_with(writer.data(), padded_length);
+    let padded_length = count_integrity_length(algorithm);
+    let message_length = count_length_with(writer.data(), padded_length);
     if writer.reserve(padded_length).is_err() {
         return Err(AllocError);
     }

@@ -1,8 +1,8 @@
 //! The times that requests await: the times of their next slots, and the times at which they end.
 //!
 //! The times are private to this module. A counted search can look at the times of a link in two
-//! ways, `is_over` and `first`, and each counts one look. The calls that do not count, and those
-//! that join times, are visible only in `tree.rt` and the modules below it.
+//! ways, `is_over` and `look_at_first`, and each counts one look. The calls that do not count, and
+//! those that join times, are visible only in `tree.rt` and the modules below it.
 ghost use Rattle.std.specs.Prelude.{◌≡◌, ◌+◌, ◌||◌, false, if◌then◌else◌, Some, None};
 ghost use Rattle.stun_base.specs.Moments.{last_moment};
 ghost use Rattle.stun_agent.specs.code.Awaited.{Awaited, nothing, slot_at, end_at, cancelled_one};
@@ -43,7 +43,7 @@ impl Model for Awaited {
 
 impl Awaited {
     /// Creates the value for no requests.
-    pub(crate) fn nothing() -> Self
+    pub(crate) fn new() -> Self
         ensures { result ≡ nothing }
     {
         Awaited {
@@ -57,7 +57,7 @@ impl Awaited {
 
     /// Creates the value for a request whose next slot is at this time. At that time it is
     /// retransmitted, unless its retransmissions are canceled.
-    pub(crate) fn slot_at(slot: Instant) -> Self
+    pub(crate) fn with_slot(slot: Instant) -> Self
         ensures { result ≡ slot_at slot }
     {
         Awaited {
@@ -70,7 +70,7 @@ impl Awaited {
     }
 
     /// Creates the value for a request that ends at this time, after its last wait.
-    pub(crate) fn end_at(end: Instant) -> Self
+    pub(crate) fn with_end(end: Instant) -> Self
         ensures { result ≡ end_at end }
     {
         Awaited {
@@ -83,7 +83,7 @@ impl Awaited {
     }
 
     /// Creates the value for a canceled request, which ends at the next poll that reaches it.
-    pub(crate) fn cancelled() -> Self
+    pub(crate) fn with_cancelled() -> Self
         ensures { result ≡ cancelled_one }
     {
         Awaited {
@@ -95,7 +95,7 @@ impl Awaited {
         }
     }
 
-    pub(super) fn copied(&self) -> Self
+    pub(super) fn copy(&self) -> Self
         ensures { result ≡ self.now }
     {
         Awaited {
@@ -123,27 +123,27 @@ impl Awaited {
     }
 
     /// Returns the earlier of the earliest slot and the earliest end, without a count.
-    pub(super) fn earliest(&self) -> Option<Instant>
+    pub(super) fn find_earliest(&self) -> Option<Instant>
         ensures { result ≡ first_awaited self.now }
     {
-        earlier(self.slot(), self.end())
+        choose_earlier(self.slot(), self.end())
     }
 
     /// Returns the earlier of the earliest slot and the earliest end, and counts one look.
-    pub(crate) fn first<L: Ledger>(&self, reads: &mut Reads<L>) -> Option<Instant>
+    pub(crate) fn look_at_first<L: Ledger>(&self, reads: &mut Reads<L>) -> Option<Instant>
         ensures first { result ≡ first_awaited self.now }
         ensures counts { reads.new ≡ record reads.old { looks = reads.old.looks + 1 } }
     {
         reads.count_look();
-        self.earliest()
+        self.find_earliest()
     }
 
     /// Joins another value to this one, which then covers the requests of both.
     pub(super) fn join(&mut self, other: &Awaited)
         ensures { self.new ≡ joined self.old other.now }
     {
-        self.slot = earlier_of(self.has_slot, self.slot, other.has_slot, other.slot);
-        self.end = earlier_of(self.has_end, self.end, other.has_end, other.end);
+        self.slot = choose_earlier_time(self.has_slot, self.slot, other.has_slot, other.slot);
+        self.end = choose_earlier_time(self.has_end, self.end, other.has_end, other.end);
         self.has_slot |= other.has_slot;
         self.has_end |= other.has_end;
         self.is_cancelled |= other.is_cancelled;
@@ -178,7 +178,7 @@ impl Awaited {
 }
 
 /// Returns the earlier of two times, each of which may be absent.
-fn earlier(one: Option<Instant>, other: Option<Instant>) -> Option<Instant>
+fn choose_earlier(one: Option<Instant>, other: Option<Instant>) -> Option<Instant>
     ensures { result ≡ lesser one other }
 {
     match (one, other) {
@@ -192,7 +192,12 @@ fn earlier(one: Option<Instant>, other: Option<Instant>) -> Option<Instant>
 ///
 /// Contracts: only contracts read `_is_there` and `_is_other_there`, which state whether the times
 /// are present.
-fn earlier_of(_is_there: bool, one: Instant, _is_other_there: bool, other: Instant) -> Instant
+fn choose_earlier_time(
+    _is_there: bool,
+    one: Instant,
+    _is_other_there: bool,
+    other: Instant,
+) -> Instant
     requires one { _is_there ≡ false → one ≡ last_moment }
     requires other { _is_other_there ≡ false → other ≡ last_moment }
     ensures earlier { (if _is_there || _is_other_there then Some result else None)

@@ -13,7 +13,7 @@ ghost use Rattle.stun_agent.specs.code.Tree.{IsOrdered, IsOrderedFork, IsTimed, 
 use crate::calls::uncounted::Uncounted;
 use crate::state::transaction::Change;
 use crate::state::tree::awaited::Awaited;
-use crate::state::tree::{Fork, Leaf, Link, Quarter, quarter_of};
+use crate::state::tree::{Fork, Leaf, Link, Quarter, choose_quarter};
 use std::alloc::Allocator;
 use stun_base::instant::Instant;
 use stun_base::transaction_id::TransactionId;
@@ -69,7 +69,7 @@ fn change_fork<A: Allocator, D>(
         → result ≡ awaited_of transport (fork_items fork.new) }
 {
     change_in(fork, levels, transport, id, to);
-    fork.awaited()
+    fork.join_awaited()
 }
 
 /// Like `change`, but for the requests below a fork.
@@ -90,7 +90,7 @@ fn change_in<A: Allocator, D>(
     ensures timed { IsTimedFork transport fork.old → IsTimedFork transport fork.new }
 {
     let below = levels - 1;
-    match quarter_of(id, levels) {
+    match choose_quarter(id, levels) {
         Quarter::First => change(&mut fork.first, below, transport, id, to),
         Quarter::Second => change(&mut fork.second, below, transport, id, to),
         Quarter::Third => change(&mut fork.third, below, transport, id, to),
@@ -108,7 +108,7 @@ impl<A: Allocator, D> Leaf<A, D> {
             ≡ awaited_by transport (changed_transaction to self.old.entry.1) }
     {
         self.request.change(to);
-        self.request.awaited_by(transport)
+        self.request.to_awaited(transport)
     }
 
     /// Advances the request past the slot that is due, and writes to `awaited` the time that the
@@ -122,7 +122,7 @@ impl<A: Allocator, D> Leaf<A, D> {
         ensures awaited { awaited.new ≡ awaited_by transport self.new.entry.1 }
     {
         self.request.take_slot(now);
-        *awaited = self.request.awaited_by(transport);
+        *awaited = self.request.to_awaited(transport);
         self.request.sending().repeats()
     }
 }
@@ -188,7 +188,7 @@ fn pass_fork<A: Allocator, D>(
     ensures awaited { awaited.new ≡ awaited_of transport (fork_items fork.new) }
 {
     let sent = pass_in(fork, transport, now, leave);
-    *awaited = fork.awaited();
+    *awaited = fork.join_awaited();
     sent
 }
 

@@ -11,7 +11,7 @@ ghost use Rattle.stun_agent.specs.code.Tree.{IsFork, IsLeaf};
 ghost use Rattle.stun_agent.specs.code.Tree.{IsOrdered, IsOrderedFork, IsTimed, IsTimedFork};
 
 use crate::state::tree::awaited::Awaited;
-use crate::state::tree::{Fork, Leaf, Link, Quarter, quarter_of};
+use crate::state::tree::{Fork, Leaf, Link, Quarter, choose_quarter};
 use std::alloc::{AllocError, Allocator};
 use std::mem;
 use stun_base::memory::Memory;
@@ -44,7 +44,7 @@ pub(crate) fn insert<A: Memory, D: Drop>(
 {
     match link {
         Link::Empty => {
-            *link = Link::Leaf(awaited.copied(), leaf);
+            *link = Link::Leaf(awaited.copy(), leaf);
             Ok(())
         }
         Link::Leaf(_, _) => {
@@ -116,7 +116,7 @@ fn insert_into<A: Memory, D: Drop>(
     ensures granted { A.grants → IsOk result }
 {
     let below = levels - 1;
-    match quarter_of(leaf.id, levels) {
+    match choose_quarter(leaf.id, levels) {
         Quarter::First => insert(&mut fork.first, below, alloc, awaited, leaf),
         Quarter::Second => insert(&mut fork.second, below, alloc, awaited, leaf),
         Quarter::Third => insert(&mut fork.third, below, alloc, awaited, leaf),
@@ -149,7 +149,7 @@ fn deepen<A: Memory, D: Drop>(
     let mut fork = A::boxed(alloc, none)?;
     match mem::replace(link, Link::Empty) {
         Link::Leaf(awaited, leaf) => {
-            *fork = Fork::of(levels, awaited.copied(), leaf);
+            *fork = Fork::of(levels, awaited.copy(), leaf);
             *link = Link::Fork(awaited, fork);
         }
         other => *link = other,
@@ -170,7 +170,7 @@ impl<A: Allocator, D> Fork<A, D> {
             → awaited ≡ awaited_by transport leaf.value.entry.1
             → IsTimedFork transport result }
     {
-        let quarter = quarter_of(leaf.id, levels);
+        let quarter = choose_quarter(leaf.id, levels);
         let link = Link::Leaf(awaited, leaf);
         match quarter {
             Quarter::First => Fork {

@@ -11,7 +11,7 @@ ghost use Rattle.stun_agent.specs.code.Tree.{IsTimed, IsTimedFork};
 
 use crate::calls::uncounted::Uncounted;
 use crate::state::transaction::Transaction;
-use crate::state::tree::{Fork, Leaf, Link, Quarter, quarter_of};
+use crate::state::tree::{Fork, Leaf, Link, Quarter, choose_quarter};
 use std::alloc::Allocator;
 use stun_base::instant::Instant;
 use stun_base::transaction_id::TransactionId;
@@ -26,12 +26,12 @@ pub(crate) fn get<A: Allocator, D>(
     requires { IsOrdered levels (part_of levels id) link.now }
     ensures { option_copied result ≡ at id (items link.now) }
 {
-    let leaf = leaf_at(link, levels, id, leave)?;
+    let leaf = find_leaf(link, levels, id, leave)?;
     Some(&leaf.request)
 }
 
 /// Returns the datum of the request with this ID, if there is one.
-pub(crate) fn datum<A: Allocator, D>(
+pub(crate) fn find_datum<A: Allocator, D>(
     link: &Link<A, D>,
     levels: u32,
     id: TransactionId,
@@ -40,13 +40,13 @@ pub(crate) fn datum<A: Allocator, D>(
     requires { IsOrdered levels (part_of levels id) link.now }
     ensures { option_copied result ≡ datum_at id (attached link.now) }
 {
-    let leaf = leaf_at(link, levels, id, leave)?;
+    let leaf = find_leaf(link, levels, id, leave)?;
     Some(&leaf.datum)
 }
 
 /// Returns the leaf with this ID, if there is one.
-#[cycle(leaf_at)]
-fn leaf_at<A: Allocator, D>(
+#[cycle(find_leaf)]
+fn find_leaf<A: Allocator, D>(
     link: &Link<A, D>,
     levels: u32,
     id: TransactionId,
@@ -63,11 +63,11 @@ fn leaf_at<A: Allocator, D>(
         Link::Leaf(_, leaf) => { if leaf.id == id { Some(leaf) } else { None } }
         Link::Fork(_, fork) => {
             let below = levels - 1;
-            match quarter_of(id, levels) {
-                Quarter::First => leaf_at(&fork.first, below, id, leave),
-                Quarter::Second => leaf_at(&fork.second, below, id, leave),
-                Quarter::Third => leaf_at(&fork.third, below, id, leave),
-                Quarter::Fourth => leaf_at(&fork.fourth, below, id, leave),
+            match choose_quarter(id, levels) {
+                Quarter::First => find_leaf(&fork.first, below, id, leave),
+                Quarter::Second => find_leaf(&fork.second, below, id, leave),
+                Quarter::Third => find_leaf(&fork.third, below, id, leave),
+                Quarter::Fourth => find_leaf(&fork.fourth, below, id, leave),
             }
         }
     }
@@ -75,15 +75,18 @@ fn leaf_at<A: Allocator, D>(
 
 /// Returns the earliest time that a request in the tree awaits, or `None` if no request awaits a
 /// time.
-pub(crate) fn next_awaited<A: Allocator, D>(link: &Link<A, D>, _leave: Uncounted) -> Option<Instant>
+pub(crate) fn find_next_awaited<A: Allocator, D>(
+    link: &Link<A, D>,
+    _leave: Uncounted,
+) -> Option<Instant>
     ensures { (transport : TransportType) → IsTimed transport link.now
         → result ≡ first_awaited (awaited_of transport (items link.now)) }
 {
-    link.awaited().earliest()
+    link.copy_awaited().find_earliest()
 }
 
 /// Returns the next request to retransmit, if one is due.
-pub(crate) fn next_sent<A: Allocator, D>(
+pub(crate) fn find_next_sent<A: Allocator, D>(
     link: &Link<A, D>,
     now: Instant,
     leave: Uncounted,
@@ -92,12 +95,12 @@ pub(crate) fn next_sent<A: Allocator, D>(
         → option_copied result
         ≡ option_map (λ e. e.1) (next_sent transport now (items link.now)) }
 {
-    let leaf = first_sent(link, now, leave)?;
+    let leaf = find_sent(link, now, leave)?;
     Some(&leaf.request)
 }
 
 /// Returns the ID and the number of bytes of the next request to retransmit, if one is due.
-pub(crate) fn length_sent<A: Allocator, D>(
+pub(crate) fn find_sent_length<A: Allocator, D>(
     link: &Link<A, D>,
     now: Instant,
     leave: Uncounted,
@@ -106,15 +109,15 @@ pub(crate) fn length_sent<A: Allocator, D>(
         → result ≡ option_map (λ e. (e.0, length e.1.bytes))
         (next_sent transport now (items link.now)) }
 {
-    let leaf = first_sent(link, now, leave)?;
+    let leaf = find_sent(link, now, leave)?;
     Some((leaf.id, leaf.request.bytes().len()))
 }
 
 /// Returns the leaf with the least ID among those whose request is due and is still retransmitted.
 // Inlined into the search of the fork above, so that a link with nothing to find costs no call.
-#[cycle(first_sent)]
+#[cycle(find_sent)]
 #[inline(always)]
-fn first_sent<A: Allocator, D>(
+fn find_sent<A: Allocator, D>(
     link: &Link<A, D>,
     now: Instant,
     leave: Uncounted,
@@ -139,14 +142,14 @@ fn first_sent<A: Allocator, D>(
             if !awaited.is_due(now) {
                 return None;
             }
-            first_sent_below(fork, now, leave)
+            find_sent_below(fork, now, leave)
         }
     }
 }
 
-/// Like `first_sent`, but for the requests below a fork.
-#[cycle(first_sent)]
-fn first_sent_below<A: Allocator, D>(
+/// Like `find_sent`, but for the requests below a fork.
+#[cycle(find_sent)]
+fn find_sent_below<A: Allocator, D>(
     fork: &Fork<A, D>,
     now: Instant,
     leave: Uncounted,
@@ -155,14 +158,14 @@ fn first_sent_below<A: Allocator, D>(
         → option_map (λ leaf. leaf.entry) (option_copied result)
         ≡ next_sent transport now (fork_items fork.now) }
 {
-    if let Some(found) = first_sent(&fork.first, now, leave) {
+    if let Some(found) = find_sent(&fork.first, now, leave) {
         return Some(found);
     }
-    if let Some(found) = first_sent(&fork.second, now, leave) {
+    if let Some(found) = find_sent(&fork.second, now, leave) {
         return Some(found);
     }
-    if let Some(found) = first_sent(&fork.third, now, leave) {
+    if let Some(found) = find_sent(&fork.third, now, leave) {
         return Some(found);
     }
-    first_sent(&fork.fourth, now, leave)
+    find_sent(&fork.fourth, now, leave)
 }

@@ -13,7 +13,7 @@ ghost use Rattle.stun_agent.specs.code.Tree.{part_of, IsDeep, IsOrdered, IsOrder
 ghost use Rattle.stun_agent.specs.code.Tree.{IsTimed, IsTimedFork};
 
 use crate::state::tree::awaited::Awaited;
-use crate::state::tree::{Fork, Leaf, Link, Quarter, quarter_of};
+use crate::state::tree::{Fork, Leaf, Link, Quarter, choose_quarter};
 use std::alloc::Allocator;
 use std::mem;
 use stun_base::transaction_id::TransactionId;
@@ -87,7 +87,7 @@ fn remove_from<A: Allocator, D: Drop>(
         → IsTimedFork transport fork.old → gone.new ≡ awaited_by transport leaf.value.entry.1) }
 {
     let below = levels - 1;
-    match quarter_of(id, levels) {
+    match choose_quarter(id, levels) {
         Quarter::First => remove(&mut fork.first, below, id, gone),
         Quarter::Second => remove(&mut fork.second, below, id, gone),
         Quarter::Third => remove(&mut fork.third, below, id, gone),
@@ -215,7 +215,7 @@ impl<A: Allocator, D> Fork<A, D> {
         }
         // If the removed request awaited later times than the others, `all` is still correct.
         if gone.may_be_first_of(all) {
-            *all = self.awaited();
+            *all = self.join_awaited();
         }
         None
     }

@@ -6,7 +6,7 @@ ghost use Rattle.stun_agent.specs.code.Tree.{items, fork_items, attached, fork_a
 ghost use Rattle.stun_agent.specs.code.Tree.{part_of, IsDeep, IsOrdered, IsOrderedFork};
 ghost use Rattle.stun_agent.specs.code.Tree.{IsTimed, IsTimedFork};
 
-use crate::state::tree::{Fork, Leaf, Link, Quarter, quarter_of};
+use crate::state::tree::{Fork, Leaf, Link, Quarter, choose_quarter};
 use std::alloc::Allocator;
 use std::mem;
 use stun_base::transaction_id::TransactionId;
@@ -59,7 +59,7 @@ fn replace_in<A: Allocator, D: Drop>(
         → IsTimedFork transport fork.new }
 {
     let below = levels - 1;
-    match quarter_of(id, levels) {
+    match choose_quarter(id, levels) {
         Quarter::First => replace(&mut fork.first, below, id, datum),
         Quarter::Second => replace(&mut fork.second, below, id, datum),
         Quarter::Third => replace(&mut fork.third, below, id, datum),

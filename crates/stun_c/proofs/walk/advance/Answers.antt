@@ -34,18 +34,18 @@ begins : (c : goal.Then-shows)
     → visible_after (visibility_from c.args.cursor.now.hidden)
     (walk_from c.args.cursor.now.place c.args.message.now)
     ≡ (c.loop-attribute.cursor.place, c.in-Some.attribute)
-    ∷ visible_after (visibility_from c.hidden_number-cursor.result)
+    ∷ visible_after (visibility_from c.to_hidden_number-cursor.result)
     (walk_from (c.loop-attribute.cursor.place + c.padded_len.result) c.args.message.now)
 begins c =
     let here = walk_from c.loop-attribute.cursor.place c.args.message.now in
     let rest =
     walk_from (c.loop-attribute.cursor.place + c.padded_len.result) c.args.message.now in
     sym c.loop-attribute.invariant.left
-    ∙ (ap (λ v. visible_after v here) (sym c.visibility_from-visibility.ensures)
-    ∙ (visible_after-shown c.visibility_from-visibility.result (shown_at c)
+    ∙ (ap (λ v. visible_after v here) (sym c.to_visibility-visibility.ensures)
+    ∙ (visible_after-shown c.to_visibility-visibility.result (shown_at c)
     (sym c.shows.ensures ∙ c.if-shows.true)
     ∙ ap (λ v. (c.loop-attribute.cursor.place, c.in-Some.attribute) ∷ visible_after v rest)
-    (sym (c.hidden_number-cursor.ensures ∙ c.after-after.ensures))))
+    (sym (c.to_hidden_number-cursor.ensures ∙ c.after-after.ensures))))
 
 pub returns-then-shows-clause-first : goal.returns-then-shows-clause-first
 returns-then-shows-clause-first c = ap (λ left. slice_get left 0) (sym (begins c))
@@ -60,10 +60,10 @@ loop-attribute-preserved c =
     walk_from (c.loop-attribute.cursor.place + c.padded_len.result) c.args.message.now in
     record {
       left = ap (λ v. visible_after v rest)
-          (c.hidden_number-cursor.ensures ∙ c.after-after.ensures)
-          ∙ (sym (visible_after-hidden c.visibility_from-visibility.result (hidden_at c)
+          (c.to_hidden_number-cursor.ensures ∙ c.after-after.ensures)
+          ∙ (sym (visible_after-hidden c.to_visibility-visibility.result (hidden_at c)
           (sym c.shows.ensures ∙ c.if-shows.false))
-          ∙ (ap (λ v. visible_after v here) c.visibility_from-visibility.ensures
+          ∙ (ap (λ v. visible_after v here) c.to_visibility-visibility.ensures
           ∙ c.loop-attribute.invariant.left));
       behind = omega (arith, c.loop-attribute.invariant.behind);
       within = stands-within (hidden_at c);

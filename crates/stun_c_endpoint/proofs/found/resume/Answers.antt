@@ -14,7 +14,7 @@ returns-in-Err c =
     let sha256 = c.args.found.now.sha256.now in
     let refusal = c.in-Err.refusal in
     let err : found_user name password has_password sha1 sha256 ≡ Err refusal =
-    sym c.user.ensures ∙ c.in-Err.is in
+    sym c.to_user.ensures ∙ c.in-Err.is in
     let none : judge_by_found name password has_password sha1 sha256 c.args.server.now
     ≡ Err refusal =
     ap (λ kept. judge_by_found name password has_password sha1 sha256 kept) c.in-Server.is

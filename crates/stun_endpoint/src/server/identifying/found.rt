@@ -56,16 +56,16 @@ impl<A: Memory> Server<A> {
         match self.read(bytes) {
             Arrived::Request(message, has_fingerprint) => {
                 let read = ReadMessage::of(&message);
-                self.found_request(&read, from, now, user, has_fingerprint)
+                self.judge_found_request(&read, from, now, user, has_fingerprint)
             }
-            Arrived::Indication(message) => Ok(self.indication(message)),
+            Arrived::Indication(message) => Ok(self.judge_indication(message)),
             Arrived::Response(message) => Ok(Received::Response(message)),
             Arrived::Dropped(reason) => Ok(Received::Dropped(reason)),
         }
     }
 
     /// Returns the outcome of a request.
-    fn found_request<'a>(
+    fn judge_found_request<'a>(
         &'a self,
         read: &ReadMessage<'a, '_>,
         from: SocketAddr,
@@ -81,13 +81,13 @@ impl<A: Memory> Server<A> {
             (reading_of read.now))) }
         ensures granted { A.grants → IsOk result }
     {
-        let mut buffer = self.responder.buffer();
-        let epoch = self.epoch(now);
-        let nonce = self.nonce_in(&self.secret, from, epoch)?;
-        match self.found_key(read, from, epoch, &nonce, user)? {
+        let mut buffer = self.responder.make_buffer();
+        let epoch = self.compute_epoch(now);
+        let nonce = self.make_nonce(&self.secret, from, epoch)?;
+        match self.find_accepted_key(read, from, epoch, &nonce, user)? {
             Some((algorithm, key)) => {
                 let name = user.name();
-                self.accepted_from(
+                self.accept_from(
                     read,
                     from,
                     name,
@@ -99,8 +99,8 @@ impl<A: Memory> Server<A> {
             }
             None => {
                 // Whatever the user's key is, the current nonce decides why the request is refused.
-                let verdict = self.judged_by_nobody(read, &nonce);
-                self.judged_into(read, from, &nonce, verdict, has_fingerprint, &mut buffer)
+                let verdict = self.judge_by_nobody(read, &nonce);
+                self.apply_verdict(read, from, &nonce, verdict, has_fingerprint, &mut buffer)
             }
         }
     }
@@ -108,7 +108,7 @@ impl<A: Memory> Server<A> {
     /// Returns the agreed algorithm and the user's key if a request is accepted from this user, and
     /// `None` otherwise.
     #[tactic(auto, using(crate::proofs::FoundLemmas::found_unclaimed, crate::proofs::FoundLemmas::found_refused, crate::proofs::FoundLemmas::found_accepted))]
-    fn found_key(
+    fn find_accepted_key(
         &self,
         read: &ReadMessage<'_, '_>,
         from: SocketAddr,
@@ -121,10 +121,10 @@ impl<A: Memory> Server<A> {
             (IsFoundKey self.now user.now from epoch (reading_of read.now)) }
         ensures granted { A.grants → IsOk result }
     {
-        let Some(claim) = self.waiting(read, from, epoch, nonce)? else {
+        let Some(claim) = self.find_waiting_claim(read, from, epoch, nonce)? else {
             return Ok(None);
         };
-        match self.verified_found(&claim, user) {
+        match self.verify_claim(&claim, user) {
             Some((_, key)) => Ok(Some((claim.algorithm(), key))),
             None => Ok(None),
         }
@@ -132,7 +132,7 @@ impl<A: Memory> Server<A> {
 
     /// Returns the algorithm of the signature and the user's key, if a claim names this user and
     /// its signature is valid under the key, and `None` otherwise.
-    fn verified_found(
+    fn verify_claim(
         &self,
         claim: &UserClaim<'_, '_, '_>,
         user: &FoundUser<'_>,

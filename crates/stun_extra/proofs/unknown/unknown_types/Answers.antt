@@ -6,8 +6,8 @@ use Rattle.stun_extra.proofs.unknown.unknown_types.Goals as goal
 
 pub returns-clause-types : goal.returns-clause-types
 returns-clause-types c =
-    ap (left_to_tell c.args.known.now c.none.result.words) c.iter_attributes.ensures.visible
-    ∙ left_to_tell-none c.args.known.now c.none.result.words c.args.message.now c.none.ensures
+    ap (left_to_tell c.args.known.now c.new.result.words) c.iter_attributes.ensures.visible
+    ∙ left_to_tell-none c.args.known.now c.new.result.words c.args.message.now c.new.ensures
 
 pub returns-clause-few : goal.returns-clause-few
 returns-clause-few c =

@@ -6,6 +6,6 @@ use Rattle.stun_judging.proofs.letters.push_letters.Goals as goal
 
 pub unwrap-requires : goal.unwrap-requires
 unwrap-requires g c =
-    let text : IsUtf8 c.letters_of-letters.result =
-    subst IsUtf8 (sym c.letters_of-letters.ensures) (letters_are_text c.args.numbers.now) in
+    let text : IsUtf8 c.to_letters-letters.result =
+    subst IsUtf8 (sym c.to_letters-letters.ensures) (letters_are_text c.args.numbers.now) in
     search (rules, text)

@@ -7,5 +7,5 @@ use Rattle.stun_judging.proofs.verdict.is_offered_list.Goals as goal
 
 pub returns : goal.returns
 returns c =
-    same_list-tested c.equals.result c.args.list.now c.offered_values.result.now c.equals.ensures
-    ∙ ap (same_list (map integrity_of c.args.list.now)) c.offered_values.ensures
+    same_list-tested c.equals.result c.args.list.now c.list_offered.result.now c.equals.ensures
+    ∙ ap (same_list (map integrity_of c.args.list.now)) c.list_offered.ensures

@@ -17,8 +17,10 @@ ghost use Rattle.stun_proto.specs.code.Meetings.{meeting_of};
 ghost use Rattle.stun_proto.specs.code.Sides.{IsRun};
 
 use crate::replay::call::ServerCall;
-use crate::replay::judging::judged;
-use crate::replay::negotiation::messages::{challenge, message_in, read, request, success};
+use crate::replay::judging::judge;
+use crate::replay::negotiation::messages::{
+    make_challenge, make_request, make_success, parse_message, read,
+};
 use crate::replay::negotiation::{NegotiateError, Outcome};
 use crate::replay::serving::serve;
 use std::net::SocketAddr;
@@ -71,19 +73,19 @@ pub(crate) fn meet<A: Memory>(
     ensures granted { A.grants → result ≢ Err NegotiateError.Memory }
 {
     let first = &meeting.first;
-    let unproven = request(alloc, client, first.id)?;
-    let asked = message_in(unproven.data());
-    let answer = judged(server, &asked, meeting.from, first.moment, first.words)?;
-    match end_of_first(answer) {
+    let unproven = make_request(alloc, client, first.id)?;
+    let asked = parse_message(unproven.data());
+    let answer = judge(server, &asked, meeting.from, first.moment, first.words)?;
+    match to_first_outcome(answer) {
         Some(outcome) => Ok(outcome),
-        None => after_unauthorized(alloc, client, server, &asked, meeting),
+        None => run_from_challenge(alloc, client, server, &asked, meeting),
     }
 }
 
 /// Continues the meeting if the first request must be challenged: the server signs a 401 and makes
 /// the first list of calls, and the client reads the 401.
 #[tactic(auto)]
-fn after_unauthorized<A: Memory>(
+fn run_from_challenge<A: Memory>(
     alloc: A,
     client: &mut LongTermClientAuth<A>,
     server: &mut LongTermServerAuth<A>,
@@ -98,19 +100,19 @@ fn after_unauthorized<A: Memory>(
         (Err Unauthorized)) (PassesUnauthorized m client.old.state server.old) }
     ensures granted { A.grants → result ≢ Err NegotiateError.Memory }
 {
-    let failure = challenge(alloc, server, asked, meeting.from)?;
+    let failure = make_challenge(alloc, server, asked, meeting.from)?;
     serve(alloc, server, meeting.first.before)?;
     let answer = read(client, failure.data())?;
-    match end_of_challenge(answer) {
+    match to_challenge_outcome(answer) {
         Some(outcome) => Ok(outcome),
-        None => after_resend(alloc, client, server, meeting),
+        None => run_from_resend(alloc, client, server, meeting),
     }
 }
 
 /// Continues the meeting if the client must send its request again: the client signs a request, and
 /// the server makes the second list of calls and reads the request.
 #[tactic(auto)]
-fn after_resend<A: Memory>(
+fn run_from_resend<A: Memory>(
     alloc: A,
     client: &mut LongTermClientAuth<A>,
     server: &mut LongTermServerAuth<A>,
@@ -124,12 +126,12 @@ fn after_resend<A: Memory>(
     ensures granted { A.grants → result ≢ Err NegotiateError.Memory }
 {
     let second = &meeting.second;
-    let proven = request(alloc, client, second.id)?;
-    let again = message_in(proven.data());
+    let proven = make_request(alloc, client, second.id)?;
+    let again = parse_message(proven.data());
     serve(alloc, server, second.before)?;
-    let verdict = judged(server, &again, meeting.from, second.moment, second.words)?;
+    let verdict = judge(server, &again, meeting.from, second.moment, second.words)?;
     match verdict {
-        Ok(algorithm) => after_accepted(alloc, client, server, &again, algorithm, meeting),
+        Ok(algorithm) => run_from_success(alloc, client, server, &again, algorithm, meeting),
         Err(reason) => Ok(Outcome::ServerRefused(reason)),
     }
 }
@@ -137,7 +139,7 @@ fn after_resend<A: Memory>(
 /// Continues the meeting if the server has accepted the second request with this algorithm: the
 /// server signs a success response, and the client reads it.
 #[tactic(auto)]
-fn after_accepted<A: Memory>(
+fn run_from_success<A: Memory>(
     alloc: A,
     client: &mut LongTermClientAuth<A>,
     server: &mut LongTermServerAuth<A>,
@@ -153,15 +155,15 @@ fn after_accepted<A: Memory>(
         (Ok (Validated algorithm))) (PassesAccepted m client.old.state server.old) }
     ensures granted { A.grants → result ≢ Err NegotiateError.Memory }
 {
-    let granted = success(alloc, server, again, meeting.from)?;
+    let granted = make_success(alloc, server, again, meeting.from)?;
     let answer = read(client, granted.data())?;
-    Ok(outcome(algorithm, answer))
+    Ok(to_success_outcome(algorithm, answer))
 }
 
 /// Returns the outcome if the meeting ends with the first request, because the server does not
 /// challenge it. Returns `None` if the server must challenge the request.
 #[tactic(auto)]
-fn end_of_first(
+fn to_first_outcome(
     answer: Result<IntegrityAlgorithm, LongTermServerAuthErrorReason>,
 ) -> Option<Outcome>
     ensures { result ≡ end_of_first answer }
@@ -176,7 +178,7 @@ fn end_of_first(
 /// Returns the outcome if the meeting ends with the challenge, because the client does not answer
 /// it. Returns `None` if the client answers the challenge.
 #[tactic(auto)]
-fn end_of_challenge(
+fn to_challenge_outcome(
     answer: Result<LongTermClientValidation, LongTermClientAuthErrorReason>,
 ) -> Option<Outcome>
     ensures { result ≡ end_of_challenge answer }
@@ -193,7 +195,7 @@ fn end_of_challenge(
 /// Returns the outcome of a meeting in which the server has accepted the second request with this
 /// algorithm. `answer` is the client's result for the success response.
 #[tactic(auto)]
-fn outcome(
+fn to_success_outcome(
     algorithm: IntegrityAlgorithm,
     answer: Result<LongTermClientValidation, LongTermClientAuthErrorReason>,
 ) -> Outcome

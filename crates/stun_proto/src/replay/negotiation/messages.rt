@@ -29,7 +29,7 @@ use stun_types::message::{BINDING, Message, MessageWriteVec};
 use stun_types::prelude::*;
 
 /// Returns a Binding request, signed by the client.
-pub(crate) fn request<A: Memory>(
+pub(crate) fn make_request<A: Memory>(
     alloc: A,
     client: &mut LongTermClientAuth<A>,
     id: TransactionId,
@@ -49,7 +49,7 @@ pub(crate) fn request<A: Memory>(
 }
 
 /// Returns a 401 response to a request, signed by the server.
-pub(crate) fn challenge<A: Memory>(
+pub(crate) fn make_challenge<A: Memory>(
     alloc: A,
     server: &mut LongTermServerAuth<A>,
     request: &Message<'_>,
@@ -64,12 +64,12 @@ pub(crate) fn challenge<A: Memory>(
     ensures refused { OnErr result (server.new ≡ server.old) }
     ensures granted { A.grants → UnlessMemory result ⊤ ⊥ }
 {
-    let writer = unauthorized(alloc, request)?;
+    let writer = make_unauthorized(alloc, request)?;
     sign(server, writer, to)
 }
 
 /// Returns a success response to a request, signed by the server.
-pub(crate) fn success<A: Memory>(
+pub(crate) fn make_success<A: Memory>(
     alloc: A,
     server: &mut LongTermServerAuth<A>,
     request: &Message<'_>,
@@ -88,7 +88,7 @@ pub(crate) fn success<A: Memory>(
 }
 
 /// Returns an unsigned 401 response to a request, whose only attribute is ERROR-CODE.
-fn unauthorized<A: Memory>(
+fn make_unauthorized<A: Memory>(
     alloc: A,
     request: &Message<'_>,
 ) -> Result<MessageWriteVec<A>, StunWriteError>
@@ -125,7 +125,7 @@ fn sign<A: Memory>(
 }
 
 /// Returns the message with these bytes.
-pub(crate) fn message_in(bytes: &[u8]) -> Message<'_>
+pub(crate) fn parse_message(bytes: &[u8]) -> Message<'_>
     requires { IsMessage bytes.now }
     ensures { result ≡ bytes.now }
 {
@@ -150,15 +150,15 @@ pub(crate) fn read<A: Memory>(
     ensures memory { OnErr result (IsResend (client_step client.old.settings client.old.state
         (reading_of bytes.now)).answer) }
 {
-    let response = message_in(bytes);
+    let response = parse_message(bytes);
     match client.validate_incoming_message(&response) {
         Ok(validation) => Ok(Ok(validation)),
-        Err(error) => client_refusal(error.reason()),
+        Err(error) => to_client_refusal(error.reason()),
     }
 }
 
 /// Returns the reason as a refusal by the client. Fails if the reason is that an allocation failed.
-fn client_refusal(
+fn to_client_refusal(
     reason: LongTermClientAuthErrorReason,
 ) -> Result<Result<LongTermClientValidation, LongTermClientAuthErrorReason>, AllocError>
     ensures { ForClientReason reason (result ≡ Ok (Err reason)) (IsErr result) }

@@ -1,4 +1,4 @@
--- Whether there is a reason to refuse is what `id_to_ask` has found.
+-- Whether there is a reason to refuse is what `read_id_to_ask` has found.
 use Rattle.std.proofs.Common.{rules, sym, subst}
 use Rattle.std.specs.Prelude.{Ok, MatchOption, IsErrOf, IsOkUnless}
 use Rattle.stun_base.specs.Header.{transaction_id_field}

@@ -1,4 +1,4 @@
--- Whether there is a reason to refuse is what `class_to_send` has found.
+-- Whether there is a reason to refuse is what `read_class_to_send` has found.
 use Rattle.std.proofs.Common.{◌≡◌, rules, sym, subst, ◌∙◌, ap}
 use Rattle.std.specs.Prelude.{Ok, MatchOption, IsOk, IsErrOf}
 use Rattle.stun_agent.specs.declared.error.StunError.{StunError}

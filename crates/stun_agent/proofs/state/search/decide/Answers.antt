@@ -27,6 +27,6 @@ returns-in-Some-clause-looks g c transport tree fresh =
 pub returns-in-None-clause-looks : goal.returns-in-None-clause-looks
 returns-in-None-clause-looks g c transport tree fresh =
     let first = c.in-None.ensures.looks transport tree.timed in
-    let second = ap (λ (w : Work). w.looks) c.wake_up.ensures.counts in
+    let second = ap (λ (w : Work). w.looks) c.find_wake_up.ensures.counts in
     let unseen = ap (λ (w : Work). w.looks) fresh in
     omega (arith, first, second, unseen)

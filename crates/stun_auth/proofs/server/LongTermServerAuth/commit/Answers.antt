@@ -13,7 +13,7 @@ returns-else-is_some-clause-state g c =
     let empty : is_some c.into_client-client.result ≡ false = search rules in
     let none : client_in c.args.judged ≡ None =
     no_client c.args.judged c.into_client-client.result c.into_client-client.ensures empty in
-    or_memory c.answer-answer.result
+    or_memory c.to_answer-answer.result
     (ap (λ places. record s { places = places })
     (sym (at_place-same s.places c.args.from (λ p. place_left p c.args.judged)
     (stays c.args.judged none))

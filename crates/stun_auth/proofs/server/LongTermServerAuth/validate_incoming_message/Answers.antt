@@ -16,7 +16,7 @@ returns-clause-accepted g c =
     let s = sight c.args.self.now c.args.from in
     subst (λ (given : Answer). ServerUnlessMemory given
     (ValidatesAccepted s c.args.now words r given) ⊤)
-    (sym c.refused.ensures)
+    (sym c.wrap_reason.ensures)
     (or_memory_map ⊤ c.judge_incoming.result
     (λ is. subst (ValidatesAccepted s c.args.now words r) (sym is)
     (answer-accepted s c.args.now words r)) c.judge_incoming.ensures.answer)

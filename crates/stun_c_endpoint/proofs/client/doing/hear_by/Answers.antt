@@ -8,4 +8,4 @@ returns c =
     heard_from c.in_ok-from.from c.args.message.now c.args.now c.args.client.now
     (c.receive-received.result, c.receive-received.new.self) _ c.args.why.now _ _ _ _ _
     c.in_ok-from.ensures.ok c.from_nanos.ensures c.receive-received.ensures.received
-    (ap pos c.told.ensures.number) c.told.ensures.why refl
+    (ap pos c.tell_received.ensures.number) c.tell_received.ensures.why refl

@@ -20,15 +20,15 @@ returns-clause-grows g c =
     let bytes = g.W.MessageWrite.bytes in
     let room = g.W.MessageWrite.room in
     let added = challenge_additions true (challenge_seen c.self.inside.kept.value) in
-    subst (λ (v : Answered). IfOk c.signed.result
+    subst (λ (v : Answered). IfOk c.sign.result
     (λ signed. length (bytes signed)
     ≡ length (bytes c.args.writer) + growth (challenge_additions true v.challenge)))
     c.self.view_is
     (grown_answer bytes room added c.args.writer
     (WantsMemory added (page_in bytes room c.args.writer) (g.W.MessageWrite.reserved c.args.writer))
-    c.signed.result c.requires (rw c.deref-2.ensures at c.signed.ensures.outcome))
+    c.sign.result c.requires (rw c.deref-2.ensures at c.sign.ensures.outcome))
 
-laws : (g : _) (c : goal.After-signed g) → WritingLaws
+laws : (g : _) (c : goal.After-sign g) → WritingLaws
 laws g c = record {
   shown = c.writing_adds_one_attribute.ensures.shown;
   added = c.writing_adds_one_attribute.ensures.added;
@@ -38,7 +38,7 @@ laws g c = record {
 }
 
 -- what is read of the signed message
-whole : (g : _) (c : goal.After-signed g) → IfOk c.signed.result
+whole : (g : _) (c : goal.After-sign g) → IfOk c.sign.result
     (λ signed. IsUnsigned (g.W.MessageWrite.bytes c.args.writer)
     → ReadsAs (class_in (g.W.MessageWrite.bytes c.args.writer))
     (error_code (g.W.MessageWrite.bytes c.args.writer))
@@ -48,15 +48,15 @@ whole g c =
     let bytes = g.W.MessageWrite.bytes in
     let room = g.W.MessageWrite.room in
     let kept = challenge_seen c.self.inside.kept.value in
-    reads_signed (laws g c) bytes room kept c.args.writer c.signed.result
+    reads_signed (laws g c) bytes room kept c.args.writer c.sign.result
     (WantsMemory (challenge_additions true kept) (page_in bytes room c.args.writer)
     (g.W.MessageWrite.reserved c.args.writer))
-    (rw c.deref.ensures at c.keeps_texts.ensures) (rw c.deref-2.ensures at c.signed.ensures.outcome)
+    (rw c.deref.ensures at c.keeps_texts.ensures) (rw c.deref-2.ensures at c.sign.ensures.outcome)
 
 pub returns-clause-reads : goal.returns-clause-reads
 returns-clause-reads g c =
     let bytes = g.W.MessageWrite.bytes in
-    subst (λ (v : Answered). IfOk c.signed.result
+    subst (λ (v : Answered). IfOk c.sign.result
     (λ signed. IsUnsigned (bytes c.args.writer)
     → ReadsAs (class_in (bytes c.args.writer)) (error_code (bytes c.args.writer))
     (added_under true v.challenge) (reading_of (bytes signed))))
@@ -68,11 +68,11 @@ returns-clause-not_bid_down g c =
     let kept = challenge_seen c.self.inside.kept.value in
     let class = class_in (bytes c.args.writer) in
     let error = error_code (bytes c.args.writer) in
-    subst (λ (v : Answered). IfOk c.signed.result
+    subst (λ (v : Answered). IfOk c.sign.result
     (λ signed. IsUnsigned (bytes c.args.writer)
     → IsNowhereBidDown v.preferences (reading_of (bytes signed))))
     c.self.view_is
-    (then_read c.signed.result (IsUnsigned (bytes c.args.writer))
+    (then_read c.sign.result (IsUnsigned (bytes c.args.writer))
     (λ signed. ReadsAs class error (added_under true kept) (reading_of (bytes signed)))
     (λ signed. IsNowhereBidDown c.self.inside.preferences (reading_of (bytes signed)))
     (λ signed reads. c.signed_requests_are_not_bid_down.ensures c.self.inside.preferences
@@ -84,12 +84,12 @@ returns-clause-hashed g c =
     let kept = challenge_seen c.self.inside.kept.value in
     let class = class_in (bytes c.args.writer) in
     let error = error_code (bytes c.args.writer) in
-    subst (λ (v : Answered). IfOk c.signed.result
+    subst (λ (v : Answered). IfOk c.sign.result
     (λ signed. IsUnsigned (bytes c.args.writer)
     → is_required v.preferences.anonymous_username ≡ true
     → (reading_of (bytes signed)).username ≡ None))
     c.self.view_is
-    (then_read c.signed.result (IsUnsigned (bytes c.args.writer))
+    (then_read c.sign.result (IsUnsigned (bytes c.args.writer))
     (λ signed. ReadsAs class error (added_under true kept) (reading_of (bytes signed)))
     (λ signed. is_required c.self.inside.preferences.anonymous_username ≡ true
     → (reading_of (bytes signed)).username ≡ None)

@@ -14,12 +14,12 @@ use Rattle.stun_client_calls.proofs.HeaderLemmas.{is_request}
 use Rattle.stun_client_calls.proofs.RequestingLemmas.{tells_memory, told_at_once, told_of_start}
 use Rattle.stun_client_calls.proofs.endpoint.ClientEndpoint.begin.Goals as goal
 
-pub returns-in_default-first_asked-clause-refused : goal.returns-in_default-first_asked-clause-refused
-returns-in_default-first_asked-clause-refused g c =
+pub returns-in_default-make_first_asked-clause-refused : goal.returns-in_default-make_first_asked-clause-refused
+returns-in_default-make_first_asked-clause-refused g c =
     tells_memory ℕ c.args.self.now c.args.method c.args.body (option_map options_of c.args.options) (Err OutOfMemory) refl
 
-pub returns-in_default-first_asked-clause-at_once : goal.returns-in_default-first_asked-clause-at_once
-returns-in_default-first_asked-clause-at_once g c =
+pub returns-in_default-make_first_asked-clause-at_once : goal.returns-in_default-make_first_asked-clause-at_once
+returns-in_default-make_first_asked-clause-at_once g c =
     let written : first_message c.args.self.now c.args.method c.in-Some.free.number c.args.body
     (option_map options_of c.args.options) ≡ Ok c.in_ok-bytes.bytes.items = search rules in
     told_at_once ℕ c.args.self.now c.args.method c.in-Some.free.number c.args.body

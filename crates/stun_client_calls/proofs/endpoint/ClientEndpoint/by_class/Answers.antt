@@ -9,7 +9,7 @@ use Rattle.stun_client_calls.proofs.endpoint.ClientEndpoint.by_class.Goals as go
 pub returns-in-Indication-clause-acted : goal.returns-in-Indication-clause-acted
 returns-in-Indication-clause-acted g c =
     indication_so c.args.from c.args.message _ c.args.self.now c.args.now _
-    (sym c.class.ensures ∙ c.in-Indication.is) c.indicated.ensures
+    (sym c.class.ensures ∙ c.in-Indication.is) c.receive_indication.ensures
 
 pub returns-in-Success-clause-acted : goal.returns-in-Success-clause-acted
 returns-in-Success-clause-acted g c =
@@ -29,7 +29,7 @@ returns-in-Request-clause-granted g c =
 pub returns-in-Indication-clause-granted : goal.returns-in-Indication-clause-granted
 returns-in-Indication-clause-granted g c =
     λ grants. class_as all_memory c.args.from c.args.message c.args.self.now c.args.now
-    Classes.Indication _ (sym c.class.ensures ∙ c.in-Indication.is) c.indicated.ensures
+    Classes.Indication _ (sym c.class.ensures ∙ c.in-Indication.is) c.receive_indication.ensures
 
 pub returns-in-Success-clause-granted : goal.returns-in-Success-clause-granted
 returns-in-Success-clause-granted g c =

@@ -9,7 +9,7 @@ pub returns-clause-decided : goal.returns-clause-decided
 returns-clause-decided g c =
     IfOk-weaker c.decide.result _ _
     (λ d is. decided_at c.args.self.now _ c.args.now c.args.message.now c.args.met.now _
-    c.limits.result _ (decision_of d) _ c.self.view_is c.met.view_is (c.limits.ensures c.args.met.now.asked)
+    c.make_limits.result _ (decision_of d) _ c.self.view_is c.met.view_is (c.make_limits.ensures c.args.met.now.asked)
     c.credentials-credentials.ensures
     c.in_ok-judged.ensures.judged is)
     c.decide.ensures.decided

@@ -15,9 +15,9 @@ returns-in-Ok-clause-refused g c =
 pub returns-in-Err-clause-refused : goal.returns-in-Err-clause-refused
 returns-in-Err-clause-refused g c =
     not_stored (start_refusal c.self.inside.requests c.args.free.id)
-    (start_refusal c.args.self.now.requests c.args.free.id) c.in-Err.refusal c.error_of.result
+    (start_refusal c.args.self.now.requests c.args.free.id) c.in-Err.refusal c.to_error.result
     (ap (λ (x : Client). start_refusal x.requests c.args.free.id) c.self.view_is)
-    c.error_of.ensures c.in-Err.ensures.refused
+    c.to_error.ensures c.in-Err.ensures.refused
 
 pub returns-in-Err-clause-granted : goal.returns-in-Err-clause-granted
 returns-in-Err-clause-granted g c =

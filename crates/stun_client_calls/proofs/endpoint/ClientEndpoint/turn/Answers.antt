@@ -15,7 +15,7 @@ returns-in-Ok-clause-acted g c =
     c.args.place c.in-Some.spot (Ok c.in-Ok.bytes.items) _
     (sym (c.in-Some.ensures m.asked stored))
     (ap (λ (x : Spot). message_bytes c.args.self.now.form c.args.self.now.identity c.args.signed_for
-    x.id m.asked) (sym c.spot-2.view_is)
+    x.id m.asked) (sym c.spot.view_is)
     ∙ c.in-Ok.ensures.ok m.asked stored)
     (c.turn_to.ensures.acted m found same)
 
@@ -24,9 +24,9 @@ returns-clause-acted g c =
     λ m found same.
     let stored = met_is_stored c.args.message.now c.args.self.now m c.args.number found same in
     not_written c.args.message.now c.args.self.now c.args.now m c.args.number c.args.why
-    c.args.signed_for c.args.place c.in-Some.spot _ c.in-Err.error c.reason_for.result _ found same
-    (sym (c.in-Some.ensures m.asked stored)) c.spot-2.view_is
-    (c.in-Err.ensures.refused m.asked stored) c.reason_for.ensures.memory c.reason_for.ensures.other
+    c.args.signed_for c.args.place c.in-Some.spot _ c.in-Err.error c.explain_failure.result _ found same
+    (sym (c.in-Some.ensures m.asked stored)) c.spot.view_is
+    (c.in-Err.ensures.refused m.asked stored) c.explain_failure.ensures.memory c.explain_failure.ensures.other
     c.drop_for-in-Err.ensures
 
 pub returns-in_default-clause-granted : goal.returns-in_default-clause-granted
@@ -44,7 +44,7 @@ returns-in-Ok-clause-granted g c =
     with_spot_as all_memory c.args.message.now c.args.self.now c.args.now m c.args.why
     c.args.signed_for c.args.place c.in-Some.spot (Ok c.in-Ok.bytes.items) _ stands
     (ap (λ (x : Spot). message_bytes c.args.self.now.form c.args.self.now.identity c.args.signed_for
-    x.id m.asked) (sym c.spot-2.view_is)
+    x.id m.asked) (sym c.spot.view_is)
     ∙ c.in-Ok.ensures.ok m.asked stored)
     (c.turn_to.ensures.granted grants m found same
     (spot_is_free c.args.self.now m.asked c.args.place c.in-Some.spot stands))
@@ -54,7 +54,7 @@ returns-clause-granted g c =
     λ grants m found same.
     let stored = met_is_stored c.args.message.now c.args.self.now m c.args.number found same in
     not_written_as (Unit {0}) all_memory c.args.message.now c.args.self.now c.args.now m c.args.number c.args.why
-    c.args.signed_for c.args.place c.in-Some.spot _ c.in-Err.error c.reason_for.result _ same
-    (sym (c.in-Some.ensures m.asked stored)) c.spot-2.view_is
+    c.args.signed_for c.args.place c.in-Some.spot _ c.in-Err.error c.explain_failure.result _ same
+    (sym (c.in-Some.ensures m.asked stored)) c.spot.view_is
     (c.in-Err.ensures.granted grants m.asked stored) (c.in-Err.ensures.refused m.asked stored)
-    c.reason_for.ensures.other c.drop_for-in-Err.ensures
+    c.explain_failure.ensures.other c.drop_for-in-Err.ensures

@@ -13,9 +13,9 @@ returns-in-Ok-again-clause-acted g c =
     turned_from c.args.self.now _ c.exchange.new.self c.again.new.self c.args.now c.args.message.now m
     c.args.number c.transaction_id.result c.method.result _ c.args.why c.args.signed_for
     c.in-Ok.answered c.args.spot _ c.args.bytes.items c.into_parts-bytes.result.1 c.in-Some.asked.now
-    c.nothing-empty.result _ found same c.self.view_is c.spot.view_is c.in-Ok.ensures.value
+    c.make_placeholder-empty.result _ found same c.self.view_is c.spot.view_is c.in-Ok.ensures.value
     (c.in-Ok-again.ensures.former ∙ ap Some (sym c.into_parts-bytes.ensures.datum)) c.in-Some.ensures
-    c.method.ensures c.plan-plan.ensures c.nothing-empty.ensures
+    c.method.ensures c.plan-plan.ensures c.make_placeholder-empty.ensures
     (ap (λ (x : List ℕ). length x) c.as_bytes.ensures.bytes) c.in-Ok-again.ensures.after
     c.transaction_id.ensures c.exchange.ensures.exchanged
 
@@ -25,9 +25,9 @@ returns-in-Ok-again-clause-granted g c =
     turned_from_as all_memory c.args.self.now _ c.exchange.new.self c.again.new.self c.args.now c.args.message.now m
     c.args.number c.transaction_id.result c.method.result _ c.args.why c.args.signed_for
     c.in-Ok.answered c.args.spot _ c.args.bytes.items c.into_parts-bytes.result.1 c.in-Some.asked.now
-    c.nothing-empty.result _ found same c.self.view_is c.spot.view_is c.in-Ok.ensures.value
+    c.make_placeholder-empty.result _ found same c.self.view_is c.spot.view_is c.in-Ok.ensures.value
     (c.in-Ok-again.ensures.former ∙ ap Some (sym c.into_parts-bytes.ensures.datum)) c.in-Some.ensures
-    c.method.ensures c.plan-plan.ensures c.nothing-empty.ensures
+    c.method.ensures c.plan-plan.ensures c.make_placeholder-empty.ensures
     (ap (λ (x : List ℕ). length x) c.as_bytes.ensures.bytes) c.in-Ok-again.ensures.after
     c.transaction_id.ensures (c.exchange.ensures.granted grants)
 

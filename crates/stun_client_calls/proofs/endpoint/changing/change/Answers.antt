@@ -10,7 +10,7 @@ pub returns-in-Some-replace : goal.returns-in-Some-replace
 returns-in-Some-replace g c =
     c.replace-in-Some-replace.ensures.after
     ∙ ap (λ r. after_replacing c.args.number c.changed.result r) c.replace.ensures.after
-    ∙ replaced_twice c.args.number c.nothing.result c.changed.result c.args.requests.now
+    ∙ replaced_twice c.args.number c.make_placeholder.result c.changed.result c.args.requests.now
     ∙ ap (λ a. after_replacing c.args.number a c.args.requests.now) c.changed.ensures
     ∙ ap (λ o. option_map_or (λ a. after_replacing c.args.number (changed c.args.change a)
     c.args.requests.now) o c.args.requests.now) c.in-Some-replace.ensures.before

@@ -8,6 +8,6 @@ use Rattle.stun_endpoint.proofs.server.Server.receive_for.Goals as goal
 
 pub returns-clause-received : goal.returns-clause-received
 returns-clause-received g c =
-    subst (λ (realm : Realm). IfOk c.received.result (λ received. outcome_of received
+    subst (λ (realm : Realm). IfOk c.judge_datagram.result (λ received. outcome_of received
     ≡ received_by c.args.self.now realm c.args.from c.args.now c.args.bytes.now))
-    c.judges.ensures c.received.ensures.received
+    c.choose_judges.ensures c.judge_datagram.ensures.received

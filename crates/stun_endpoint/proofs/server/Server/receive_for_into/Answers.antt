@@ -8,7 +8,7 @@ use Rattle.stun_endpoint.proofs.server.Server.receive_for_into.Goals as goal
 
 pub returns-clause-received : goal.returns-clause-received
 returns-clause-received g c =
-    subst (λ (realm : Realm). IfOk c.received_into.result (λ received.
-    outcome_in received c.received_into.new.buffer.items
+    subst (λ (realm : Realm). IfOk c.judge_datagram_into.result (λ received.
+    outcome_in received c.judge_datagram_into.new.buffer.items
     ≡ received_by c.args.self.now realm c.args.from c.args.now c.args.bytes.now))
-    c.judges.ensures c.received_into.ensures.received
+    c.choose_judges.ensures c.judge_datagram_into.ensures.received

@@ -8,6 +8,6 @@ use Rattle.stun_endpoint.proofs.server.Server.resume.Goals as goal
 
 pub returns-clause-received : goal.returns-clause-received
 returns-clause-received g c =
-    subst (λ (realm : Realm). IfOk c.resumed.result (λ received. outcome_of received
+    subst (λ (realm : Realm). IfOk c.judge_lookup.result (λ received. outcome_of received
     ≡ received_by c.args.self.now realm c.args.lookup.from c.args.lookup.arrived
-    c.args.lookup.message)) c.judges.ensures c.resumed.ensures.received
+    c.args.lookup.message)) c.choose_judges.ensures c.judge_lookup.ensures.received

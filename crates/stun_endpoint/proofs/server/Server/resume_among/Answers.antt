@@ -8,6 +8,6 @@ use Rattle.stun_endpoint.proofs.server.Server.resume_among.Goals as goal
 
 pub returns-clause-received : goal.returns-clause-received
 returns-clause-received g c =
-    subst (λ (table : RealmSeen). IfOk c.resumed.result (λ received. outcome_of received
+    subst (λ (table : RealmSeen). IfOk c.judge_lookup.result (λ received. outcome_of received
     ≡ received_by c.args.self.now (realm_of_table table) c.args.lookup.from c.args.lookup.arrived
-    c.args.lookup.message)) c.users.view_is c.resumed.ensures.received
+    c.args.lookup.message)) c.users.view_is c.judge_lookup.ensures.received

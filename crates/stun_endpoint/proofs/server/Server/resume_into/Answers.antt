@@ -8,7 +8,7 @@ use Rattle.stun_endpoint.proofs.server.Server.resume_into.Goals as goal
 
 pub returns-clause-received : goal.returns-clause-received
 returns-clause-received g c =
-    subst (λ (realm : Realm). IfOk c.resumed_into.result (λ received.
-    outcome_in received c.resumed_into.new.buffer.items
+    subst (λ (realm : Realm). IfOk c.judge_lookup_into.result (λ received.
+    outcome_in received c.judge_lookup_into.new.buffer.items
     ≡ received_by c.args.self.now realm c.args.lookup.from c.args.lookup.arrived c.args.lookup.message))
-    c.judges.ensures c.resumed_into.ensures.received
+    c.choose_judges.ensures c.judge_lookup_into.ensures.received

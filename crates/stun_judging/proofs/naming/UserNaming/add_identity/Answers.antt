@@ -33,4 +33,4 @@ returns-clause-added g c =
     let others : List Addition = attribute (realm c.args.realm.now) ∷ name in
     then_added _ _ others _ _ _ _ _ _ _ _ refl c.in_ok-add.ensures.added
     (then_added others _ name _ _ _ _ _ _ _ _ refl c.in_ok-add-2.ensures.added
-    (rw (← c.attribute.ensures) c.add-3.ensures.added))
+    (rw (← c.as_attribute.ensures) c.add-3.ensures.added))

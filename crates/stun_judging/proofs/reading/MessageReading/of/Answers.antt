@@ -30,22 +30,22 @@ returns-clause-reading c =
     let last = c.of-last.ensures in
     let message = c.args.message.now in λ i. record {
       class = c.class-class.ensures i;
-      error = (c.error.ensures
+      error = (c.read_error_code.ensures
           ∙ ap (last_error_code c.class-class.result) (ap (λ l. l.error_code) last)
           ∙ (λ j. read_code (c.class-class.ensures j)
           (and_then-map error_of (λ m. m.1) (last_of ERROR_CODE members) j))) i;
-      realm = (c.realm.ensures.text
+      realm = (c.read_realm.ensures.text
           ∙ ap (option_and_then (text_of REALM 763)) (ap (λ l. l.realm) last)
           ∙ and_then-map (text_of REALM 763) (λ m. m.1) (last_of REALM members)) i;
-      nonce = (c.nonce.ensures.text
+      nonce = (c.read_nonce.ensures.text
           ∙ ap (option_and_then (text_of NONCE 763)) (ap (λ l. l.nonce) last)
           ∙ and_then-map (text_of NONCE 763) (λ m. m.1) (last_of NONCE members)) i;
       username =
-          (c.username.ensures
+          (c.read_username.ensures
           ∙ ap (option_and_then (text_of USERNAME 513)) (ap (λ l. l.username) last)
           ∙ and_then-map (text_of USERNAME 513) (λ m. m.1) (last_of USERNAME members)) i;
       userhash =
-          (c.userhash.ensures ∙ ap (option_and_then hash_of) (ap (λ l. l.userhash) last)
+          (c.read_userhash.ensures ∙ ap (option_and_then hash_of) (ap (λ l. l.userhash) last)
           ∙ and_then-map hash_of (λ m. m.1) (last_of USERHASH members)) i;
       algorithms =
           ap (option_map (map integrity_of))
@@ -53,7 +53,7 @@ returns-clause-reading c =
           ∙ ap (option_and_then password_algorithms_in) (ap (λ l. l.password_algorithms) last)
           ∙ and_then-map password_algorithms_in (λ m. m.1) (last_of PASSWORD_ALGORITHMS members)) i;
       algorithm =
-          (c.algorithm.ensures
+          (c.read_algorithm.ensures
           ∙ ap (option_map integrity_of)
           (ap (option_and_then password_algorithm_in) (ap (λ l. l.password_algorithm) last)
           ∙ and_then-map password_algorithm_in (λ m. m.1) (last_of PASSWORD_ALGORITHM members))) i;

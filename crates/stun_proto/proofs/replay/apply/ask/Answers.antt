@@ -44,7 +44,7 @@ returns-in-Ok-clause-added g c =
     (Transmitted c.args.now (transaction_id_field bytes) c.args.to bytes))
     (request_accepted _ _ c.in-Ok.transmit c.in-Ok.ensures.refused) in
     subst (λ (s : Step). Keeps (kept_steps c.args.log.now) (s ∷ []) (kept_steps c.add.new.self))
-    (lent ∙ sym step) (c.add.ensures.keeps _ c.transmitted.ensures.step)
+    (lent ∙ sym step) (c.add.ensures.keeps _ c.make_transmitted_step.ensures.step)
 
 pub returns-in-Err-OutOfMemory-clause-refused : goal.returns-in-Err-OutOfMemory-clause-refused
 returns-in-Err-OutOfMemory-clause-refused g c =

@@ -47,4 +47,4 @@ returns-in-Ok-clause-added g c =
     (Sent c.args.now c.args.to c.args.bytes.now))
     (one_accepted _ _ c.in-Ok.transmit c.in-Ok.ensures.refused) in
     subst (λ (s : Step). Keeps (kept_steps c.args.log.now) (s ∷ []) (kept_steps c.add.new.self))
-    (lent ∙ sym step) (c.add.ensures.keeps _ c.sent.ensures.step)
+    (lent ∙ sym step) (c.add.ensures.keeps _ c.make_sent_step.ensures.step)

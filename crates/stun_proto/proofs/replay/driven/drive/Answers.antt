@@ -53,25 +53,25 @@ pub returns-then-log-clause-stopped : goal.returns-then-log-clause-stopped
 returns-then-log-clause-stopped g c =
     let left : drop c.loop-moment.moment-index c.args.events.now ≡ [] =
     drop_all c.loop-moment.moment-index c.args.events.now (omega arith) in
-    run_stops _ _ _ _ _ _ _ _ _ c.turns.ensures.turns.steps (rw left at c.loop-moment.invariant.leads)
-    (rw c.as_nanos-2.ensures at c.turns.ensures.turns.turned)
+    run_stops _ _ _ _ _ _ _ _ _ c.take_turns.ensures.turns.steps (rw left at c.loop-moment.invariant.leads)
+    (rw c.as_nanos-2.ensures at c.take_turns.ensures.turns.turned)
 
 pub returns-clause-run : goal.returns-clause-run
 returns-clause-run g c =
     let left : drop c.loop-moment.moment-index c.args.events.now ≡ [] =
     drop_all c.loop-moment.moment-index c.args.events.now (omega arith) in
     is_driven _ _ _ _ _ (eqb-false _ 0 (sym c.is_empty.ensures ∙ c.if-is_empty.false))
-    (run_kept _ _ _ _ _ _ _ _ c.turns.new.log c.if-log.false
-    (rw left at c.loop-moment.invariant.leads) (rw c.as_nanos-2.ensures at c.turns.ensures.turns))
+    (run_kept _ _ _ _ _ _ _ _ c.take_turns.new.log c.if-log.false
+    (rw left at c.loop-moment.invariant.leads) (rw c.as_nanos-2.ensures at c.take_turns.ensures.turns))
 
 pub returns-clause-plans : goal.returns-clause-plans
 returns-clause-plans g c =
     let left : drop c.loop-moment.moment-index c.args.events.now ≡ [] =
     drop_all c.loop-moment.moment-index c.args.events.now (omega arith) in
-    keep_plans _ _ c.turns.new.agent _ (steps_of c.turns.new.log.steps.items) (omega arith)
+    keep_plans _ _ c.take_turns.new.agent _ (steps_of c.take_turns.new.log.steps.items) (omega arith)
     c.next_awaited-awaited.ensures.kept.ascending c.requires
-    (run_kept _ _ _ _ _ _ _ _ c.turns.new.log c.if-log.false
-    (rw left at c.loop-moment.invariant.leads) (rw c.as_nanos-2.ensures at c.turns.ensures.turns))
+    (run_kept _ _ _ _ _ _ _ _ c.take_turns.new.log c.if-log.false
+    (rw left at c.loop-moment.invariant.leads) (rw c.as_nanos-2.ensures at c.take_turns.ensures.turns))
 
 pub returns-clause-headline : goal.returns-clause-headline
 returns-clause-headline g c =
@@ -80,8 +80,8 @@ returns-clause-headline g c =
     record {
       driven = returns-clause-run g c;
       by_plan =
-          sends_by_plan _ _ c.turns.new.agent _ (steps_of c.turns.new.log.steps.items) (omega arith)
+          sends_by_plan _ _ c.take_turns.new.agent _ (steps_of c.take_turns.new.log.steps.items) (omega arith)
           c.next_awaited-awaited.ensures.kept.ascending c.requires
-          (run_kept _ _ _ _ _ _ _ _ c.turns.new.log c.if-log.false
-          (rw left at c.loop-moment.invariant.leads) (rw c.as_nanos-2.ensures at c.turns.ensures.turns));
+          (run_kept _ _ _ _ _ _ _ _ c.take_turns.new.log c.if-log.false
+          (rw left at c.loop-moment.invariant.leads) (rw c.as_nanos-2.ensures at c.take_turns.ensures.turns));
     }

@@ -32,8 +32,8 @@ whole g c =
     (λ i. record {
       settings = k.settings;
       from = c.args.from;
-      first = c.round_at-first.ensures.turn i;
-      second = c.round_at-second.ensures.turn i;
+      first = c.make_round-first.ensures.turn i;
+      second = c.make_round-second.ensures.turn i;
     }) c.meet.ensures.run
 
 pub round_at-first-requires : goal.round_at-first-requires
@@ -56,9 +56,9 @@ returns-clause-strongest g c = λ new who honest.
     (lists c.args.between) in
     let name =
     subst (λ (o : Option NameAndPassword). IfSome o (λ user. IsUtf8 user.username))
-    honest.ready.credentials c.name_is_text.ensures in
+    honest.ready.credentials c.show_name_is_text.ensures in
     let texts : AreTexts s.registered.realm who.username =
-    record { realm = c.realm_is_text.ensures; username = name } in
+    record { realm = c.show_realm_is_text.ensures; username = name } in
     let law =
     subst (λ (state : ClientState). ComesTo c.args.from who (strongest m s)
     (whole_negotiation m state s))
@@ -74,12 +74,12 @@ returns-clause-headline g c = λ who client.
     (lists c.args.between) in
     let name =
     subst (λ (o : Option NameAndPassword). IfSome o (λ user. IsUtf8 user.username))
-    client.ready.credentials c.name_is_text.ensures in
+    client.ready.credentials c.show_name_is_text.ensures in
     let texts : AreTexts s.registered.realm who.username =
-    record { realm = c.realm_is_text.ensures; username = name } in
+    record { realm = c.show_realm_is_text.ensures; username = name } in
     let drawn : length m.first.words ≡ 16 =
-    subst (λ (t : Round). length t.words ≡ 16) c.round_at-first.ensures.turn
-    c.round_at-first.ensures.count in
+    subst (λ (t : Round). length t.words ≡ 16) c.make_round-first.ensures.turn
+    c.make_round-first.ensures.count in
     let words : length m.first.words ≤ 16 = omega (arith, drawn) in
     let short : AreShort s.registered.realm who.username m.first.words =
     record { realm = client.realm_fits; username = client.name_fits; words = words } in

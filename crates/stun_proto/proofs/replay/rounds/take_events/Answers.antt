@@ -10,7 +10,7 @@ pub loop-now-preserved : goal.loop-now-preserved
 loop-now-preserved g c = record {
   reached = events_step _ _ _ c.loop-now-item.result _ _ _ c.args.events.now c.loop-now.now-index
       _ _ _ (omega arith) (omega arith) (omega arith) c.loop-now-item.is
-      c.loop-now.invariant.reached c.lateness.ensures c.in_ok-apply.ensures.whole;
+      c.loop-now.invariant.reached c.measure_lateness.ensures c.in_ok-apply.ensures.whole;
   kept = λ grants was. c.in_ok-apply.ensures.kept grants (c.loop-now.invariant.kept grants was);
 }
 

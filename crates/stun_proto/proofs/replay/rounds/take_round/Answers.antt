@@ -6,5 +6,5 @@ use Rattle.stun_proto.proofs.replay.rounds.take_round.Goals as goal
 pub returns-clause-led : goal.returns-clause-led
 returns-clause-led g c =
     events_lead _ _ _ _ _ c.args.round.now.time _ _ _ _ _ _ _ _ _ _ (omega arith) (omega arith)
-    (omega arith) (omega arith) (rw c.as_slice.ensures.value at c.in_ok-late.ensures.reached) c.lateness.ensures c.send_again.ensures.calls
-    c.lateness-2.ensures c.end_one-wait.ensures.ends
+    (omega arith) (omega arith) (rw c.as_slice.ensures.value at c.in_ok-late.ensures.reached) c.measure_lateness.ensures c.send_again.ensures.calls
+    c.measure_lateness-2.ensures c.end_one-wait.ensures.ends

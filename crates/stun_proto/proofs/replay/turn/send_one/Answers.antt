@@ -10,4 +10,4 @@ returns-clause-sends g c =
     ≡ after_poll_transmit c.args.now c.args.agent.now = search rules in
     sends_one c.args.now c.args.agent.now c.poll_transmit.follows.lender-at-none _ _ _
     c.in-Some.ensures.sent c.in-Some.ensures.request passed
-    (c.add.ensures.keeps _ c.transmitted-step.ensures.step)
+    (c.add.ensures.keeps _ c.make_transmitted_step-step.ensures.step)

@@ -12,6 +12,6 @@ returns-clause-ip c =
     (socket_ip c.addr.result) =
     rw (← c.new.ensures) c.addr.ensures.ip in
     let octets : HasOctets (socket_ip c.args.addr) =
-    rw (← c.ip.ensures) c.octet_count-octets.ensures in
+    rw (← c.ip.ensures) c.count_octets-octets.ensures in
     hidden_ip (socket_ip c.args.addr) (socket_ip c.addr.result) (socket_port c.args.addr) c.args.id
     octets hidden

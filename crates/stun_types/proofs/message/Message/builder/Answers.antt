@@ -18,7 +18,7 @@ spelled_is_open : (g : Over) (c : goal.After-append g)
     → IsOpen (spelled_message c.args.message_type c.args.id [])
     × (walk (spelled_message c.args.message_type c.args.id []) ≡ [])
 spelled_is_open g c =
-    IsOpen-spelled_message c.args.message_type c.args.id c.header_of.ensures.fits
+    IsOpen-spelled_message c.args.message_type c.args.id c.make_header.ensures.fits
 
 pub returns : goal.returns
 returns g c = record {

@@ -19,10 +19,10 @@ attribute g c = record {
 is_addable : (g : Over) (c : goal.After-write_into g)
     → IsAddable (g.W.MessageWrite.bytes c.args.writer.now) (attribute g c)
 is_addable g c =
-    let sum : c.length_with-message_length.result
+    let sum : c.count_length_with-message_length.result
     ≡ min (length (g.W.MessageWrite.bytes c.args.writer.now) - 20 + c.padded_len.result)
     (2 ^ 64 - 1) =
-    rw c.data.ensures at c.length_with-message_length.ensures in
+    rw c.data.ensures at c.count_length_with-message_length.ensures in
     record {
       kind = c.requires.kind;
       value = omega (arith, sum, c.padded_len.ensures, c.if-message_length-gt-MAX_LENGTH.false);

@@ -16,13 +16,14 @@ written : (g : Over) (c : goal.After-append_integrity g)
     (g.K.DigestKey.key_bytes c.args.key.now)
 written g c =
     let message = g.W.MessageWrite.bytes c.args.writer.now in
-    let sum : c.length_with-message_length.result
-    ≡ min (length message - 20 + c.integrity_length-padded_length.result) (2 ^ 64 - 1) =
-    rw c.data.ensures at c.length_with-message_length.ensures in
-    let stated : c.length_with-message_length.result
+    let sum : c.count_length_with-message_length.result
+    ≡ min (length message - 20 + c.count_integrity_length-padded_length.result) (2 ^ 64 - 1) =
+    rw c.data.ensures at c.count_length_with-message_length.ensures in
+    let stated : c.count_length_with-message_length.result
     ≡ length_with message (digest_length c.args.algorithm) = omega arith in
     let raised = c.set_length.ensures.bytes
-    ∙ (ap (λ text. with_length text c.length_with-message_length.result) c.reserve.ensures.bytes
+    ∙ (ap (λ text. with_length text c.count_length_with-message_length.result)
+    c.reserve.ensures.bytes
     ∙ ap (with_length message) stated) in
     c.append_integrity.ensures.bytes
     ∙ with_integrity-signed message c.args.algorithm (g.K.DigestKey.key_bytes c.args.key.now) _

@@ -21,5 +21,5 @@ returns-clause-kept g c =
     rw (← c.self.view_is)
     (kept_contents inside.transport c.args.now (items inside.root)
     (items c.pass_slots-is_sent.new.link) _ all.ascending
-    (c.length_sent-sent.ensures inside.transport c.self.invariant.timed)
+    (c.find_sent_length-sent.ensures inside.transport c.self.invariant.timed)
     (c.pass_slots-is_sent.ensures.after _ _ c.self.invariant.ordered))

@@ -10,25 +10,25 @@ pub change_in-returns-in-First-clause-after : goal.change_in-returns-in-First-cl
 change_in-returns-in-First-clause-after g t c =
     in_first c.args.levels c.args.id (of_items c.args.fork.now c.requires.ordered)
     (change_acts c.args.id (changed_transaction c.args.to)) (items c.change.new.link)
-    (omega (arith, c.quarter_of.ensures, ap two_bits c.in-First.is)) c.change.ensures.after
+    (omega (arith, c.choose_quarter.ensures, ap two_bits c.in-First.is)) c.change.ensures.after
 
 pub change_in-returns-in-Second-clause-after : goal.change_in-returns-in-Second-clause-after
 change_in-returns-in-Second-clause-after g t c =
     in_second c.args.levels c.args.id (of_items c.args.fork.now c.requires.ordered)
     (change_acts c.args.id (changed_transaction c.args.to)) _
-    (omega (arith, c.quarter_of.ensures, ap two_bits c.in-Second.is))
+    (omega (arith, c.choose_quarter.ensures, ap two_bits c.in-Second.is))
     c.change-in-Second.ensures.after
 
 pub change_in-returns-in-Third-clause-after : goal.change_in-returns-in-Third-clause-after
 change_in-returns-in-Third-clause-after g t c =
     in_third c.args.levels c.args.id (of_items c.args.fork.now c.requires.ordered)
     (change_acts c.args.id (changed_transaction c.args.to)) _
-    (omega (arith, c.quarter_of.ensures, ap two_bits c.in-Third.is))
+    (omega (arith, c.choose_quarter.ensures, ap two_bits c.in-Third.is))
     c.change-in-Third.ensures.after
 
 pub change_in-returns-in-Fourth-clause-after : goal.change_in-returns-in-Fourth-clause-after
 change_in-returns-in-Fourth-clause-after g t c =
     in_fourth c.args.levels c.args.id (of_items c.args.fork.now c.requires.ordered)
     (change_acts c.args.id (changed_transaction c.args.to)) _
-    (omega (arith, c.quarter_of.ensures, ap two_bits c.in-Fourth.is))
+    (omega (arith, c.choose_quarter.ensures, ap two_bits c.in-Fourth.is))
     c.change-in-Fourth.ensures.after

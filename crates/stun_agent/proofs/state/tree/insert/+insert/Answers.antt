@@ -39,7 +39,7 @@ insert_into-insert-requires g t c κs within =
     let id = c.args.leaf.value.entry.0 in
     let own = ap (λ l. l.entry.0) (c.behind-leaf.view_is ∙ c.deref.ensures) in
     let is : part_of (c.args.levels - 1) id ≡ 4 * part_of c.args.levels id =
-    omega (arith, rw own at c.quarter_of.ensures, ap two_bits c.in-First.is) in
+    omega (arith, rw own at c.choose_quarter.ensures, ap two_bits c.in-First.is) in
     let absent = at_first c.args.levels id (of_items c.args.fork.now c.requires.ordered) is
     ∙ c.requires.absent in
     let ordered = subst (λ part. IsOrdered (c.args.levels - 1) part c.args.fork.now.first) (sym is)
@@ -51,7 +51,7 @@ insert_into-insert-requires-in-Second g t c κs within =
     let id = c.args.leaf.value.entry.0 in
     let own = ap (λ l. l.entry.0) (c.behind-leaf.view_is ∙ c.deref.ensures) in
     let is : part_of (c.args.levels - 1) id ≡ 4 * part_of c.args.levels id + 1 =
-    omega (arith, rw own at c.quarter_of.ensures, ap two_bits c.in-Second.is) in
+    omega (arith, rw own at c.choose_quarter.ensures, ap two_bits c.in-Second.is) in
     let absent = at_second c.args.levels id (of_items c.args.fork.now c.requires.ordered) is
     ∙ c.requires.absent in
     let ordered = subst (λ part. IsOrdered (c.args.levels - 1) part c.args.fork.now.second) (sym is)
@@ -63,7 +63,7 @@ insert_into-insert-requires-in-Third g t c κs within =
     let id = c.args.leaf.value.entry.0 in
     let own = ap (λ l. l.entry.0) (c.behind-leaf.view_is ∙ c.deref.ensures) in
     let is : part_of (c.args.levels - 1) id ≡ 4 * part_of c.args.levels id + 2 =
-    omega (arith, rw own at c.quarter_of.ensures, ap two_bits c.in-Third.is) in
+    omega (arith, rw own at c.choose_quarter.ensures, ap two_bits c.in-Third.is) in
     let absent = at_third c.args.levels id (of_items c.args.fork.now c.requires.ordered) is
     ∙ c.requires.absent in
     let ordered = subst (λ part. IsOrdered (c.args.levels - 1) part c.args.fork.now.third) (sym is)
@@ -75,7 +75,7 @@ insert_into-insert-requires-in-Fourth g t c κs within =
     let id = c.args.leaf.value.entry.0 in
     let own = ap (λ l. l.entry.0) (c.behind-leaf.view_is ∙ c.deref.ensures) in
     let is : part_of (c.args.levels - 1) id ≡ 4 * part_of c.args.levels id + 3 =
-    omega (arith, rw own at c.quarter_of.ensures, ap two_bits c.in-Fourth.is) in
+    omega (arith, rw own at c.choose_quarter.ensures, ap two_bits c.in-Fourth.is) in
     let absent = at_fourth c.args.levels id (of_items c.args.fork.now c.requires.ordered) is
     ∙ c.requires.absent in
     let ordered = subst (λ part. IsOrdered (c.args.levels - 1) part c.args.fork.now.fourth) (sym is)
@@ -89,7 +89,7 @@ insert_into-returns-in-First-clause-ok g t c =
     on_ok_weaker c.insert.result
     (in_first c.args.levels id (of_items c.args.fork.now c.requires.ordered)
     (with_acts id c.args.leaf.value.entry.1) (items c.insert.new.link)
-    (omega (arith, rw own at c.quarter_of.ensures, ap two_bits c.in-First.is)))
+    (omega (arith, rw own at c.choose_quarter.ensures, ap two_bits c.in-First.is)))
     c.insert.ensures.ok
 
 pub insert_into-returns-in-Second-clause-ok : goal.insert_into-returns-in-Second-clause-ok
@@ -99,7 +99,7 @@ insert_into-returns-in-Second-clause-ok g t c =
     on_ok_weaker c.insert-in-Second.result
     (in_second c.args.levels id (of_items c.args.fork.now c.requires.ordered)
     (with_acts id c.args.leaf.value.entry.1) (items c.insert-in-Second.new.link)
-    (omega (arith, rw own at c.quarter_of.ensures, ap two_bits c.in-Second.is)))
+    (omega (arith, rw own at c.choose_quarter.ensures, ap two_bits c.in-Second.is)))
     c.insert-in-Second.ensures.ok
 
 pub insert_into-returns-in-Third-clause-ok : goal.insert_into-returns-in-Third-clause-ok
@@ -109,7 +109,7 @@ insert_into-returns-in-Third-clause-ok g t c =
     on_ok_weaker c.insert-in-Third.result
     (in_third c.args.levels id (of_items c.args.fork.now c.requires.ordered)
     (with_acts id c.args.leaf.value.entry.1) (items c.insert-in-Third.new.link)
-    (omega (arith, rw own at c.quarter_of.ensures, ap two_bits c.in-Third.is)))
+    (omega (arith, rw own at c.choose_quarter.ensures, ap two_bits c.in-Third.is)))
     c.insert-in-Third.ensures.ok
 
 pub insert_into-returns-in-Fourth-clause-ok : goal.insert_into-returns-in-Fourth-clause-ok
@@ -119,7 +119,7 @@ insert_into-returns-in-Fourth-clause-ok g t c =
     on_ok_weaker c.insert-in-Fourth.result
     (in_fourth c.args.levels id (of_items c.args.fork.now c.requires.ordered)
     (with_acts id c.args.leaf.value.entry.1) (items c.insert-in-Fourth.new.link)
-    (omega (arith, rw own at c.quarter_of.ensures, ap two_bits c.in-Fourth.is)))
+    (omega (arith, rw own at c.choose_quarter.ensures, ap two_bits c.in-Fourth.is)))
     c.insert-in-Fourth.ensures.ok
 
 pub insert_into-returns-in-First-clause-attached : goal.insert_into-returns-in-First-clause-attached
@@ -129,7 +129,7 @@ insert_into-returns-in-First-clause-attached g t c =
     on_ok_weaker c.insert.result
     (in_first c.args.levels id (of_attached c.args.fork.now c.requires.ordered)
     (with_acts id c.args.leaf.value.datum) (attached c.insert.new.link)
-    (omega (arith, rw own at c.quarter_of.ensures, ap two_bits c.in-First.is)))
+    (omega (arith, rw own at c.choose_quarter.ensures, ap two_bits c.in-First.is)))
     c.insert.ensures.attached
 
 pub insert_into-returns-in-Second-clause-attached :
@@ -140,7 +140,7 @@ insert_into-returns-in-Second-clause-attached g t c =
     on_ok_weaker c.insert-in-Second.result
     (in_second c.args.levels id (of_attached c.args.fork.now c.requires.ordered)
     (with_acts id c.args.leaf.value.datum) (attached c.insert-in-Second.new.link)
-    (omega (arith, rw own at c.quarter_of.ensures, ap two_bits c.in-Second.is)))
+    (omega (arith, rw own at c.choose_quarter.ensures, ap two_bits c.in-Second.is)))
     c.insert-in-Second.ensures.attached
 
 pub insert_into-returns-in-Third-clause-attached : goal.insert_into-returns-in-Third-clause-attached
@@ -150,7 +150,7 @@ insert_into-returns-in-Third-clause-attached g t c =
     on_ok_weaker c.insert-in-Third.result
     (in_third c.args.levels id (of_attached c.args.fork.now c.requires.ordered)
     (with_acts id c.args.leaf.value.datum) (attached c.insert-in-Third.new.link)
-    (omega (arith, rw own at c.quarter_of.ensures, ap two_bits c.in-Third.is)))
+    (omega (arith, rw own at c.choose_quarter.ensures, ap two_bits c.in-Third.is)))
     c.insert-in-Third.ensures.attached
 
 pub insert_into-returns-in-Fourth-clause-attached :
@@ -161,5 +161,5 @@ insert_into-returns-in-Fourth-clause-attached g t c =
     on_ok_weaker c.insert-in-Fourth.result
     (in_fourth c.args.levels id (of_attached c.args.fork.now c.requires.ordered)
     (with_acts id c.args.leaf.value.datum) (attached c.insert-in-Fourth.new.link)
-    (omega (arith, rw own at c.quarter_of.ensures, ap two_bits c.in-Fourth.is)))
+    (omega (arith, rw own at c.choose_quarter.ensures, ap two_bits c.in-Fourth.is)))
     c.insert-in-Fourth.ensures.attached

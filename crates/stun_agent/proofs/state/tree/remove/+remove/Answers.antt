@@ -58,12 +58,12 @@ pub remove_from-returns-in-First-clause-answer : goal.remove_from-returns-in-Fir
 remove_from-returns-in-First-clause-answer g t c =
     c.remove.ensures.answer
     ∙ at_first c.args.levels c.args.id (of_items c.args.fork.now c.requires.ordered)
-    (omega (arith, c.quarter_of.ensures, ap two_bits c.in-First.is))
+    (omega (arith, c.choose_quarter.ensures, ap two_bits c.in-First.is))
 
 pub remove_from-returns-in-First-clause-after : goal.remove_from-returns-in-First-clause-after
 remove_from-returns-in-First-clause-after g t c =
     in_first c.args.levels c.args.id (of_items c.args.fork.now c.requires.ordered)
-    (without_acts c.args.id) _ (omega (arith, c.quarter_of.ensures, ap two_bits c.in-First.is))
+    (without_acts c.args.id) _ (omega (arith, c.choose_quarter.ensures, ap two_bits c.in-First.is))
     c.remove.ensures.after
 
 pub remove_from-returns-in-First-clause-timed : goal.remove_from-returns-in-First-clause-timed
@@ -74,12 +74,12 @@ pub remove_from-returns-in-Second-clause-answer : goal.remove_from-returns-in-Se
 remove_from-returns-in-Second-clause-answer g t c =
     c.remove-in-Second.ensures.answer
     ∙ at_second c.args.levels c.args.id (of_items c.args.fork.now c.requires.ordered)
-    (omega (arith, c.quarter_of.ensures, ap two_bits c.in-Second.is))
+    (omega (arith, c.choose_quarter.ensures, ap two_bits c.in-Second.is))
 
 pub remove_from-returns-in-Second-clause-after : goal.remove_from-returns-in-Second-clause-after
 remove_from-returns-in-Second-clause-after g t c =
     in_second c.args.levels c.args.id (of_items c.args.fork.now c.requires.ordered)
-    (without_acts c.args.id) _ (omega (arith, c.quarter_of.ensures, ap two_bits c.in-Second.is))
+    (without_acts c.args.id) _ (omega (arith, c.choose_quarter.ensures, ap two_bits c.in-Second.is))
     c.remove-in-Second.ensures.after
 
 pub remove_from-returns-in-Second-clause-timed : goal.remove_from-returns-in-Second-clause-timed
@@ -90,12 +90,12 @@ pub remove_from-returns-in-Third-clause-answer : goal.remove_from-returns-in-Thi
 remove_from-returns-in-Third-clause-answer g t c =
     c.remove-in-Third.ensures.answer
     ∙ at_third c.args.levels c.args.id (of_items c.args.fork.now c.requires.ordered)
-    (omega (arith, c.quarter_of.ensures, ap two_bits c.in-Third.is))
+    (omega (arith, c.choose_quarter.ensures, ap two_bits c.in-Third.is))
 
 pub remove_from-returns-in-Third-clause-after : goal.remove_from-returns-in-Third-clause-after
 remove_from-returns-in-Third-clause-after g t c =
     in_third c.args.levels c.args.id (of_items c.args.fork.now c.requires.ordered)
-    (without_acts c.args.id) _ (omega (arith, c.quarter_of.ensures, ap two_bits c.in-Third.is))
+    (without_acts c.args.id) _ (omega (arith, c.choose_quarter.ensures, ap two_bits c.in-Third.is))
     c.remove-in-Third.ensures.after
 
 pub remove_from-returns-in-Third-clause-timed : goal.remove_from-returns-in-Third-clause-timed
@@ -106,12 +106,12 @@ pub remove_from-returns-in-Fourth-clause-answer : goal.remove_from-returns-in-Fo
 remove_from-returns-in-Fourth-clause-answer g t c =
     c.remove-in-Fourth.ensures.answer
     ∙ at_fourth c.args.levels c.args.id (of_items c.args.fork.now c.requires.ordered)
-    (omega (arith, c.quarter_of.ensures, ap two_bits c.in-Fourth.is))
+    (omega (arith, c.choose_quarter.ensures, ap two_bits c.in-Fourth.is))
 
 pub remove_from-returns-in-Fourth-clause-after : goal.remove_from-returns-in-Fourth-clause-after
 remove_from-returns-in-Fourth-clause-after g t c =
     in_fourth c.args.levels c.args.id (of_items c.args.fork.now c.requires.ordered)
-    (without_acts c.args.id) _ (omega (arith, c.quarter_of.ensures, ap two_bits c.in-Fourth.is))
+    (without_acts c.args.id) _ (omega (arith, c.choose_quarter.ensures, ap two_bits c.in-Fourth.is))
     c.remove-in-Fourth.ensures.after
 
 pub remove_from-returns-in-Fourth-clause-timed : goal.remove_from-returns-in-Fourth-clause-timed
@@ -122,48 +122,48 @@ pub remove_from-returns-in-First-clause-datum : goal.remove_from-returns-in-Firs
 remove_from-returns-in-First-clause-datum g t c =
     c.remove.ensures.datum
     ∙ at_first c.args.levels c.args.id (of_attached c.args.fork.now c.requires.ordered)
-    (omega (arith, c.quarter_of.ensures, ap two_bits c.in-First.is))
+    (omega (arith, c.choose_quarter.ensures, ap two_bits c.in-First.is))
 
 pub remove_from-returns-in-First-clause-attached : goal.remove_from-returns-in-First-clause-attached
 remove_from-returns-in-First-clause-attached g t c =
     in_first c.args.levels c.args.id (of_attached c.args.fork.now c.requires.ordered)
-    (without_acts c.args.id) _ (omega (arith, c.quarter_of.ensures, ap two_bits c.in-First.is))
+    (without_acts c.args.id) _ (omega (arith, c.choose_quarter.ensures, ap two_bits c.in-First.is))
     c.remove.ensures.attached
 
 pub remove_from-returns-in-Second-clause-datum : goal.remove_from-returns-in-Second-clause-datum
 remove_from-returns-in-Second-clause-datum g t c =
     c.remove-in-Second.ensures.datum
     ∙ at_second c.args.levels c.args.id (of_attached c.args.fork.now c.requires.ordered)
-    (omega (arith, c.quarter_of.ensures, ap two_bits c.in-Second.is))
+    (omega (arith, c.choose_quarter.ensures, ap two_bits c.in-Second.is))
 
 pub remove_from-returns-in-Second-clause-attached :
     goal.remove_from-returns-in-Second-clause-attached
 remove_from-returns-in-Second-clause-attached g t c =
     in_second c.args.levels c.args.id (of_attached c.args.fork.now c.requires.ordered)
-    (without_acts c.args.id) _ (omega (arith, c.quarter_of.ensures, ap two_bits c.in-Second.is))
+    (without_acts c.args.id) _ (omega (arith, c.choose_quarter.ensures, ap two_bits c.in-Second.is))
     c.remove-in-Second.ensures.attached
 
 pub remove_from-returns-in-Third-clause-datum : goal.remove_from-returns-in-Third-clause-datum
 remove_from-returns-in-Third-clause-datum g t c =
     c.remove-in-Third.ensures.datum
     ∙ at_third c.args.levels c.args.id (of_attached c.args.fork.now c.requires.ordered)
-    (omega (arith, c.quarter_of.ensures, ap two_bits c.in-Third.is))
+    (omega (arith, c.choose_quarter.ensures, ap two_bits c.in-Third.is))
 
 pub remove_from-returns-in-Third-clause-attached : goal.remove_from-returns-in-Third-clause-attached
 remove_from-returns-in-Third-clause-attached g t c =
     in_third c.args.levels c.args.id (of_attached c.args.fork.now c.requires.ordered)
-    (without_acts c.args.id) _ (omega (arith, c.quarter_of.ensures, ap two_bits c.in-Third.is))
+    (without_acts c.args.id) _ (omega (arith, c.choose_quarter.ensures, ap two_bits c.in-Third.is))
     c.remove-in-Third.ensures.attached
 
 pub remove_from-returns-in-Fourth-clause-datum : goal.remove_from-returns-in-Fourth-clause-datum
 remove_from-returns-in-Fourth-clause-datum g t c =
     c.remove-in-Fourth.ensures.datum
     ∙ at_fourth c.args.levels c.args.id (of_attached c.args.fork.now c.requires.ordered)
-    (omega (arith, c.quarter_of.ensures, ap two_bits c.in-Fourth.is))
+    (omega (arith, c.choose_quarter.ensures, ap two_bits c.in-Fourth.is))
 
 pub remove_from-returns-in-Fourth-clause-attached :
     goal.remove_from-returns-in-Fourth-clause-attached
 remove_from-returns-in-Fourth-clause-attached g t c =
     in_fourth c.args.levels c.args.id (of_attached c.args.fork.now c.requires.ordered)
-    (without_acts c.args.id) _ (omega (arith, c.quarter_of.ensures, ap two_bits c.in-Fourth.is))
+    (without_acts c.args.id) _ (omega (arith, c.choose_quarter.ensures, ap two_bits c.in-Fourth.is))
     c.remove-in-Fourth.ensures.attached

@@ -11,52 +11,52 @@ pub replace_in-returns-in-First-clause-before : goal.replace_in-returns-in-First
 replace_in-returns-in-First-clause-before g t c =
     c.replace.ensures.before
     ∙ at_first c.args.levels c.args.id (of_attached c.args.fork.now c.requires.ordered)
-    (omega (arith, c.quarter_of.ensures, ap two_bits c.in-First.is))
+    (omega (arith, c.choose_quarter.ensures, ap two_bits c.in-First.is))
 
 pub replace_in-returns-in-First-clause-attached : goal.replace_in-returns-in-First-clause-attached
 replace_in-returns-in-First-clause-attached g t c =
     in_first c.args.levels c.args.id (of_attached c.args.fork.now c.requires.ordered)
     (set_acts c.args.id c.args.datum) _
-    (omega (arith, c.quarter_of.ensures, ap two_bits c.in-First.is))
+    (omega (arith, c.choose_quarter.ensures, ap two_bits c.in-First.is))
     c.replace.ensures.attached
 
 pub replace_in-returns-in-Second-clause-before : goal.replace_in-returns-in-Second-clause-before
 replace_in-returns-in-Second-clause-before g t c =
     c.replace-in-Second.ensures.before
     ∙ at_second c.args.levels c.args.id (of_attached c.args.fork.now c.requires.ordered)
-    (omega (arith, c.quarter_of.ensures, ap two_bits c.in-Second.is))
+    (omega (arith, c.choose_quarter.ensures, ap two_bits c.in-Second.is))
 
 pub replace_in-returns-in-Second-clause-attached : goal.replace_in-returns-in-Second-clause-attached
 replace_in-returns-in-Second-clause-attached g t c =
     in_second c.args.levels c.args.id (of_attached c.args.fork.now c.requires.ordered)
     (set_acts c.args.id c.args.datum) _
-    (omega (arith, c.quarter_of.ensures, ap two_bits c.in-Second.is))
+    (omega (arith, c.choose_quarter.ensures, ap two_bits c.in-Second.is))
     c.replace-in-Second.ensures.attached
 
 pub replace_in-returns-in-Third-clause-before : goal.replace_in-returns-in-Third-clause-before
 replace_in-returns-in-Third-clause-before g t c =
     c.replace-in-Third.ensures.before
     ∙ at_third c.args.levels c.args.id (of_attached c.args.fork.now c.requires.ordered)
-    (omega (arith, c.quarter_of.ensures, ap two_bits c.in-Third.is))
+    (omega (arith, c.choose_quarter.ensures, ap two_bits c.in-Third.is))
 
 pub replace_in-returns-in-Third-clause-attached : goal.replace_in-returns-in-Third-clause-attached
 replace_in-returns-in-Third-clause-attached g t c =
     in_third c.args.levels c.args.id (of_attached c.args.fork.now c.requires.ordered)
     (set_acts c.args.id c.args.datum) _
-    (omega (arith, c.quarter_of.ensures, ap two_bits c.in-Third.is))
+    (omega (arith, c.choose_quarter.ensures, ap two_bits c.in-Third.is))
     c.replace-in-Third.ensures.attached
 
 pub replace_in-returns-in-Fourth-clause-before : goal.replace_in-returns-in-Fourth-clause-before
 replace_in-returns-in-Fourth-clause-before g t c =
     c.replace-in-Fourth.ensures.before
     ∙ at_fourth c.args.levels c.args.id (of_attached c.args.fork.now c.requires.ordered)
-    (omega (arith, c.quarter_of.ensures, ap two_bits c.in-Fourth.is))
+    (omega (arith, c.choose_quarter.ensures, ap two_bits c.in-Fourth.is))
 
 pub replace_in-returns-in-Fourth-clause-attached : goal.replace_in-returns-in-Fourth-clause-attached
 replace_in-returns-in-Fourth-clause-attached g t c =
     in_fourth c.args.levels c.args.id (of_attached c.args.fork.now c.requires.ordered)
     (set_acts c.args.id c.args.datum) _
-    (omega (arith, c.quarter_of.ensures, ap two_bits c.in-Fourth.is))
+    (omega (arith, c.choose_quarter.ensures, ap two_bits c.in-Fourth.is))
     c.replace-in-Fourth.ensures.attached
 
 -- ---- what is awaited stays

@@ -12,8 +12,8 @@ overflow_add-self c =
     passed c.in-Received.place c.padded_len.result c.in-Received.bytes.now
     c.in-Some.first c.in-Some.ensures.whole c.in-Some.ensures.value
     (c.padded_len.ensures
-    ∙ ap (λ (e : TypedValue). attribute_length (length e.value)) c.raw.ensures.same) in
-    omega (arith, p.within, c.entry_at.ensures.sized)
+    ∙ ap (λ (e : TypedValue). attribute_length (length e.value)) c.to_raw.ensures.same) in
+    omega (arith, p.within, c.read_entry.ensures.sized)
 
 pub invariant_of-self-in-Received : goal.invariant_of-self-in-Received
 invariant_of-self-in-Received c =
@@ -21,7 +21,7 @@ invariant_of-self-in-Received c =
     passed c.in-Received.place c.padded_len.result c.in-Received.bytes.now
     c.in-Some.first c.in-Some.ensures.whole c.in-Some.ensures.value
     (c.padded_len.ensures
-    ∙ ap (λ (e : TypedValue). attribute_length (length e.value)) c.raw.ensures.same) in
+    ∙ ap (λ (e : TypedValue). attribute_length (length e.value)) c.to_raw.ensures.same) in
     sym p.filled ∙ subst IsFilled c.in-Received.is c.self.invariant
 
 pub returns-in-Some-clause-steps : goal.returns-in-Some-clause-steps
@@ -30,7 +30,7 @@ returns-in-Some-clause-steps c =
     passed c.in-Received.place c.padded_len.result c.in-Received.bytes.now
     c.in-Some.first c.in-Some.ensures.whole c.in-Some.ensures.value
     (c.padded_len.ensures
-    ∙ ap (λ (e : TypedValue). attribute_length (length e.value)) c.raw.ensures.same) in
+    ∙ ap (λ (e : TypedValue). attribute_length (length e.value)) c.to_raw.ensures.same) in
     sym c.self.view_is ∙ (ap source_entries c.in-Received.is ∙ p.entries_are)
 
 pub returns-in-Some-clause-goes : goal.returns-in-Some-clause-goes

@@ -8,12 +8,12 @@ use Rattle.stun_extra.proofs.attribute.algorithm_list.AlgorithmListAttribute.wri
 pub returns-clause-bytes : goal.returns-clause-bytes
 returns-clause-bytes g c =
     let entries = c.args.self.now in
-    let whole : c.value_length.result ≡ length (spelled_attributes entries) =
-    omega (arith, c.value_length.ensures.length, c.requires.fits) in
+    let whole : c.count_value_bytes.result ≡ length (spelled_attributes entries) =
+    omega (arith, c.count_value_bytes.ensures.length, c.requires.fits) in
     c.append_entries.ensures.bytes
     ∙ (ap (λ xs. xs ++ spelled_attributes entries) c.append_header.ensures.bytes
     ∙ spelled-unpadded (g.W.MessageWrite.bytes c.args.writer.now) PASSWORD_ALGORITHMS
-    c.value_length.result entries whole)
+    c.count_value_bytes.result entries whole)
 
 pub returns-clause-room : goal.returns-clause-room
 returns-clause-room g c =

@@ -50,26 +50,26 @@ returns-in-Some-clause-run g c =
     let m = meeting_of k.settings c.args.meeting.now in
     let t = after_validation s m.from m.first.now m.first.words
     (reading_of c.in_ok-unproven.unproven.bytes) in
-    let read = c.message_in-asked.ensures ∙ c.data.ensures in
+    let read = c.parse_message-asked.ensures ∙ c.data.ensures in
     let left = c.in_ok-answer.ensures.server
     ∙ (λ i. after_validation s m.from m.first.now m.first.words (reading_of (read i))) in
     let told = c.in_ok-answer.ensures.answer
     ∙ (λ i. answer (sight s m.from) m.first.now m.first.words (reading_of (read i))) in
     ends c.in-Some.outcome (Passes m k.state s)
     ((λ i. ending_with c.in-Some.outcome (c.in_ok-unproven.ensures.stays i).state (left i))
-    ∙ ended_by _ _ _ c.in-Some.outcome (sym c.end_of_first.ensures ∙ c.in-Some.is)
+    ∙ ended_by _ _ _ c.in-Some.outcome (sym c.to_first_outcome.ensures ∙ c.in-Some.is)
     (first_ends m k.state t c.in_ok-answer.answer)
     ∙ ap (first_answered m k.state t) told
     ∙ ap (first_asked m k.state s) c.in_ok-unproven.ensures.answer)
 
 pub after_unauthorized-requires-clause-method : goal.after_unauthorized-requires-clause-method
 after_unauthorized-requires-clause-method g c =
-    ap (λ b. method_of (type_field b)) (c.message_in-asked.ensures ∙ c.data.ensures)
+    ap (λ b. method_of (type_field b)) (c.parse_message-asked.ensures ∙ c.data.ensures)
     ∙ c.in_ok-unproven.ensures.method
 
 pub after_unauthorized-requires-clause-id : goal.after_unauthorized-requires-clause-id
 after_unauthorized-requires-clause-id g c =
-    ap transaction_id_field (c.message_in-asked.ensures ∙ c.data.ensures)
+    ap transaction_id_field (c.parse_message-asked.ensures ∙ c.data.ensures)
     ∙ c.in_ok-unproven.ensures.id
 
 pub returns-clause-run : goal.returns-clause-run
@@ -80,14 +80,14 @@ returns-clause-run g c =
     let m = meeting_of k.settings meeting in
     let t = after_validation s m.from m.first.now m.first.words
     (reading_of c.in_ok-unproven.unproven.bytes) in
-    let read = c.message_in-asked.ensures ∙ c.data.ensures in
+    let read = c.parse_message-asked.ensures ∙ c.data.ensures in
     let left = c.in_ok-answer.ensures.server
     ∙ (λ i. after_validation s m.from m.first.now m.first.words (reading_of (read i))) in
     let told = c.in_ok-answer.ensures.answer
     ∙ (λ i. answer (sight s m.from) m.first.now m.first.words (reading_of (read i))) in
-    let r = c.after_unauthorized.result in
+    let r = c.run_from_challenge.result in
     let is =
-    not_ended _ _ _ (sym c.end_of_first.ensures ∙ c.in-None.is)
+    not_ended _ _ _ (sym c.to_first_outcome.ensures ∙ c.in-None.is)
     (first_ends m k.state t c.in_ok-answer.answer) ∙ told in
     goes_on r (Passes m k.state s) (PassesUnauthorized m k.state t)
     (ap (first_answered m k.state t) is
@@ -100,9 +100,9 @@ returns-clause-run g c =
       later,
     ))
     (subst (λ (p : ClientSide × ServerSeen). let n = meeting_of p.0.settings meeting in
-    IsRun r c.after_unauthorized.new.client.state c.after_unauthorized.new.server
+    IsRun r c.run_from_challenge.new.client.state c.run_from_challenge.new.server
     (first_answered n p.0.state p.1 (Err Unauthorized)) (PassesUnauthorized n p.0.state p.1))
-    (λ i. (c.in_ok-unproven.ensures.stays i, left i)) c.after_unauthorized.ensures.run)
+    (λ i. (c.in_ok-unproven.ensures.stays i, left i)) c.run_from_challenge.ensures.run)
 
 pub returns-in_err-unproven-clause-granted : goal.returns-in_err-unproven-clause-granted
 returns-in_err-unproven-clause-granted g c = λ grants.

@@ -16,13 +16,18 @@ loop-i-preserved g c =
       | in-Some w ↦
           let at : slice_get c.args.self.now c.loop-i.i ≡ Some w.in-Some.algorithm =
           sym c.get.ensures ∙ w.in-Some.is in
-          let four : length w.entry.result ≡ 4 = ap length w.entry.ensures
+          let four : length w.to_entry.result ≡ 4 = ap length w.to_entry.ensures
           ∙ length_of_entry w.in-Some.algorithm in
           let room = w.append.ensures.room in
           let reserved = w.append.ensures.reserved in
           record {
             bytes =
-                rw (w.writer-is, w.append.ensures.bytes, w.entry.ensures, c.loop-i.invariant.bytes)
+                rw (
+                  w.writer-is,
+                  w.append.ensures.bytes,
+                  w.to_entry.ensures,
+                  c.loop-i.invariant.bytes,
+                )
                 (sym (entries_more (g.W.MessageWrite.bytes c.args.writer.now) c.args.self.now
                 c.loop-i.i w.in-Some.algorithm at));
             room = rw w.writer-is (omega (arith, room, four, c.loop-i.invariant.room));

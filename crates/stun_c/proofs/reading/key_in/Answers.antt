@@ -1,7 +1,0 @@
--- The key is that of the id.
-use Rattle.std.proofs.Common.{ap, ◌∙◌}
-use Rattle.stun_types.specs.XorMappedAddress.{xor_key}
-use Rattle.stun_c.proofs.reading.key_in.Goals as goal
-
-pub returns : goal.returns
-returns c = c.xor_key.ensures ∙ ap xor_key c.id_in-id.ensures

@@ -1,9 +1,0 @@
--- The answer is put together of its parts.
-use Rattle.std.proofs.Common.{◌∙◌, ap}
-use Rattle.stun_ice.specs.Answers.{with_end}
-use Rattle.stun_ice.proofs.checker.Checker.error.Goals as goal
-
-pub returns-clause-bytes : goal.returns-clause-bytes
-returns-clause-bytes g c =
-    c.in_ok-answer.ensures.bytes
-    ∙ ap (with_end c.args.self.now c.args.signature) c.in_ok-page.ensures.bytes

@@ -22,8 +22,8 @@ and the seed is printed.
 
 An item that was added to what decides, and is no impl of a trait, makes no wrong body right: neither
 the body nor anything that it names has changed. Nor does another name of a function, wherever it is
-called. So --grown takes over those edits that the record of the commit has, and whose sum has
-changed since for added items and for other names of functions alone.
+called, or another module for an item. So --grown takes over those edits that the record of the
+commit has, and whose sum has changed since for these three reasons alone.
 
 An edit is a line `file: src/..`, and then pairs of lines `old: TEXT` and `new: TEXT`; further lines
 `file:` begin the pairs of other files. It is made in a copy of the crate: first the function or the
@@ -369,9 +369,14 @@ def functions_in(top):
 
 def plainly(renamed):
     """A function that writes a text in one way: without spaces, without the commas that a layout
-    adds, and with the names in `renamed` replaced by one name for all names of a function."""
+    adds, without the module of a definition and the imports, since what they name is compared
+    itself, without an attribute that no proof reads, and with the names in `renamed` replaced by one
+    name for all names of a function."""
     @functools.lru_cache(None)
     def written(text):
+        text = re.sub(r"\A\w+\.[\w.]+\n|(?m:^#\[non_exhaustive\]\n)", "", text)
+        text = re.sub(r"(?m)^ *(?:ghost |pub )?use (?:(?! as )[^;{}]|\{(?:(?! as )[^}])*\})*(?:;|$)", "",
+                      text)
         text = re.sub(r"\w+", lambda word: renamed.get(word[0], word[0]), text)
         return re.sub(r",(?=[)}\]])", "", "".join(text.split()))
     return written
@@ -412,7 +417,7 @@ def has_grown(before, now, count, known, written):
     gone = collections.Counter(old) - collections.Counter(new)
     fresh = collections.Counter(new) - collections.Counter(old)
     added = [item for item, one in zip(now[2], new) if one in fresh]
-    return (written(before[0]) == written(now[0]) and before[1] == now[1]
+    return (written(before[0]) == written(now[0])
             and old[:count] == new[:count]
             and not set(gone) - known and not any(map(shown.OF_TRAIT.match, added)))
 

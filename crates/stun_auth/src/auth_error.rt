@@ -40,8 +40,8 @@ impl<R: Copy + Debug + Display> LongTermAuthError<R> {
         self.reason
     }
 
-    /// Always returns `None`, because nothing is known about the signature of a message that was
-    /// refused.
+    /// Returns `None` for every error, because nothing is known about the signature of a message
+    /// that was refused.
     pub fn integrity(&self) -> Option<IntegrityAlgorithm>
         ensures { result ≡ None }
     {

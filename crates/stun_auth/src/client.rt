@@ -308,7 +308,8 @@ impl<A: Allocator> LongTermClientAuth<A> {
         }
     }
 
-    /// Returns the challenge in a message, or the reason to refuse it.
+    /// Reads the challenge in a message, and returns it with the algorithm that the client chose,
+    /// or fails with the reason to refuse it.
     fn read_offer<'a, 'm>(
         &'a self,
         read: ReadMessage<'m, '_>,

@@ -93,9 +93,9 @@ pub fn messages_that_change_nothing()
         → ChangesNothing s now words r }
 {}
 
-/// If all algorithms were offered to an address, the verdict of `judge` under the current nonce of
-/// the address determines what `validate_incoming_message` returns for a request or an indication
-/// (`answer`), and which client the address has afterwards (`place`).
+/// If all algorithms were offered to an address, the verdict of `Realm::judge` under the current
+/// nonce of the address determines what `validate_incoming_message` returns for a request or an
+/// indication (`answer`), and which client the address has afterwards (`place`).
 pub fn judging_is_validating()
     ensures answer { (s : ServerSeen) (from : SocketAddr) (now : ℕ) (words : List ℕ) (r : Reading)
         (place : PlaceSeen) → map.get s.places from ≡ Some place
@@ -110,11 +110,11 @@ pub fn judging_is_validating()
         ≡ Some (with_accepted place (verdict_by_nonce s place.nonce r)) }
 {}
 
-/// One call of `judge` replaces four calls for an address without a record: validate the message
-/// with some random numbers, sign a response, validate the message again before the nonce expires,
-/// and forget the address. If the message needs a nonce, the second validation returns the verdict
-/// that `judge` returns under the nonce made from these numbers (`answer`). After the four calls,
-/// the server is as it was before them (`forgotten`).
+/// One call of `Realm::judge` replaces four calls for an address without a record: validate the
+/// message with some random numbers, sign a response, validate the message again before the nonce
+/// expires, and forget the address. If the message needs a nonce, the second validation returns the
+/// verdict that `Realm::judge` returns under the nonce made from these numbers (`answer`). After
+/// the four calls, the server is as it was before them (`forgotten`).
 pub fn judging_is_a_run_of_calls()
     ensures answer { (s : ServerSeen) (from : SocketAddr) (now later : ℕ) (words others : List ℕ)
         (r : Reading) → map.get s.places from ≡ None → needs_nonce r ≡ true

@@ -1,5 +1,11 @@
-//! The authenticators of STUN messages, which store what a server knows of each address and what a
-//! client has been offered (RFC 8489, section 9).
+//! Authenticators of STUN messages (RFC 8489, section 9).
+//!
+//! With long-term credentials, the authenticator of a server stores a record of each client
+//! address, and the authenticator of a client stores the challenge that it accepted. With
+//! short-term credentials, an authenticator stores the shared password.
+//!
+//! The crate `stun_judging` has what server and client share: it reads messages, judges them under
+//! a nonce, and adds the attributes of a signature.
 #![tactic(auto)]
 
 pub mod auth;

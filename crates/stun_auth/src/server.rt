@@ -59,8 +59,8 @@ pub fn minimum_nonce_expiry_duration() -> Duration
     Duration::from_secs(MINIMUM_NONCE_EXPIRY_SECONDS)
 }
 
-/// The server side of long-term authentication (RFC 8489, section 9.2.4): the users of a realm, and
-/// a record for each client address.
+/// The server side of long-term authentication (RFC 8489, section 9.2.4): a realm with its users,
+/// and a record for each client address.
 ///
 /// The record of an address holds the latest nonce that was made for it, the time at which that
 /// nonce expires, the algorithms that the address was offered, and its *client*. The client is the
@@ -76,7 +76,7 @@ pub fn minimum_nonce_expiry_duration() -> Duration
 ///
 /// `Debug` shows nothing of the contents.
 ///
-/// Contracts: the value is a record of the realm with its algorithms and users (`registered`), the
+/// Contracts: the value is a record of the realm's name, algorithms and users (`registered`), the
 /// settings (`feature`, `expiry`), and the records of addresses (`places`). Each user has a
 /// password or stored keys.
 #[derive(Drop)]
@@ -137,20 +137,21 @@ impl<A: Memory> LongTermServerAuth<A> {
     }
 
     /// Returns the realm with its users, which judges messages under nonces that you pass
-    /// (`Realm::judge`). A server that derives its nonces from a secret, the address and the time
-    /// needs no record of an address, so it uses these calls alone. They take `&self`, so threads
-    /// can share the server.
+    /// (`Realm::judge`), returns the user whom a message names (`Realm::named_in`), and prepares a
+    /// user whom you look up elsewhere (`Realm::prepare_user`).
     ///
-    /// The calls also return the user whom a message names (`Realm::named_in`), and prepare a user
-    /// whom you look up elsewhere (`Realm::prepare_user`). They neither read nor make a record of
-    /// an address, use no random numbers, and judge without an allocation.
+    /// These calls neither read nor make a record of an address, use no random numbers, and judge
+    /// without an allocation. They take `&self`, so threads can share the server. A server that
+    /// derives its nonces from a secret, the address and the time needs no record of an address, so
+    /// it can use a `Realm` in place of this type.
     pub fn as_realm(&self) -> &Realm<A>
         ensures { result.now ≡ realm_of self.now }
     {
         &self.realm
     }
 
-    /// Returns the realm, which is the value of REALM in signed responses (RFC 8489, section 14.9).
+    /// Returns the name of the realm, which is the value of REALM in responses (RFC 8489, section
+    /// 14.9).
     pub fn realm(&self) -> &str
         ensures { result.now ≡ self.now.registered.realm }
     {
@@ -158,8 +159,8 @@ impl<A: Memory> LongTermServerAuth<A> {
     }
 
     /// Returns the name of the registered user whose name has this hash at the realm (USERHASH, RFC
-    /// 8489, section 14.4): the first in the order of names, if there are several. It does not
-    /// allocate and computes no hash.
+    /// 8489, section 14.4), or `None` if there is no such user. If several names have the hash,
+    /// returns the first of them in byte order. The call does not allocate and computes no hash.
     pub fn name_with_hash(&self, hash: &[u8; 32]) -> Option<&str>
         ensures { option_copied result ≡ name_with_hash self.now.registered hash.now }
     {

@@ -9,12 +9,12 @@ use std::marker::Model;
 use stun_base::algorithm::IntegrityAlgorithm;
 use stun_base::prepared_key::PreparedKey;
 
-/// The user whom a request or an indication was accepted from, with the algorithm that both sides
+/// The user from whom a request or an indication was accepted, with the algorithm that both sides
 /// agreed on and the user's key for it.
 ///
-/// It borrows from the server, from the user that was passed, or from the message. Sign the
+/// The value borrows from the message, and from the realm or the user who was passed. Sign the
 /// response with `key` and `algorithm` (`add_message_integrity_with_prepared_key`). To sign it
-/// later, or on another thread, clone the key: the clone does not need the server.
+/// later, or on another thread, clone the key: the clone borrows nothing.
 ///
 /// The value contains a key, so `Debug` shows nothing of its contents.
 ///
@@ -54,6 +54,7 @@ impl<'a, A: Allocator> fmt::Debug for Accepted<'a, A> {
 }
 
 impl<'a, A: Allocator> Accepted<'a, A> {
+    /// Creates the value from its parts. The key must be the user's key for this algorithm.
     pub(crate) fn new(name: &'a str, algorithm: IntegrityAlgorithm, key: &'a PreparedKey<A>) -> Self
         ensures client { result.client
             ≡ record { name = name.entry.now; algorithm = algorithm } }

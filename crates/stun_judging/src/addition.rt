@@ -17,18 +17,33 @@ use stun_types::prelude::*;
 /// An attribute that signing adds before the integrity attribute.
 #[derive(Clone, Copy)]
 pub enum AddedAttribute<'a> {
+    /// NONCE (RFC 8489, section 14.10): at most 763 bytes.
     Nonce(&'a str),
+    /// REALM (RFC 8489, section 14.9): at most 763 bytes.
     Realm(&'a str),
+    /// USERNAME (RFC 8489, section 14.3): at most 513 bytes.
     Username(&'a str),
+    /// USERHASH (RFC 8489, section 14.4).
     Userhash([u8; 32]),
-    /// The algorithms that a server offers.
+    /// PASSWORD-ALGORITHMS (RFC 8489, section 14.11): the algorithms that a server offers, and that
+    /// a client repeats.
     PasswordAlgorithms(&'a [PasswordAlgorithmValue]),
-    /// The algorithm that the client chose, as the integrity algorithm that its keys are for.
+    /// PASSWORD-ALGORITHM (RFC 8489, section 14.12): the algorithm that the client chose, as the
+    /// integrity algorithm that its keys are for.
     PasswordAlgorithm(IntegrityAlgorithm),
 }
 
-/// Adds an attribute. If a text exceeds its limit, the call fails with `TooLarge` before it touches
-/// the writer.
+/// Adds an attribute to the message in a writer. The message must have its header already.
+///
+/// The errors are tested in this order:
+///
+/// - `TooLarge`: NONCE or REALM has more than 763 bytes, or USERNAME more than 513. The writer is
+///   then unchanged.
+/// - `MessageIntegrityExists`: the message is signed already.
+/// - `AttributeExists`: the message already has an attribute of this type.
+/// - `TooLarge`: the message would become too long.
+/// - `TooSmall`: the writer has too little room.
+/// - `OutOfMemory`: an allocation failed. This cannot happen if the writer has reserved the bytes.
 pub fn add<W: MessageWrite>(writer: &mut W, added: AddedAttribute<'_>) -> Result<(), StunWriteError>
     requires { 20 ≤ length (W.bytes writer.old) }
     ensures header { 20 ≤ length (W.bytes writer.new) }
@@ -52,7 +67,8 @@ pub fn add<W: MessageWrite>(writer: &mut W, added: AddedAttribute<'_>) -> Result
     }
 }
 
-/// Adds an attribute that is within its limit.
+/// Adds an attribute whose text, if it has one, is within its limit. The message must have its
+/// header already. Fails like `MessageWrite::add_attribute`.
 #[tactic(auto, unfolding(crate::specs::Additions::added_one))]
 pub fn add_made<W: MessageWrite, M: Attribute>(
     writer: &mut W,
@@ -71,7 +87,15 @@ pub fn add_made<W: MessageWrite, M: Attribute>(
     writer.add_attribute(made)
 }
 
-/// Adds the integrity attribute of an algorithm, with the signature under a key.
+/// Adds the integrity attribute of an algorithm, with the signature under a key (RFC 8489, sections
+/// 14.5 and 14.6). The message must have its header already.
+///
+/// The errors are tested in this order:
+///
+/// - `MessageIntegrityExists`: the message is signed already.
+/// - `TooLarge`: the message would become too long.
+/// - `TooSmall`: the writer has too little room.
+/// - `OutOfMemory`: an allocation failed. This cannot happen if the writer has reserved the bytes.
 #[tactic(auto, unfolding(crate::specs::Additions::added_one))]
 pub fn add_integrity<W: MessageWrite, A: Allocator>(
     writer: &mut W,
@@ -87,7 +111,8 @@ pub fn add_integrity<W: MessageWrite, A: Allocator>(
     writer.add_message_integrity_with_prepared_key(key, algorithm)
 }
 
-/// Returns the number of bytes of the integrity attribute of an algorithm.
+/// Returns the number of bytes of the integrity attribute of an algorithm, with its header: 24 for
+/// HMAC-SHA1, and 36 for HMAC-SHA256.
 pub fn integrity_bytes(algorithm: IntegrityAlgorithm) -> usize
     ensures { result ≡ attribute_length (digest_length algorithm) }
 {
@@ -97,7 +122,8 @@ pub fn integrity_bytes(algorithm: IntegrityAlgorithm) -> usize
     }
 }
 
-/// Returns the number of bytes of an attribute whose value has `length` bytes.
+/// Returns the number of bytes of an attribute whose value has `length` bytes, with its header and
+/// its padding (RFC 8489, section 14).
 pub fn attribute_bytes(length: usize) -> usize
     requires { length < 2 ^ 63 }
     ensures { result ≡ attribute_length length }

@@ -6,8 +6,8 @@
 //! let Some(claim) = realm.claim_in(&read) else { .. judge .. };
 //! if !claim.has_nonce(&nonce) { .. judge .. }
 //! match realm.verify_found(&claim, &look_up(claim.user())?) {
-//!     Some((algorithm, key)) => .. accepted: sign the response by both ..,
-//!     None => .. refused ..,
+//!     Some((_, key)) => .. accepted: sign the response with claim.algorithm() and key ..,
+//!     None => .. refused: answer 401 ..,
 //! }
 //! ```
 
@@ -37,10 +37,10 @@ use stun_base::memory::Memory;
 use stun_base::prepared_key::PreparedKey;
 
 /// The claim of a signed message: the user whom it names, its nonce, and the algorithm that both
-/// sides agree on. It has not been checked yet that the nonce is current, that the user exists, and
-/// that the signature is valid under a key of that user.
+/// sides agree on. The nonce may still be out of date, the user may not exist, and the signature
+/// may be invalid, because a claim is made before these are checked.
 ///
-/// `Realm::claim_in` makes a claim.
+/// `Realm::claim_in` returns a claim, and `Realm::verify_found` checks its user and its signature.
 ///
 /// Contracts: the value is a record of the message's bytes, the user and the algorithm.
 #[derive(Drop)]
@@ -77,8 +77,8 @@ impl<'a, 'm, 'r> UserClaim<'a, 'm, 'r> {
         self.user
     }
 
-    /// Returns the algorithm that both sides agree on. The server accepts the message only if its
-    /// signature is valid under the user's key for this algorithm.
+    /// Returns the algorithm that both sides agree on. `Realm::verify_found` accepts the message
+    /// only if its signature is valid under the user's key for this algorithm.
     pub fn algorithm(&self) -> IntegrityAlgorithm
         ensures { result ≡ self.now.algorithm }
     {
@@ -104,9 +104,9 @@ enum FoundSecret<'u> {
 impl FoundSecret<'_> {
     ghost use Rattle.stun_judging.specs.code.Found.{found_secret};
 
-    /// Returns the key for an algorithm. If the secret is a password, the key is made from the
-    /// name, the realm and the password. Returns `None` if the secret is stored keys, and none of
-    /// them is for this algorithm. The call does not allocate.
+    /// Makes the key for an algorithm, from the name, the realm and the password, or from the
+    /// stored keys. Returns `None` if the secret is stored keys, and none of them is for this
+    /// algorithm. It does not allocate.
     fn make_key<A: Allocator + Copy>(
         &self,
         alloc: A,
@@ -128,7 +128,7 @@ impl FoundSecret<'_> {
 /// A user whom the caller found: a name, and a password or stored keys. The name and the password
 /// are borrowed from the caller. A key is made only when a message needs it.
 ///
-/// For a user who sends many messages it is cheaper to call `prepare_user` once.
+/// For a user who sends many messages it is cheaper to call `Realm::prepare_user` once.
 ///
 /// `Debug` shows nothing of the contents.
 ///
@@ -152,7 +152,7 @@ impl<'u> Model for FoundUser<'u> {
 }
 
 impl<'u> FoundUser<'u> {
-    /// Returns a user with a password.
+    /// Creates a user with a password.
     pub fn with_password(name: &'u str, password: &'u str) -> Self
         ensures { result ≡ user_by_password
             (record { username = name.entry.now; password = password.entry.now }) }
@@ -163,8 +163,8 @@ impl<'u> FoundUser<'u> {
         }
     }
 
-    /// Returns a user with stored keys in place of a password. The keys must have been made for the
-    /// realm of the server, because clients derive their keys for this realm.
+    /// Creates a user with stored keys in place of a password. The keys must have been made for the
+    /// realm that judges the message, because clients derive their keys for this realm.
     pub fn with_keys(name: &'u str, keys: StoredKeys) -> Self
         ensures { result ≡ user_by_keys name.entry.now keys }
     {
@@ -174,14 +174,14 @@ impl<'u> FoundUser<'u> {
         }
     }
 
-    /// Returns the name.
+    /// Returns the user's name.
     pub fn name(&self) -> &'u str
         ensures { result.now ≡ self.now.username }
     {
         self.name
     }
 
-    /// Returns the user's key for an algorithm at a realm. Returns `None` if the algorithm is not
+    /// Prepares the user's key for an algorithm at a realm. Returns `None` if the algorithm is not
     /// supported, or if the user has no key for it. It does not allocate.
     fn prepare_key<A: Allocator + Copy>(
         &self,
@@ -228,15 +228,15 @@ fn is_claimed(user: NamedUser<'_>, name: &str, realm: &str) -> bool
 
 impl<A: Memory> Realm<A> {
     /// Returns the claim of a message if only the nonce, the user and the signature remain to be
-    /// checked. Such a message has a well-formed integrity attribute, a REALM, a NONCE, and a user
-    /// name or, if the server accepts hashes, the hash of a user name. If the nonce has the
-    /// security bit *Password algorithms*, and the message has algorithms, these agree with the
-    /// algorithms that the server supports. Otherwise the algorithm of the claim is HMAC-SHA1, even
-    /// if the server does not support it.
+    /// checked (RFC 8489, section 9.2.4). Such a message has a well-formed integrity attribute, a
+    /// REALM, a NONCE, and a user name or, if the realm accepts hashes, the hash of a user name. If
+    /// the nonce has the security bit *Password algorithms*, and the message has algorithms, these
+    /// agree with the algorithms that the realm supports. Otherwise the algorithm of the claim is
+    /// HMAC-SHA1, even if the realm does not support it.
     ///
     /// Returns `None` for every other message, and `judge` refuses such a message whatever users
-    /// the server has. This call does not check the class of the message, so reject responses
-    /// before you call it. It does not allocate.
+    /// the realm has. This call does not check the class of the message, so reject responses before
+    /// you call it. It does not allocate.
     pub fn claim_in<'a, 'm, 'r>(
         &self,
         read: &'r ReadMessage<'a, 'm>,
@@ -261,13 +261,15 @@ impl<A: Memory> Realm<A> {
 
     /// Verifies that a message was signed by a user whom you found: it names the user, the user has
     /// a key for the agreed algorithm, and the signature is valid under that key. If so, returns
-    /// the algorithm of the signature and the key, with which you sign the response. Otherwise
-    /// returns `None`.
+    /// the algorithm of the signature, and the key. Otherwise returns `None`.
     ///
-    /// The message is then accepted from this user under the message's own nonce. `judge_of`,
-    /// called with this nonce and with the user that `prepare_user` makes, gives the same verdict.
-    /// Check with `UserClaim::has_nonce` that the nonce is current. The call derives only this one
-    /// key, and does not allocate.
+    /// If the call returns a key, the message is accepted from this user under the message's own
+    /// nonce. `judge_of`, called with this nonce and with the user that `prepare_user` returns,
+    /// gives the same verdict. Check with `UserClaim::has_nonce` that the nonce is current.
+    ///
+    /// Sign the response with this key and with the agreed algorithm, which `UserClaim::algorithm`
+    /// returns. The signature of the message itself may have the other algorithm. The call derives
+    /// only this one key, and does not allocate.
     ///
     /// Contracts: law `found_users_are_judged_as_prepared_ones`.
     pub fn verify_found(

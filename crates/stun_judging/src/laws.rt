@@ -68,8 +68,8 @@ pub fn signed_messages_are_read()
     stun_types::laws::signed_message_stands();
 }
 
-/// Nothing is read after the integrity attribute with which a message is verified: two messages that
-/// are equal up to the end of this attribute have the same reading.
+/// Nothing is read after the integrity attribute with which a message is verified: two messages
+/// that are equal up to the end of this attribute have the same reading.
 pub fn what_follows_integrity_is_not_read()
     ensures { (bytes others : List ℕ) → AgreeUpToIntegrity bytes others
         → reading_of bytes ≡ reading_of others }
@@ -77,9 +77,9 @@ pub fn what_follows_integrity_is_not_read()
     stun_types::laws::what_follows_integrity_is_hidden();
 }
 
-/// The verdict on a message depends only on the user whom the message names. A server that has only
-/// this user judges the message, under each nonce and offer, like the server that has all users. If
-/// this user is not registered, a server without any users returns the same verdict.
+/// The verdict on a message depends only on the user whom the message names. A realm that has only
+/// this user judges the message, under each nonce and offer, like the realm that has all users. If
+/// this user is not registered, a realm without any users returns the same verdict.
 pub fn the_named_user_is_enough_to_judge()
     ensures { (users : Registered) (feature : TheFeature) (nonce : List ℕ)
         (offered : Option AlgorithmSet) (r : Reading)
@@ -89,7 +89,7 @@ pub fn the_named_user_is_enough_to_judge()
 {}
 
 /// `verify_found` judges a message like `judge_of` with a prepared user. It returns the verdict
-/// that a server with only the found user returns under the message's own nonce (`verdict`). So if
+/// that a realm with only the found user returns under the message's own nonce (`verdict`). So if
 /// `verify_found` returns a key, the message is accepted from that user. This key is the user's key
 /// for the agreed algorithm (`key`), and the signature is valid under it (`verifies`).
 pub fn found_users_are_judged_as_prepared_ones()
@@ -109,7 +109,7 @@ pub fn found_users_are_judged_as_prepared_ones()
 /// A user who is added with a password has the long-term key of this name, realm and password for
 /// each supported algorithm, and no other key (`added`). A user who is added with stored keys has
 /// only the keys for supported algorithms (`by_keys`). A user who is removed has no key
-/// (`removed`). Other users keep their keys. `user_verifies` checks signatures with these keys.
+/// (`removed`). Other users keep their keys. `Realm::key` returns these keys.
 pub fn users_have_their_keys()
     ensures added { (users : Registered) (user : NameAndPassword) (a : IntegrityAlgorithm)
         → key_at (with_user users user) user.username a
@@ -217,9 +217,9 @@ pub fn signing_succeeds_with_room()
     stun_types::laws::signed_message_stands();
 }
 
-/// The nonces that a server makes are UTF-8 (`text`; RFC 8489, section 9.2). They ask for password
+/// The nonces that a realm makes are UTF-8 (`text`; RFC 8489, section 9.2). They ask for password
 /// algorithms if and only if HMAC-SHA256 is supported (`algorithms`), and allow a hashed user name
-/// if and only if the server does (`userhash`). They have security bits if and only if one of these
+/// if and only if the realm does (`userhash`). They have security bits if and only if one of these
 /// two conditions holds (`there`), and the same bits if the settings are the same (`alike`). Before
 /// the letters made from random numbers, a nonce has at most 13 bytes (`short`).
 pub fn nonces_ask_for_what_is_supported()

@@ -1,10 +1,13 @@
-//! Judges messages that are signed with long-term credentials, and has the parts of which their
-//! answers are made (RFC 8489, section 9.2): what is read in a message, the users of a realm and
-//! their keys, nonces and their security bits, the verdict on a message under a nonce, and the
-//! attributes that a server and a client add when they sign.
+//! Judges messages that are signed with long-term credentials (RFC 8489, section 9.2).
 //!
-//! No type of this crate stores anything about an address or about a message that was judged before.
-//! `stun_auth` has the authenticators that do, and `stun_endpoint` a server that needs none.
+//! A `Realm` has users with their keys. It makes nonces, judges a message under a nonce, and adds a
+//! challenge to a response. A `ReadMessage` is a message whose attributes were read once, so that
+//! it can be judged under several nonces. The other modules read the security bits of nonces, and
+//! add the attributes that a client and a server send with a signature.
+//!
+//! No type of this crate stores anything about an address or about a message that was judged
+//! before. The crate `stun_auth` has authenticators that store such records, and the crate
+//! `stun_endpoint` has a server that needs no records.
 #![tactic(auto)]
 
 pub mod accepted;

@@ -14,7 +14,7 @@ pub struct LimitedText<A: Allocator> {
 }
 
 impl<A: Allocator> LimitedText<A> {
-    /// Creates the value from a text.
+    /// Creates the value from a text of at most 763 bytes.
     pub fn new(text: String<A>) -> Self
         requires { length (string_bytes text) ≤ TEXT_LIMIT }
         ensures { string_bytes result.text ≡ string_bytes text }

@@ -41,7 +41,8 @@ impl<A: Memory> NameIndex<A> {
         }
     }
 
-    /// Adds a name with its hash.
+    /// Adds a name with its hash. Fails if an allocation fails, and then leaves the index
+    /// unchanged.
     pub(crate) fn insert(&mut self, hash: [u8; 32], name: String<A>) -> Result<(), AllocError>
         ensures ok { OnOk result (self.new ≡ set.insert self.old (hash, string_bytes name)) }
         ensures err { OnErr result (self.new ≡ self.old) }

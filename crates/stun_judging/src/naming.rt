@@ -19,13 +19,15 @@ use stun_types::prelude::*;
 /// How a client names its user: in USERNAME, or in USERHASH.
 #[derive(Drop)]
 pub enum UserNaming<A: Allocator> {
+    /// The name itself, which is the value of USERNAME (RFC 8489, section 14.3).
     Plain(String<A>),
+    /// The hash of the name at the realm, which is the value of USERHASH (RFC 8489, section 14.4).
     Hashed([u8; 32]),
 }
 
 impl<A: Memory> UserNaming<A> {
-    /// Copies the name of a user, or computes its hash at a realm if `hashes` is set. Fails if an
-    /// allocation fails.
+    /// Copies the name of a user or, if `hashes` is true, computes the hash of the name at a realm.
+    /// Fails if an allocation fails.
     pub fn new(alloc: A, hashes: bool, username: &str, realm: &str) -> Result<Self, AllocError>
         ensures naming { IfOk result (λ naming. naming_seen naming
             ≡ naming_of hashes username.now realm.now) }
@@ -38,7 +40,7 @@ impl<A: Memory> UserNaming<A> {
         }
     }
 
-    /// Copies the name or its hash. Fails if an allocation fails.
+    /// Copies the name or the hash. Fails if an allocation fails.
     pub fn copied(&self) -> Result<Self, AllocError>
         ensures naming { IfOk result (λ copy. naming_seen copy ≡ naming_seen self.now) }
         ensures granted { A.grants → IsOk result }
@@ -54,7 +56,11 @@ impl<A: Memory> UserNaming<A> {
 }
 
 impl<A: Allocator> UserNaming<A> {
-    /// Adds NONCE, REALM, and USERNAME or USERHASH.
+    /// Adds NONCE, REALM, and USERNAME or USERHASH (RFC 8489, section 9.2.5).
+    ///
+    /// The attributes are added one after another. The call fails with the first error, like
+    /// `addition::add`. Do not send the message then, because it may have only some of the
+    /// attributes.
     pub fn add_identity<W: MessageWrite>(
         &self,
         writer: &mut W,
@@ -83,7 +89,8 @@ impl<A: Allocator> UserNaming<A> {
         }
     }
 
-    /// Returns the number of bytes of the attribute that names the user.
+    /// Returns the number of bytes of the attribute that names the user, with its header and its
+    /// padding.
     pub fn bytes(&self) -> usize
         ensures { result ≡ attribute_length (length (name_attribute (naming_seen self.now)).value) }
     {

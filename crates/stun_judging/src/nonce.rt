@@ -193,13 +193,14 @@ pub fn asks_for_userhash(nonce: &str) -> bool
     }
 }
 
+/// Returns whether a text begins with the nonce cookie.
 fn begins_with_cookie(text: &[u8]) -> bool
     ensures { result ≡ begins_with_cookie text.now }
 {
     text.starts_with(LONG_TERM_RFC8489_NONCE_COOKIE.as_bytes())
 }
 
-/// Returns the first security byte of a server with these settings.
+/// Makes the first byte of the security bits that announce these settings.
 fn make_security_byte(algorithms: AlgorithmSet, feature: Feature) -> u8
     ensures { result ≡ security_byte algorithms feature }
 {
@@ -216,9 +217,12 @@ fn make_security_byte(algorithms: AlgorithmSet, feature: Feature) -> u8
     for_algorithms + for_userhash
 }
 
-/// Makes a nonce from sixteen random numbers. It asks for password algorithms if and only if
-/// HMAC-SHA256 is supported, and allows hashed names if and only if `feature` does. If it does
-/// neither, it has no security bits. Allocates once, and fails if the allocation fails.
+/// Makes a nonce from sixteen random numbers (RFC 8489, section 9.2). The nonce asks for password
+/// algorithms if and only if HMAC-SHA256 is supported, and allows hashed names if and only if
+/// `feature` does. If it does neither, it has no security bits and 16 bytes, and otherwise 29
+/// bytes.
+///
+/// The call allocates once, and fails if the allocation fails.
 pub fn nonce_of_words<A: Memory>(
     alloc: A,
     algorithms: AlgorithmSet,

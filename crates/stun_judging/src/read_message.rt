@@ -21,6 +21,10 @@ use stun_types::message::Message;
 /// A message whose attributes were read in one walk. A server that accepts several nonces of an
 /// address judges the message under each of them, and reads it only once.
 ///
+/// The calls return the contents of the last visible attribute of a type. If that attribute is
+/// malformed, it counts as missing, even if an earlier one is well formed. Of an integrity
+/// attribute, the first visible one of its type counts instead.
+///
 /// Contracts: the value is the list of the message's bytes.
 #[derive(Drop)]
 pub struct ReadMessage<'a, 'm> {
@@ -42,7 +46,7 @@ impl<'a, 'm> Model for ReadMessage<'a, 'm> {
 }
 
 impl<'a, 'm> ReadMessage<'a, 'm> {
-    /// Reads a message, in one walk of its attributes. It does not allocate.
+    /// Reads the attributes of a message in one walk. It does not allocate.
     pub fn of(message: &'m Message<'a>) -> Self
         ensures { result ≡ message.now }
     {
@@ -79,15 +83,16 @@ impl<'a, 'm> ReadMessage<'a, 'm> {
         JudgeableMessage::of(&self.reading).is_none()
     }
 
-    /// Returns the code of an error response, or `None` if the message is no error response or has
-    /// no well-formed ERROR-CODE.
+    /// Returns the code of an error response, or `None` if the message is not an error response or
+    /// has no well-formed ERROR-CODE (RFC 8489, section 14.8).
     pub fn error_code(&self) -> Option<u16>
         ensures { result ≡ (reading_of self.now).error }
     {
         self.reading.error
     }
 
-    /// Returns the text of REALM, or `None` if it is missing or malformed.
+    /// Returns the text of REALM, which has at most 763 bytes, or `None` if REALM is missing or
+    /// malformed (RFC 8489, section 14.9).
     pub fn realm(&self) -> Option<&'a str>
         ensures text { option_copied result ≡ (reading_of self.now).realm }
         ensures short { option_map_or (λ text. length text.now) result 0 ≤ TEXT_LIMIT }
@@ -95,7 +100,8 @@ impl<'a, 'm> ReadMessage<'a, 'm> {
         self.reading.realm
     }
 
-    /// Returns the text of NONCE, or `None` if it is missing or malformed.
+    /// Returns the text of NONCE, which has at most 763 bytes, or `None` if NONCE is missing or
+    /// malformed (RFC 8489, section 14.10).
     pub fn nonce(&self) -> Option<&'a str>
         ensures text { option_copied result ≡ (reading_of self.now).nonce }
         ensures short { option_map_or (λ text. length text.now) result 0 ≤ TEXT_LIMIT }
@@ -103,8 +109,8 @@ impl<'a, 'm> ReadMessage<'a, 'm> {
         self.reading.nonce
     }
 
-    /// Returns the list of password algorithms, or `None` if PASSWORD-ALGORITHMS is missing or
-    /// malformed.
+    /// Returns the list of password algorithms in PASSWORD-ALGORITHMS, or `None` if the attribute
+    /// is missing or malformed (RFC 8489, section 14.11).
     pub fn into_password_algorithms(self) -> Option<PasswordAlgorithms<'a>>
         ensures { option_map (map integrity_of) result ≡ (reading_of self.entry).algorithms }
     {

@@ -1,6 +1,6 @@
-//! Reads a message for an authenticator in one walk: parses the last visible attribute of each
-//! type, and ignores it if it is malformed. For the two integrity types, it takes the first visible
-//! attribute instead.
+//! Reads the attributes that long-term authentication needs in one walk: parses the last visible
+//! attribute of each type, and ignores it if it is malformed. For the two integrity types, uses the
+//! first visible attribute instead.
 //!
 //! Nothing here allocates.
 
@@ -30,7 +30,7 @@ use stun_types::attribute::{
 use stun_types::message::{Message, MessageClass};
 use stun_types::prelude::AttributeFromRaw;
 
-/// The last visible attribute of each type that an authenticator reads. For each of the two
+/// The last visible attribute of each type that long-term authentication needs. For each of the two
 /// integrity types, this is the first visible attribute instead, with its offset.
 #[derive(Drop)]
 struct LastAttributes<'a> {
@@ -240,9 +240,9 @@ fn read_algorithm(attribute: Option<RawAttribute<'_>>) -> Option<IntegrityAlgori
     }
 }
 
-/// The contents of a message that an authenticator reads (RFC 8489, sections 9.2.4 and 9.2.5). The
-/// value of an attribute comes from the last visible attribute of its type, and is `None` if that
-/// attribute is missing or malformed.
+/// The contents of a message that long-term authentication needs (RFC 8489, sections 9.2.4 and
+/// 9.2.5). The value of an attribute comes from the last visible attribute of its type, and is
+/// `None` if that attribute is missing or malformed.
 #[derive(Drop)]
 pub(crate) struct MessageReading<'a, 'm> {
     signature: Signature<'a, 'm>,

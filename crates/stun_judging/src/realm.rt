@@ -1,5 +1,5 @@
-//! A realm: its users with their keys, the algorithms that it supports, and whether clients may name
-//! a user by a hash (RFC 8489, section 9.2).
+//! A realm: its users with their keys, the algorithms that it supports, and whether clients may
+//! name a user by a hash (RFC 8489, section 9.2).
 
 ghost use Rattle.std.specs.Fmt.{WritesOnOk, WritesStyledOnOk};
 ghost use Rattle.std.specs.Option.{option_copied};
@@ -30,15 +30,15 @@ use stun_base::prepared_key::PreparedKey;
 mod challenge;
 mod judging;
 
-/// The users of a realm, each with a key for each algorithm that the realm supports, and whether
-/// clients may name a user by a hash (RFC 8489, section 9.2).
+/// A realm: its users with their keys, the algorithms that it supports, and whether clients may
+/// name a user by a hash (RFC 8489, section 9.2).
 ///
 /// A realm stores nothing about an address or a message. It judges a message under a nonce that the
 /// caller passes (`judge`), and adds a challenge to a response (`add_challenge`).
 ///
 /// `Debug` shows nothing of the contents.
 ///
-/// Contracts: the value is a record of the realm with its algorithms and users (`registered`), and
+/// Contracts: the value is a record of the realm's name, algorithms and users (`registered`), and
 /// of the use of hashed names (`feature`).
 #[derive(Drop)]
 pub struct Realm<A: Allocator = Global> {
@@ -76,8 +76,8 @@ impl<A: Allocator> fmt::Debug for Realm<A> {
 impl<A: Memory> Realm<A> {
     /// Creates a realm without users. The call does not allocate.
     ///
-    /// A name of more than 763 bytes is accepted, but no response can carry it (RFC 8489, section
-    /// 14.9).
+    /// A name of more than 763 bytes is accepted, but then `add_challenge` fails with `TooLarge`,
+    /// because REALM cannot carry the name (RFC 8489, section 14.9).
     pub fn new(alloc: A, name: String<A>, algorithms: AlgorithmSet, feature: Feature) -> Self
         ensures { result ≡ record {
           registered = empty_realm (string_bytes name) algorithms;
@@ -107,6 +107,9 @@ impl<A: Memory> Realm<A> {
 
     /// Sets the supported algorithms, and makes the keys of each user anew. Of a user's stored
     /// keys, the realm then uses only the keys for these algorithms. The call does not allocate.
+    ///
+    /// A user who was prepared for other algorithms must be prepared again (see
+    /// `LongTermServerUser::belongs_to`).
     pub fn set_algorithms(&mut self, algorithms: AlgorithmSet)
         ensures { self.new ≡ record self.old {
           registered = record self.old.registered { algorithms = algorithms };
@@ -123,7 +126,10 @@ impl<A: Memory> Realm<A> {
         self.feature
     }
 
-    /// Sets whether clients may send a hash (USERHASH) in place of the user name.
+    /// Sets whether clients may send a hash (USERHASH) in place of the user name (RFC 8489, section
+    /// 14.4). Nonces that are made from now on announce this setting.
+    ///
+    /// A realm treats `Feature::Required` like `Feature::Auto`: it still accepts a plain USERNAME.
     pub fn set_feature(&mut self, feature: Feature)
         ensures { self.new ≡ record self.old { feature = feature } }
     {
@@ -139,8 +145,8 @@ impl<A: Memory> Realm<A> {
     }
 
     /// Returns the name of the registered user whose name has this hash at the realm (USERHASH, RFC
-    /// 8489, section 14.4): the first in the order of names, if there are several. It does not
-    /// allocate and computes no hash.
+    /// 8489, section 14.4), or `None` if there is no such user. If several names have the hash,
+    /// returns the first of them in byte order. The call does not allocate and computes no hash.
     pub fn name_with_hash(&self, hash: &[u8; 32]) -> Option<&str>
         ensures { option_copied result ≡ name_with_hash self.now.registered hash.now }
     {
@@ -149,6 +155,9 @@ impl<A: Memory> Realm<A> {
 
     /// Adds a user with a key for each supported algorithm (RFC 8489, section 9.2.2), or replaces
     /// the password or keys of a user with this name.
+    ///
+    /// A name of more than 513 bytes is accepted, but only a USERHASH can name such a user, because
+    /// USERNAME is limited to 513 bytes (section 14.3).
     ///
     /// Fails if an allocation fails. The realm is then unchanged.
     pub fn add_user(&mut self, credentials: LongTermCredentials<A>) -> Result<(), AllocError>
@@ -162,7 +171,12 @@ impl<A: Memory> Realm<A> {
     }
 
     /// Adds a user with stored keys in place of a password, or replaces the password or keys of a
-    /// user with this name. The keys must have been made for this realm.
+    /// user with this name. The keys must have been made for this realm, because clients derive
+    /// their keys for it.
+    ///
+    /// The realm uses the keys for the algorithms that it supports, including algorithms that it
+    /// supports later. A name of more than 513 bytes is accepted, but only a USERHASH can name such
+    /// a user, because USERNAME is limited to 513 bytes (RFC 8489, section 14.3).
     ///
     /// Fails if an allocation fails. The realm is then unchanged.
     pub fn add_user_with_keys(
@@ -179,7 +193,8 @@ impl<A: Memory> Realm<A> {
         self.registry.add_user_with_keys(name, keys)
     }
 
-    /// Removes a user and the user's keys. It does not allocate.
+    /// Removes a user and the user's keys, so that messages in that name are refused from now on.
+    /// If there is no such user, the realm is unchanged. The call does not allocate.
     pub fn remove_user(&mut self, name: &str)
         ensures { self.new ≡ record self.old {
           registered = without_user self.old.registered name.now;
@@ -188,9 +203,11 @@ impl<A: Memory> Realm<A> {
         self.registry.remove_user(name);
     }
 
-    /// Makes the keys of a user who is not registered in this realm: one for each algorithm that
-    /// the realm supports now (RFC 8489, section 9.2.2). Pass the result to `judge_of`. The realm is
-    /// unchanged. Fails if an allocation fails.
+    /// Prepares a user whom you look up elsewhere: makes a key for each algorithm that the realm
+    /// supports now (RFC 8489, section 9.2.2). Pass the result to `judge_of`. The user is not added
+    /// to the realm.
+    ///
+    /// Fails if an allocation fails.
     pub fn prepare_user(
         &self,
         credentials: LongTermCredentials<A>,
@@ -207,7 +224,9 @@ impl<A: Memory> Realm<A> {
     }
 
     /// Prepares a user like `prepare_user`, with stored keys in place of a password. The keys must
-    /// have been made for this realm.
+    /// have been made for this realm, because clients derive their keys for it.
+    ///
+    /// Fails if an allocation fails.
     pub fn prepare_user_with_keys(
         &self,
         name: String<A>,
@@ -221,7 +240,8 @@ impl<A: Memory> Realm<A> {
         Ok(LongTermServerUser { registry })
     }
 
-    /// Makes a nonce from sixteen random numbers, with the security bits of this realm.
+    /// Makes a nonce from sixteen random numbers, with the security bits of this realm (RFC 8489,
+    /// section 9.2). The nonce has 29 bytes, or 16 if the realm has no security bits to announce.
     ///
     /// A server that stores no nonces derives the numbers from a secret, the address of the client
     /// and the time. The secret is necessary, because anybody who can predict the numbers can
@@ -237,7 +257,9 @@ impl<A: Memory> Realm<A> {
         nonce_of_words(self.alloc, self.algorithms(), self.feature, words)
     }
 
-    /// Exchanges the users of the realm and `user`.
+    /// Exchanges the users of the realm for `user`, who is then the only user of the realm, while
+    /// `user` holds the users that the realm had. The name and the algorithms of the realm are also
+    /// exchanged for those that `user` was prepared for. A second call undoes the first.
     pub fn exchange_users(&mut self, user: &mut LongTermServerUser<A>)
         ensures realm { self.new ≡ with_registered self.old user.old }
         ensures user { user.new ≡ self.old.registered }

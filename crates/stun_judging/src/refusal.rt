@@ -10,14 +10,14 @@ pub enum VerdictRefusal {
     ///
     /// - There is no well-formed integrity attribute.
     /// - The message does not have the given nonce, and its security bits differ.
-    /// - The user is not registered, or is named by a USERHASH while the server does not accept
+    /// - The user is not registered, or is named by a USERHASH while the realm does not accept
     ///   hashes.
     /// - The user has no key for the algorithm.
     /// - The signature is invalid.
     #[error("The message is not sufficiently authenticated")]
     Unauthorized,
-    /// Answer 400, or 438 if the message does not have the given nonce. REALM, NONCE or the user
-    /// name is missing, or the algorithms disagree with those that the server supports.
+    /// Answer 400, or 438 if `told_refusal` returns `StaleNonce` for it. REALM, NONCE or the user
+    /// name is missing, or the algorithms disagree with those that were offered.
     #[error("The request message is not well-formed")]
     BadRequest,
     /// Answer 438. The message does not have the given nonce.

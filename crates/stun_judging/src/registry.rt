@@ -45,8 +45,8 @@ pub(crate) struct KeptUser<A: Allocator> {
     sha256: Option<PreparedKey<A>>,
 }
 
-/// Returns the key of a user for an algorithm. Returns `None` if the algorithm is not supported, or
-/// if the user has no key for it.
+/// Prepares the key of a user for an algorithm. Returns `None` if the algorithm is not supported,
+/// or if the user has no key for it. It does not allocate.
 fn prepare_key<A: Allocator + Copy>(
     alloc: A,
     supported: AlgorithmSet,
@@ -71,6 +71,8 @@ fn prepare_key<A: Allocator + Copy>(
 impl<A: Memory> User<A> {
     ghost use Rattle.stun_judging.specs.code.Users.{HasKeys, key_in, secret_of};
 
+    /// Creates a user with this secret, and prepares the keys for the algorithms in `supported`.
+    /// Fails if an allocation fails.
     fn new(
         alloc: A,
         name: &str,
@@ -120,6 +122,7 @@ impl<A: Memory> User<A> {
         self.kept.sha256 = sha256;
     }
 
+    /// Returns the user's key for an algorithm, or `None` if the user has no such key.
     fn find_key(&self, algorithm: IntegrityAlgorithm) -> Option<&PreparedKey<A>>
         ensures { option_copied result ≡ key_in self.now algorithm }
     {
@@ -175,7 +178,7 @@ impl<A: Memory> Registry<A> {
         }
     }
 
-    /// Returns the realm.
+    /// Returns the name of the realm.
     pub(crate) fn realm(&self) -> &str
         ensures { result.now ≡ self.now.realm }
     {
@@ -243,6 +246,8 @@ impl<A: Memory> Registry<A> {
         self.insert(name, UserSecret::Keys(keys))
     }
 
+    /// Adds a user with this secret, or replaces the secret and the keys of a registered user.
+    /// Fails if an allocation fails, and then leaves the registry unchanged.
     fn insert(&mut self, name: String<A>, secret: UserSecret<A>) -> Result<(), AllocError>
         ensures ok { OnOk result (self.new ≡ record self.old {
           secrets = map.insert self.old.secrets (string_bytes name) (secret_seen secret);

@@ -24,7 +24,8 @@ pub struct StoredKeys {
 }
 
 impl StoredKeys {
-    /// Returns the key for an algorithm, or `None` if it is not stored. It does not allocate.
+    /// Makes the key for an algorithm from the stored bytes, or returns `None` if they are not
+    /// stored. It does not allocate.
     pub(crate) fn make_key<A: Allocator + Copy>(
         &self,
         alloc: A,

@@ -1,5 +1,5 @@
 //! Two calls for a server that accepts several nonces: one returns the refusal to send, and the
-//! other whether a message has a given nonce.
+//! other returns whether a message has a given nonce.
 
 ghost use Rattle.std.specs.Prelude.{◌≡◌};
 ghost use Rattle.std.specs.Str.{bytes_eq};
@@ -59,7 +59,7 @@ pub fn has_nonce(read: &ReadMessage<'_, '_>, nonce: &str) -> bool
     carries_nonce(&read.reading, nonce)
 }
 
-/// Returns whether a message has this nonce (see `has_nonce`).
+/// Returns whether a message has this nonce, like `has_nonce`.
 fn carries_nonce(reading: &MessageReading<'_, '_>, nonce: &str) -> bool
     ensures { result ≡ bytes_eq (their_nonce (reading_seen reading.now)) nonce.now }
 {

@@ -9,14 +9,14 @@ use std::alloc::{Allocator, Global};
 use std::fmt;
 use std::marker::Model;
 
-/// A user who is passed along with a message, with a key for each algorithm that the server
-/// supports. `Realm::prepare_user` makes such a user from a password, and `prepare_user_with_keys`
-/// from stored keys.
+/// A user who is passed along with a message (`Realm::judge_of`), with keys for the algorithms that
+/// the realm supported when the user was prepared. `Realm::prepare_user` makes such a user from a
+/// password, and `Realm::prepare_user_with_keys` from stored keys.
 ///
 /// `Debug` shows nothing of the contents.
 ///
-/// Contracts: the value is a record of this user, and of the realm and the algorithms that the
-/// server had when the user was prepared.
+/// Contracts: the value is a record of this user, and of the name and the algorithms that the realm
+/// had when the user was prepared.
 #[derive(Drop)]
 pub struct LongTermServerUser<A: Allocator = Global> {
     pub(crate) registry: Registry<A>,
@@ -34,13 +34,13 @@ impl<A: Allocator> Model for LongTermServerUser<A> {
 }
 
 impl<A: Allocator + Copy> LongTermServerUser<A> {
-    /// Returns whether this user can be passed to a realm: whether the user was prepared for a realm
-    /// with this name, and for the algorithms that this realm supports now.
+    /// Returns whether this user can be passed to a realm: whether the user was prepared for a
+    /// realm with this name, and for the algorithms that this realm supports now.
     ///
-    /// If so, preparing the user again from the same name and secret gives the same result, so you
-    /// can keep the prepared user and pass it with every message. If not, prepare the user again,
-    /// because otherwise messages are judged for the realm and the algorithms that the user was
-    /// prepared for. The call does not allocate.
+    /// If so, you can keep the prepared user and pass it with every message, because preparing it
+    /// again from the same name and secret would give the same result. If not, prepare the user
+    /// again, because otherwise messages are judged with keys for the realm and the algorithms that
+    /// the user was prepared for. The call does not allocate.
     pub fn belongs_to(&self, realm: &Realm<A>) -> bool
         ensures { IsTrue result ↔ ((self.now.realm ≡ realm.now.registered.realm)
             × (self.now.algorithms ≡ realm.now.registered.algorithms)) }

@@ -17,9 +17,9 @@ pub(crate) enum UserSecret<A: Allocator> {
 }
 
 impl<A: Allocator + Copy> UserSecret<A> {
-    /// Returns the key for an algorithm. If the secret is a password, the key is made from the
-    /// name, the realm and the password. Returns `None` if the secret is stored keys, and none of
-    /// them is for this algorithm. The call does not allocate.
+    /// Makes the key for an algorithm, from the name, the realm and the password, or from the
+    /// stored keys. Returns `None` if the secret is stored keys, and none of them is for this
+    /// algorithm. It does not allocate.
     pub(crate) fn make_key(
         &self,
         alloc: A,

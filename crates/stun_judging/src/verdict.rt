@@ -1,4 +1,4 @@
-//! The verdict of a server on a message: the user who is accepted, or the reason to refuse the
+//! The verdict on a message under a nonce: the user who is accepted, or the reason to refuse the
 //! message (RFC 8489, section 9.2.4).
 
 ghost use Rattle.std.specs.Prelude.{◌≡◌, Option, None, Some, IfOk, map};
@@ -26,7 +26,7 @@ use stun_base::algorithm::IntegrityAlgorithm;
 use stun_base::compare::is_same_text;
 use stun_types::attribute::{PasswordAlgorithmValue, PasswordAlgorithms};
 
-/// Returns the password algorithms that were offered, the strongest first.
+/// Lists the password algorithms that were offered, the strongest first.
 fn list_offered(offered: Option<AlgorithmSet>) -> &'static [PasswordAlgorithmValue]
     ensures { map integrity_of result.now ≡ offered_list offered }
 {
@@ -128,8 +128,8 @@ pub(crate) fn is_same_nonce(theirs: &str, ours: &str) -> bool
     is_same_text(theirs.as_bytes(), ours.as_bytes())
 }
 
-/// Returns the user who is accepted under this nonce and these offered algorithms, or the first
-/// refusal that applies.
+/// Judges a message under a nonce and the algorithms that were offered: returns the user who is
+/// accepted, or fails with the first refusal that applies.
 ///
 /// It does not allocate and derives no key.
 pub(crate) fn judge_message<'a, A: Allocator + Copy>(

@@ -53,8 +53,8 @@ pub(crate) struct Offer<'a, 'm> {
 impl Offer<'_, '_> {
     ghost use Rattle.stun_auth.specs.code.ClientKept.{challenge_seen, offer_kept};
 
-    /// Copies the texts of the challenge and makes the key, and returns them to be stored. Fails if
-    /// an allocation fails.
+    /// Copies the texts of the challenge, makes the key, and returns the challenge to store. Fails
+    /// if an allocation fails.
     pub(crate) fn to_kept_challenge<A: Memory>(
         &self,
         alloc: A,
@@ -86,7 +86,8 @@ impl Offer<'_, '_> {
     }
 }
 
-/// Copies a server's list of algorithms. The copy is empty if the server sent no list.
+/// Copies a server's list of algorithms. The copy is empty if the server sent no list. Fails if an
+/// allocation fails.
 fn copy_algorithms<A: Memory>(
     alloc: A,
     list: &Option<PasswordAlgorithms>,
@@ -101,7 +102,7 @@ fn copy_algorithms<A: Memory>(
     }
 }
 
-/// Copies a list of algorithms.
+/// Copies a list of algorithms. Fails if an allocation fails.
 fn copy_list<A: Memory>(
     alloc: A,
     list: &PasswordAlgorithms,
@@ -196,7 +197,8 @@ fn choose_without_bits(
     }
 }
 
-/// Picks the algorithm for a challenge with this nonce and this list.
+/// Picks the algorithm for a challenge with this nonce and this list, or fails with the reason to
+/// refuse the challenge.
 pub(crate) fn choose(
     supported: Supported,
     feature: Feature,

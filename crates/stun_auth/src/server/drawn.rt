@@ -23,7 +23,8 @@ fn draw_words<R: Rng>(rng: &mut R) -> [u32; 16]
     words
 }
 
-/// Makes a new nonce of a realm from the next sixteen random numbers of the source.
+/// Makes a new nonce of a realm from the next sixteen random numbers of a source. Fails if an
+/// allocation fails, but only after it has read the numbers.
 pub(crate) fn make_nonce<A: Memory, R: Rng>(
     realm: &Realm<A>,
     rng: &mut R,

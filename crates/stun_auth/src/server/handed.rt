@@ -163,7 +163,7 @@ impl<A: Memory> LongTermServerAuth<A> {
         signed
     }
 
-    /// Exchanges the server's users and the user who was passed.
+    /// Exchanges the server's users for `user`. A second call undoes the first.
     fn exchange_users(&mut self, user: &mut LongTermServerUser<A>)
         ensures server { self.new ≡ with_users self.old user.old }
         ensures user { user.new ≡ self.old.registered }

@@ -387,8 +387,8 @@ impl<A: Memory> Places<A> {
     }
 }
 
-/// Returns where a walk over addresses begins: at `from`, or at the first address if `from` is
-/// `None`.
+/// Returns the bound at which a walk over addresses begins: `from`, or the first address if `from`
+/// is `None`.
 fn start_at(from: Option<SocketAddr>) -> Bound<SocketAddr>
     ensures { result ≡ start_of from }
 {

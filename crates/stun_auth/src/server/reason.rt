@@ -85,7 +85,7 @@ impl From<VerdictRefusal> for LongTermServerAuthErrorReason {
     }
 }
 
-/// Converts the reason in a refusal to an error. Returns any other answer as it is.
+/// Wraps the reason of a refusal in an error. Returns any other result as it is.
 pub(crate) fn wrap_reason(
     answer: Result<LongTermServerValidation, LongTermServerAuthErrorReason>,
 ) -> Result<LongTermServerValidation, LongTermServerAuthError>

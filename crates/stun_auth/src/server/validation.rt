@@ -271,8 +271,9 @@ impl<A: Memory> LongTermServerAuth<A> {
         self.commit(from, renewal, judged)
     }
 
-    /// Validates a response if its signature is valid under the key of the address's client, and
-    /// fails with `IntegrityFailed` otherwise.
+    /// Checks the signature of a response under the key of the address's client. Fails with
+    /// `IntegrityFailed` if the signature is missing or invalid, or if there is no such client or
+    /// key.
     fn check_response(
         &self,
         read: &ReadMessage<'_, '_>,
@@ -390,7 +391,7 @@ impl<A: Memory> LongTermServerAuth<A> {
     }
 }
 
-/// Judges a message with these users and records, as `judge_at` does.
+/// Judges a message like `judge_at`, with this realm and these records.
 fn judge_by<A: Memory>(
     realm: &Realm<A>,
     places: &mut Places<A>,

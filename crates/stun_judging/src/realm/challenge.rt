@@ -25,7 +25,7 @@ impl<A: Memory> Realm<A> {
     /// The attributes are added one after another. The call fails with the first error, and then
     /// drops the writer. For each attribute, the errors are tested in this order:
     ///
-    /// - `TooLarge`: the nonce or the realm has more than 763 bytes.
+    /// - `TooLarge`: the nonce or the name of the realm has more than 763 bytes.
     /// - `MessageIntegrityExists`: the message is signed already.
     /// - `AttributeExists`: the message already has the attribute to add.
     /// - `TooLarge`: the message would become too long.
@@ -92,7 +92,11 @@ impl<A: Memory> Realm<A> {
         }
     }
 
-    /// Adds NONCE and REALM.
+    /// Adds NONCE with this nonce, and REALM with the name of the realm (RFC 8489, sections 14.9
+    /// and 14.10).
+    ///
+    /// Fails like `add_challenge`. Do not send the message then, because it may have only one of
+    /// the two attributes.
     pub fn add_nonce_and_realm<W: MessageWrite>(
         &self,
         writer: &mut W,
@@ -109,7 +113,8 @@ impl<A: Memory> Realm<A> {
         add(writer, AddedAttribute::Realm(self.name()))
     }
 
-    /// Adds PASSWORD-ALGORITHMS with the supported algorithms, the strongest first.
+    /// Adds PASSWORD-ALGORITHMS with the supported algorithms, the strongest first (RFC 8489,
+    /// section 14.11). Fails like `add_challenge`.
     pub fn add_offer<W: MessageWrite>(&self, writer: &mut W) -> Result<(), StunWriteError>
         requires { 20 ≤ length (W.bytes writer.old) }
         ensures header { 20 ≤ length (W.bytes writer.new) }
@@ -122,7 +127,7 @@ impl<A: Memory> Realm<A> {
         add(writer, AddedAttribute::PasswordAlgorithms(offered))
     }
 
-    /// Returns the number of bytes that `add_offer` adds.
+    /// Returns the number of bytes that `add_offer` adds: 8 for one algorithm, and 12 for both.
     pub fn offer_bytes(&self) -> usize
         ensures { result ≡ growth (offer true self.now.registered) }
     {

@@ -4,7 +4,7 @@
 //! let read = ReadMessage::of(&message);
 //! match realm.judge(&read, &nonce) {
 //!     Ok(accepted) => .. sign the response under accepted.key() ..,
-//!     Err(refusal) => .. an error response with realm.add_challenge(response, &nonce)? ..,
+//!     Err(refusal) => .. a 401 or 438 with realm.add_challenge(response, &nonce)?, or a 400 ..,
 //! }
 //! ```
 
@@ -43,13 +43,14 @@ impl<A: Memory> Realm<A> {
     }
 
     /// Judges a request or an indication under a nonce, with all supported algorithms as the offer,
-    /// and returns the user who is accepted. It does not allocate.
+    /// and returns the user who is accepted (RFC 8489, section 9.2.4). It does not allocate.
     ///
     /// Check the class of the message first, because a response is judged like a request. Pass a
     /// nonce that `nonce_of_words` made, because a message under a nonce without the security bit
     /// *Password algorithms* is judged with HMAC-SHA1 even if the realm supports HMAC-SHA256.
     ///
-    /// If the message is not accepted, the call fails with the first of these refusals that applies:
+    /// If the message is not accepted, the call fails with the first of these refusals that
+    /// applies:
     ///
     /// - `Unauthorized`: there is no well-formed integrity attribute.
     /// - `BadRequest`: REALM, NONCE or the user name is missing.
@@ -75,13 +76,16 @@ impl<A: Memory> Realm<A> {
         self.judge_offered(read, nonce, Some(self.algorithms()))
     }
 
-    /// Judges a message like `judge`, in a realm whose only user is `user`. The users of this realm
-    /// are ignored. The algorithms on offer are those that this realm supports, and the keys are
-    /// those that the user has.
+    /// Judges a message like `judge` does in a realm whose only user is `user`. The users of this
+    /// realm are ignored. The algorithms on offer are those that this realm supports, and the keys
+    /// are those that `user` has, so prepare the user again if `LongTermServerUser::belongs_to`
+    /// returns `false`.
     ///
     /// Pass the user whom `named_in` returned: the verdict is then the same as in a realm that has
     /// all users (law `the_named_user_is_enough_to_judge`). If your database has no such user, call
     /// `judge` on a realm without users.
+    ///
+    /// Fails like `judge`, and does not allocate.
     pub fn judge_of<'a>(
         &self,
         read: &ReadMessage<'a, '_>,
@@ -99,7 +103,12 @@ impl<A: Memory> Realm<A> {
     }
 
     /// Judges a message like `judge`, with `offered` as the algorithms that its sender was offered,
-    /// or `None` if there was no offer.
+    /// or `None` if there was no offer. Call it if you store what you offered to each address.
+    ///
+    /// Fails like `judge`, but with `BadRequest` if the algorithms of the message disagree with
+    /// `offered`. If there was no offer, but the message's nonce has the security bit *Password
+    /// algorithms*, every signed message that has PASSWORD-ALGORITHMS or PASSWORD-ALGORITHM is
+    /// refused with `BadRequest`. The call does not allocate.
     pub fn judge_offered<'a>(
         &'a self,
         read: &ReadMessage<'a, '_>,
@@ -113,7 +122,7 @@ impl<A: Memory> Realm<A> {
         self.judge_by(&self.registry, read, nonce, offered)
     }
 
-    /// Judges a message against `users`.
+    /// Judges a message like `judge_offered`, with `users` in place of the users of this realm.
     fn judge_by<'a>(
         &self,
         users: &'a Registry<A>,

@@ -36,11 +36,11 @@ whole g c =
       second = c.make_round-second.ensures.turn i;
     }) c.meet.ensures.run
 
-pub round_at-first-requires : goal.round_at-first-requires
-round_at-first-requires g c = omega arith
+pub make_round-first-requires : goal.make_round-first-requires
+make_round-first-requires g c = omega arith
 
-pub round_at-second-requires : goal.round_at-second-requires
-round_at-second-requires g c = omega arith
+pub make_round-second-requires : goal.make_round-second-requires
+make_round-second-requires g c = omega arith
 
 pub returns-clause-settings : goal.returns-clause-settings
 returns-clause-settings g c = c.meet.ensures.settings

@@ -19,8 +19,8 @@ use Rattle.stun_proto.proofs.meetings.Runs.{ended_by, ends, first_ends}
 use Rattle.stun_proto.proofs.meetings.Runs.{goes_on, not_ended, not_memory, refused, stops}
 use Rattle.stun_proto.proofs.replay.negotiation.meeting.meet.Goals as goal
 
-pub message_in-asked-requires : goal.message_in-asked-requires
-message_in-asked-requires g c =
+pub parse_message-asked-requires : goal.parse_message-asked-requires
+parse_message-asked-requires g c =
     subst IsMessage (sym c.data.ensures) c.in_ok-unproven.ensures.message
 
 pub returns-in_err-unproven-clause-run : goal.returns-in_err-unproven-clause-run
@@ -62,13 +62,13 @@ returns-in-Some-clause-run g c =
     ∙ ap (first_answered m k.state t) told
     ∙ ap (first_asked m k.state s) c.in_ok-unproven.ensures.answer)
 
-pub after_unauthorized-requires-clause-method : goal.after_unauthorized-requires-clause-method
-after_unauthorized-requires-clause-method g c =
+pub run_from_challenge-requires-clause-method : goal.run_from_challenge-requires-clause-method
+run_from_challenge-requires-clause-method g c =
     ap (λ b. method_of (type_field b)) (c.parse_message-asked.ensures ∙ c.data.ensures)
     ∙ c.in_ok-unproven.ensures.method
 
-pub after_unauthorized-requires-clause-id : goal.after_unauthorized-requires-clause-id
-after_unauthorized-requires-clause-id g c =
+pub run_from_challenge-requires-clause-id : goal.run_from_challenge-requires-clause-id
+run_from_challenge-requires-clause-id g c =
     ap transaction_id_field (c.parse_message-asked.ensures ∙ c.data.ensures)
     ∙ c.in_ok-unproven.ensures.id
 

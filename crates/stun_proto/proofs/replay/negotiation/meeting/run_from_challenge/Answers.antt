@@ -57,8 +57,8 @@ returns-in_err-serve-clause-run g c =
       inl (done, stopped.0, λ i. sides k.state (left i)),
     ))
 
-pub challenge-requires : goal.challenge-requires
-challenge-requires g c = c.requires.method
+pub make_challenge-requires : goal.make_challenge-requires
+make_challenge-requires g c = c.requires.method
 
 pub read-requires : goal.read-requires
 read-requires g c = subst IsMessage (sym c.data.ensures) c.in_ok-failure.ensures.message

@@ -22,8 +22,8 @@ use Rattle.stun_proto.specs.declared.replay.negotiation.Outcome.TheVariants.{Ser
 use Rattle.stun_proto.proofs.meetings.Runs.{ends, goes_on, not_memory, refused, stops}
 use Rattle.stun_proto.proofs.replay.negotiation.meeting.run_from_resend.Goals as goal
 
-pub message_in-again-requires : goal.message_in-again-requires
-message_in-again-requires g c = subst IsMessage (sym c.data.ensures) c.in_ok-proven.ensures.message
+pub parse_message-again-requires : goal.parse_message-again-requires
+parse_message-again-requires g c = subst IsMessage (sym c.data.ensures) c.in_ok-proven.ensures.message
 
 pub returns-in_err-proven-clause-run : goal.returns-in_err-proven-clause-run
 returns-in_err-proven-clause-run g c =
@@ -92,13 +92,13 @@ returns-clause-run g c =
     ∙ ap (second_answered m k.state t) (sym given ∙ told)
     ∙ ap (second_asked m k.state s) c.in_ok-proven.ensures.answer)
 
-pub after_accepted-requires-clause-method : goal.after_accepted-requires-clause-method
-after_accepted-requires-clause-method g c =
+pub run_from_success-requires-clause-method : goal.run_from_success-requires-clause-method
+run_from_success-requires-clause-method g c =
     ap (λ b. method_of (type_field b)) (c.parse_message-again.ensures ∙ c.data.ensures)
     ∙ c.in_ok-proven.ensures.method
 
-pub after_accepted-requires-clause-id : goal.after_accepted-requires-clause-id
-after_accepted-requires-clause-id g c =
+pub run_from_success-requires-clause-id : goal.run_from_success-requires-clause-id
+run_from_success-requires-clause-id g c =
     ap transaction_id_field (c.parse_message-again.ensures ∙ c.data.ensures)
     ∙ c.in_ok-proven.ensures.id
 

@@ -29,8 +29,8 @@ returns-in_err-granted-clause-run g c =
     (Unit {0})) c.requires.id c.in_err-granted.ensures.answer)
     (λ x i. ending_unwritten x k.state (sym stays i)) (inl (λ i. sides k.state (stays i)))
 
-pub success-requires : goal.success-requires
-success-requires g c = c.requires.method
+pub make_success-requires : goal.make_success-requires
+make_success-requires g c = c.requires.method
 
 pub read-requires : goal.read-requires
 read-requires g c = subst IsMessage (sym c.data.ensures) c.in_ok-granted.ensures.message

@@ -19,8 +19,8 @@ never : (e : StunWriteError) (b : List ℕ) (P : Type 0)
     → ◌≡◌ {A = Result (List ℕ) StunWriteError} (Err e) (Ok b) → P
 never e b P h = cc
 
-pub unauthorized-requires : goal.unauthorized-requires
-unauthorized-requires g c = c.requires
+pub make_unauthorized-requires : goal.make_unauthorized-requires
+make_unauthorized-requires g c = c.requires
 
 pub returns-in_err-writer-clause-answer : goal.returns-in_err-writer-clause-answer
 returns-in_err-writer-clause-answer g c =

@@ -10,8 +10,8 @@ use Rattle.stun_proto.proofs.meetings.Heard.{either_client, off_told, off_untold
 use Rattle.stun_proto.proofs.meetings.Heard.{on_told, on_untold, told, untold}
 use Rattle.stun_proto.proofs.replay.negotiation.messages.read.Goals as goal
 
-pub message_in-response-requires : goal.message_in-response-requires
-message_in-response-requires g c = c.requires
+pub parse_message-response-requires : goal.parse_message-response-requires
+parse_message-response-requires g c = c.requires
 
 pub returns-in-Ok-clause-answer : goal.returns-in-Ok-clause-answer
 returns-in-Ok-clause-answer g c =

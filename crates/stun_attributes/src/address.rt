@@ -46,7 +46,7 @@ impl Address {
     }
 
     /// Returns the socket address, with the flow information and the scope set to 0.
-    fn to_socket(&self) -> SocketAddr
+    fn socket(&self) -> SocketAddr
         ensures ip { socket_ip result ≡ self.now.ip }
         ensures port { IsPlainSocket result self.now.port }
     {
@@ -100,7 +100,7 @@ impl<const KIND: u16> PlainAddress<KIND> {
         ensures ip { socket_ip result ≡ self.now.ip }
         ensures port { IsPlainSocket result self.now.port }
     {
-        self.address.to_socket()
+        self.address.socket()
     }
 }
 

@@ -68,7 +68,7 @@ impl ChangeRequest {
     }
 
     /// Returns the bytes of the value.
-    fn to_bytes(&self) -> [u8; LENGTH]
+    fn bytes(&self) -> [u8; LENGTH]
         ensures { result ≡ change_request_value self.now }
     {
         let ip = if self.ip { CHANGE_IP } else { 0 };
@@ -105,7 +105,7 @@ impl Attribute for ChangeRequest {
     }
 
     fn write_into<W: MessageWrite>(&self, writer: &mut W) {
-        RawAttribute::new(Self::TYPE, &self.to_bytes()).write_into(writer);
+        RawAttribute::new(Self::TYPE, &self.bytes()).write_into(writer);
     }
 }
 

@@ -124,7 +124,7 @@ impl Icmp {
     }
 
     /// Returns the bytes of the value.
-    fn to_bytes(&self) -> [u8; LENGTH]
+    fn bytes(&self) -> [u8; LENGTH]
         ensures value { result ≡ icmp_value self.now }
         ensures report { IsReport self.now }
     {
@@ -159,11 +159,11 @@ impl Attribute for Icmp {
     }
 
     fn length(&self) -> usize {
-        self.to_bytes().as_slice().len()
+        self.bytes().as_slice().len()
     }
 
     fn write_into<W: MessageWrite>(&self, writer: &mut W) {
-        RawAttribute::new(Self::TYPE, &self.to_bytes()).write_into(writer);
+        RawAttribute::new(Self::TYPE, &self.bytes()).write_into(writer);
     }
 }
 

@@ -96,7 +96,7 @@ impl TransactionTransmitCounter {
     }
 
     /// Returns the bytes of the value.
-    fn to_bytes(&self) -> [u8; LENGTH]
+    fn bytes(&self) -> [u8; LENGTH]
         ensures value { result ≡ counts_value self.now }
         ensures numbers { AreCounts self.now }
     {
@@ -128,11 +128,11 @@ impl Attribute for TransactionTransmitCounter {
     }
 
     fn length(&self) -> usize {
-        self.to_bytes().as_slice().len()
+        self.bytes().as_slice().len()
     }
 
     fn write_into<W: MessageWrite>(&self, writer: &mut W) {
-        RawAttribute::new(Self::TYPE, &self.to_bytes()).write_into(writer);
+        RawAttribute::new(Self::TYPE, &self.bytes()).write_into(writer);
     }
 }
 

@@ -91,7 +91,7 @@ impl ChannelNumber {
     }
 
     /// Returns the bytes of the value: the channel number, and two reserved bytes, which are 0.
-    fn to_bytes(&self) -> [u8; LENGTH]
+    fn bytes(&self) -> [u8; LENGTH]
         ensures value { result ≡ channel_value self.now }
         ensures channel { IsAnyChannel self.now }
     {
@@ -124,11 +124,11 @@ impl Attribute for ChannelNumber {
     }
 
     fn length(&self) -> usize {
-        self.to_bytes().as_slice().len()
+        self.bytes().as_slice().len()
     }
 
     fn write_into<W: MessageWrite>(&self, writer: &mut W) {
-        RawAttribute::new(Self::TYPE, &self.to_bytes()).write_into(writer);
+        RawAttribute::new(Self::TYPE, &self.bytes()).write_into(writer);
     }
 }
 

@@ -72,7 +72,7 @@ impl RequestedTransport {
     }
 
     /// Returns the bytes of the value: the protocol, and three reserved bytes, which are 0.
-    fn to_bytes(&self) -> [u8; LENGTH]
+    fn bytes(&self) -> [u8; LENGTH]
         ensures value { result ≡ transport_value self.now }
         ensures protocol { self.now < 2 ^ 8 }
     {
@@ -104,11 +104,11 @@ impl Attribute for RequestedTransport {
     }
 
     fn length(&self) -> usize {
-        self.to_bytes().as_slice().len()
+        self.bytes().as_slice().len()
     }
 
     fn write_into<W: MessageWrite>(&self, writer: &mut W) {
-        RawAttribute::new(Self::TYPE, &self.to_bytes()).write_into(writer);
+        RawAttribute::new(Self::TYPE, &self.bytes()).write_into(writer);
     }
 }
 

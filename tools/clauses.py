@@ -20,9 +20,9 @@ PAGE = crates.TOP / "docs/CLAUSES.md"
 FIRST = ("stun_endpoint", "stun_client_calls", "stun_client_endpoint", "stun_ice", "stun_datagrams",
          "stun_client_runs", "stun_client_meetings", "stun_client_strength", "stun_client_plans",
          "stun_requests", "stun_exchanges", "stun_sessions", "stun_peers", "stun_peer_runs",
-         "stun_proto", "stun_base", "stun_types", "stun_agent", "stun_judging", "stun_auth", "stun_extra",
-         "stun_attributes", "stun_buffer", "stun_client", "stun_client_requests", "stun_numbers",
-         "stun_c", "stun_handles", "stun_state", "stun_c_endpoint")
+         "stun_proto", "stun_base", "stun_types", "stun_agent", "stun_judging", "stun_auth",
+         "stun_extra", "stun_attributes", "stun_buffer", "stun_client", "stun_client_requests",
+         "stun_numbers", "stun_c", "stun_handles", "stun_state", "stun_c_endpoint")
 HEAD = """\
 # The clauses of each public function
 

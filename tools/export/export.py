@@ -26,8 +26,8 @@ ROOT = Path(__file__).resolve().parent.parent.parent
 # The crates of the library, which stand alone; what is exported of the others, `crates.txt` tells:
 # these programs, and what they use.
 LIBRARY = ["stun_base", "stun_types", "stun_agent", "stun_judging", "stun_auth", "stun_proto",
-           "stun_extra", "stun_attributes", "stun_buffer", "stun_endpoint", "stun_client", "stun_client_endpoint",
-           "stun_client_requests", "stun_client_calls", "stun_ice"]
+           "stun_extra", "stun_attributes", "stun_buffer", "stun_endpoint", "stun_client",
+           "stun_client_endpoint", "stun_client_requests", "stun_client_calls", "stun_ice"]
 PROGRAMS = ["stun_tool", "stun_inspect"]
 # What clippy would have otherwise, and why it stays. A lint that is not here is none of the sources.
 STYLE = "".join(f"#![allow({', '.join('clippy::' + lint for lint in lints.split())}, "

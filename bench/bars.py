@@ -4,8 +4,7 @@ a word where a bar is missed.
 
     bench/bars.py
 
-It reads the sources of bench.c, state.py, agent.py, growth.c and endpoint.py, and runs none of
-them. Status 1,
+It reads the sources of bench.c, state.py, growth.c and endpoint.py, and runs none of them. Status 1,
 and a line for each difference.
 """
 
@@ -92,29 +91,10 @@ def of_bench():
 
 
 def of_state():
-    bar, rows = value("state.py", "BAR"), table("Call", "the library", "through C")
-    yield from same_rows("state.py", [title for _, title, _ in value("state.py", "ROWS")], rows)
-    for title, cells in rows.items():
-        if number(cells[-1]) != bar:
-            yield f"state.py, {title}: at most {bar}, README.md has `{cells[-1]}`"
-        yield from told("state.py", title, number(cells[-2]), bar)
-    if f"at most {bar} instructions" not in " ".join(README.split()):
-        yield f"state.py: README.md's text does not say `at most {bar} instructions`"
     yield from same_rows("state.py", [title for _, title in value("state.py", "ALONE")],
                          table("Call, through C", "instructions"))
     yield from same_rows("state.py", value("state.py", "PAUSES"),
                          table(f"Longest pause at {value('state.py', 'RECORDS'):,} records"))
-
-
-def of_agent():
-    rows, bars = table("Users and addresses"), value("agent.py", "BARS")
-    yield from same_rows("agent.py", [title for _, title in value("agent.py", "SERVER_ROWS")], rows)
-    for call, title in value("agent.py", "SERVER_ROWS"):
-        cells = rows.get(title, [""])
-        if number(cells[-1]) != bars[call]:
-            yield f"agent.py, {title}: at most {bars[call]}, README.md has `{cells[-1]}`"
-        yield from told("agent.py", title, number(cells[-3]) if len(cells) > 2 else None,
-                        bars[call])
 
 
 def of_growth():
@@ -144,7 +124,7 @@ def of_endpoint():
 
 
 def main():
-    parts = (of_bench, of_state, of_agent, of_growth, of_endpoint)
+    parts = (of_bench, of_state, of_growth, of_endpoint)
     differences = [one for part in parts for one in part()]
     for one in differences:
         print(f"bars: {one}", file=sys.stderr)

@@ -1,6 +1,5 @@
-/* Makes a call through C many times: `state CALL SIZE TIMES`, with the names and the states of
- * crates/bench_agent, so that state.py can count both. Prints how many of the calls did what they
- * were to do, and how many allocations they asked for.
+/* Makes a call through C many times, for state.py: `state CALL SIZE TIMES`. Prints how many of the
+ * calls did what they were to do, and how many allocations they asked for.
  *
  * `state pauses SIZE AT_ONCE` prints how long a server of so many records stands still where it
  * forgets, in microseconds of processor. Two numbers are of one call, and of the longest of the

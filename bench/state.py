@@ -1,20 +1,15 @@
 #!/usr/bin/env python3
-"""Counts what calls cost through C beside the calls of the library that they wrap.
+"""Counts what calls cost through C, over the proved archives.
 
-    bench/state.py [--size N] [--exported | --built] [--fill]
+    bench/state.py [--size N] [--exported | --built]
 
-A row makes its call 10 and 50 times, once in crates/bench_agent and once in bench/state.c, which
-does the same over the archives. The difference of the two runs, through 40, is one call:
-instructions by callgrind. Both figures hold some 20 to 50 instructions of their loops. A call
-through C parses its message; where the library's call is handed a parsed one, the cost of
-stunp_parse is added to it. N is the number of outstanding requests, or of users and addresses: 1000
-unless said. A signing is counted through C alone, with its allocations. Last come the pauses of a
-server of 100,000 records that forgets. They are microseconds of processor, by one call and by the
+A row makes its call 10 and 50 times in bench/state.c, and the difference, through 40, is one call:
+instructions by callgrind, some 20 to 50 of which are of their loops, and allocations. N is the
+number of outstanding requests, or of users and addresses: 1000 unless said. Last come the pauses of
+a server of 100,000 records that forgets. They are microseconds of processor, by one call and by the
 longest of calls that look at 256 records. It needs a C compiler and valgrind; the first run proves
-what has changed. With --built it takes archives and program as they are built (rt ci, rt lib), and
-proves nothing. With --exported it takes the archive of the exported crate (tools/rust_c.sh), proves
-nothing, and leaves out what is beside the library. With --fill it counts only the rows whose cells
-are empty in README.md, with 1000 requests, and writes them there.
+what has changed. With --built it takes the archives as they are built (rt lib), and with --exported
+that of the exported crate (tools/rust_c.sh), and proves nothing.
 """
 
 import argparse
@@ -26,34 +21,28 @@ import time
 
 HERE = os.path.dirname(os.path.abspath(__file__))
 TOP = os.path.dirname(HERE)
-LIBRARY = os.path.join(TOP, "crates", "bench_agent", "out", "bench_agent")
-README = os.path.join(HERE, "README.md")
-HEAD = "| Call | the library | through C |"
-FEW, MANY, BAR = 10, 50, 150
+FEW, MANY = 10, 50
 
 # malloc keeps no block in its fast bins: else all of them are gathered in whichever call next asks
 # for a large one.
 ENVIRONMENT = dict(os.environ, GLIBC_TUNABLES="glibc.malloc.mxfast=0")
 
-# The row of both programs, its title, and the row of what the library's call leaves to its caller.
+# The row of bench/state.c, and its title.
 ROWS = [
-    ("verifies", "verify, 44 bytes, HMAC-SHA1", None),
-    ("validates_sha1", "validated request, SHA-1", "parses_sha1"),
-    ("validates_sha256", "validated request, SHA-256 and USERHASH", "parses_sha256"),
-    ("poll", "`poll`, nothing due", None),
-    ("poll_transmit", "`poll_transmit`, nothing due", None),
-    ("transmits_one", "`poll_transmit_within`, one due", None),
-    ("ends_one", "`poll`, one ends", None),
-    ("sends_last", "`send_request`", None),
-    ("responds", "response, taken", None),
-    ("cancels", "`cancel`", None),
-    ("finds", "whether a request is outstanding", None),
+    ("verifies", "verify, 44 bytes, HMAC-SHA1"),
+    ("validates_sha1", "validated request, SHA-1"),
+    ("validates_sha256", "validated request, SHA-256 and USERHASH"),
+    ("poll", "`poll`, nothing due"),
+    ("poll_transmit", "`poll_transmit`, nothing due"),
+    ("transmits_one", "`poll_transmit_within`, one due"),
+    ("ends_one", "`poll`, one ends"),
+    ("sends_last", "`send_request`"),
+    ("responds", "response, taken"),
+    ("cancels", "`cancel`"),
+    ("finds", "whether a request is outstanding"),
 ]
 
-# Rows that crates/bench_agent has under another name: as C makes them, of an agent that counts.
-WRAPPED = {"transmits_one": "transmits_one_within", "responds": "responds_with_time"}
-
-# The rows of bench/state.c alone.
+# The same of messages that are signed.
 ALONE = [
     ("answers_sha1", "success of 20 bytes signed, SHA-1"),
     ("answers_sha256", "success of 20 bytes signed, SHA-256"),
@@ -110,19 +99,13 @@ def allocations(program, call, size):
 
 
 def archives(is_built):
-    """The archives and the program of the library: as they are, or proved and built."""
+    """The archives: as they are, or proved and built."""
     for name in ("stun_state", "stun_c"):
         folder = os.path.join(TOP, "crates", name)
         if not is_built:
             _, seconds = done(["rt", "lib"], cwd=folder)
             print(f"rt lib in crates/{name}: {seconds:.0f} s", file=sys.stderr)
         yield os.path.join(folder, "out", f"lib{name}.a")
-    if not is_built:
-        _, seconds = done(["rt", "run", "--", "poll", "1", "1"],
-                          cwd=os.path.dirname(os.path.dirname(LIBRARY)))
-        print(f"rt run in crates/bench_agent: {seconds:.0f} s", file=sys.stderr)
-    elif not os.path.exists(LIBRARY):
-        sys.exit(f"bench: {LIBRARY} is not built")
 
 
 def build(room, chosen):
@@ -139,40 +122,9 @@ def build(room, chosen):
     return program
 
 
-def counted(program, size, call, title, parsing):
-    """A row of the table."""
-    library = cost(LIBRARY, WRAPPED.get(call, call), size)
-    library += cost(program, parsing, size) if parsing else 0
-    through = cost(program, call, size)
-    return f"| {title} | {library:,.0f} | {through:,.0f} | {through - library:,.0f} | {BAR} |"
-
-
-def beside_the_library(program, size):
-    print(f"| Call, of {size:,} | the library | through C | more | at most |")
-    print("|---|---|---|---|---|")
-    for row in ROWS:
-        print(counted(program, size, *row), flush=True)
-    print()
-
-
-def fill(program, size):
-    """Writes the rows that have empty cells in README.md."""
-    with open(README) as opened:
-        lines = opened.read().split("\n")
-    at = next(number for number, line in enumerate(lines) if line.startswith(HEAD))
-    for row in ROWS:
-        place = next(number for number, line in enumerate(lines[at:], at)
-                     if line.startswith(f"| {row[1]} |"))
-        if "| |" in lines[place]:
-            lines[place] = counted(program, size, *row)
-            print(lines[place], flush=True)
-    with open(README, "w") as opened:
-        opened.write("\n".join(lines))
-
-
 def alone(program, size):
     print("| Call, through C | instructions | allocations |\n|---|---|---|")
-    for call, title in ALONE + LOOKED_UP:
+    for call, title in ROWS + ALONE + LOOKED_UP:
         print(f"| {title} | {cost(program, call, size):,.0f} | "
               f"{allocations(program, call, size):g} |", flush=True)
 
@@ -186,22 +138,14 @@ def pauses(program):
 
 
 def main(words):
-    read = argparse.ArgumentParser(
-        usage="state.py [--size N] [--exported | --built] [--fill]")
+    read = argparse.ArgumentParser(usage="state.py [--size N] [--exported | --built]")
     read.add_argument("--size", type=int, default=1000)
     kind = read.add_mutually_exclusive_group()
     kind.add_argument("--exported", action="store_true")
     kind.add_argument("--built", action="store_true")
-    read.add_argument("--fill", action="store_true")
     chosen = read.parse_args(words)
-    if chosen.fill and (chosen.exported or chosen.size != 1000):
-        read.error("README.md has the figures of the proved archives, with 1000 requests")
     with tempfile.TemporaryDirectory() as room:
         program = build(room, chosen)
-        if chosen.fill:
-            return fill(program, chosen.size)
-        if not chosen.exported:
-            beside_the_library(program, chosen.size)
         alone(program, chosen.size)
         pauses(program)
 

@@ -1,6 +1,6 @@
 # The targets of this repository. Those listed above `With the toolchain` do not need rt, and a
 # release of the sources has only those.
-.PHONY: help lib export rust rust-i686 test rust-c dist prove c check wrong bench install uninstall release verify-release
+.PHONY: help lib export rust rust-i686 test rust-c dist prove c check wrong bench install uninstall release-tier release verify-release
 
 # Ends a target that needs the toolchain, where it is not there.
 needs_rt = @command -v rt >/dev/null || { echo "make $@: needs the toolchain rt, which is not \
@@ -21,11 +21,12 @@ help:
 	@echo "make dist     release/stunp-VERSION-source.tar.gz, with other crates, to build without network"
 	@echo "With the toolchain (rt):"
 	@echo "make c        prove and build the archives for C (minutes)"
-	@echo "make prove    prove everything (rt ci)"
-	@echo "make check    what the gate runs (.ci/run)"
+	@echo "make prove    prove everything (rt ci), and record it in PROOF.txt"
+	@echo "make check    the merge tier of the tests (.ci/run)"
 	@echo "make wrong    try all wrong edits, which the prover must refuse, and record it (an hour)"
 	@echo "make bench    prove and build the archive of messages (minutes), and time its calls"
-	@echo "make release  release/ from what .ci/run built and said; make verify-release tries it"
+	@echo "make release-tier  the release tier of the tests (hours); PARTS= names some of its parts"
+	@echo "make release  release/ from what the release tier built; make verify-release tries it"
 
 lib:
 	@tools/rust_c.sh --build
@@ -59,7 +60,7 @@ dist:
 
 prove:
 	$(needs_rt)
-	rt ci
+	@python3 tools/proof.py
 
 check:
 	$(needs_rt)
@@ -72,6 +73,10 @@ wrong:
 bench:
 	$(needs_rt)
 	bench/run.sh
+
+release-tier:
+	$(needs_rt)
+	@python3 tools/parts.py release $(PARTS)
 
 release:
 	$(needs_rt)

@@ -1,50 +1,53 @@
 #!/usr/bin/env python3
-"""Tests .ci/run and tools/parts.py, in seconds: all commands of the gate are stubs, which note that
-they ran.
+"""Tests tools/parts.py, tools/proof.py and tools/shown.py in seconds, in scratch repositories. The
+commands of the parts are replaced by a stub, which notes that it ran; `rt` is one, too.
 
-- A clock that goes ahead by three hours changes nothing: the same parts run and the last line is the
-  same.
-- A part that is taken out of .ci/run is named, and so is one that fails; the status is 1 then.
-- The last line is that of `rt ci`, and counts other parts that failed.
-- A part whose inputs are those of the record does not run; if one of them changes, it does.
-- What a machine cannot do is listed above the last line.
-- Each part that tools/parts.py lists is run once by .ci/run, which runs no other.
+- The lanes begin together, and a part that fails stops no other but those that need it.
+- Each part that failed or did not run is named and counted. What cannot run is listed.
+- The results of the release tier count for the commit that they are of.
+- PROOF.txt gets the line of each crate that `rt ci` passed, and keeps the seconds of the others.
 """
 import os
 import re
-import shutil
 import subprocess
 import sys
 import tempfile
 from pathlib import Path
 
 TOP = Path(__file__).resolve().parent.parent
-GATE = (TOP / ".ci/run").read_text()
-# Notes its name and its arguments. FAIL and LACKS are words of the one that fails, or that cannot.
-STUB = """#!/bin/sh
-echo "${0##*/} $*" >>"$RAN"
-case "$0 $*" in *"${FAIL:-no such words}"*) echo 'it failed'; exit 1 ;; esac
-case "$0 $*" in *"${LACKS:-no such words}"*) echo 'a part: left out, it is not there' ;; esac
+sys.path.insert(0, str(TOP / "tools"))
+import parts  # noqa: E402
+import shown  # noqa: E402
+
+# Runs a tier with stubs in place of its commands.
+DRIVER = """
+import sys
+sys.path.insert(0, "tools")
+import parts
+for lane in (*parts.MERGE, parts.RELEASE):
+    lane |= {name: f"bin/stub {name}" for name in lane if name != "proofs"}
+sys.exit(parts.main())
 """
-PYTHON = f"""#!/bin/sh
-case "$1" in tools/parts.py) exec {sys.executable} "$@" ;; esac
-exec stub-python "$@"
+# Waits for the first part of the other lanes. FAIL and LACKS name parts.
+STUB = """#!/bin/sh
+: >"ran.$1"
+case $1 in exported | layout | proofs)
+    for tried in 1 2 3 4 5 6 7 8 9 10; do
+        [ ! -e ran.exported ] || [ ! -e ran.layout ] || [ ! -e ran.proofs ] || break
+        sleep 1
+    done
+    [ $tried != 10 ] || { echo 'the others have not begun'; exit 3; } ;;
+esac
+case " $FAIL " in *" $1 "*) echo 'it failed'; exit 1 ;; esac
+case " $LACKS " in *" $1 "*) echo 'left out, it is not there'; exit 77 ;; esac
 """
 RT = """#!/bin/sh
-[ "$1" != version ] || { echo 'a kit'; exit; }
-[ -z "${RT_FAILS-}" ] || { echo '22 passed, 1 failed'; exit 1; }
-echo 'rt: one proved'
-echo '23 passed, 0 failed'
+case $1 in version) echo 'a kit'; exit ;; doc) echo "$PWD/kit/page"; exit ;; esac
+bin/stub proofs || exit
+[ -z "$KILLED" ] || kill -9 $$
+cat said
 """
-# Each look at the clock but the first is three hours later, if AHEAD says so.
-DATE = """#!/bin/sh
-[ -n "${AHEAD-}" ] && [ -e clock ] && echo 20800 && exit
-: >clock
-echo 10000
-"""
-MADE = [f"tools/{name}" for name in
-        ("parts.py", "crates.py", "wrong.py", "proof.py", "shown.py", "export/export_text.py",
-         "compiler.sh")]
+SAID = "rt: one proved\nrt: two is kept: it was\nrt: three NOT PROVED\n"
 wrong = []
 
 
@@ -54,111 +57,106 @@ def write(path, text):
     path.chmod(0o755)
 
 
-def lay(top, gate):
-    """A repository of one crate, with this gate."""
-    write(top / ".ci/run", gate)
-    for name in MADE:
-        write(top / name, (TOP / name).read_text())
-    write(top / "crates.txt", "one:\nstun_c:\nstun_state:\nstun_c_endpoint: stun_state\n")
-    write(top / "crates/one/src/lib.rt", "fn one() {}\n")
-    write(top / "crates/one/out/one", "")
-    write(top / "tests/wrong/one/two.edit", "file: src/lib.rt\nold: one\nnew: two\n")
-    write(top / "rust/src/kit/map.rs", "// a file\n")
-    write(top / "target/export/target/debug/stun_tool", "")
-    for name in set(re.findall(r"(?<!python3 )\b((?:tools|tests)/[\w/]+\.(?:sh|py))\b", gate)):
-        if name not in MADE:
-            write(top / name, STUB)
-    for name in ("make", "git", "cc", "stub-python"):
-        write(top / "bin" / name, STUB.replace("echo \"${0##*/} $*\" >>", ": >>")
-              if name == "git" else STUB)
-    for name, text in (("python3", PYTHON), ("rt", RT), ("date", DATE)):
+def git(top, *words):
+    subprocess.run(["git", "-C", top, "-c", "user.name=a", "-c", "user.email=a@b", *words],
+                   check=True, stdout=subprocess.DEVNULL)
+
+
+def lay(top):
+    """A repository of three crates, with the tools."""
+    for name in ("parts.py", "proof.py", "crates.py"):
+        write(top / "tools" / name, (TOP / "tools" / name).read_text())
+    write(top / "driver.py", DRIVER)
+    write(top / ".gitignore", "ran.*\ntarget/\nbin/\nkit/\n__pycache__/\nPROOF.txt\nsaid\n")
+    write(top / "crates.txt", "one:\ntwo: one\nthree:\n")
+    for crate in ("one", "two", "three"):
+        write(top / f"crates/{crate}/src/lib.rt", "fn one() {}\n")
+    for name, text in (("stub", STUB), ("rt", RT)):
         write(top / "bin" / name, text)
+    write(top / "kit/bin/rattle", "#!/bin/sh\necho 'a compiler'\n")
+    write(top / "said", SAID + "23 passed, 0 failed\n")
+    git(top, "init", "-q")
+    git(top, "add", ".")
+    git(top, "commit", "-q", "-m", "all")
 
 
-def run(top, shell="sh", **words):
-    """What the gate prints, its status, and what it ran, in the order of the alphabet."""
-    ran = top / "ran"
-    for old in (ran, top / "clock"):
-        old.unlink(missing_ok=True)
+def run(top, *words, **variables):
+    """What a tier prints, its status, and the parts that ran."""
+    for old in top.glob("ran.*"):
+        old.unlink()
     path = f"{top}/bin:{os.environ['PATH']}"
-    environment = {"PATH": path, "HOME": str(top), "RAN": str(ran), **words}
-    gate = subprocess.run([shell, ".ci/run"], cwd=top, env=environment, stdin=subprocess.DEVNULL,
-                          stdout=subprocess.PIPE, stderr=subprocess.STDOUT, text=True, check=False)
-    # The watch beside the proofs is ended with them, on a loaded machine before it has begun.
-    noted = sorted(line for line in ran.read_text().splitlines() if "--watch" not in line)
-    return gate.stdout.splitlines(), gate.returncode, noted
-
-
-def keep(top):
-    """Writes what a run found into the records."""
-    subprocess.run([sys.executable, "tools/parts.py", "keep"], cwd=top, stdout=subprocess.DEVNULL,
-                   check=True, env={**os.environ, "PATH": f"{top}/bin:{os.environ['PATH']}"})
+    ran = subprocess.run([sys.executable, "driver.py", *words], cwd=top, text=True, check=False,
+                         env={"PATH": path, "HOME": str(top), "FAIL": "", "LACKS": "", **variables},
+                         stdout=subprocess.PIPE, stderr=subprocess.STDOUT)
+    return ran.stdout.splitlines(), ran.returncode, {one.suffix[1:] for one in top.glob("ran.*")}
 
 
 def expect(what, is_so, lines):
     if not is_so:
         wrong.append(what)
-        print(f"gate: {what}: not so:\n  " + "\n  ".join(lines[-30:]))
+        print(f"gate: {what}: not so:\n  " + "\n  ".join(map(str, lines[-30:])))
 
 
 def say(lines, words):
     return any(words in line for line in lines)
 
 
-def tried(top):
-    usual = lines, status, ran = run(top)
-    expect("all pass", status == 0 and lines[-1] == "23 passed, 0 failed", lines)
-    expect("all parts run", say(ran, "check.sh") and say(ran, "wrong.py --gate")
-           and say(ran, "verify-release") and say(ran, "least.sh"), ran)
-    lines, status, ran = run(top, AHEAD="yes", shell=shutil.which("bash") or "sh")
-    expect("a clock that is ahead changes nothing",
-           (status, lines[-1], ran) == (usual[1], usual[0][-1], usual[2]), lines)
-    expect("the clock was ahead", say(lines, "10800 s"), lines)
-
-    lines, status, ran = run(top, FAIL="check.sh")
-    expect("a part that fails is named", status == 1 and lines[-1] == "23 passed, 2 failed"
-           and say(lines, "FAILED: c-tests, with status 1")
-           and say(lines, "FAILED: c-pages was called for, and did not run"), lines)
-    lines, status, ran = run(top, FAIL="rooms.py")
-    expect("what needs no proof comes first", status == 1 and lines[-1].startswith("0 passed, ")
-           and say(lines, "FAILED: rooms, with status 1") and not say(ran, "check.sh"), lines)
-    lines, status, ran = run(top, RT_FAILS="yes")
-    expect("a proof that fails", status == 1 and lines[-1].startswith("22 passed, ")
-           and lines[-1] != "22 passed, 0 failed" and say(lines, "FAILED: proofs"), lines)
-    lines, status, ran = run(top, LACKS="least.sh")
-    expect("what a machine cannot do is listed", status == 0
-           and lines[-2].endswith("cannot do: least: a part: left out, it is not there"), lines)
-
-    lines, status, _ = run(top)
-    keep(top)
-    lines, status, ran = run(top)
-    expect("what the record has does not run", status == 0 and not say(ran, "--turn")
-           and not say(ran, "least.sh") and not say(ran, "check.sh")
-           and not say(ran, "archives.sh") and say(ran, "differ.py")
-           and say(lines, "not called for"), lines)
-    write(top / "rust/src/kit/map.rs", "// another file\n")
-    lines, status, ran = run(top)
-    expect("what changed runs", status == 0 and say(ran, "--turn") and say(ran, "least.sh")
-           and not say(ran, "bare.sh") and not say(ran, "check.sh"), lines)
-    write(top / "tests/c/one.c", "int one;\n")
-    lines, status, ran = run(top)
-    expect("what a part runs over is built", status == 0 and say(ran, "check.sh")
-           and say(ran, "archives.sh"), lines)
-    keep(top)
-    write(top / "crates/stun_state/src/lib.rt", "// a comment\nfn one() {}\n")
-    before = run(top)[2]
-    keep(top)
-    write(top / "crates/stun_state/src/lib.rt", "// another comment\nfn one() {}\n")
-    lines, status, ran = run(top)
-    expect("a comment in a crate calls for no archive", not say(ran, "archives.sh"), lines)
-    expect("a change of its code does", say(before, "archives.sh"), before)
+def merges(top):
+    names = {name for lane in parts.MERGE for name in lane}
+    lines, status, ran = run(top, "merge")
+    expect("all pass, side by side", status == 0 and lines[-1] == "23 passed, 0 failed"
+           and ran == names, [*lines, ran ^ names])
+    lines, status, ran = run(top, "merge", FAIL="rooms exported-c")
+    expect("a part that fails stops those that need it", status == 1
+           and ran == names - {"c-tests", "c-pages", "examples"}
+           and say(lines, "merge: rooms: FAILED, with status 1")
+           and say(lines, "merge: examples: FAILED: it did not run")
+           and lines[-1] == "23 passed, 5 failed", lines)
+    lines, status, ran = run(top, "merge", LACKS="exported")
+    expect("what cannot run is listed, with what needs it", status == 0 and "suite" not in ran
+           and say(lines[-25:], "this machine lacks: exported: left out, it is not there")
+           and say(lines[-25:], "this machine lacks: suite: left out, as exported is"), lines)
+    lines, status, ran = run(top, "merge", KILLED="yes")
+    expect("proofs that end without a count", status == 1 and "edits" not in ran
+           and "examples" in ran and lines[-1] == "0 passed, 4 failed", lines)
 
 
-def taken_out(top, name):
-    lay(top, GATE.replace(f"part {name} ", f": {name} "))
-    lines, status, _ = run(top)
-    expect(f"{name}, which is taken out, is named", status == 1
-           and lines[-1] == "23 passed, 1 failed" and say(lines, f"FAILED: {name} was called for, and did not run"), lines)
+def records(top):
+    """What the runs of the merge tier wrote to PROOF.txt."""
+    record = top / "PROOF.txt"
+    text = record.read_text()
+    expect("a line of each crate that passed", re.findall(r"(?m)^(\w+) 1 functions 0 clauses - s ",
+                                                          text) == ["one", "two"]
+           and say(text.splitlines(), "compiler: a compiler, sha256 ")
+           and say(text.splitlines(), "kit: a kit"), text.splitlines())
+    record.write_text(text.replace(" - s ", " 7 s "))
+    run(top, "merge")
+    expect("the seconds stay", record.read_text() == text.replace(" - s ", " 7 s "),
+           record.read_text().splitlines())
+    write(top / "crates/two/src/lib.rt", "fn one() {}\nfn two() {}\n")
+    write(top / "said", "rt: two proved\n1 passed, 0 failed\n")
+    run(top, "merge")
+    text = record.read_text()
+    expect("a crate that changed has a new line", say(text.splitlines(), "one 1 functions")
+           and "two 2 functions 0 clauses - s" in text, text.splitlines())
+    write(top / "crates/two/src/lib.rt", "fn one() {}\n")
+
+
+def releases(top):
+    lines, status, ran = run(top, "release")
+    expect("all parts are put together", status == 0 and ran == set(parts.RELEASE)
+           and say(lines, f"release tier: {len(parts.RELEASE)} passed, 0 failed at "), lines)
+    lines, status, ran = run(top, "release", "bare", FAIL="bare")
+    expect("one part alone, and the others count", status == 1 and ran == {"bare"}
+           and say(lines, "release tier: bare: FAILED, with status 1"), lines)
+    lines, status, _ = run(top, "whole")
+    expect("whole", status == 1 and say(lines, f"{len(parts.RELEASE) - 1} passed, 1 failed"), lines)
+    git(top, "commit", "-q", "--allow-empty", "-m", "next")
+    lines, status, _ = run(top, "whole")
+    expect("another commit", status == 1 and say(lines, "release tier: 0 passed, "), lines)
+    write(top / "crates/one/src/lib.rt", "fn another() {}\n")
+    lines, status, ran = run(top, "release", "bare")
+    expect("files that differ from the commit", status == 1 and not ran, lines)
 
 
 LOW = """//! A crate.
@@ -211,7 +209,6 @@ def decides(top):
     """What decides of an edit: its file, and of the crates below what that or the edit names, what
     the contracts of this name, and what is of a trait of another library, without bodies and
     comments, and without who can see it."""
-    import shown
     shown.TOP = top
     high = "pub(crate) fn high(low: &Low) -> bool {\n    low.used() && low.drawn()\n}\n"
     write(top / "crates/low/src/lib.rt", LOW)
@@ -232,22 +229,18 @@ def decides(top):
 
 
 def main():
-    sys.path.insert(0, str(TOP / "tools"))
-    from parts import PARTS
-    code = "\n".join(line for line in GATE.splitlines() if not line.lstrip().startswith("#"))
-    code = re.sub(r"\blacks (?:.*\\\n)*.*", "", code)
-    for name in PARTS:
-        count = len(re.findall(rf"\bpart {name} ", code))
-        expect(f"{name} is run once", count == 1, [f"{count} times"])
-    for name in re.findall(r"\bpart ([a-z-]+) ", code):
-        expect(f"{name} is in tools/parts.py", name in PARTS, [f"it has {' '.join(PARTS)}"])
+    commands = " ".join(command for lane in (*parts.MERGE, parts.RELEASE)
+                        for command in lane.values())
+    for name in re.findall(r"(?<!/)\b(?:tools|tests|conformance)/[\w/]+\.(?:sh|py)\b", commands):
+        expect(f"{name} is there", (TOP / name).is_file(), [commands])
     with tempfile.TemporaryDirectory(prefix="gate-") as scratch:
-        lay(Path(scratch) / "usual", GATE)
-        tried(Path(scratch) / "usual")
+        lay(Path(scratch) / "usual")
+        merges(Path(scratch) / "usual")
+        records(Path(scratch) / "usual")
+        releases(Path(scratch) / "usual")
         decides(Path(scratch) / "decides")
-        for name in ("suite", "examples"):
-            taken_out(Path(scratch) / name, name)
-    print(f"gate: {len(PARTS)} parts; {f'{len(wrong)} wrong' if wrong else 'as it should be'}")
+    count = sum(map(len, (*parts.MERGE, parts.RELEASE)))
+    print(f"gate: {count} parts; {f'{len(wrong)} wrong' if wrong else 'as it should be'}")
     return 1 if wrong else 0
 
 

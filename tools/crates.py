@@ -1,8 +1,6 @@
 #!/usr/bin/env python3
 """The crates of crates.txt: a sum of what each is proved from, and checks over what `rt ci` left.
 
-    tools/crates.py begin          notes the sums and the time, before `rt ci`
-    tools/crates.py end            notes which libraries `rt ci` left, after it passed
     tools/crates.py archive CRATE  builds out/libCRATE.a over those, unless it was; status 3 where
                                    they are not there, or where a file has changed since
 
@@ -21,7 +19,7 @@ import time
 from pathlib import Path
 
 TOP = Path(__file__).resolve().parent.parent
-BEGUN, LEFT = TOP / "target/gate.begun", TOP / "target/gate.left"
+LEFT = TOP / "target/proved.left"
 
 
 @functools.lru_cache(None)
@@ -68,20 +66,20 @@ def library(crate):
 
 
 def begin():
-    BEGUN.parent.mkdir(exist_ok=True)
+    """The sums of all crates and the time, before `rt ci`."""
     LEFT.unlink(missing_ok=True)
-    sums = {crate: sum_of(crate) for crate in lines()}
-    BEGUN.write_text(json.dumps({"time": time.time(), "sums": sums}))
+    return {crate: sum_of(crate) for crate in lines()}, time.time()
 
 
-def end():
-    """A library that `rt ci` built or took from what it kept has another time of change than one
+def end(sums, begun):
+    """Notes which libraries `rt ci` left, after it passed: those have another time of change than one
     that it put back."""
-    begun, left = json.loads(BEGUN.read_text()), {}
-    for crate, known in begun["sums"].items():
+    left = {}
+    for crate, known in sums.items():
         file = library(crate) / "format"
-        if file.is_file() and file.stat().st_ctime >= begun["time"] - 1 and known == sum_of(crate):
+        if file.is_file() and file.stat().st_ctime >= begun - 1 and known == sum_of(crate):
             left[crate] = known, hashlib.sha256(file.read_bytes()).hexdigest()
+    LEFT.parent.mkdir(exist_ok=True)
     LEFT.write_text(json.dumps(left))
 
 
@@ -176,8 +174,6 @@ def archive(crate):
 
 def main():
     words = sys.argv[1:]
-    if words in (["begin"], ["end"]):
-        return begin() if words == ["begin"] else end()
     if words[:1] == ["archive"] and len(words) == 2:
         return archive(words[1])
     sys.exit(__doc__)

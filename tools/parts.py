@@ -1,186 +1,274 @@
 #!/usr/bin/env python3
-"""The parts of the merge gate: which of them .ci/run has to run, and what came of them.
+"""The two tiers of tests, each a list of parts with their commands, and what runs them.
 
-    tools/parts.py plan    chooses the parts by what changed, writes target/gate/plan and prints it
-    tools/parts.py keep    after a run: writes what it found into the records of the tree, which are
-                           tests/RECORD, tests/wrong/RECORD and PROOF.txt
-    tools/parts.py lacking what this machine cannot do, a line for each
-    tools/parts.py whole   whether what a release needs was tried on the files as they are
+    tools/parts.py merge              the merge tier, which .ci/run runs
+    tools/parts.py release [PART ..]  these parts of the release tier, or all, at the commit that is
+                                      checked out
+    tools/parts.py whole              puts the results of the release tier together for this commit
 
-A part without inputs in PARTS is called for in each run. One with inputs is called for if their sum
-is not that of its line in tests/RECORD, or if a part that is called for runs over what it builds.
-So a run depends on the files alone and not on the time or on chance. Wrong edits have a record of
-their own (tools/wrong.py). A part of the plan that did not run counts as failed. A part that ends
-with LEFT_OUT cannot run on this machine, and a line of any part with the words `left out` names
-something that this machine lacks: both are listed, and a release lists them too.
+The parts of a lane run one after another, and the lanes of the merge tier begin together and run
+side by side. A part runs if those passed that AFTER names. Whether it does depends on nothing else,
+neither on the time nor on what changed, and one that did not run has failed. A part that ends with
+LEFT_OUT cannot run on this machine, and then those after it cannot either. What a part prints goes
+to target/merge/NAME.log, and is printed whole when it ends. Before the last line stands what this
+machine lacks: the lines of any log that say `left out`. The last line has the counts of `rt ci`, to
+which each other part that failed adds one.
 
-.ci/run has the commands. It leaves of each part that ran target/gate/NAME.log and NAME.ended, which
-is its status.
+The parts of the release tier take at most 170 minutes each on four cores. Their results are in
+target/release-tier, each with the commit that it is of, so they can be made on several machines and
+copied together. `release` is last, since it packs what the others built and tried.
 """
-import hashlib
+import os
 import re
-import shutil
+import subprocess
 import sys
+import threading
+import time
 from pathlib import Path
 
-import crates
-import proof
-import shown
-import wrong
-
-AT, RECORD = crates.TOP / "target/gate", crates.TOP / "tests/RECORD"
+TOP = Path(__file__).resolve().parent.parent
+MERGE_AT, RELEASE_AT = TOP / "target/merge", TOP / "target/release-tier"
 LEFT_OUT = 77
-HEAD = "# Of each part of the gate that depends on few files: the sum of these as it last passed.\n"
-# What the export is made by. The crates are not among the inputs of parts that are about Rust and
-# Debian: what the exporter makes of them is the Rust that it always makes.
-EXPORT = ("tools/export", "tools/rust.sh", "rust/Cargo.toml", "rust/capi/Cargo.toml",
-          "rust/checks/Cargo.toml")
-# Calls for C that are proved, each with all crates below it, and what they are tested with.
-C_CRATES = ("crate stun_c", "crate stun_state", "crate stun_c_endpoint", "tools/archives.sh")
-HEADERS = (*(f"include/{name}.h" for name in ("stunp", "stunp_endpoint", "stunp_endpoint_inline",
-                                              "stunp_ice_inline", "stunp_inline", "stunp_log",
-                                              "stunp_sockaddr", "stunp_state",
-                                              "stunp_state_inline")), "examples/c")
-PARTS = {
-    # What needs no proof.
-    "layout": (), "export-look": (),
-    "rooms": (), "printed": (), "clauses": (), "names": (), "lines": (), "links": (), "version": (),
-    "licenses": (), "trusted": (), "exports": (), "refusals": (),
-    "refusals-plants": ("tools/refusals.py", "tools/refusals.txt", "tests/refusals_plants.py"),
-    "edits-look": (), "plants-look": (), "proof-record": (), "gate": (),
-    "door": (), "make-help": (), "first-minute": (), "models": (),
-    # Beside the proofs: the exported crate.
-    "exported": (), "exported-pages": (), "exported-c": (), "users": (), "forged": (), "suite": (),
-    "suite-plants": (),
-    "least": (*EXPORT, "rust/src", "rust/capi/src", "tests/export/least.sh",
-              "tests/export/debian_rust.sh"),
-    "exporter-plants": ("tools/export", *(f"tests/export/{name}.py" for name in (
-        "export_plants", "export_test", "same_derives", "same_tokens"))),
-    "kit-plants": ("rust/src/kit", "tests/export/export_plants.py"),
-    # The proofs, and what they built.
-    "proofs": (), "libraries": (), "programs": (), "edits": (), "archives": C_CRATES,
-    "c-tests": (*C_CRATES, *HEADERS, "tests/c", "tests/cpp", "tests/fuzz", "tests/transcripts",
-                *(f"tests/{name}" for name in ("check.sh", "memory.sh", "play.py", "refused.sh",
-                                               "stun.py"))),
-    "c-pages": (*C_CRATES, *HEADERS, "README.md", "examples/README.md", "tests/cpp",
-                "tools/transcripts.py"),
-    "differ": (),
-    "examples": (*C_CRATES, *HEADERS, *EXPORT, "rust/src", "rust/examples", "include", "tests/udp",
-                 "tests/examples.sh", "tests/install.sh"),
-    "browsers": (*EXPORT, "rust/src", "rust/examples", *(f"tests/udp/{name}" for name in (
-        "browsers.py", "ice_browsers.py", "ice_page.html", "ice_namespaces.sh", "turn_server.py"))),
-    "bare": (*EXPORT, "README.md", "Makefile", "include/Makefile", "tools/rust_c.sh",
-             "tools/transcripts.py", "tests/bare.sh"),
-    "release": (*EXPORT, "VERSION", "Makefile", "include", "tools/release.py", "tools/archives.sh",
-                "tests/release.sh", "tests/released.sh", "tests/c/installed.c"),
-}
-# What runs over what another part builds calls for that part, too.
-OVER = {"c-tests": "archives", "c-pages": "archives", "examples": "archives",
-        "release": "archives"}
 # How a line says what this machine lacks. A number of calls that were left out says another thing.
 SAID = re.compile(r"^left out,|(?:[:;,]|\bis|\bare) left out\b")
-# What a release needs beside a gate that passed: the record of each.
-OF_RELEASE = ("least", "exporter-plants", "kit-plants", "bare")
+ARCHIVE = "target/c/libstunp.a"
+OVER = f'STUN_C="$PWD/{ARCHIVE}" STUN_STATE="$PWD/{ARCHIVE}"'
+
+# The merge tier. What needs no proof:
+CHECKS = {
+    "layout": "python3 tools/layout.py",
+    "export-look": "python3 tools/export/export.py target/merge/export",
+    "rooms": "python3 tools/rooms.py",
+    "printed": "python3 tools/printed.py",
+    "clauses": "python3 tools/clauses.py",
+    "links": "python3 tools/links.py",
+    "version": "python3 tools/version.py",
+    "licenses": "python3 tools/licenses.py",
+    "trusted": "python3 tools/trusted.py",
+    "exports": "python3 tools/exports.py",
+    "refusals": "python3 tools/refusals.py",
+    "edits-look": "python3 tools/wrong.py --look",
+    "plants-look": "python3 tests/export/export_plants.py --look",
+    "proof-record": "python3 tools/proof.py --look",
+    "gate": "python3 tests/gate.py",
+    "door": "tests/door.sh",
+    "make-help": "python3 tests/make_help.py",
+    "first-minute": "python3 tools/transcripts.py --first-minute",
+    "models": "python3 tests/endpoint_model.py tests/transcripts/endpoint.*.txt "
+              "tests/transcripts/endpoints/*.txt",
+}
+# The proofs, and what they built: the programs on their transcripts, on messages of other programs
+# and on those of the pages. The prover refuses the wrong edits that tests/wrong/RECORD lacks.
+PROOFS = {
+    "proofs": "python3 tools/proof.py",
+    "programs": "tests/programs/tool/check.py crates/stun_tool/out/stun_tool; "
+                "tests/programs/inspect/check.py; tests/programs/captures/check.py; "
+                "tests/programs/tool/transcripts.py crates/stun_tool/out/stun_tool; "
+                "tools/transcripts.py crates/*/out",
+    "differ": "python3 tests/programs/differ.py target/export/target/debug/stun_tool "
+              "crates/stun_tool/out/stun_tool",
+    "edits": "python3 tools/wrong.py",
+}
+# The exported crate, with its tests and transcripts, and the conformance suite over it.
+EXPORTED = {
+    "exported": f"tools/rust.sh --can || exit {LEFT_OUT}; tools/rust.sh",
+    "exported-pages": "python3 tools/transcripts.py --rust target/export",
+    "users": "python3 tests/users_page.py; python3 tests/users_database.py",
+    "forged": "tests/forged.sh",
+    "suite": "python3 conformance/musts.py; python3 conformance/play.py model; "
+             "python3 conformance/play.py second; python3 conformance/play.py",
+}
+# Its calls for C, and the examples over these.
+EXPORTED_C = {
+    "exported-c": "tools/rust_c.sh",
+    "c-tests": f"{OVER} tests/check.sh",
+    "c-pages": f"python3 tools/transcripts.py --c {ARCHIVE}",
+    "examples": f"{OVER} tests/examples.sh",
+}
+MERGE = (PROOFS, EXPORTED, EXPORTED_C, CHECKS)
+AFTER = {
+    "programs": ("proofs",), "edits": ("proofs",), "differ": ("proofs", "exported"),
+    "exported-c": ("exported",),
+    **{name: ("exported",) for name in EXPORTED if name != "exported"},
+    **{name: ("exported-c",) for name in EXPORTED_C if name != "exported-c"},
+}
+
+RELEASE = {
+    "merge": ".ci/run",
+    # PROOF.txt and tests/wrong/RECORD have a line of the files as they are for all.
+    "records": "python3 tools/proof.py --whole; python3 tools/wrong.py --whole",
+    "edits": "python3 tools/wrong.py --all",
+    # Bugs in the exporter, in the library under the sources, in refusals and in the suite's model.
+    "plants": "python3 tests/export/export_plants.py; python3 tests/refusals_plants.py; "
+              "tools/rust.sh --build; python3 conformance/plants.py",
+    "least": "tools/rust.sh --export; tests/export/least.sh",
+    "bare": "tests/bare.sh --test bookworm trixie",
+    "package": "tests/package.sh",
+    # The proved archives, with what strangers send to each of their calls for ten minutes.
+    "archives": "tools/archives.sh; tests/check.sh; "
+                "python3 tools/transcripts.py --c crates/stun_c/out/libstun_c.a; "
+                "tests/examples.sh; tests/fuzz/run.sh 600",
+    "browsers": "tools/rust.sh --build; (cd target/export; cargo build --quiet --examples); "
+                "/usr/bin/python3 tests/udp/browsers.py",
+    "forged": "tools/rust.sh --export; tests/forged.sh --all",
+    # A release, which is made twice and tried in clean folders.
+    "release": "make release; make verify-release",
+}
 
 
-def sum_of(inputs):
-    """A sum of files and folders, and of the code of crates with those below them."""
-    total = hashlib.sha256()
-    for name in inputs:
-        if name.startswith("crate "):
-            crate = name.removeprefix("crate ")
-            code = [shown.code_in(one) for one in (*crates.below(crate), crate)]
-            total.update(repr((crates.lines()[crate], code)).encode())
-            continue
-        path = crates.TOP / name
-        files = sorted(path.rglob("*")) if path.is_dir() else [path]
-        for file in files:
-            where = file.relative_to(crates.TOP)
-            if file.is_file() and not {"out", "target", "__pycache__"} & set(where.parts):
-                total.update(repr((str(where), file.read_bytes())).encode())
-    return total.hexdigest()[:32]
+def run(name, command, folder):
+    """Runs a part, and returns its status. Its output is in the folder."""
+    with open(folder / f"{name}.log", "w") as log:
+        return subprocess.run(["sh", "-ec", command], cwd=TOP, stdin=subprocess.DEVNULL, stdout=log,
+                              stderr=subprocess.STDOUT, check=False).returncode
 
 
-def lines_of(file):
-    """The names and the sums of a record."""
-    found = file.read_text().splitlines() if file.is_file() else []
-    return dict(line.split(" ") for line in found if line and line[0] != "#")
+def in_words(status):
+    """What came of a part."""
+    return {0: "passed", LEFT_OUT: "left out", None: "FAILED: it did not run"}.get(
+        status, f"FAILED, with status {status}")
 
 
-def ended(name):
-    """The status of a part that ran, or None."""
-    file = AT / f"{name}.ended"
-    return int(file.read_text()) if file.is_file() else None
-
-
-def plan():
-    known = lines_of(RECORD)
-    sums = {name: sum_of(inputs) for name, inputs in PARTS.items() if inputs}
-    called = [name for name in PARTS if name not in sums or known.get(name) != sums[name]]
-    called += [OVER[name] for name in called if OVER.get(name, name) not in called]
-    called = [name for name in PARTS if name in called]
-    edits = wrong.called_for()
-    if not edits:
-        called.remove("edits")
-    AT.mkdir(parents=True, exist_ok=True)
-    (AT / "plan").write_text("".join(f"{name}\n" for name in called))
-    (AT / "sums").write_text("".join(f"{name} {total}\n" for name, total in sums.items()))
-    others = [name for name in PARTS if name not in called]
-    print(f"the gate: called for: {' '.join(called)}")
-    print(f"the gate: not called for, since a record has their inputs: {' '.join(others) or '-'}")
-    print(f"the gate: wrong edits: {edits or 'the record is of the files as they are'}")
-    return 0
-
-
-def lacking():
-    """What this machine cannot do: of each part the lines that say so."""
+def lacking(names, folder):
+    """What the machine lacks on which these parts ran, by the lines of their logs."""
     found = []
-    for name in PARTS:
-        log = AT / f"{name}.log"
-        if ended(name) is not None and log.is_file():
-            lines = log.read_text(errors="replace").splitlines()
-            said = [line.strip() for line in lines if SAID.search(line)]
-            said += ["left out"] if ended(name) == LEFT_OUT and not said else []
-            found += [f"{name}: {line[:300]}" for line in dict.fromkeys(said)]
+    for name in names:
+        log = folder / f"{name}.log"
+        lines = log.read_text(errors="replace").splitlines() if log.is_file() else []
+        found += [f"{name}: {line.strip()[:300]}" for line in lines if SAID.search(line)]
+    return list(dict.fromkeys(found))
+
+
+class Merge:
+    """A run of the merge tier: the status of each part that ended, by its name."""
+
+    def __init__(self, lanes):
+        self.lanes, self.statuses, self.begun = lanes, {}, time.monotonic()
+        self.names = [name for lane in lanes for name in lane]
+        self.ended = {name: threading.Event() for name in self.names}
+        self.printing = threading.Lock()
+
+    def status_of(self, name, command):
+        """Runs a part after those that it needs, unless one of these failed or cannot run."""
+        for other in AFTER.get(name, ()):
+            self.ended[other].wait()
+            if self.statuses[other] == LEFT_OUT:
+                (MERGE_AT / f"{name}.log").write_text(f"left out, as {other} is\n")
+            if self.statuses[other] != 0:
+                return LEFT_OUT if self.statuses[other] == LEFT_OUT else None
+        return run(name, command, MERGE_AT)
+
+    def follow(self, lane):
+        for name, command in lane.items():
+            self.statuses[name] = None
+            try:
+                status = self.statuses[name] = self.status_of(name, command)
+            finally:
+                self.ended[name].set()
+            if status is not None:
+                with self.printing:
+                    print((MERGE_AT / f"{name}.log").read_text(errors="replace"), end="")
+                    print(f"== {name}: {in_words(status)} (after "
+                          f"{time.monotonic() - self.begun:.0f} s)", flush=True)
+
+    def verdict(self):
+        """Prints what failed and what this machine lacks, and returns the counts."""
+        log = MERGE_AT / "proofs.log"
+        told = re.findall(r"(?m)^(\d+) passed, (\d+) failed$",
+                          log.read_text(errors="replace") if log.is_file() else "")
+        passed, failed = map(int, told[-1]) if told else (0, 0)
+        for name in self.names:
+            if self.statuses[name] not in (0, LEFT_OUT):
+                print(f"merge: {name}: {in_words(self.statuses[name])}")
+                failed = max(failed, 1) if name == "proofs" else failed + 1
+        for line in lacking(self.names, MERGE_AT):
+            print(f"merge: this machine lacks: {line}")
+        return passed, failed
+
+
+def merge():
+    subprocess.run(["rm", "-rf", MERGE_AT], check=True)
+    MERGE_AT.mkdir(parents=True)
+    half = str(((os.cpu_count() or 1) + 1) // 2)
+    os.environ |= {"CARGO_BUILD_JOBS": half, "RUST_TEST_THREADS": half}
+    ran = Merge(MERGE)
+    print(f"merge: {len(ran.names)} parts: {' '.join(ran.names)}")
+    print("merge: to follow the proofs, tail -f target/merge/proofs.log", flush=True)
+    threads = [threading.Thread(target=ran.follow, args=(lane,)) for lane in ran.lanes]
+    for thread in threads:
+        thread.start()
+    for thread in threads:
+        thread.join()
+    passed, failed = ran.verdict()
+    took = os.times()
+    print(f"merge: {time.monotonic() - ran.begun:.0f} s, of the processor "
+          f"{took.children_user + took.children_system:.0f} s")
+    print(f"{passed} passed, {failed} failed")
+    return 1 if failed else 0
+
+
+def git(*words):
+    return subprocess.run(["git", *words], cwd=TOP, check=True, stdout=subprocess.PIPE,
+                          text=True).stdout.strip()
+
+
+def commit():
+    """The commit whose files these are, or None if files differ from it."""
+    return None if git("status", "--porcelain") else git("rev-parse", "HEAD")
+
+
+def results(names):
+    """The status and the seconds of each of these parts at this commit, if it ran."""
+    at, found = commit(), {}
+    for name in names:
+        file = RELEASE_AT / f"{name}.result"
+        of, status, seconds = file.read_text().split() if file.is_file() else ("", "0", "-")
+        found[name] = (int(status), seconds) if of == at else (None, "-")
     return found
 
 
-def lack():
-    for line in lacking():
-        print(f"the gate: this machine cannot do: {line}")
-    return 0
+def whole(names):
+    """Prints the results of these parts, and returns whether each passed or cannot run here."""
+    found = results(names)
+    for name, (status, seconds) in found.items():
+        print(f"release tier: {name}: {in_words(status)} ({seconds} s)")
+    for line in lacking(names, RELEASE_AT):
+        print(f"release tier: the machine lacked: {line}")
+    good = sum(status in (0, LEFT_OUT) for status, _ in found.values())
+    print(f"release tier: {good} passed, {len(found) - good} failed at {commit() or 'no commit'}")
+    return good == len(found)
 
 
-def passed():
-    """The parts with inputs that passed on the files as they are, with the sums of these."""
-    known, tried = lines_of(RECORD), lines_of(AT / "sums")
-    sums = {name: sum_of(inputs) for name, inputs in PARTS.items() if inputs}
-    return {name: total for name, total in sums.items()
-            if known.get(name) == total or tried.get(name) == total and ended(name) == 0}
+def release(names):
+    at = commit()
+    if not at:
+        print("release tier: files differ from those of the commit")
+        return 1
+    RELEASE_AT.mkdir(parents=True, exist_ok=True)
+    for name in names:
+        begun = time.monotonic()
+        (RELEASE_AT / f"{name}.result").unlink(missing_ok=True)
+        status = run(name, RELEASE[name], RELEASE_AT)
+        if commit() != at:
+            print(f"release tier: {name}: files changed while it ran, so it counts for no commit")
+            return 1
+        text = f"{at} {status} {time.monotonic() - begun:.0f}\n"
+        (RELEASE_AT / f"{name}.result").write_text(text)
+        print(f"release tier: {name}: {in_words(status)}: see target/release-tier/{name}.log",
+              flush=True)
+    return 0 if whole(names) else 1
 
 
-def keep():
-    found = passed()
-    RECORD.write_text(HEAD + "".join(f"{name} {total}\n" for name, total in found.items()))
-    print(f"the gate: tests/RECORD has {' '.join(found) or 'no part'}")
-    for written, record in ((wrong.OF_GATE, wrong.RECORD), (AT / "PROOF.txt", proof.RECORD)):
-        if written.is_file():
-            shutil.copyfile(written, record)
-            print(f"the gate: {record.relative_to(crates.TOP)} is what the run wrote")
-    return 0
-
-
-def whole():
-    found = passed()
-    missing = [name for name in OF_RELEASE if name not in found and ended(name) != LEFT_OUT]
-    if missing:
-        print(f"the gate: not tried on the files as they are: {' '.join(missing)}: run .ci/run, "
-              "and then tools/parts.py keep")
-    return 1 if missing else proof.look(True)
+def main():
+    word, *names = sys.argv[1:] or [""]
+    if word == "merge" and not names:
+        return merge()
+    if word == "release" and set(names) <= set(RELEASE):
+        return release(names or list(RELEASE))
+    if word == "whole" and not names:
+        return 0 if whole(RELEASE) else 1
+    sys.exit(f"{__doc__}\nThe parts of the release tier: {' '.join(RELEASE)}")
 
 
 if __name__ == "__main__":
-    WORDS = {"plan": plan, "keep": keep, "lacking": lack, "whole": whole}
-    if len(sys.argv) != 2 or sys.argv[1] not in WORDS:
-        sys.exit(__doc__)
-    sys.exit(WORDS[sys.argv[1]]())
+    sys.exit(main())

@@ -1,34 +1,28 @@
 #!/usr/bin/env python3
-"""The record of the proof, PROOF.txt: of each crate what was proved, when it was last proved.
+"""The record of the proof, PROOF.txt: of each crate what `rt ci` proved.
 
-    tools/proof.py --watch FILE    until it is killed: notes the processor seconds of the checks of
-                                   `rt ci`, which runs beside it with the same PROOF_RUN
-    tools/proof.py --write FILE    after that: writes the record of what `rt ci` passed
-    tools/proof.py --look          says which lines are not of the files as they are
-    tools/proof.py --whole         the same, and the status is 1 if there are any
+    tools/proof.py            runs `rt ci`, and then writes the line of each crate that it passed
+    tools/proof.py --look     says which lines are not of the files as they are
+    tools/proof.py --whole    the same, and the status is 1 if there are any
 
 A line has the crate, its functions and the clauses of their contracts as the sources have them, the
-seconds, and the sum of what it was proved from: its line of crates.txt, its sources, definitions
-and proofs, and those of the crates below. If the sum of a line is that of the files, --look counts
-again what the line says, except for the seconds. A line with another sum says what was proved, and
-not of which files: it fails nothing until a release. The seconds are `-` if an earlier run on the
-same machine had proved the crate. PROOF_RECORD names another record.
-
-The gate writes target/gate/PROOF.txt, and `tools/parts.py keep` copies it to its place.
+processor seconds of the proof, and the sum of what it was proved from: its line of crates.txt, its
+sources, definitions and proofs, and those of the crates below. A crate that `rt ci` kept from an
+earlier run keeps its line, or has `-` for the seconds. If the sum of a line is that of the files,
+--look counts again what the line says, except for the seconds. Another sum fails only --whole.
 """
 import collections
-import json
+import hashlib
 import os
 import re
 import subprocess
 import sys
-import time
+import threading
 from pathlib import Path
 
 import crates
 
-RECORD = Path(os.environ.get("PROOF_RECORD") or crates.TOP / "PROOF.txt")
-AT = crates.TOP / "target/gate"
+RECORD = crates.TOP / "PROOF.txt"
 HEAD = """\
 # What `rt ci` proved: of each crate the functions and the clauses of their contracts, as they are in
 # the sources, the processor seconds (-: kept from an earlier run), and the sum of all that it was
@@ -36,112 +30,132 @@ HEAD = """\
 """
 FUNCTION = re.compile(r'(?m)^ *(?:pub(?:\([^)]*\))? )?(?:(?:final|const|unsafe|extern "C") )*fn \w')
 CLAUSE = re.compile(r"(?m)^ *(?:ensures|requires)\*?(?: \w+)? \{")
-LINE = re.compile(r"(\w+) (\d+) functions (\d+) clauses (\d+|-) s ([0-9a-f]{32})")
+LINE = re.compile(r"(?m)^(\w+) (\d+ functions \d+ clauses) (\d+|-) s ([0-9a-f]{32})$")
+PASSED = re.compile(r"(?m)^rt: (\w+) (?:proved$|is kept: )")
 EVERY = 2
 
 
 def counted(crate):
-    """The functions and the clauses of the crate's sources."""
+    """The functions and the clauses of the crate's sources, as a line has them."""
     source = crates.TOP / "crates" / crate / "src"
     text = "\n".join(path.read_text() for path in sorted(source.rglob("*.rt")))
-    return len(FUNCTION.findall(text)), len(CLAUSE.findall(text))
+    return f"{len(FUNCTION.findall(text))} functions {len(CLAUSE.findall(text))} clauses"
 
 
-def lines_of(file):
-    """The lines of a record by their crates, and those that are none."""
-    rows = [row for row in file.read_text().splitlines() if row and row[0] != "#"] \
-        if file.is_file() else []
-    found = {row.split(" ")[0]: LINE.fullmatch(row) for row in rows if not row.startswith("kit: ")}
-    return ({crate: line for crate, line in found.items() if line and crate in crates.lines()},
-            [crate for crate, line in found.items() if not line or crate not in crates.lines()])
+def known_lines():
+    """The lines of the record, by their crates."""
+    text = RECORD.read_text() if RECORD.is_file() else ""
+    return {line[1]: line for line in LINE.finditer(text)}
 
 
-def samples():
-    """The processes of rattle that prove a crate: the ID, the crate and the seconds so far, with
-    those of the processes that it started and that ended."""
-    run, found = f"PROOF_RUN={os.environ.get('PROOF_RUN')}", {}
-    for folder in Path("/proc").glob("[0-9]*"):
-        try:
-            words = (folder / "cmdline").read_bytes().decode(errors="replace").split("\0")
-            if not words[0].endswith("/rattle") or "--crate-name" not in words:
+class Watch:
+    """Looks every few seconds how long each check of `rt ci` took so far, until it is ended."""
+
+    def __init__(self):
+        self.took, self.is_ended = {}, threading.Event()
+        self.mark = f"PROOF_RUN={os.getpid()}"
+        threading.Thread(target=self.follow, daemon=True).start()
+
+    def follow(self):
+        while not self.is_ended.wait(EVERY):
+            self.took.update(self.samples())
+
+    def samples(self):
+        """The processes of rattle that prove a crate: of each ID and crate the seconds so far, with
+        those of the processes that it started and that ended."""
+        found = {}
+        for folder in Path("/proc").glob("[0-9]*"):
+            try:
+                words = (folder / "cmdline").read_bytes().decode(errors="replace").split("\0")
+                if not words[0].endswith("/rattle") or "--crate-name" not in words:
+                    continue
+                variables = (folder / "environ").read_bytes().decode(errors="replace").split("\0")
+                fields = (folder / "stat").read_text().rpartition(")")[2].split()
+            except OSError:
                 continue
-            environment = (folder / "environ").read_bytes().decode(errors="replace").split("\0")
-            fields = (folder / "stat").read_text().rpartition(")")[2].split()
-        except OSError:
-            continue
-        if run in environment and "--test" not in words:
-            ticks = sum(map(int, fields[11:15]))
-            crate = words[words.index("--crate-name") + 1]
-            found[folder.name] = fields[1], crate, ticks / os.sysconf("SC_CLK_TCK")
-    return [(number, crate, seconds) for number, (parent, crate, seconds) in found.items()
-            if parent not in found]
+            if self.mark in variables and "--test" not in words:
+                seconds = sum(map(int, fields[11:15])) / os.sysconf("SC_CLK_TCK")
+                found[folder.name] = fields[1], words[words.index("--crate-name") + 1], seconds
+        return {(number, crate): seconds for number, (parent, crate, seconds) in found.items()
+                if parent not in found}
 
-
-def watch(file):
-    """Looks every few seconds how long each check took so far."""
-    took = {}
-    while True:
-        took.update({(number, crate): seconds for number, crate, seconds in samples()})
+    def seconds(self):
+        """The seconds of each crate."""
+        self.is_ended.set()
         total = collections.Counter()
-        for (_, crate), seconds in took.items():
+        for (_, crate), seconds in self.took.copy().items():
             total[crate] += seconds
-        Path(f"{file}.new").write_text(json.dumps(total))
-        os.replace(f"{file}.new", file)
-        time.sleep(EVERY)
+        return total
 
 
-def write(file):
-    log = (AT / "proofs.log").read_text(errors="replace")
-    sums = json.loads(crates.BEGUN.read_text())["sums"]
-    took = json.loads((AT / "seconds").read_text()) if (AT / "seconds").is_file() else {}
-    known, _ = lines_of(RECORD)
-    proved = set(re.findall(r"(?m)^rt: (\w+)(?:: its tests are)? proved$", log))
-    kept = set(re.findall(r"(?m)^rt: (\w+) is kept: ", log))
-    rows = []
+def lanes():
+    """How many checks `rt ci` makes side by side, each with one job: as many as there are processors,
+    and 4 GB of memory for each, beside 3 GB for the exported crate. (Four jobs in one check take
+    more than twice the processor seconds of one, since each loads what it proves over for itself.)"""
+    free = int(re.search(r"MemAvailable:\s+(\d+)", Path("/proc/meminfo").read_text())[1])
+    return max(1, min(os.cpu_count() or 1, (free - 3_000_000) // 4_000_000))
+
+
+def prove():
+    """Runs `rt ci`, prints what it prints, writes the record, and returns the status."""
+    said = subprocess.run("git rev-parse HEAD && git status --porcelain", shell=True, cwd=crates.TOP,
+                          capture_output=True, text=True, check=False).stdout.split("\n")
+    print(f"commit: {said[0]}{', with changes' if any(said[1:]) else ''}", flush=True)
+    (sums, begun), watch = crates.begin(), Watch()
+    setting = {"RT_JOBS": str(lanes()), **os.environ, "PROOF_RUN": str(os.getpid())}
+    with subprocess.Popen(["rt", "ci"], cwd=crates.TOP, env=setting, text=True, errors="replace",
+                          stdout=subprocess.PIPE, stderr=subprocess.STDOUT) as ran:
+        log = []
+        for line in ran.stdout:
+            print(line, end="", flush=True)
+            log.append(line)
+    crates.sum_of_files.cache_clear()  # since files may have changed meanwhile
+    if ran.returncode == 0:
+        crates.end(sums, begun)
+    write(PASSED.findall("".join(log)), sums, watch.seconds())
+    return ran.returncode
+
+
+def write(passed, sums, took):
+    """Writes the lines of the crates that passed, if their files are as they were."""
+    known, rows = known_lines(), []
     for crate in crates.lines():
         total = crates.sum_of(crate)
-        if crate in proved | kept and sums.get(crate) == total:
-            functions, clauses = counted(crate)
-            seconds = f"{took[crate]:.0f}" if crate in proved - kept and crate in took else "-"
-            if seconds == "-" and crate in known and known[crate][5] == total:
-                seconds = known[crate][4]
-            rows.append(f"{crate} {functions} functions {clauses} clauses {seconds} s {total}")
-        elif crate in known:
-            rows.append(known[crate][0])
-    said = subprocess.run(["rt", "version"], capture_output=True, text=True, check=False).stdout
-    Path(file).write_text("\n".join([HEAD + f"kit: {said.strip()}", *rows]) + "\n")
-    print(f"proof: {len(rows)} crates of {len(crates.lines())} are in {file}")
-    return 0
+        line = known.get(crate)
+        if crate in passed and sums[crate] == total and (not line or line[4] != total):
+            seconds = f"{took[crate]:.0f}" if crate in took else "-"
+            rows.append(f"{crate} {counted(crate)} {seconds} s {total}")
+        elif line:
+            rows.append(line[0])
+    kit = subprocess.run(["rt", "version"], capture_output=True, text=True, check=True).stdout
+    compiler = f"{crates.kit()}/bin/rattle"
+    version = subprocess.run([compiler, "--version"], capture_output=True, text=True,
+                             check=True).stdout
+    digest = hashlib.sha256(Path(compiler).read_bytes()).hexdigest()
+    head = [f"{HEAD}kit: {kit.strip()}", f"compiler: {version.strip()}, sha256 {digest}"]
+    RECORD.write_text("\n".join([*head, *rows]) + "\n")
 
 
 def look(is_whole):
-    known, wrong = lines_of(RECORD)
-    for crate in wrong:
-        print(f"PROOF.txt: the line of {crate} is of no crate, or not in its form: remove it")
+    known, wrong = known_lines(), 0
     old = [crate for crate in crates.lines()
-           if crate not in known or known[crate][5] != crates.sum_of(crate)]
-    for crate, line in known.items():
-        if crate not in old and counted(crate) != (int(line[2]), int(line[3])):
-            wrong.append(crate)
-            print("PROOF.txt: {} has {} functions and {} clauses, not {} and {}: write it by the "
-                  "gate".format(crate, *counted(crate), line[2], line[3]))
+           if crate not in known or known[crate][4] != crates.sum_of(crate)]
+    for crate in [crate for crate in known if crate not in old]:
+        if crate not in crates.lines() or counted(crate) != known[crate][2]:
+            wrong += 1
+            print(f"PROOF.txt: the line of {crate} is not of its files: write it by tools/proof.py")
     if old:
-        print(f"proof: PROOF.txt is not of the files as they are: {' '.join(old)}: run .ci/run, "
-              "and then tools/parts.py keep")
+        print(f"proof: PROOF.txt is not of the files as they are: {' '.join(old)}: run .ci/run")
     print(f"proof: of the files as they are: {len(crates.lines()) - len(old)} lines of PROOF.txt; "
-          f"not: {len(old)}; wrong: {len(wrong)}")
+          f"not: {len(old)}; wrong: {wrong}")
     return 1 if wrong or (is_whole and old) else 0
 
 
 def main():
     words = sys.argv[1:]
-    if words[:1] == ["--watch"] and len(words) == 2:
-        return watch(words[1])
-    if words[:1] == ["--write"] and len(words) == 2:
-        return write(words[1])
     if words in (["--look"], ["--whole"]):
         return look(words == ["--whole"])
-    sys.exit(__doc__)
+    return sys.exit(__doc__) if words else prove()
 
 
 if __name__ == "__main__":

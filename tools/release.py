@@ -1,18 +1,19 @@
 #!/usr/bin/env python3
 """Puts a release together from what is built, and looks at one.
 
-    tools/release.py OUT [LOG]       OUT/stunp-VERSION and OUT/stunp-VERSION.tar.gz; LOG is what the
-                                     gate printed at this commit (target/gate.log of .ci/run); and
+    tools/release.py OUT [LOG]       OUT/stunp-VERSION and OUT/stunp-VERSION.tar.gz; LOG is what
+                                     `rt ci` printed at this commit (target/merge/proofs.log); and
     tools/release.py --source OUT    OUT/stunp-VERSION-source.tar.gz: the files of this repository,
                                      and in vendor/ the third-party crates, so that `make lib` needs
                                      cargo, Python, a C compiler and no network
     tools/release.py --verify OUT    the sums; what is made again from this repository is the same,
                                      or each file that differs; it installs and runs on a clean root
 
-The archives, the programs and the exported crate must be there: `.ci/run` builds them. A release
-has neither the toolchain nor anything of it. It is laid out as a prefix, and is one: its files for
-pkg-config and CMake find the folder wherever it lies. Made twice from one commit and one build it
-is the same to the byte. Another C compiler makes another libstunp_heap.a.
+The archives, the programs and the exported crate must be there: the release tier builds them, and
+its other parts must have passed at this commit (tools/parts.py). A release has neither the
+toolchain nor anything of it. It is laid out as a prefix, and is one: its files for pkg-config and
+CMake find the folder wherever it lies. Made twice from one commit and one build it is the same to
+the byte. Another C compiler makes another libstunp_heap.a.
 """
 
 import gzip
@@ -25,8 +26,10 @@ import sys
 import tarfile
 import tempfile
 
+import parts
+
 TOP = os.path.normpath(os.path.join(os.path.dirname(os.path.abspath(__file__)), ".."))
-LOG = os.path.join(TOP, "target/gate.log")
+LOG = os.path.join(TOP, "target/merge/proofs.log")
 EXPORTED = os.path.join(TOP, "target/export")
 ARCHIVES = ("stun_c", "stun_state", "stun_c_endpoint")
 PROGRAMS = ("stun_tool", "stun_inspect")
@@ -41,6 +44,7 @@ KEPT = (
     ("docs/maintainers/TRANSCRIPTS.md", "transcripts/README.md"),
     ("docs", "docs"),
     ("CHANGELOG.md", "CHANGELOG.md"),
+    ("tools/packed/Makefile", "Makefile"),
     ("LICENSE-APACHE", "LICENSE-APACHE"),
     ("LICENSE-MIT", "LICENSE-MIT"),
     ("PROOF.txt", "PROOF.txt"),
@@ -48,61 +52,6 @@ KEPT = (
     ("SECURITY.md", "SECURITY.md"),
     ("VERSION", "VERSION"),
 )
-MAKEFILE = """# `make install PREFIX=/usr/local` copies bin, include, lib and share there.
-# `make uninstall` takes all of it out. DESTDIR goes before PREFIX, which is an absolute path.
-PREFIX ?= /usr/local
-TO = $(DESTDIR)$(PREFIX)
-FILES = $(shell find bin include lib share -type f)
-
-help:
-\t@echo "make install    copy this release; PREFIX=/usr/local"
-\t@echo "make uninstall  take it out again"
-
-install:
-\t@set -e; for file in $(FILES); do \\
-\t    case $$file in bin/*) mode=755 ;; *) mode=644 ;; esac; \\
-\t    install -D -m $$mode $$file $(TO)/$$file; \\
-\t    case $$file in *.pc) sed 's|^prefix=.*|prefix=$(PREFIX)|' $$file >$(TO)/$$file ;; esac; \\
-\tdone
-
-uninstall:
-\trm -f $(addprefix $(TO)/,$(FILES))
-\trm -rf $(TO)/lib/cmake/stunp $(TO)/share/stunp
-
-.PHONY: help install uninstall
-"""
-CONTENTS = """# stunp VERSION
-
-This folder is a prefix. Use it where it lies, or copy it by `make install PREFIX=/usr/local`.
-
-| Here | Is |
-|---|---|
-| `lib`, `include` | archives and headers for C on Linux x86-64, for pkg-config and CMake |
-| `bin`, `share/man` | the programs `stun_tool` and `stun_inspect`, and their pages |
-| `share/stunp` | the source of `libstunp_heap.a` |
-| `crate` | the exported crate: as `.crate`, and its workspace as source |
-| `transcripts` | calls with their answers; [README.md](transcripts/README.md) is their language |
-| `transcripts/endpoints` | those of look-ups, servers without a realm, ICE and clients |
-| `docs`, the pages beside this one | those of the repository; links to other folders lead there |
-| `LICENSE-MIT`, `LICENSE-APACHE` | the terms, of which you choose one |
-| `docs/LICENSES.md` | what of this others wrote, and under which terms |
-| `PROOF` | the commit, the toolchain, and what was said of each proof |
-| `PROOF.txt` | of each crate its functions and clauses, and the sum of what was proved |
-| `SHA256SUMS` | of all other files: `sha256sum -c SHA256SUMS` |
-
-In C, with the folder's path as HERE:
-
-    export PKG_CONFIG_PATH=HERE/lib/pkgconfig
-    cc program.c $(pkg-config --cflags --libs stunp_endpoint) -o program
-
-With CMake: `find_package(stunp VERSION)` and `target_link_libraries(program stunp::stunp_endpoint)`,
-with `-DCMAKE_PREFIX_PATH=HERE`. In Rust, in `Cargo.toml`:
-
-    seatcrane-stun = { path = "HERE/crate/seatcrane-stun" }
-
-The archives and the programs are proved; the crate and the heap are tested
-([what is trusted](README.md#what-is-trusted)).
-"""
 
 
 def run(*command, **how):
@@ -136,13 +85,12 @@ def verdicts(lines):
 
 def record(log):
     """What was proved, by which toolchain, at which commit, and the gate's last line."""
-    if run("git", "status", "--porcelain", cwd=TOP):
+    if not parts.commit():
         sys.exit("release: files differ from those of the commit")
-    if subprocess.run([sys.executable, "tools/wrong.py", "--whole"], cwd=TOP).returncode != 0:
-        sys.exit("release: not every wrong edit was tried at this commit")
-    if subprocess.run([sys.executable, "tools/parts.py", "whole"], cwd=TOP).returncode != 0:
-        sys.exit("release: not all that it needs was tried at this commit")
-    commit = "commit: " + run("git", "rev-parse", "HEAD", cwd=TOP).strip()
+    tried = [name for name in parts.RELEASE if name != "release"]
+    if not parts.whole(tried):
+        sys.exit("release: not all other parts of the release tier passed at this commit")
+    commit = "commit: " + parts.commit()
     with open(log, errors="replace") as opened:
         lines = opened.read().splitlines()
     if commit not in lines:
@@ -159,17 +107,10 @@ def record(log):
             sys.exit("release: %s is not there: run `make c`" % proof)
         with open(proof, errors="replace") as opened:
             words += ["lib%s.a: %s" % (name, line) for line in said(opened.read().splitlines())]
-    words += ["", "What the machine of the gate could not do:", "", *lacking()]
+    lacks = parts.lacking(tried, parts.RELEASE_AT) or ["nothing"]
+    words += ["", "What the machine of the release tier lacked:", "", *lacks]
     words += ["", "What the gate said of each crate and of its tests:", "", *verdicts(lines)]
     return "\n".join(words) + "\n"
-
-
-def lacking():
-    """What the gate left out, since its machine lacked something. Its last parts, a minimal Debian
-    and a release, are not among it."""
-    told = [line.partition("cannot do: ")[2] for line in
-            run(sys.executable, "tools/parts.py", "lacking", cwd=TOP).splitlines()]
-    return [line for line in told if not line.startswith(("bare: ", "release: "))] or ["nothing"]
 
 
 def copy(source, target):
@@ -242,14 +183,14 @@ def pack(folder, archive):
 def assemble(folder, log, is_tried=True):
     missing = [source for source in (*BUILT, log) if not os.path.exists(os.path.join(TOP, source))]
     if missing:
-        sys.exit("release: %s is not there: run .ci/run" % ", ".join(missing))
+        sys.exit("release: %s is not there: run make release-tier" % ", ".join(missing))
     proof = record(log)
     shutil.rmtree(folder, ignore_errors=True)
     install(folder)
     for source, target in KEPT:
         copy(os.path.join(TOP, source), os.path.join(folder, target))
-    write(os.path.join(folder, "Makefile"), MAKEFILE)
-    write(os.path.join(folder, "CONTENTS.md"), CONTENTS.replace("VERSION", version()))
+    page = contents(TOP, "tools/packed/CONTENTS.txt").decode().replace("VERSION", version())
+    write(os.path.join(folder, "CONTENTS.md"), page)
     crate(folder, is_tried)
     write(os.path.join(folder, "PROOF"), proof)
     write(os.path.join(folder, "SHA256SUMS"), sums(folder))

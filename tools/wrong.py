@@ -4,8 +4,6 @@
     tools/wrong.py                 tries those that the record does not have as they are, and writes
                                    the record
     tools/wrong.py --all           tries all, and writes the record
-    tools/wrong.py --gate          tries those that the record does not have, and five more at random
-                                   if the record is of another toolchain
     tools/wrong.py --whole         says whether the record is of the files as they are
     tools/wrong.py --look          says which edits cannot be made in the files as they are
     tools/wrong.py --grown COMMIT  takes edits over from the record of a commit, without trying them
@@ -16,9 +14,7 @@ what decides whether it is wrong (tools/shown.py), as it was then. That is the e
 it changes, the contracts of what they call, and the definitions of these; of an edit that names a
 law, the contract of the law too. So a comment, a proof, or a body in another file calls for no
 edit: a proof cannot make a wrong body right. The line `kit:` names the toolchain that all were last
-tried by. WRONG_RECORD names another record: --gate writes target/gate/edits.record, where those of
-the record that stay are too. What is random is drawn by the sums of the edits, or by WRONG_SEED,
-and the seed is printed.
+tried by.
 
 An item that was added to what decides, and is no impl of a trait, makes no wrong body right: neither
 the body nor anything that it names has changed. Nor does another name of a function, wherever it is
@@ -45,7 +41,6 @@ import hashlib
 import itertools
 import json
 import os
-import random
 import re
 import shutil
 import subprocess
@@ -59,10 +54,8 @@ import crates
 import shown
 
 WRONG = crates.TOP / "tests/wrong"
-RECORD = Path(os.environ.get("WRONG_RECORD") or WRONG / "RECORD")
-OF_GATE = crates.TOP / "target/gate/edits.record"
+RECORD = WRONG / "RECORD"
 HEAD = "# Of each edit: the sum of what it was last tried against, and refused.\n"
-MORE = 5
 LAW = re.compile(r"law: (\w+)::(\S+)\n")
 BUILDING, BUILT = threading.Lock(), set()
 # What the prover has checked of a crate, it does not check again for the next edit of it. Each
@@ -126,25 +119,6 @@ def kit_line():
     """The line of the record for the toolchain."""
     said = subprocess.run(["rt", "version"], capture_output=True, text=True, check=False).stdout
     return f"kit: {said.strip()}"
-
-
-def at_random(found):
-    """The edits that are tried although nothing of them changed, and why: some if the record is of
-    another toolchain."""
-    if kit_line() in known_lines():
-        return [], ""
-    sums = " ".join(map(line_of, every_edit()))
-    seed = os.environ.get("WRONG_SEED") or hashlib.sha256(sums.encode()).hexdigest()[:8]
-    others = [edit for edit in every_edit() if edit not in found]
-    more = random.Random(seed).sample(others, min(MORE, len(others)))
-    return more, f"{len(more)} at random, by WRONG_SEED={seed}, since the record is not of this kit"
-
-
-def called_for():
-    """What --gate is going to try, in words, or an empty text."""
-    found = changed()
-    words = f"{in_words(found)}, which changed since the record" if found else ""
-    return "; ".join(filter(None, (words, at_random(found)[1])))
 
 
 def edited(edit, folder):
@@ -337,28 +311,19 @@ def tried(edits, is_shown=False):
     return wrong
 
 
-def try_changed(found, more, record):
-    """Tries these edits and more, and writes a record."""
+def try_changed(found):
+    """Tries these edits, and writes the record."""
+    print(f"wrong: {in_words(found) or 'the record is of the files as they are'}", flush=True)
     # (a file that changes meanwhile has another sum)
     lines = {edit: line_of(edit) for edit in every_edit()}
-    wrong = tried(found + more)
+    wrong = tried(found) if found else []
     known = known_lines()
     kept = [line for edit, line in lines.items()
             if edit not in wrong and (edit in found or line in known)]
     is_of_kit = not wrong and (kit_line() in known or set(found) == set(lines))
     kits = [kit_line()] if is_of_kit else [line for line in known if line.startswith("kit: ")]
-    record.parent.mkdir(parents=True, exist_ok=True)
-    record.write_text(HEAD + "".join(line + "\n" for line in [*kits, *sorted(kept)]))
-    if record == OF_GATE and not wrong and found:
-        print(f"wrong: to keep this, copy {OF_GATE.relative_to(crates.TOP)} to tests/wrong/RECORD")
+    RECORD.write_text(HEAD + "".join(line + "\n" for line in [*kits, *sorted(kept)]))
     return 1 if wrong else 0
-
-
-def try_for_gate():
-    """Tries what the gate calls for."""
-    found = changed()
-    print(f"wrong: {called_for() or 'the record is of the files as they are'}", flush=True)
-    return try_changed(found, at_random(found)[0], OF_GATE)
 
 
 def functions_in(top):
@@ -481,8 +446,6 @@ def main():
         print(f"wrong: not tried as they are now: edits, {in_words(found)}: run `make wrong`"
               if found else "wrong: the record is of the files as they are")
         return 1 if found else 0
-    if words == ["--gate"]:
-        return try_for_gate()
     if words == ["--parts"]:
         print(json.dumps([(name_of(edit), line_of(edit), parts_of(edit)[0])
                           for edit in every_edit()]))
@@ -490,7 +453,7 @@ def main():
     if words[:1] == ["--grown"] and len(words) == 2:
         return take_over(words[1])
     if words in ([], ["--all"]):
-        return try_changed(every_edit() if words else changed(), [], RECORD)
+        return try_changed(every_edit() if words else changed())
     is_shown = words[0] == "--show"
     named = [edit for word in words[is_shown:] for edit in
              ([WRONG / f"{word}.edit"] if "/" in word else edits_of(word))]

@@ -1,5 +1,5 @@
 #!/usr/bin/env python3
-"""Tests tools/parts.py, tools/proof.py and tools/shown.py in seconds, in scratch repositories. The
+"""Tests .ci/run, tools/parts.py, tools/proof.py and tools/shown.py in seconds, in scratch folders. The
 commands of the parts are replaced by a stub, which notes that it ran; `rt` is one, too.
 
 - The lanes begin together, and a part that fails stops no other but those that need it.
@@ -21,12 +21,13 @@ import shown  # noqa: E402
 
 # Runs a tier with stubs in place of its commands.
 DRIVER = """
+import runpy
 import sys
 sys.path.insert(0, "tools")
 import parts
 for lane in (*parts.MERGE, parts.RELEASE):
     lane |= {name: f"bin/stub {name}" for name in lane if name != "proofs"}
-sys.exit(parts.main())
+sys.exit(parts.main() if sys.argv[1] != "merge" else runpy.run_path(".ci/run", None, "__main__"))
 """
 # Waits for the first part of the other lanes. FAIL and LACKS name parts.
 STUB = """#!/bin/sh
@@ -66,6 +67,7 @@ def lay(top):
     """A repository of three crates, with the tools."""
     for name in ("parts.py", "proof.py", "crates.py"):
         write(top / "tools" / name, (TOP / "tools" / name).read_text())
+    write(top / ".ci/run", (TOP / ".ci/run").read_text())
     write(top / "driver.py", DRIVER)
     write(top / ".gitignore", "ran.*\ntarget/\nbin/\nkit/\n__pycache__/\nPROOF.txt\nsaid\n")
     write(top / "crates.txt", "one:\ntwo: one\nthree:\n")
@@ -143,8 +145,10 @@ def records(top):
 
 
 def releases(top):
+    write(top / "bin/stub", STUB + "[ $1 != merge ] || echo 'merge: this machine lacks: a: left out'\n")
     lines, status, ran = run(top, "release")
-    expect("all parts are put together", status == 0 and ran == set(parts.RELEASE)
+    expect("all parts are put together", status == 0
+           and "release tier: the machine lacked: merge: a: left out" in lines and ran == set(parts.RELEASE)
            and say(lines, f"release tier: {len(parts.RELEASE)} passed, 0 failed at "), lines)
     lines, status, ran = run(top, "release", "bare", FAIL="bare")
     expect("one part alone, and the others count", status == 1 and ran == {"bare"}

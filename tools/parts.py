@@ -1,28 +1,18 @@
 #!/usr/bin/env python3
-"""The two tiers of tests, each a list of parts with their commands, and what runs them.
+"""The two tiers of tests, each a list of parts with their commands.
 
-    tools/parts.py merge              the merge tier, which .ci/run runs
-    tools/parts.py release [PART ..]  these parts of the release tier, or all, at the commit that is
-                                      checked out
+    .ci/run                           runs the merge tier
+    tools/parts.py release [PART ..]  runs parts of the release tier, or all, at this commit
     tools/parts.py whole              puts the results of the release tier together for this commit
 
-The parts of a lane run one after another, and the lanes of the merge tier begin together and run
-side by side. A part runs if those passed that AFTER names. Whether it does depends on nothing else,
-neither on the time nor on what changed, and one that did not run has failed. A part that ends with
-LEFT_OUT cannot run on this machine, and then those after it cannot either. What a part prints goes
-to target/merge/NAME.log, and is printed whole when it ends. Before the last line stands what this
-machine lacks: the lines of any log that say `left out`. The last line has the counts of `rt ci`, to
-which each other part that failed adds one.
-
-The parts of the release tier take at most 170 minutes each on four cores. Their results are in
-target/release-tier, each with the commit that it is of, so they can be made on several machines and
-copied together. `release` is last, since it packs what the others built and tried.
+A part that ends with LEFT_OUT cannot run on this machine. The parts of the release tier take at
+most 170 minutes each on four cores. Their results are in target/release-tier and name the commit,
+so they can be made on several machines and copied together. `release` is last, since it packs what
+`merge` and `archives` built.
 """
-import os
 import re
 import subprocess
 import sys
-import threading
 import time
 from pathlib import Path
 
@@ -30,7 +20,7 @@ TOP = Path(__file__).resolve().parent.parent
 MERGE_AT, RELEASE_AT = TOP / "target/merge", TOP / "target/release-tier"
 LEFT_OUT = 77
 # How a line says what this machine lacks. A number of calls that were left out says another thing.
-SAID = re.compile(r"^left out,|(?:[:;,]|\bis|\bare) left out\b")
+SAID, LACKS = re.compile(r"^left out,|(?:[:;,]|\bis|\bare) left out\b"), "this machine lacks: "
 ARCHIVE = "target/c/libstunp.a"
 OVER = f'STUN_C="$PWD/{ARCHIVE}" STUN_STATE="$PWD/{ARCHIVE}"'
 
@@ -135,76 +125,9 @@ def lacking(names, folder):
     for name in names:
         log = folder / f"{name}.log"
         lines = log.read_text(errors="replace").splitlines() if log.is_file() else []
-        found += [f"{name}: {line.strip()[:300]}" for line in lines if SAID.search(line)]
+        said = [line for line in lines if LACKS in line] or filter(SAID.search, lines)
+        found += [f"{name}: {line.rpartition(LACKS)[2].strip()[:300]}" for line in said]
     return list(dict.fromkeys(found))
-
-
-class Merge:
-    """A run of the merge tier: the status of each part that ended, by its name."""
-
-    def __init__(self, lanes):
-        self.lanes, self.statuses, self.begun = lanes, {}, time.monotonic()
-        self.names = [name for lane in lanes for name in lane]
-        self.ended = {name: threading.Event() for name in self.names}
-        self.printing = threading.Lock()
-
-    def status_of(self, name, command):
-        """Runs a part after those that it needs, unless one of these failed or cannot run."""
-        for other in AFTER.get(name, ()):
-            self.ended[other].wait()
-            if self.statuses[other] == LEFT_OUT:
-                (MERGE_AT / f"{name}.log").write_text(f"left out, as {other} is\n")
-            if self.statuses[other] != 0:
-                return LEFT_OUT if self.statuses[other] == LEFT_OUT else None
-        return run(name, command, MERGE_AT)
-
-    def follow(self, lane):
-        for name, command in lane.items():
-            self.statuses[name] = None
-            try:
-                status = self.statuses[name] = self.status_of(name, command)
-            finally:
-                self.ended[name].set()
-            if status is not None:
-                with self.printing:
-                    print((MERGE_AT / f"{name}.log").read_text(errors="replace"), end="")
-                    print(f"== {name}: {in_words(status)} (after "
-                          f"{time.monotonic() - self.begun:.0f} s)", flush=True)
-
-    def verdict(self):
-        """Prints what failed and what this machine lacks, and returns the counts."""
-        log = MERGE_AT / "proofs.log"
-        told = re.findall(r"(?m)^(\d+) passed, (\d+) failed$",
-                          log.read_text(errors="replace") if log.is_file() else "")
-        passed, failed = map(int, told[-1]) if told else (0, 0)
-        for name in self.names:
-            if self.statuses[name] not in (0, LEFT_OUT):
-                print(f"merge: {name}: {in_words(self.statuses[name])}")
-                failed = max(failed, 1) if name == "proofs" else failed + 1
-        for line in lacking(self.names, MERGE_AT):
-            print(f"merge: this machine lacks: {line}")
-        return passed, failed
-
-
-def merge():
-    subprocess.run(["rm", "-rf", MERGE_AT], check=True)
-    MERGE_AT.mkdir(parents=True)
-    half = str(((os.cpu_count() or 1) + 1) // 2)
-    os.environ |= {"CARGO_BUILD_JOBS": half, "RUST_TEST_THREADS": half}
-    ran = Merge(MERGE)
-    print(f"merge: {len(ran.names)} parts: {' '.join(ran.names)}")
-    print("merge: to follow the proofs, tail -f target/merge/proofs.log", flush=True)
-    threads = [threading.Thread(target=ran.follow, args=(lane,)) for lane in ran.lanes]
-    for thread in threads:
-        thread.start()
-    for thread in threads:
-        thread.join()
-    passed, failed = ran.verdict()
-    took = os.times()
-    print(f"merge: {time.monotonic() - ran.begun:.0f} s, of the processor "
-          f"{took.children_user + took.children_system:.0f} s")
-    print(f"{passed} passed, {failed} failed")
-    return 1 if failed else 0
 
 
 def git(*words):
@@ -261,8 +184,6 @@ def release(names):
 
 def main():
     word, *names = sys.argv[1:] or [""]
-    if word == "merge" and not names:
-        return merge()
     if word == "release" and set(names) <= set(RELEASE):
         return release(names or list(RELEASE))
     if word == "whole" and not names:

@@ -295,12 +295,3 @@ def decides(crate, below, paths, edit, law=None):
         known |= {law[0], *law[2]}
     files += [file for name in sorted(known - {crate}) for file in sources(name).values()]
     return [unseen(text) for text in texts + read_with([*texts, edit], modules, files, known)]
-
-
-@functools.lru_cache(None)
-def code_in(crate):
-    """The code of the files of a crate, by their paths in it."""
-    folder = TOP / "crates" / crate
-    files = sorted(path for part in ("src", "specs", "proofs")
-                   for path in (folder / part).rglob("*") if path.suffix in (".rt", ".antt"))
-    return tuple((str(path.relative_to(folder)), code_of(path)) for path in files)

@@ -6,7 +6,6 @@
     tools/wrong.py --all           tries all, and writes the record
     tools/wrong.py --whole         says whether the record is of the files as they are
     tools/wrong.py --look          says which edits cannot be made in the files as they are
-    tools/wrong.py --grown COMMIT  takes edits over from the record of a commit, without trying them
     tools/wrong.py CRATE[/NAME] .. tries these
 
 The record, tests/wrong/RECORD, has a line for each edit that was tried and refused: its sum, with
@@ -15,11 +14,6 @@ it changes, the contracts of what they call, and the definitions of these; of an
 law, the contract of the law too. So a comment, a proof, or a body in another file calls for no
 edit: a proof cannot make a wrong body right. The line `kit:` names the toolchain that all were last
 tried by.
-
-An item that was added to what decides, and is no impl of a trait, makes no wrong body right: neither
-the body nor anything that it names has changed. Nor does another name of a function, wherever it is
-called, or another module for an item. So --grown takes over those edits that the record of the
-commit has, and whose sum has changed since for these three reasons alone.
 
 An edit is a line `file: src/..`, and then pairs of lines `old: TEXT` and `new: TEXT`; further lines
 `file:` begin the pairs of other files. It is made in a copy of the crate: first the function or the
@@ -36,10 +30,8 @@ body and definition agree, and the law must not, over the edited sources.
 """
 import collections
 import concurrent.futures
-import functools
 import hashlib
 import itertools
-import json
 import os
 import re
 import shutil
@@ -79,23 +71,16 @@ def name_of(edit):
     return f"{edit.parent.name}/{edit.stem}"
 
 
-@functools.lru_cache(None)
-def parts_of(edit):
-    """What the sum of an edit is of: its text, the lines of crates.txt that it reads, and what decides
-    whether it is wrong, which begins with the files that it changes; and the number of these."""
+def line_of(edit):
+    """The line of the record for an edit as it is: a sum of its text, of the lines of crates.txt that
+    it reads, and of what decides whether it is wrong."""
     crate, text = edit.parent.name, edit.read_text()
     law = LAW.match(text)
     paths = {line[len("file: "):].strip() for line in text.splitlines() if line.startswith("file: ")}
-    of = {crate, law[1]} if law else {crate}
-    read = [crates.lines()[one] for one in sorted(of)]
+    read = [crates.lines()[one] for one in sorted({crate, law[1]} if law else {crate})]
     decides = shown.decides(crate, crates.below(crate), paths, text,
                             (law[1], law[2], crates.below(law[1])) if law else None)
-    return [text, read, decides], len(paths)
-
-
-def line_of(edit):
-    """The line of the record for an edit as it is."""
-    summed = hashlib.sha256(repr(parts_of(edit)[0]).encode()).hexdigest()[:32]
+    summed = hashlib.sha256(repr([text, read, decides]).encode()).hexdigest()[:32]
     return f"{name_of(edit)} {summed}"
 
 
@@ -326,100 +311,6 @@ def try_changed(found):
     return 1 if wrong else 0
 
 
-def functions_in(top):
-    """The names of the functions of each source file below a folder, in their order."""
-    return {path.relative_to(top): re.findall(r"\bfn (\w+)", path.read_text())
-            for path in (top / "crates").glob("*/src/**/*.rt")}
-
-
-def plainly(renamed):
-    """A function that writes a text in one way: without spaces, without the commas that a layout
-    adds, without the module of a definition and the imports, since what they name is compared
-    itself, without an attribute that no proof reads, and with the names in `renamed` replaced by one
-    name for all names of a function."""
-    @functools.lru_cache(None)
-    def written(text):
-        text = re.sub(r"\A\w+\.[\w.]+\n|(?m:^#\[non_exhaustive\]\n)", "", text)
-        text = re.sub(r"(?m)^ *(?:ghost |pub )?use (?:(?! as )[^;{}]|\{(?:(?! as )[^}])*\})*(?:;|$)", "",
-                      text)
-        text = re.sub(r"\w+", lambda word: renamed.get(word[0], word[0]), text)
-        return re.sub(r",(?=[)}\]])", "", "".join(text.split()))
-    return written
-
-
-def renamed_since(before):
-    """The names of functions that have another name than in the tree `before`, in files that have as
-    many functions as before: each with one of its names."""
-    old, one = functions_in(before), {}
-    for path, now in functions_in(crates.TOP).items():
-        was = old.get(path, [])
-        for name, other in zip(was, now) if len(was) == len(now) else ():
-            if name != other:
-                same = {one.get(name, name), one.get(other, other)}
-                least = min(same)
-                one |= {name: least, other: least}
-                one |= {known: least for known, by in one.items() if by in same}
-    return one
-
-
-@functools.lru_cache(None)
-def items_of(crate, is_own, written):
-    """All items that a crate shows, and its definitions, as `shown` has them, written in one way."""
-    items = {piece[1] for _, pieces in shown.sources(crate, is_own).values() for piece in pieces}
-    specs = crates.TOP / "crates" / crate / "specs"
-    for path in specs.rglob("*.antt"):
-        module = str(path.relative_to(specs).with_suffix("")).replace("/", ".")
-        items |= {f"{crate}.{module}\n{piece[1]}"
-                  for piece in shown.definitions(crate, module)[0]}
-    return frozenset(written(shown.unseen(item)) for item in items)
-
-
-def has_grown(before, now, count, known, written):
-    """Whether parts of an edit, of which `count` files are changed by it, differ from those before by
-    items alone that were added, none of which is an impl of a trait, or that stand in the tree still
-    but are no longer named, where `written` makes names alike that are names of one function."""
-    old, new = ([written(item) for item in parts[2]] for parts in (before, now))
-    gone = collections.Counter(old) - collections.Counter(new)
-    fresh = collections.Counter(new) - collections.Counter(old)
-    added = [item for item, one in zip(now[2], new) if one in fresh]
-    return (written(before[0]) == written(now[0])
-            and old[:count] == new[:count]
-            and not set(gone) - known and not any(map(shown.OF_TRAIT.match, added)))
-
-
-def known_to(edit, written):
-    """All items that the crate of an edit and those below it have, written in one way."""
-    crate, law = edit.parent.name, LAW.match(edit.read_text())
-    below = {*crates.below(crate), *(crates.below(law[1]) if law else ())} - {crate}
-    return items_of(crate, True, written).union(*(items_of(name, False, written)
-                                                  for name in below))
-
-
-def take_over(commit):
-    """Takes edits over from the record of a commit, and returns the status."""
-    with tempfile.TemporaryDirectory(prefix=f"wrong-{os.getpid()}-") as room:
-        archived = subprocess.run(["git", "-C", crates.TOP, "archive", commit], check=True,
-                                  stdout=subprocess.PIPE).stdout
-        subprocess.run(["tar", "-x", "-C", room], input=archived, check=True)
-        # Both sides are summed by the tools as they are now.
-        shutil.copytree(crates.TOP / "tools", f"{room}/tools", dirs_exist_ok=True)
-        told = subprocess.run([sys.executable, f"{room}/tools/wrong.py", "--parts"], check=True,
-                              stdout=subprocess.PIPE, text=True).stdout
-        tried = Path(room, "tests/wrong/RECORD").read_text().splitlines()
-        written = plainly(renamed_since(Path(room)))
-    before = {name: parts for name, line, parts in json.loads(told) if line in tried}
-    now = {edit: [json.loads(json.dumps(parts)), count] for edit in changed()
-           for parts, count in [parts_of(edit)]}
-    taken = {edit for edit, (parts, count) in now.items() if name_of(edit) in before
-             and has_grown(before[name_of(edit)], parts, count, known_to(edit, written), written)}
-    lines = {line_of(edit) for edit in every_edit()}
-    kept = [line for line in known_lines() if line in lines] + list(map(line_of, taken))
-    kits = [line for line in known_lines() if line.startswith("kit: ")]
-    RECORD.write_text(HEAD + "".join(line + "\n" for line in [*kits, *sorted(kept)]))
-    print(f"wrong: {len(taken)} edits taken over from {commit}, {len(now) - len(taken)} to try")
-    return 0
-
-
 def look():
     """Prints which edits cannot be made, and returns the status."""
     count = wrong = 0
@@ -446,12 +337,6 @@ def main():
         print(f"wrong: not tried as they are now: edits, {in_words(found)}: run `make wrong`"
               if found else "wrong: the record is of the files as they are")
         return 1 if found else 0
-    if words == ["--parts"]:
-        print(json.dumps([(name_of(edit), line_of(edit), parts_of(edit)[0])
-                          for edit in every_edit()]))
-        return 0
-    if words[:1] == ["--grown"] and len(words) == 2:
-        return take_over(words[1])
     if words in ([], ["--all"]):
         return try_changed(every_edit() if words else changed())
     is_shown = words[0] == "--show"

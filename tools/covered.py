@@ -13,7 +13,8 @@ at the top of the repository.
 """
 import sys
 
-from definitions import Repository, crates, sources
+from crates import lines
+from definitions import Repository, sources
 
 # Crates that have laws alone, in other files than laws.rt.
 LAWS = ("stun_exchanges", "stun_sessions", "stun_datagrams", "stun_client_runs",
@@ -26,24 +27,16 @@ BARS = {("stun_ice",): 0, ("stun_c", "stun_state", "stun_c_endpoint"): 0}
 MOST_SENTENCES = 20
 
 
-def closure(repository, of):
-    cited = []
-    for source in of:
-        for text in source.public + source.models:
-            cited += repository.cited_in(None, source.imports, text.splitlines())
-    return set(repository.closure(cited))
-
-
 def main():
     repository = Repository(".")
-    read = {crate: sources(".", crate) for crate in crates(".")}
-    laws = closure(repository, [source for crate, of in read.items() for source in of
-                                if source.path.endswith("laws.rt") or crate in LAWS])
+    read = {crate: sources(".", crate) for crate in lines()}
+    laws = repository.of_contracts([source for crate, of in read.items() for source in of
+                                    if source.path.endswith("laws.rt") or crate in LAWS])
     bare, wrong = {}, []
     for crate, of in read.items():
         if crate in LAWS:
             continue
-        used = closure(repository, [one for one in of if not one.path.endswith("laws.rt")])
+        used = repository.of_contracts([one for one in of if not one.path.endswith("laws.rt")])
         own = [one for one in used if one.module.split(".")[1] == crate]
         left = [one for one in own if one not in laws]
         said = [one for one in left if any(line.startswith(SENTENCE) for line in one.lines)]

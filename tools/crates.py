@@ -92,34 +92,10 @@ def is_left(crate):
     return noted == [sum_of(crate), hashlib.sha256(file.read_bytes()).hexdigest()]
 
 
-def are_left(crate):
-    """Whether all libraries below a crate are those that `rt ci` left."""
-    return LEFT.is_file() and all(map(is_left, below(crate)))
-
-
 def kit():
     """The folder of the toolchain."""
     said = subprocess.run(["rt", "doc"], capture_output=True, text=True, check=True).stdout
     return os.path.dirname(said.strip())
-
-
-def rattle(verb, crate, *more):
-    """The command that checks or builds the crate in its folder, over the libraries below it."""
-    at = kit()
-    kind, named = lines()[crate]
-    words = [f"{at}/bin/rattle", verb, "--crate-name", crate, root_of(crate)]
-    for name in ["std", *named]:
-        place = library(name) if name in lines() else f"{at}/rlibs/{name}.rlib"
-        words += ["--extern", f"{name}={place}"]
-    words += ["-L", f"dependency={at}/rlibs"]
-    for name in below(crate):
-        words += ["-L", f"dependency={library(name).parent}"]
-    words += ["--antt-project", f"{at}/rattle/logic/antt-project.json",
-              "--logic-built", f"{at}/logic_built", "--links", f"{crate}="]
-    words += ["--crate-type", kind] if kind else []
-    for name in below(crate) if kind or root_of(crate) == "src/main.rt" else []:
-        words += ["--links", f"{name}="]
-    return [*words, *more]
 
 
 def root_of(crate):
@@ -128,14 +104,14 @@ def root_of(crate):
     return f"src/{'main' if is_program else 'lib'}.rt"
 
 
-def over_sources(crate, *more, kept=()):
-    """The command that checks the crate in its folder over the sources of the crates below it, which
-    needs nothing that was built. Of these it proves what the crate's functions call. Crates in
-    `kept`, with all below them, are taken as the libraries that `rt ci` left."""
-    at = kit()
+def over_sources(crate, *more, kept=(), verb="check"):
+    """The command that checks or builds the crate in its folder over the sources of the crates below
+    it, which needs nothing that was built. Of these it proves what the crate's functions call.
+    Crates in `kept`, with all below them, are taken as the libraries that `rt ci` left."""
+    at, kind = kit(), lines()[crate][0]
     found = [name for name in below(crate) if name not in kept]
     named = {name: None for one in (*found, crate) for name in ("std", "core", *lines()[one][1])}
-    words = [f"{at}/bin/rattle", "check", "--crate-name", crate, root_of(crate)]
+    words = [f"{at}/bin/rattle", verb, "--crate-name", crate, root_of(crate)]
     for name in named:
         if name in kept or name not in lines():
             place = library(name) if name in kept else f"{at}/rlibs/{name}.rlib"
@@ -148,7 +124,8 @@ def over_sources(crate, *more, kept=()):
         words += ["--lib", f"{name}:{uses_of}={TOP}/crates/{name}/{root_of(name)}"]
     words += ["--antt-project", f"{at}/rattle/logic/antt-project.json",
               "--logic-built", f"{at}/logic_built"]
-    for name in (crate, *(below(crate) if root_of(crate) == "src/main.rt" else ())):
+    words += ["--crate-type", kind] if kind else []
+    for name in (crate, *(below(crate) if kind or root_of(crate) == "src/main.rt" else ())):
         words += ["--links", f"{name}="]
     return [*words, *more]
 
@@ -161,10 +138,11 @@ def archive(crate):
         print(proof.read_text(), end="")
         return 0
     noted.unlink(missing_ok=True)
-    if not are_left(crate):
+    if not all(map(is_left, below(crate))):
         return 3
-    command = rattle("build", crate, "--jobs", str(min(4, os.cpu_count() or 1)), "--toolchain",
-                     f"{kit()}/toolchain", "--backend", "llvm", "-o", f"out/lib{crate}.a")
+    command = over_sources(crate, "--jobs", str(min(4, os.cpu_count() or 1)), "--toolchain",
+                           f"{kit()}/toolchain", "--backend", "llvm", "-o", f"out/lib{crate}.a",
+                           kept=below(crate), verb="build")
     made.parent.mkdir(exist_ok=True)
     status = subprocess.run(command, cwd=folder, stdin=subprocess.DEVNULL, check=False).returncode
     if status == 0:

@@ -13,17 +13,6 @@ WORD = re.compile(r"[^\s(){}\[\],;=λ∷|⟨⟩]+")
 HEAD_WORDS = ("abbrev", "pub", "unfoldable", "record", "data")
 
 
-def crates(root):
-    """The crates of the repository, lowest first."""
-    names = []
-    with open(os.path.join(root, "crates.txt")) as lines:
-        for line in lines:
-            line = line.split("#")[0].strip()
-            if line:
-                names.append(line.split(":")[0].split()[0])
-    return names
-
-
 def module_of(path, root):
     """The module of a file of specs/, as `use` lines name it."""
     parts = os.path.relpath(path, os.path.join(root, "crates")).split("/")
@@ -168,6 +157,11 @@ class Repository:
                 if definition:
                     found.append(definition)
         return found
+
+    def of_contracts(self, read):
+        """The definitions that the public contracts of these sources are made of."""
+        return self.closure([one for source in read for text in source.public + source.models
+                             for one in self.cited_in(None, source.imports, text.splitlines())])
 
     def closure(self, start):
         """The definitions that these are made of, themselves too, each with one that cites it."""

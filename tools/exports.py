@@ -57,21 +57,10 @@ NUMBERS = {
     "stunp_drop of ICE": ("stun_c_endpoint/src/ice/told.rt", r"DropReason::(\w+) => (\d+)"),
     "stunp_drop of clients": ("stun_c_endpoint/src/client/event.rt", r"DropReason::(\w+) => (\d+)"),
 }
-# Names of the header that are other ones in the sources, and the enums of which they are.
+# Names of the header that are other ones in the sources, beside those of drops and causes, and the
+# enums of which all these are.
 RENAMED = {"NO_FINGERPRINT": "ABSENT", "RIGHT_FINGERPRINT": "RIGHT", "WRONG_FINGERPRINT": "WRONG",
-           "MISPLACED_FINGERPRINT": "MISPLACED", "DATA_METHOD": "DATA",
-           "DROP_NOT_STUN": "NOTSTUN", "DROP_MALFORMED": "MALFORMED",
-           "DROP_WRONG_FINGERPRINT": "WRONGFINGERPRINT",
-           "DROP_MISSING_FINGERPRINT": "MISSINGFINGERPRINT",
-           "DROP_UNKNOWN_ATTRIBUTE": "UNKNOWNATTRIBUTE", "DROP_OTHER_METHOD": "OTHERMETHOD",
-           "DROP_NOT_ASKED": "NOTASKED", "DROP_WRONG_SIGNATURE": "WRONGSIGNATURE",
-           "CAUSE_NO_SIGNATURE": "NOSIGNATURE", "CAUSE_INCOMPLETE": "INCOMPLETE",
-           "CAUSE_OTHER_ALGORITHMS": "OTHERALGORITHMS", "CAUSE_OTHER_FEATURES": "OTHERFEATURES",
-           "CAUSE_STALE_NONCE": "STALENONCE", "CAUSE_WRONG_CREDENTIALS": "WRONGCREDENTIALS",
-           "CAUSE_UNKNOWN_ATTRIBUTE": "UNKNOWNATTRIBUTE", "DROP_NOT_VERIFIED": "NOTVERIFIED",
-           "DROP_UNANSWERABLE_CHALLENGE": "UNANSWERABLECHALLENGE",
-           "DROP_WEAKER_CHALLENGE": "WEAKERCHALLENGE", "DROP_OUT_OF_MEMORY": "OUTOFMEMORY",
-           "DROP_LATE_CHALLENGE": "LATECHALLENGE", "DROP_REFUSED": "REFUSED"}
+           "MISPLACED_FINGERPRINT": "MISPLACED", "DATA_METHOD": "DATA"}
 RENAMING = ("fingerprint", "stunp_drop", "stunp_cause", "stunp_drop of ICE",
             "stunp_drop of clients")
 # Lengths of the header and a kind, each with the constant of the sources that it is.
@@ -256,6 +245,12 @@ def structs_of_header(text):
                    for field in re.split(r",\s*", fields)]
             for body, name in structs.findall(text)}
 
+def renamed(name):
+    """The name of a number of the header in the sources, in capitals."""
+    if name.startswith(("DROP_", "CAUSE_")):
+        return name.partition("_")[2].replace("_", "")
+    return RENAMED.get(name, name)
+
 def number(text):
     """The value of a number or of a sum of numbers."""
     return sum(int(part.strip().replace("_", ""), 0) for part in text.split("+"))
@@ -278,17 +273,17 @@ def compare_numbers(header):
     named = ("BINDING", "ALLOCATE", "REFRESH", "SEND", "DATA_METHOD", "CREATE_PERMISSION",
              "CHANNEL_BIND")
     compare("method", {name: declared.get(name) for name in named},
-            {name: number(methods[RENAMED.get(name, name)]) for name in named})
+            {name: number(methods[renamed(name)]) for name in named})
     for enum, (path, pattern) in NUMBERS.items():
         pairs = [sorted(pair, key=str.isdigit)
                  for pair in re.findall(pattern, read(f"crates/{path}"))]
         found = {name.upper(): int(value) for name, value in pairs}
-        names = [name for name in declared if RENAMED.get(name, name) in found
-                 and (name in RENAMED) == (enum in RENAMING)
+        names = [name for name in declared if renamed(name) in found
+                 and (renamed(name) != name) == (enum in RENAMING)
                  and name.startswith("CAUSE_") == (enum == "stunp_cause")]
-        compare(enum, {RENAMED.get(name, name): declared[name] for name in names}, found)
+        compare(enum, {renamed(name): declared[name] for name in names}, found)
         compare(f"{enum} of the sources", found,
-                {RENAMED.get(name, name): declared[name] for name in names})
+                {renamed(name): declared[name] for name in names})
     for name, (path, constant) in LENGTHS.items():
         value = re.search(rf"const {constant}: (?:usize|u32) = ([^;]*);", read(f"crates/{path}"))[1]
         compare("length", {name: declared.get(name)}, {name: number(value)})

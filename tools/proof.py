@@ -32,7 +32,7 @@ FUNCTION = re.compile(r'(?m)^ *(?:pub(?:\([^)]*\))? )?(?:(?:final|const|unsafe|e
 CLAUSE = re.compile(r"(?m)^ *(?:ensures|requires)\*?(?: \w+)? \{")
 LINE = re.compile(r"(?m)^(\w+) (\d+ functions \d+ clauses) (\d+|-) s ([0-9a-f]{32})$")
 PASSED = re.compile(r"(?m)^rt: (\w+) (?:proved$|is kept: )")
-EVERY = 2
+MARK, EVERY = f"PROOF_RUN={os.getpid()}", 2
 
 
 def counted(crate):
@@ -48,44 +48,30 @@ def known_lines():
     return {line[1]: line for line in LINE.finditer(text)}
 
 
-class Watch:
-    """Looks every few seconds how long each check of `rt ci` took so far, until it is ended."""
-
-    def __init__(self):
-        self.took, self.is_ended = {}, threading.Event()
-        self.mark = f"PROOF_RUN={os.getpid()}"
-        threading.Thread(target=self.follow, daemon=True).start()
-
-    def follow(self):
-        while not self.is_ended.wait(EVERY):
-            self.took.update(self.samples())
-
-    def samples(self):
-        """The processes of rattle that prove a crate: of each ID and crate the seconds so far, with
-        those of the processes that it started and that ended."""
-        found = {}
-        for folder in Path("/proc").glob("[0-9]*"):
-            try:
-                words = (folder / "cmdline").read_bytes().decode(errors="replace").split("\0")
-                if not words[0].endswith("/rattle") or "--crate-name" not in words:
-                    continue
-                variables = (folder / "environ").read_bytes().decode(errors="replace").split("\0")
-                fields = (folder / "stat").read_text().rpartition(")")[2].split()
-            except OSError:
+def samples():
+    """The processes of rattle that prove a crate for this run: of each ID and crate the processor
+    seconds so far, with those of the processes that it started and that ended."""
+    found = {}
+    for folder in Path("/proc").glob("[0-9]*"):
+        try:
+            words = (folder / "cmdline").read_bytes().decode(errors="replace").split("\0")
+            if not words[0].endswith("/rattle") or "--crate-name" not in words:
                 continue
-            if self.mark in variables and "--test" not in words:
-                seconds = sum(map(int, fields[11:15])) / os.sysconf("SC_CLK_TCK")
-                found[folder.name] = fields[1], words[words.index("--crate-name") + 1], seconds
-        return {(number, crate): seconds for number, (parent, crate, seconds) in found.items()
-                if parent not in found}
+            variables = (folder / "environ").read_bytes().decode(errors="replace").split("\0")
+            fields = (folder / "stat").read_text().rpartition(")")[2].split()
+        except OSError:
+            continue
+        if MARK in variables and "--test" not in words:
+            seconds = sum(map(int, fields[11:15])) / os.sysconf("SC_CLK_TCK")
+            found[folder.name] = fields[1], words[words.index("--crate-name") + 1], seconds
+    return {(number, crate): seconds for number, (parent, crate, seconds) in found.items()
+            if parent not in found}
 
-    def seconds(self):
-        """The seconds of each crate."""
-        self.is_ended.set()
-        total = collections.Counter()
-        for (_, crate), seconds in self.took.copy().items():
-            total[crate] += seconds
-        return total
+
+def watch(took, is_ended):
+    """Notes every few seconds how long each check took so far."""
+    while not is_ended.wait(EVERY):
+        took.update(samples())
 
 
 def lanes():
@@ -101,9 +87,11 @@ def prove():
     said = subprocess.run("git rev-parse HEAD && git status --porcelain", shell=True, cwd=crates.TOP,
                           capture_output=True, text=True, check=False).stdout.split("\n")
     print(f"commit: {said[0]}{', with changes' if any(said[1:]) else ''}", flush=True)
-    (sums, begun), watch = crates.begin(), Watch()
-    setting = {"RT_JOBS": str(lanes()), **os.environ, "PROOF_RUN": str(os.getpid())}
-    with subprocess.Popen(["rt", "ci"], cwd=crates.TOP, env=setting, text=True, errors="replace",
+    (sums, begun), took, is_ended = crates.begin(), {}, threading.Event()
+    threading.Thread(target=watch, args=(took, is_ended), daemon=True).start()
+    os.environ.setdefault("RT_JOBS", str(lanes()))
+    os.environ["PROOF_RUN"] = str(os.getpid())
+    with subprocess.Popen(["rt", "ci"], cwd=crates.TOP, text=True, errors="replace",
                           stdout=subprocess.PIPE, stderr=subprocess.STDOUT) as ran:
         log = []
         for line in ran.stdout:
@@ -112,7 +100,11 @@ def prove():
     crates.sum_of_files.cache_clear()  # since files may have changed meanwhile
     if ran.returncode == 0:
         crates.end(sums, begun)
-    write(PASSED.findall("".join(log)), sums, watch.seconds())
+    is_ended.set()
+    seconds = collections.Counter()
+    for (_, crate), one in took.copy().items():
+        seconds[crate] += one
+    write(PASSED.findall("".join(log)), sums, seconds)
     return ran.returncode
 
 

@@ -75,14 +75,6 @@ def said(lines):
             if re.match(r"axioms \w+:|logic=proved|rt: .* proved$|rt: .* is kept:", line)]
 
 
-def verdicts(lines):
-    """Of the gate's lines: what the build of each crate and of its tests said."""
-    for part in re.split(r"(?m)^== ", "\n".join(lines))[1:]:
-        name, *rest = part.split("\n")
-        for line in said(rest):
-            yield "%s: %s" % (name, line)
-
-
 def record(log):
     """What was proved, by which toolchain, at which commit, and the gate's last line."""
     if not parts.commit():
@@ -109,7 +101,7 @@ def record(log):
             words += ["lib%s.a: %s" % (name, line) for line in said(opened.read().splitlines())]
     lacks = parts.lacking(tried, parts.RELEASE_AT) or ["nothing"]
     words += ["", "What the machine of the release tier lacked:", "", *lacks]
-    words += ["", "What the gate said of each crate and of its tests:", "", *verdicts(lines)]
+    words += ["", "What the gate said of each crate and of its tests:", "", *said(lines)]
     return "\n".join(words) + "\n"
 
 

@@ -15,8 +15,8 @@ import os
 import re
 import sys
 
-from definitions import Repository, crates, sources
-
+from crates import lines
+from definitions import Repository, sources
 
 
 def place(definition):
@@ -43,7 +43,7 @@ def without_a_file():
 def main():
     repository = Repository(".")
     stated = set()
-    for crate in crates("."):
+    for crate in lines():
         for source in sources(".", crate):
             for clause in source.public:
                 stated.update(repository.cited_in(None, source.imports, clause.split("\n")))

@@ -60,13 +60,8 @@ ROW = re.compile(r"^\| ([^|]+?) \| ([\d,]+) \|(?: ([\d,]+) \|)?", re.M)
 
 def closed(repository, crates):
     """The definitions of the public contracts of these crates."""
-    cited = []
-    for crate in crates:
-        for source in sources(".", crate):
-            if not source.path.endswith("laws.rt"):
-                for text in source.public + source.models:
-                    cited += repository.cited_in(None, source.imports, text.splitlines())
-    return repository.closure(cited)
+    return repository.of_contracts([source for crate in crates for source in sources(".", crate)
+                                    if not source.path.endswith("laws.rt")])
 
 
 def of_laws(repository):

@@ -18,11 +18,9 @@ tried by.
 An edit is a line `file: src/..`, and then pairs of lines `old: TEXT` and `new: TEXT`; further lines
 `file:` begin the pairs of other files. It is made in a copy of the crate: first the function or the
 module of the edit alone is checked (`rattle check --only`), over the libraries that `rt ci` left,
-or else over those that `rt lib` builds. Of a crate with one or two edits to try it is checked over
-the sources of the crates below (tools/only.py), which is slower and needs no libraries. If that is
-still proved the whole crate is checked, over libraries. What the prover has checked for an edit it
-does not check again for the next one of the same worker. --show as the first word prints what the
-prover said.
+or else over the sources of the crates below (tools/only.py), which is slower. If that is still
+proved, the whole crate is checked. What the prover has checked for an edit it does not check again
+for the next one of the same worker. --show as the first word prints what the prover said.
 
 An edit may change a body together with its definition. Its first line is `law: CRATE::PATH`, which
 names a law of the crate or of one above it. Then the function of the edit must be proved, since
@@ -49,7 +47,6 @@ WRONG = crates.TOP / "tests/wrong"
 RECORD = WRONG / "RECORD"
 HEAD = "# Of each edit: the sum of what it was last tried against, and refused.\n"
 LAW = re.compile(r"law: (\w+)::(\S+)\n")
-BUILDING, BUILT = threading.Lock(), set()
 # What the prover has checked of a crate, it does not check again for the next edit of it. Each
 # worker has a folder of its own, for a run.
 KEPT, WORKER = crates.TOP / "target/wrong", threading.local()
@@ -162,20 +159,15 @@ def names_at(text, path, at):
     return ["::".join(words) for words in [*names, module] if words]
 
 
-def check(crate, texts, is_over_sources, *more, of=None):
+def check(crate, texts, *more, of=None):
     """Checks a copy of the crate with these texts in place of its own, or over that copy the crate
-    `of` above it. The libraries that `rt ci` left are taken, but for those that the copy is in."""
+    `of` above it, over sources and the libraries that `rt ci` left, but for those that it is in."""
     kept_in = KEPT / str(os.getpid()) / getattr(WORKER, "name", "0") / (of or crate)
     kept_in.mkdir(parents=True, exist_ok=True)
-    more = ("--jobs", "1", *more, "--incremental", str(kept_in))
-    if of or is_over_sources:
-        top = of or crate
-        kept = [name for name in crates.below(top) if crates.is_left(name)
-                and name != crate and crate not in crates.below(name)]
-        command = crates.over_sources(top, *more, kept=kept)
-    else:
-        build_below(crate)
-        command = crates.rattle("check", crate, *more)
+    kept = [name for name in crates.below(of or crate) if crates.is_left(name)
+            and name != crate and crate not in crates.below(name)]
+    command = crates.over_sources(of or crate, "--jobs", "1", *more, "--incremental", str(kept_in),
+                                  kept=kept)
     with tempfile.TemporaryDirectory(prefix=f"wrong-{os.getpid()}-") as room:
         for part in ("src", "specs", "proofs"):
             folder = crates.TOP / "crates" / crate / part
@@ -197,7 +189,7 @@ def check(crate, texts, is_over_sources, *more, of=None):
         return ran
 
 
-def verdict(crate, edit, is_over_sources, is_shown):
+def verdict(crate, edit, is_shown):
     """Whether the prover refuses the crate with this edit, and why."""
     folder = crates.TOP / "crates" / crate
     try:
@@ -209,13 +201,13 @@ def verdict(crate, edit, is_over_sources, is_shown):
     if law:
         return verdict_of_law(crate, texts, names[0], law, is_shown)
     for name in names:
-        ran = check(crate, texts, is_over_sources, "--only", name)
+        ran = check(crate, texts, "--only", name)
         counts = re.search(r"^only=(\d+) proved=(\d+)", ran.stdout, re.M)
         if is_shown:
             print(ran.stdout, end="")
         if ran.returncode == 1 and counts and int(counts[2]) < int(counts[1]):
             return True, f"refused in {name}"
-    ran = check(crate, texts, False)
+    ran = check(crate, texts)
     last = ran.stdout.rstrip("\n").rpartition("\n")[2]
     if ran.returncode == 1 and last.startswith("logic=not-proved"):
         told = next((line for line in ran.stdout.splitlines() if ": error" in line), "")
@@ -229,29 +221,19 @@ def verdict(crate, edit, is_over_sources, is_shown):
 
 def verdict_of_law(crate, texts, name, law, is_shown):
     """Whether a body and its definition agree that are edited together, and break a law."""
-    ran = check(crate, texts, True, "--only", name)
+    ran = check(crate, texts, "--only", name)
     if is_shown or ran.returncode != 0:
         print(ran.stdout, end="")
     if ran.returncode != 0 and not re.search(r"^only=\d+ proved=\d+", ran.stdout, re.M):
         return False, f"NOT TRIED: the check of {name} ended with {ran.returncode}"
     if ran.returncode != 0:
         return False, f"NOT TRIED: {name} is not proved, so its body and definition do not agree"
-    ran = check(crate, texts, True, "--only", law[1], of=law[0])
+    ran = check(crate, texts, "--only", law[1], of=law[0])
     if is_shown:
         print(ran.stdout, end="")
     if f"fn {law[0]}::{law[1]}: not proved" in ran.stdout:
         return True, f"{name} is proved, and the law {law[0]}::{law[1]} is not"
     return False, f"NOT REFUSED: the check of the law ended with {ran.returncode}"
-
-
-def build_below(crate):
-    """Has the libraries below a crate built, once, unless `rt ci` left them."""
-    with BUILDING:
-        is_new = crate not in BUILT and not crates.are_left(crate)
-        BUILT.add(crate)
-        for name in crates.uses(crate) if is_new else []:
-            subprocess.run(["rt", "lib"], cwd=crates.TOP / "crates" / name, check=True,
-                           stdin=subprocess.DEVNULL, stdout=subprocess.DEVNULL)
 
 
 def workers():
@@ -281,12 +263,8 @@ def tried(edits, is_shown=False):
     """Tries edits, tells of each, and returns those that are not refused."""
     sweep()
     wrong, begun = [], time.monotonic()
-    counts = collections.Counter(edit.parent.name for edit in edits)
-    # To prove all crates below takes longer than one or two edits over sources.
-    bare = {crate for crate, count in counts.items() if count < 3 and not crates.are_left(crate)}
     with concurrent.futures.ThreadPoolExecutor(workers(), initializer=named_worker) as pool:
-        made = {pool.submit(verdict, edit.parent.name, edit, edit.parent.name in bare, is_shown):
-                edit for edit in edits}
+        made = {pool.submit(verdict, edit.parent.name, edit, is_shown): edit for edit in edits}
         for done in concurrent.futures.as_completed(made):
             edit, (is_refused, why) = made[done], done.result()
             print(f"wrong: {name_of(edit)}: {why}", flush=True)

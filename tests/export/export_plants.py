@@ -11,11 +11,12 @@ plant would seem to be found.
 
 Each is planted in a copy in a scratch folder, which is exported, compiled and tested. (`rt ci`
 refuses a second crates.txt in the repository, under target/ too.) It is found where the export, the
-comparison of tokens (same_tokens.py), rustc, a test or a transcript refuses it. Beside that it is
-told whether the odd forms of export_test.py refuse it. The gate plants with --exporter those in the
-exporter, which take seconds each, if that changed, and with --turn three of those in the library
-under the sources, which take a minute or two each, if that changed: whose turn it is follows from
-the sum of its files.
+comparisons of tokens (same_tokens.py, same_c_tokens.py), rustc, a test or a transcript refuses it.
+The comparisons must find the plants in NAMES. Beside that it is told whether the odd forms of
+export_test.py refuse it. The gate plants with --exporter those in the exporter, which take seconds
+each, if that changed, and then changes 1,000 words of the export (changed_words.py). With --turn it
+plants three of those in the library under the sources, which take a minute or two each, if that
+changed: whose turn it is follows from the sum of its files.
 """
 import hashlib
 import os
@@ -32,8 +33,32 @@ COPY = Path(SCRATCH.name)
 
 # The file, what stands there, and what is planted.
 EXPORT, DERIVES, KIT = "tools/export/export.py", "tools/export/export_derives.py", "rust/src/kit/"
+CALLS = "tools/export/export_c.py"
 RULE = '    left = re.search('
-PLANTS = [
+# Wrong names, which may be of the same type, so that rustc takes them.
+NAMES = [
+    ("exchanges two imports of the crate", EXPORT, RULE,
+     '    one, two = "asks_for_algorithms", "asks_for_userhash"\n'
+     '    text = text.replace(f"{{{one}, {two}}}", f"{{{one} as {two}, {two} as {one}}}")\n' + RULE),
+    ("exchanges two imports of the calls for C", EXPORT, RULE,
+     '    one, two = "check_name", "check_password"\n'
+     '    text = text.replace(f"{{{one}, {two}}}", f"{{{one} as {two}, {two} as {one}}}")\n' + RULE),
+    ("imports a type of another module", EXPORT, RULE,
+     '    text = in_code(text, r"^use stun_base::instant::Instant;", "use std::time::Instant;")\n'
+     + RULE),
+    ("shows a module that the sources hide", EXPORT, RULE,
+     '    text = in_code(text, r"^mod supported;", "pub mod supported;")\n' + RULE),
+    ("names a call of another module in code", EXPORT, RULE,
+     '    text = in_code(text, r"stun_extra::framing::next_packet_frame", '
+     '"stun_extra::framing::next_frame")\n' + RULE),
+    ("keeps the results of public calls without a warning", EXPORT,
+     'return f"{found.group(1)}#[must_use]\\n{head}"', "return head"),
+    ("passes the arguments of a call in another order", CALLS,
+     "{', '.join(handed)}", "{', '.join(handed[::-1])}"),
+    ("imports another struct for C", CALLS, "told::{IceCheck, IceReceived}",
+     "told::{IceReceived as IceCheck, IceCheck as IceReceived}"),
+]
+PLANTS = NAMES + [
     # Wrong rules, after all others have run. Each damages one place at most in each file.
     ("drops a question mark", EXPORT, RULE,
      '    text = in_code(text, r"\\)\\?;\\n(?=    \\S)", ");\\n")\n' + RULE),
@@ -182,6 +207,7 @@ CARGO = ["cargo", "test", "--quiet", "--package"]
 STEPS = [
     ("export", [sys.executable, "tools/export/export.py", "target/export"], "."),
     ("tokens", [sys.executable, "tests/export/same_tokens.py", "target/export"], "."),
+    ("tokens for C", [sys.executable, "tests/export/same_c_tokens.py", "target/export"], "."),
     ("rustc", CARGO + ["seatcrane-stun", "--no-run"], "target/export"),
     ("tests of the crate", CARGO + ["seatcrane-stun"], "target/export"),
     ("rustc", CARGO + ["seatcrane-checks", "--no-run"], "target/export"),
@@ -258,14 +284,14 @@ def main():
         return 1
     if words == ["--look"]:
         copy_anew()
-        step = refusing(STEPS[:2])
+        step = refusing(STEPS[:3])
         print(f"The copy does not pass: {step}" if step else "the copy is exported, as it is")
         return 1 if step else 0
     wanted = (in_turn() if words == ["--turn"] else
               plants_of("tools/") if words == ["--exporter"] else
               [int(word) for word in words] or range(1, len(PLANTS) + 1))
     copy_anew()
-    step = refusing(STEPS[:3])
+    step = refusing(STEPS[:4])
     if step:
         sys.exit(f"Nothing is planted, because the files as they are do not pass: {step}. "
                  "Run `make rust`, which says why.")
@@ -277,13 +303,17 @@ def main():
         if not found:
             sys.exit(f"{file} was changed meanwhile: {old!r} is no longer there")
         (COPY / file).write_text(before + new + after)
-        step = refusing(STEPS) or "NOT FOUND"
+        step = refusing(STEPS[:3] if number <= len(NAMES) else STEPS) or "NOT FOUND"
         odd_forms = [sys.executable, "tests/export/export_test.py"]
         if file in (EXPORT, DERIVES) and refuses(odd_forms, "."):
             step += ", odd forms"
         missed += "NOT FOUND" in step
         print(f"{number:2}  {name}: {step}", flush=True)
-    print(f"{len(wanted)} planted, {missed} not found")
+    print(f"{len(wanted)} planted, {missed} not found", flush=True)
+    copy_anew()
+    words = [sys.executable, "tests/export/changed_words.py", "target/export", "1000"]
+    if {*wanted} & {*plants_of("tools/")}:
+        missed += refuses(STEPS[0][1], ".") or subprocess.run(words, cwd=COPY).returncode
     return 1 if missed else 0
 
 

@@ -4,94 +4,120 @@ same_tokens.py, which shares no code with the exporter.
 
 usage: tests/export/same_c_tokens.py EXPORT
 
-EXPORT is what export.py wrote (target/export). What same_tokens.py passes over is passed over here
-too. Each place that differs must be one of KNOWN, in that file, and each source must have its file
-unless BY_HAND names it. The last line counts; the status is 1 if anything else differs.
+EXPORT is what export.py wrote (target/export). Each source must have its file unless BY_HAND names
+it, and border.rs must have, for each call of the sources, the function that C calls. The last line
+counts; the status is 1 if anything differs.
 """
-import collections
 import re
 import sys
-from pathlib import Path
 
-import same_tokens
+from same_derives import TOKEN, closing, parts
+from same_tokens import (AT_PLACES, MOVED, ROOT, expected, functions, main, moved, outermost, read,
+                         replaced, sources_of, split, tokens_of, CRATES)
 
 BORDER = ("stun_numbers", "stun_handles", "stun_c", "stun_state", "stun_c_endpoint")
-# A file of the sources, what it has, and what the export has in its place.
-KNOWN = {
-    # Addresses from octets, by From.
-    ("stun_c_endpoint/client/body.rt", "from_octets", "from"),
-    ("stun_handles/address.rt", "from_octets", "from"),
-    # The greatest size, on any target.
-    ("stun_handles/answers.rt", "9_223_372_036_854_775_807", "isize :: MAX as usize"),
-    # The sizes of structs of this target: stunp.h says the same to the compiler.
-    ("stun_c_endpoint/client/event.rt", "80", "size_of :: < Event > ( )"),
-    ("stun_c_endpoint/client/options.rt", "64", "size_of :: < RequestOptions > ( )"),
-    ("stun_c_endpoint/ice/told.rt", "72", "size_of :: < IceReceived > ( )"),
-    ("stun_c_endpoint/received.rt", "648", "size_of :: < Received > ( )"),
+# Sources whose place in the export is taken by rust/capi/src/handle.rs, which is written by hand:
+# handles are pointers there. Laws are no code.
+BY_HAND = re.compile(r"stun_\w+/handle(?:/\w+)?\.rs|.*/laws\.rs")
+# What the sources have and the export has in its place, in one file.
+AT_PLACES.update({
     # `stunp_is_proved`.
-    ("stun_c/lib.rt", "true", "false"),
-}
-# Sources whose place in the export is taken by rust/capi/src, which is written by hand: handles are
-# pointers there. Laws are no code.
-BY_HAND = re.compile(r"stun_(?:handles|state|c_endpoint)/(?:handle(?:/\w+)?|slot)\.rt|.*/laws\.rt|"
-                     r".*/(?:derives|tests)\.rt")
+    "stun_c/mod.rs": [("IS_PROVED : bool = true", "IS_PROVED : bool = false")],
+    # The greatest size, on any target.
+    "stun_handles/answers.rs": [("= 9_223_372_036_854_775_807", "= isize :: MAX as usize")],
+    # The sizes of structs of this target: the headers say the same to the compiler.
+    "stun_c_endpoint/client/event.rs": [("EVENT_SIZE : usize = 80",
+                                         "EVENT_SIZE : usize = size_of :: < Event > ( )")],
+    "stun_c_endpoint/client/options.rs": [
+        ("OPTIONS_SIZE : usize = 64", "OPTIONS_SIZE : usize = size_of :: < RequestOptions > ( )")],
+    "stun_c_endpoint/ice/told.rs": [
+        ("ICE_RECEIVED_SIZE : usize = 72",
+         "ICE_RECEIVED_SIZE : usize = size_of :: < IceReceived > ( )")],
+    "stun_c_endpoint/received.rs": [("RECEIVED_SIZE : usize = 648",
+                                     "RECEIVED_SIZE : usize = size_of :: < Received > ( )")],
+})
+# `border` calls into all modules.
+OF_C = [("# [ unsafe ( no_mangle ) ]", ""), ('extern "C" fn', "fn"),
+        ("pub mod handle ;", "use handle ;"), ("mod handle ;", "use handle ;"),
+        ("pub mod", "mod"), ("mod", "pub mod")]
+# What a slice is for C, and which function of passed.rs makes it of a pointer and a length.
+SLICES = {"&[u8]": ("*const u8", "read"), "&mut[u8]": ("*mut u8", "written"),
+          "&[u16]": ("*const u16", "read"), "&mut[u16]": ("*mut u16", "written")}
 
 
-def bare(tokens):
-    """The tokens without what says that a function is for C."""
-    text = " ".join(tokens).replace("# [ unsafe ( no_mangle ) ]", "")
-    return text.replace('extern "C" fn', "fn").split()
+def name_of(path):
+    """The name of the file in the export, of a source."""
+    inside = str(path.relative_to(CRATES).with_suffix(".rs"))
+    return re.sub(r"/src/(lib\.rs$)?", lambda found: "/mod.rs" if found[1] else "/", inside)
+
+
+def border_function(module, name, parameters, result):
+    """The function that C calls, with a pointer and a length for each slice."""
+    declared, passed = [], []
+    for label, _, *kind in parameters:
+        kind = "".join(kind).replace("&mut", "&mut ").replace("&mut [", "&mut[")
+        pointer, whole = SLICES.get(kind, (None, None))
+        if pointer:
+            declared += [f"{label}: {pointer}", f"length_of_{label}: usize"]
+            passed.append(f"unsafe {{ {whole}({label}, length_of_{label}) }}")
+        elif kind == "Global":
+            passed.append("Global")
+        else:
+            declared.append(f"{label}: {kind}")
+            passed.append(label)
+    return TOKEN.findall(
+        f'#[unsafe(no_mangle)] pub unsafe extern "C" fn {name}({", ".join(declared)}) '
+        f'{"".join(result)} {{ {module}::{name}({", ".join(passed)}) }}')
+
+
+def of_border(sources, places):
+    """What border.rs must have: the imports of the types that its functions name, and these."""
+    imports, kept = {("", f"crate::passed::{one}", one) for one in ("read", "written")}, []
+    for path, tokens in sources.items():
+        crate, name = path.relative_to(CRATES).parts[0], name_of(path)
+        module = name.removesuffix(".rs").removesuffix("/mod").replace("/", "::")
+        types = {one: moved(where, {**places, "crate": f"crate::calls::{crate}"})
+                 for _, where, one in split(tokens)[0]}
+        for at, last in functions(tokens):
+            if tokens[at - 2:at] != ["extern", '"C"']:
+                continue
+            end = closing(tokens, at + 2)
+            kept += border_function(module, tokens[at + 1], parts(tokens[at + 3:end]),
+                                    tokens[end + 1:last + 1])
+            for one in {*tokens[at + 3:last + 1]}:
+                if re.match(r"[A-Z]", one):
+                    inside = types.get(one, one)
+                    where = re.sub(r"^(?!crate::)", f"crate::calls::{module}::", inside)
+                    imports.add(("", re.sub(r"calls::\w+::handle", "handle", where), one))
+            imports.add(("", f"crate::calls::{crate}", crate))
+    return [*map(" ".join, sorted(imports)), *kept]
 
 
 def compared(export):
-    """Of each source with its file: its name and the tokens of both. Of a source without a file, or
-    a file without a source: its name and what it is."""
-    crates = [*BORDER, *sorted(path.name for path in (export / "src/exported").iterdir()
-                               if path.is_dir())]
-    sources = {path: same_tokens.without_proofs(same_tokens.tokens_of(path)) for crate in crates
-               for path in sorted((same_tokens.CRATES / crate / "src").rglob("*.rt"))}
-    laws = set().union(*(same_tokens.laws_of(*one) for one in sources.items()))
-    for crate in BORDER:
-        source, folder = same_tokens.CRATES / crate / "src", export / "capi/src/calls" / crate
-        wanted = set()
-        for path, tokens in sources.items():
-            if source not in path.parents:
-                continue
-            inside = str(path.relative_to(source))
-            other = (folder / re.sub(r"^lib\.rt$", "mod.rt", inside)).with_suffix(".rs")
-            name = f"{crate}/{inside}"
-            if BY_HAND.fullmatch(name):
-                continue
-            wanted.add(other)
-            if not other.exists():
-                yield name, ["a", "source"], ["no", "file"]
-                continue
-            yield (name, bare(same_tokens.expected(tokens, laws)),
-                   bare(same_tokens.plain(same_tokens.tokens_of(other))))
-        for path in sorted({*folder.rglob("*.rs")} - wanted):
-            yield f"{crate}/{path.relative_to(folder)}", ["no", "source"], ["a", "file"]
-
-
-def main():
-    if len(sys.argv) != 2:
-        sys.exit(__doc__)
-    same_tokens.NAMES.insert(0, ("crate :: calls :: ", ""))
-    count, known, wrong = 0, collections.Counter(), 0
-    for name, one, two in compared(Path(sys.argv[1])):
-        count += len(one)
-        for old, new in same_tokens.places(one, two):
-            if (name, old, new) in KNOWN:
-                known[name, old, new] += 1
-            else:
-                wrong += 1
-                print(f"crates/{name}: `{old[:300]}` is exported as `{new[:300]}`")
-    unseen = sorted(KNOWN - set(known))
-    for name, old, new in unseen:
-        print(f"crates/{name}: `{old}` is no longer exported as `{new}`: remove it from KNOWN")
-    print(f"same tokens for C: of {count} tokens {wrong} places differ, and {sum(known.values())} "
-          "that are known")
-    return 1 if wrong or unseen or not count else 0
+    """As that of same_tokens.py, of the calls for C."""
+    folder = export / "capi/src/calls"
+    library = sorted(path.name for path in (export / "src/exported").iterdir() if path.is_dir())
+    sources, laws = sources_of([*BORDER, *library])
+    places = {**MOVED, **{crate: f"crate::exported::{crate}" for crate in library},
+               **{crate: f"crate::calls::{crate}" for crate in BORDER},
+              "crate::kit": "crate::kit", "handle as handle": "crate::handle"}
+    sources = {path: tokens for path, tokens in sources.items()
+               if path.relative_to(CRATES).parts[0] in BORDER
+               and not BY_HAND.fullmatch(name_of(path))}
+    others = {path for crate in BORDER for path in (folder / crate).rglob("*.rs")}
+    for path, tokens in sources.items():
+        name, crate = name_of(path), path.relative_to(CRATES).parts[0]
+        wanted = expected(replaced(tokens, OF_C), laws, {**places, "crate": places[crate]}, name,
+                          is_library=False)
+        other = folder / name
+        yield path, other if other in others else None, wanted
+        others.discard(other)
+    for path in sorted(others):
+        yield None, path, []
+    yield "border.rs", folder / "border.rs", of_border(sources, places)
+    by_hand = ROOT / "rust/capi/src/calls/mod.rs"
+    yield by_hand, folder / "mod.rs", read(tokens_of(by_hand))
 
 
 if __name__ == "__main__":
-    sys.exit(main())
+    sys.exit(main(compared, "same tokens for C"))

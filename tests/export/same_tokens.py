@@ -6,9 +6,11 @@ usage: tests/export/same_tokens.py EXPORT
 
 EXPORT is what export.py wrote (target/export). No code is shared with the exporter, so that a wrong
 rule there is seen here. What a type derives is compared too: same_derives.py says what each trait
-becomes. Comments, imports and the attributes of PASSED_OVER are not compared. Each other place must
-be of a kind that KNOWN lists. The last line counts; the status is 1 where a place is of no such
-kind, or if nothing was compared.
+becomes. Each imported name is compared by the path that it stands for, and so is each path in code:
+MOVED says where the export has what Rust lacks or has elsewhere. Comments are not compared, nor
+what rustfmt decides: the order of imports and modules, the braces around an arm of a `match`, and
+the comma before a closing bracket. The last line counts; the status is 1 if anything differs, or if
+nothing was compared.
 """
 import collections
 import difflib
@@ -16,35 +18,71 @@ import re
 import sys
 from pathlib import Path
 
-from same_derives import TOKEN, closing, expanded
+from same_derives import TOKEN, closing, expanded, parts
 
-CRATES = Path(__file__).resolve().parents[2] / "crates"
-# A kind of difference, what the source has, and what the export has in its place.
-KNOWN = [
-    ("hashes of the kit", "md5", "crate :: kit :: hashes"),
-    ("UTF-8 of core", "simdutf8 :: basic", "str"),
-    ("addresses from octets, by From", "from_octets", "from"),
-    ("times from nanoseconds, by the kit", "Duration", "crate :: kit :: convert"),
-    ("what is proved is tested", "prove", "debug_assert"),
-    ("an allocator grants bytes, no pointer", "unsafe", ""),
-    ("an allocator grants bytes, no pointer", "* mut u8", "( )"),
-    ("an allocator grants bytes, no pointer", ", _ptr : * mut u8", ""),
-    ("a body of `static_type`", ";", "{ Self :: TYPE }"),
-    ("a function of constants", "", "const"),
-    ("a key of a map of the kit", "Ord", "crate :: kit :: collections :: Key"),
+ROOT = Path(__file__).resolve().parents[2]
+CRATES = ROOT / "crates"
+# Where the export has a path of the sources, or a path under it. The longest that fits is meant.
+MOVED = {
+    "core": "core", "std": "core",
+    "base64::engine::general_purpose": "crate::kit::base64",
+    "byteorder": "crate::kit::bytes",
+    "md5": "crate::kit::hashes", "sha1": "crate::kit::hashes", "sha2": "crate::kit::hashes",
+    "sha1::Sha1 as BegunSha1": "crate::kit::hashes::BegunSha1",
+    "sha2::Sha256 as BegunSha256": "crate::kit::hashes::BegunSha256",
+    "rand_core": "crate::kit::random",
+    "simdutf8::Checker": "crate::kit::utf8::Checker",
+    "simdutf8::basic": "core::str",
+    "smallvec": "crate::kit::inline",
+    "std::alloc": "crate::kit::alloc",
+    "std::collections": "crate::kit::collections",
+    "std::convert::AsSlice": "crate::kit::convert::AsSlice",
+    "std::marker::Brand": "crate::kit::ledger::Brand",
+    "std::simd::prelude": "crate::kit::utf8",
+    "std::sync::ledger": "crate::kit::ledger",
+    # In code, without an import.
+    "Duration::from_nanos_u128": "crate::kit::convert::from_nanos_u128",
+    "Ipv4Addr::from_octets": "Ipv4Addr::from", "Ipv6Addr::from_octets": "Ipv6Addr::from",
+    "str::from_utf8": "core::str::from_utf8",
+}
+# What only proofs and derives import, and a module that each path to it names in full.
+UNUSED = {"std::marker::Model", "std::str", "thiserror::Error"}
+# Names that a source has without an import, and where the export has them.
+GIVEN = {"Box": "Box", "String": "String", "TryClone": "TryClone", "Vec": "Vec",
+         "try_clone": "TryClone"}
+# Types that may get variants or fields in a later version.
+OPEN = re.compile(r"enum \w*(?:Error|Reason|Cause)|enum (?:Judged|Refusal|IntegrityAlgorithm|"
+                  "PasswordAlgorithmValue|TransportType)|struct StoredKeys")
+# What the sources have and the export has in its place: everywhere, and in one file.
+OTHERWISE = [
+    ("final fn", "fn"), ("+ Drop", ""), (": Drop", ""), ("prove !", "debug_assert !"),
+    ("# [ rattlefmt :: skip ]", "# [ rustfmt :: skip ]"),
+    ("fn fmt < W : fmt :: Write > ( & self , f : & mut fmt :: Formatter < W > )",
+     "fn fmt ( & self , f : & mut fmt :: Formatter < '_ > )"),
 ]
+AT_PLACES = {
+    # An allocator grants bytes, and no pointer.
+    "stun_base/keys/no_memory.rs": [
+        ("unsafe impl", "impl"),
+        ("Result < * mut u8 , AllocError >", "Result < ( ) , AllocError >"),
+        ("unsafe fn deallocate ( & self , _ptr : * mut u8 ,", "fn deallocate ( & self ,")],
+    # A key of a map has a number.
+    "stun_base/memory.rs": [("< K : Ord", "< K : crate :: kit :: collections :: Key")] * 4,
+    # Constants are made of it.
+    "stun_base/wire/message_type.rs": [("pub fn new ( number : u16 ) -> Option < Method >",
+                                        "pub const fn new ( number : u16 ) -> Option < Method >")],
+    # A proof needs the number from a call. Here a constant has it.
+    "stun_types/attribute.rs": [("fn static_type ( ) -> AttributeType ;",
+                                 "# [ must_use ] fn static_type ( ) -> AttributeType "
+                                 "{ Self :: TYPE }")],
+}
+# Attributes for the prover, its formatter and derives, of which nothing is left.
+ERASED = {"cycle", "error", "tactic"}
 # A value that goes away by hand, part by part, as Rust drops each.
 DROPPED = re.compile(r"\{ fn drop \( self \) \{ let \w+ \{ [\w :,]*\} = self ; \} \}")
-# Names that the export has otherwise everywhere.
-NAMES = [("crate :: exported :: ", ""), ("crate :: kit :: alloc ::", "std :: alloc ::"),
-         ("core ::", "std ::"), ("std :: str ::", "str ::"),
-         ("final fn", "fn"), (" + Drop", ""), (" : Drop", ""),
-         ("fn fmt < W : fmt :: Write > ( & self , f : & mut fmt :: Formatter < W > )",
-          "fn fmt ( & self , f : & mut fmt :: Formatter < '_ > )")]
-# Attributes that change no value: lints, pages, layout, and what only a proof or `expanded` reads.
-PASSED_OVER = {"allow", "cycle", "deny", "doc", "error", "must_use", "non_exhaustive", "rattlefmt",
-               "rustfmt", "tactic"}
 
+
+# --- What only a proof reads ---------------------------------------------------------------------
 
 def end_of_ghost(tokens, at):
     """The place of the `;` or `,` that ends a ghost item."""
@@ -156,64 +194,207 @@ def outermost(tokens):
             yield token
 
 
-def expected(tokens, laws):
-    """What the export must have for the tokens of a source."""
-    return plain(expanded(with_copies(without_laws(tokens, laws))))
+# --- Names ---------------------------------------------------------------------------------------
 
-
-def plain(tokens):
-    """The tokens without imports, attributes that are passed over, an arm's braces, and commas
-    before a closing bracket; names alike."""
-    tokens, kept, at = without_arm_braces(tokens), [], 0
+def tree(tokens, path=()):
+    """The paths and names of an import, or of a part of it."""
+    path, at = list(path), 0
     while at < len(tokens):
-        if tokens[at] == "#" and tokens[at + 1] in ("[", "!") \
-                and PASSED_OVER & {*tokens[at + 2:at + 4]}:
-            at = closing(tokens, at) + 1
-        elif tokens[at] == "use" or tokens[at] == "mod" and tokens[at + 2] == ";":
-            if kept[-4:-2] == ["pub", "("]:
-                del kept[-4:]
-            elif kept[-1:] == ["pub"]:
-                kept.pop()
-            at = tokens.index(";", at) + 1
-        else:
-            if tokens[at] in (")", "]", "}") and kept[-1:] == [","]:
-                kept.pop()
-            kept.append(tokens[at])
-            at += 1
-    text = " ".join(kept)
-    for old, new in NAMES:
-        text = text.replace(old, new)
-    return text.split()
+        if tokens[at] == "{":
+            for part in parts(tokens[at + 1:-1]):
+                yield from tree(part, path)
+            return
+        if tokens[at] == "as":
+            yield "::".join(path), tokens[at + 1]
+            return
+        if tokens[at] != "::" and (tokens[at] != "self" or not path):
+            path.append(tokens[at])
+        at += 1
+    yield "::".join(path), path[-1]
 
+
+def visibility(kept):
+    """Takes from the end of the tokens who sees the item that follows, and returns it."""
+    start = len(kept)
+    if kept[-1:] == [")"] and kept[-4:-2] == ["pub", "("]:
+        start -= 4
+    elif kept[-1:] == ["pub"]:
+        start -= 1
+    found = "".join(kept[start:])
+    del kept[start:]
+    return found
+
+
+def split(tokens):
+    """The imports, as who sees each, its path and its name; the modules in files, as who sees each
+    and its name; and the other tokens."""
+    imports, modules, kept, at = [], [], [], 0
+    while at < len(tokens):
+        if tokens[at] == "use":
+            end = tokens.index(";", at)
+            seen = visibility(kept)
+            imports += [(seen, *one) for one in tree(tokens[at + 1:end])]
+            at = end
+        elif tokens[at] == "mod" and tokens[at + 2] == ";":
+            modules.append((visibility(kept), tokens[at + 1]))
+            at += 2
+        else:
+            kept.append(tokens[at])
+        at += 1
+    return imports, modules, kept
+
+
+def moved(path, places, name=None):
+    """Where the export has what has this path in the sources."""
+    if name and f"{path} as {name}" in places:
+        return places[f"{path} as {name}"]
+    words = path.split("::")
+    for count in range(len(words), 0, -1):
+        start = "::".join(words[:count])
+        if start in places:
+            return "::".join([places[start], *words[count:]])
+    return path
+
+
+def with_moved(tokens, places):
+    """The tokens with each path of code where the export has it."""
+    kept, at = [], 0
+    while at < len(tokens):
+        end = at + 1
+        if re.match(r"[A-Za-z_]", tokens[at]) and tokens[at - 1:at] not in (["::"], ["."]):
+            while tokens[end:end + 1] == ["::"] and re.match(r"[A-Za-z_]", tokens[end + 1]):
+                end += 2
+        kept += tokens[at:end] if end == at + 1 else TOKEN.findall(
+            moved("".join(tokens[at:end]), places))
+        at = end
+    return kept
+
+
+# --- What the export has -------------------------------------------------------------------------
+
+def without_attributes(tokens):
+    """The tokens without attributes of which nothing is left."""
+    kept, at = [], 0
+    while at < len(tokens):
+        if tokens[at] == "#" and {*tokens[at + 2:at + 4]} & ERASED \
+                and tokens[at + 1] in ("[", "!"):
+            at = closing(tokens, at)
+        else:
+            kept.append(tokens[at])
+        at += 1
+    return kept
+
+
+def with_results(tokens):
+    """The tokens with a warning if the result of a public function is ignored that changes nothing;
+    a `Result` has this warning by itself."""
+    kept = list(tokens)
+    for at, last in reversed([*functions(tokens)]):
+        start = at - (tokens[at - 1] == "const")
+        head = tokens[start:last + 1]
+        mutable = re.search(r"& (?:'\w+ )?mut ", " ".join(head))
+        outer = [*outermost(head)]
+        result = outer[outer.index("->") + 1:][:1] if "->" in outer else []
+        if tokens[start - 1] == "pub" and result and result[0] not in ("Result", "impl") \
+                and not mutable and tokens[start - 3:start - 1] != ["must_use", "]"]:
+            kept[start - 1:start - 1] = ["#", "[", "must_use", "]"]
+    return kept
+
+
+def with_open_types(tokens):
+    """The tokens with a mark of the types that may get variants or fields."""
+    kept = list(tokens)
+    for at in range(len(tokens) - 2, 0, -1):
+        if tokens[at - 1] == "pub" and OPEN.fullmatch(" ".join(tokens[at:at + 2])):
+            kept[at - 1:at - 1] = ["#", "[", "non_exhaustive", "]"]
+    return kept
+
+
+def laid_out(tokens):
+    """The tokens without an arm's braces, and without commas before a closing bracket."""
+    kept = []
+    for token in without_arm_braces(tokens):
+        if token in (")", "]", "}") and kept[-1:] == [","]:
+            kept.pop()
+        kept.append(token)
+    return kept
+
+
+def read(tokens):
+    """What is compared of the tokens of an exported file."""
+    imports, modules, kept = split(tokens)
+    return [*map(" ".join, sorted(imports)), *map(" mod ".join, sorted(modules)), *laid_out(kept)]
+
+
+def replaced(tokens, pairs, name=""):
+    """The tokens with the second of each pair in the place of the first: everywhere, or once in the
+    file with this name, where the first must be."""
+    text = "\0".join(tokens)
+    for old, new in pairs:
+        text, count = re.subn(rf"(?<![^\0]){re.escape(old.replace(' ', chr(0)))}(?![^\0])",
+                              new.replace(" ", "\0"), text, count=1 if name else 0)
+        if name and not count:
+            raise ValueError(f"{name}: `{old}` is not there, so AT_PLACES is of another source")
+    return [token for token in text.split("\0") if token]
+
+
+def expected(tokens, laws, places, name, is_library=True):
+    """What `read` must find in the export of a source."""
+    tokens = without_attributes(expanded(with_copies(without_laws(tokens, laws))))
+    imports, modules, kept = split(tokens)
+    imports = [(seen, moved(path, places, one), one) for seen, path, one in imports
+               if path not in UNUSED and "laws" not in path.split("::") and one not in laws]
+    modules = [one for one in modules if one[1] not in ("laws", "derives")]
+    kept = replaced(with_moved(kept, places), OTHERWISE)
+    kept = with_open_types(replaced(kept, AT_PLACES.get(name, []), name))
+    kept = with_results(kept) if is_library else kept
+    named = {one for _, _, one in imports}
+    given = {one for word, one in GIVEN.items() if word in kept} - named
+    imports += [("", f"crate::kit::prelude::{one}", one) for one in given]
+    return [*map(" ".join, sorted(imports)), *map(" mod ".join, sorted(modules)), *laid_out(kept)]
+
+
+# --- Files ---------------------------------------------------------------------------------------
 
 def tokens_of(path):
     return [one for one in TOKEN.findall(path.read_text()) if not one.startswith(("//", "/*"))]
 
 
+def sources_of(crates):
+    """The sources of the crates, each with its tokens without proofs, and the names of laws."""
+    sources = {path: without_proofs(tokens_of(path)) for crate in crates
+               for path in sorted((CRATES / crate / "src").rglob("*.rt"))
+               if path.name not in ("derives.rt", "tests.rt")}
+    return sources, set().union(*(laws_of(*one) for one in sources.items()))
+
+
 def compared(export):
-    """Of each source: its file, and the tokens that the export must have and those it has."""
+    """Of each exported file: the name of its source, the file, and what `read` must find there. A
+    file that is missing on either side is None."""
     folder = export / "src" / "exported"
     crates = sorted(path.name for path in folder.iterdir() if path.is_dir())
-    sources = {path: without_proofs(tokens_of(path)) for crate in crates
-               for path in sorted((CRATES / crate / "src").rglob("*.rt"))}
-    laws = set().union(*(laws_of(*one) for one in sources.items()))
-    for crate in crates:
-        source, wanted = CRATES / crate / "src", set()
-        for path, tokens in sources.items():
-            if source not in path.parents or path.name in ("laws.rt", "derives.rt", "tests.rt"):
-                continue
-            name = re.sub(r"^lib\.rt$", "mod.rt", str(path.relative_to(source)))
-            other = (folder / crate / name).with_suffix(".rs")
-            wanted.add(other)
-            yield path, expected(tokens, laws), plain(tokens_of(other))
-        for path in sorted({*(folder / crate).rglob("*.rs")} - wanted):
-            if path.name != "tests.rs":
-                yield path, ["no", "source"], ["a", "file"]
-    # It names the crates, and has nothing else.
-    yield folder / "mod.rs", [], plain(tokens_of(folder / "mod.rs"))
+    sources, laws = sources_of(crates)
+    places = {**MOVED, **{crate: f"crate::exported::{crate}" for crate in crates},
+              "crate::kit": "crate::kit"}
+    others = {path for crate in crates for path in (folder / crate).rglob("*.rs")}
+    for path, tokens in sources.items():
+        crate, inside = path.relative_to(CRATES).parts[0], path.relative_to(CRATES)
+        if path.name == "laws.rt":
+            continue
+        name = re.sub(r"/src/(lib\.rs$)?", lambda found: "/mod.rs" if found[1] else "/",
+                      str(inside.with_suffix(".rs")))
+        other = folder / name
+        yield path, other if other in others else None, expected(
+            tokens, laws, {**places, "crate": places[crate]}, name)
+        others.discard(other)
+    for path in sorted(others):
+        yield None, path, []
+    # It names the crates, and is written by hand.
+    by_hand = ROOT / "rust/src/exported/mod.rs"
+    yield by_hand, folder / "mod.rs", read(tokens_of(by_hand))
 
 
-def places(one, two):
+def places_of(one, two):
     """The places at which the tokens differ: what each has there."""
     matcher = difflib.SequenceMatcher(None, one, two, autojunk=False)
     for kind, start, end, start_2, end_2 in matcher.get_opcodes():
@@ -221,25 +402,24 @@ def places(one, two):
             yield " ".join(one[start:end]), " ".join(two[start_2:end_2])
 
 
-def main():
+def main(compared, title):
+    """Compares what the export has with what it must have, and prints what differs."""
     if len(sys.argv) != 2:
         sys.exit(__doc__)
-    kinds = {(old, new): kind for kind, old, new in KNOWN}
-    counts, wrong, count, derives = collections.Counter(), 0, 0, 0
-    for path, one, two in compared(Path(sys.argv[1])):
-        count += len(one)
-        derives += one.count("derive")
-        for old, new in places(one, two):
-            kind = kinds.get((old, new))
-            counts[kind] += 1
-            if kind is None:
-                wrong += 1
-                print(f"{path}: `{old[:300]}` is exported as `{new[:300]}`")
-    told = ", ".join(f"{number} {kind}" for kind, number in counts.items() if kind)
-    print(f"same tokens: of {count} tokens, {derives} derives among them, {wrong} places differ, "
-          f"and of known kinds: {told}")
-    return 1 if wrong or not derives else 0
+    count = wrong = 0
+    for source, path, wanted in compared(Path(sys.argv[1])):
+        count += len(wanted)
+        if source is None or path is None:
+            wrong += 1
+            print(f"{source or path}: {'has no file in the export' if source else 'has no source'}")
+            continue
+        found = read(tokens_of(path))
+        for old, new in places_of(wanted, found) if wanted != found else ():
+            wrong += 1
+            print(f"{source}: `{old[:300]}` is exported as `{new[:300]}`")
+    print(f"{title}: of {count} imports, modules and other tokens, {wrong} places differ")
+    return 1 if wrong or not count else 0
 
 
 if __name__ == "__main__":
-    sys.exit(main())
+    sys.exit(main(compared, "same tokens"))

@@ -29,37 +29,6 @@ LIBRARY = ["stun_base", "stun_types", "stun_agent", "stun_judging", "stun_auth",
            "stun_extra", "stun_attributes", "stun_buffer", "stun_endpoint", "stun_client",
            "stun_client_endpoint", "stun_client_requests", "stun_client_calls", "stun_ice"]
 PROGRAMS = ["stun_tool", "stun_inspect"]
-# What clippy would have otherwise, and why it stays. A lint that is not here is none of the sources.
-STYLE = "".join(f"#![allow({', '.join('clippy::' + lint for lint in lints.split())}, "
-                f'reason = "{reason}")]\n' for lints, reason in (
-    ("elidable_lifetime_names needless_lifetimes", "the sources name each lifetime"),
-    ("match_same_arms collapsible_match single_match single_match_else needless_return",
-     "each arm is a case of a proof"),
-    ("manual_div_ceil manual_filter manual_map manual_ok_err manual_range_contains "
-     "mem_replace_option_with_none mem_replace_option_with_some needless_range_loop question_mark "
-     "redundant_closure while_let_on_iterator", "the sources have no such call"),
-    ("cast_lossless needless_as_bytes explicit_auto_deref precedence semicolon_if_nothing_returned",
-     "the language of the sources has no shorter form"),
-    ("ref_option trivially_copy_pass_by_ref needless_pass_by_value",
-     "a contract is stated of what is passed"),
-    ("cast_possible_truncation", "each is argued where it stands: `proved:`"),
-    ("missing_errors_doc missing_panics_doc",
-     "users read the pages of the types over these, which list errors"),
-    ("unreadable_literal many_single_char_names", "numbers and letters are those of the RFCs"),
-    ("too_many_arguments struct_excessive_bools", "settings are passed one by one to C too"),
-    ("enum_variant_names struct_field_names iter_without_into_iter wildcard_imports",
-     "names are those of the crates that are ported"),
-    ("len_without_is_empty new_without_default", "users have the types over these"),
-    ("inline_always", "measured, where it stands"),
-    ("large_enum_variant", "these are returned, and not stored"),
-    ("only_used_in_recursion", "the argument is what the proof recurs on"),
-    ("doc_lazy_continuation", "the comments are laid out by another formatter"),
-)) + ('#![allow(unreachable_patterns, reason = "the sources are several crates, and an enum of '
-      'another one may have more variants")]\n\n')
-
-# Programs are not the library: what they could do more simply is that of another language.
-PROGRAM_STYLE = "#![allow(clippy::complexity, clippy::style, clippy::large_enum_variant)]\n\n"
-
 # Paths that Rust lacks or has otherwise, and where the crate has them.
 PATHS = {
     "std::alloc": "crate::kit::alloc",
@@ -400,7 +369,7 @@ def main():
     if len(sys.argv) != 2:
         sys.exit(__doc__)
     out = Path(sys.argv[1])
-    for folder in ("src", "checks", "examples", "bench", "tests"):
+    for folder in ("src", "capi", "checks", "examples", "bench", "tests"):
         shutil.rmtree(out / folder, ignore_errors=True)
     shutil.copytree(ROOT / "rust", out, dirs_exist_ok=True, ignore=shutil.ignore_patterns("pages"))
     shutil.copytree(ROOT / "tests/transcripts/endpoints", out / "tests/transcripts/data")
@@ -414,12 +383,6 @@ def main():
     commit = export_argued.commit_of(ROOT)
     for crate in crates:
         export_crate(crate, places, library if crate in LIBRARY else programs, commit)
-    for folder, words, names, style in (
-            (library, "crates of the library", LIBRARY, STYLE),
-            (programs, "programs, and the crates that they share", set(crates) - set(LIBRARY),
-             PROGRAM_STYLE)):
-        (folder / "mod.rs").write_text(f"//! The {words}, exported.\n" + style + "".join(
-            f"pub mod {crate};\n" for crate in sorted(names)))
     export_c.write(out, exported, places, ROOT)
     # rustup has a rustfmt that runs nothing where the component is not there.
     asks = ["cargo", "fmt", "--version"]

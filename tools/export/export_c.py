@@ -7,7 +7,6 @@ as the others, but for what a caller in C keeps: a handle, with its pointer, whi
 has those that C calls, where a slice is a pointer and a length (`capi/src/passed.rs`).
 """
 import re
-import shutil
 from pathlib import Path
 
 CRATES = ["stun_numbers", "stun_handles", "stun_c", "stun_state", "stun_c_endpoint"]
@@ -53,18 +52,18 @@ def border_of(text, module):
 def write(out, exported, places, root):
     """Writes the folder of the calls."""
     calls = out / "capi" / "src" / "calls"
-    shutil.rmtree(calls, ignore_errors=True)
     border = ("//! The calls that `include/stunp.h`, `include/stunp_state.h` and\n"
               "//! `include/stunp_endpoint.h` declare.\n\n"
-              "use super::stun_c::header::Header;\nuse super::stun_c::walk::Cursor;\n"
-              "use super::stun_c_endpoint::client::event::{Dropped, Event};\n"
-              "use super::stun_c_endpoint::client::options::RequestOptions;\n"
-              "use super::stun_c_endpoint::client::settings::ClientOptions;\n"
-              "use super::stun_c_endpoint::ice::told::{IceCheck, IceReceived};\n"
-              "use super::stun_c_endpoint::received::Received;\n"
-              "use super::stun_handles::address::Address;\n"
-              "use super::stun_state::agent::{Statistics, Timeouts};\n"
-              "use super::{stun_c, stun_c_endpoint, stun_state};\n"
+              "use crate::calls::stun_c::header::Header;\n"
+              "use crate::calls::stun_c::walk::Cursor;\n"
+              "use crate::calls::stun_c_endpoint::client::event::{Dropped, Event};\n"
+              "use crate::calls::stun_c_endpoint::client::options::RequestOptions;\n"
+              "use crate::calls::stun_c_endpoint::client::settings::ClientOptions;\n"
+              "use crate::calls::stun_c_endpoint::ice::told::{IceCheck, IceReceived};\n"
+              "use crate::calls::stun_c_endpoint::received::Received;\n"
+              "use crate::calls::stun_handles::address::Address;\n"
+              "use crate::calls::stun_state::agent::{Statistics, Timeouts};\n"
+              "use crate::calls::{stun_c, stun_c_endpoint, stun_state};\n"
               "use crate::handle::endpoint::EndpointHandle;\n"
               "use crate::handle::state::StateHandle;\n"
               "use crate::kit::alloc::Global;\nuse crate::passed::{read, written};\n\n")
@@ -90,8 +89,3 @@ def write(out, exported, places, root):
             target.parent.mkdir(parents=True, exist_ok=True)
             target.write_text(text)
     (calls / "border.rs").write_text(border)
-    (calls / "mod.rs").write_text(
-        "//! The calls for C, exported, and what C calls of them.\n"
-        "#![allow(clippy::complexity, clippy::style, unreachable_patterns, unused_imports)]\n"
-        "#![allow(dead_code, unused_mut)]\n\npub mod "
-        "border;\n" + "".join(f"#[deny(unsafe_code)]\npub(crate) mod {crate};\n" for crate in CRATES))

@@ -4,7 +4,7 @@ a word where a bar is missed.
 
     bench/bars.py
 
-It reads the sources of bench.c, state.py, agent.py, growth.c and endpoint.py, and runs none of
+It reads the sources of bench.c, agent.py, growth.c and endpoint.py, and runs none of
 them. Status 1,
 and a line for each difference.
 """
@@ -91,21 +91,6 @@ def of_bench():
         yield from told("bench.c", title, number(cells[0]), most)
 
 
-def of_state():
-    bar, rows = value("state.py", "BAR"), table("Call", "the library", "through C")
-    yield from same_rows("state.py", [title for _, title, _ in value("state.py", "ROWS")], rows)
-    for title, cells in rows.items():
-        if number(cells[-1]) != bar:
-            yield f"state.py, {title}: at most {bar}, README.md has `{cells[-1]}`"
-        yield from told("state.py", title, number(cells[-2]), bar)
-    if f"at most {bar} instructions" not in " ".join(README.split()):
-        yield f"state.py: README.md's text does not say `at most {bar} instructions`"
-    yield from same_rows("state.py", [title for _, title in value("state.py", "ALONE")],
-                         table("Call, through C", "instructions"))
-    yield from same_rows("state.py", value("state.py", "PAUSES"),
-                         table(f"Longest pause at {value('state.py', 'RECORDS'):,} records"))
-
-
 def of_agent():
     rows, bars = table("Users and addresses"), value("agent.py", "BARS")
     yield from same_rows("agent.py", [title for _, title in value("agent.py", "SERVER_ROWS")], rows)
@@ -144,7 +129,7 @@ def of_endpoint():
 
 
 def main():
-    parts = (of_bench, of_state, of_agent, of_growth, of_endpoint)
+    parts = (of_bench, of_agent, of_growth, of_endpoint)
     differences = [one for part in parts for one in part()]
     for one in differences:
         print(f"bars: {one}", file=sys.stderr)

@@ -59,7 +59,7 @@ def lay(top, gate):
     write(top / ".ci/run", gate)
     for name in MADE:
         write(top / name, (TOP / name).read_text())
-    write(top / "crates.txt", "one:\nstun_c:\nstun_state:\nstun_c_endpoint: stun_state\n")
+    write(top / "crates.txt", "one:\nstun_c:\nstun_handles:\nstun_c_endpoint: stun_handles\n")
     write(top / "crates/one/src/lib.rt", "fn one() {}\n")
     write(top / "crates/one/out/one", "")
     write(top / "tests/wrong/one/two.edit", "file: src/lib.rt\nold: one\nnew: two\n")
@@ -145,10 +145,10 @@ def tried(top):
     expect("what a part runs over is built", status == 0 and say(ran, "check.sh")
            and say(ran, "archives.sh"), lines)
     keep(top)
-    write(top / "crates/stun_state/src/lib.rt", "// a comment\nfn one() {}\n")
+    write(top / "crates/stun_handles/src/lib.rt", "// a comment\nfn one() {}\n")
     before = run(top)[2]
     keep(top)
-    write(top / "crates/stun_state/src/lib.rt", "// another comment\nfn one() {}\n")
+    write(top / "crates/stun_handles/src/lib.rt", "// another comment\nfn one() {}\n")
     lines, status, ran = run(top)
     expect("a comment in a crate calls for no archive", not say(ran, "archives.sh"), lines)
     expect("a change of its code does", say(before, "archives.sh"), before)

@@ -36,11 +36,10 @@ HEAD = "# Of each part of the gate that depends on few files: the sum of these a
 EXPORT = ("tools/export", "tools/rust.sh", "rust/Cargo.toml", "rust/capi/Cargo.toml",
           "rust/checks/Cargo.toml")
 # Calls for C that are proved, each with all crates below it, and what they are tested with.
-C_CRATES = ("crate stun_c", "crate stun_state", "crate stun_c_endpoint", "tools/archives.sh")
+C_CRATES = ("crate stun_c", "crate stun_c_endpoint", "tools/archives.sh")
 HEADERS = (*(f"include/{name}.h" for name in ("stunp", "stunp_endpoint", "stunp_endpoint_inline",
                                               "stunp_ice_inline", "stunp_inline", "stunp_log",
-                                              "stunp_sockaddr", "stunp_state",
-                                              "stunp_state_inline")), "examples/c")
+                                              "stunp_sockaddr")), "examples/c")
 PARTS = {
     # What needs no proof.
     "layout": (), "export-look": (),

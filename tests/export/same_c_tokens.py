@@ -15,7 +15,7 @@ from pathlib import Path
 
 import same_tokens
 
-BORDER = ("stun_numbers", "stun_handles", "stun_c", "stun_state", "stun_c_endpoint")
+BORDER = ("stun_numbers", "stun_handles", "stun_c", "stun_c_endpoint")
 # A file of the sources, what it has, and what the export has in its place.
 KNOWN = {
     # Addresses from octets, by From.
@@ -33,7 +33,7 @@ KNOWN = {
 }
 # Sources whose place in the export is taken by rust/capi/src, which is written by hand: handles are
 # pointers there. Laws are no code.
-BY_HAND = re.compile(r"stun_(?:handles|state|c_endpoint)/(?:handle(?:/\w+)?|slot)\.rt|.*/laws\.rt|"
+BY_HAND = re.compile(r"stun_(?:handles|c_endpoint)/(?:handle(?:/\w+)?|slot)\.rt|.*/laws\.rt|"
                      r".*/(?:derives|tests)\.rt")
 
 
